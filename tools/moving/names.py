@@ -6,25 +6,55 @@ from reading.moves import Refused
 from .places import users_of
 from .texts import code, move_files, move_paths, others, place_of, sub
 
-LETTER = r"[^\s(){}\[\],;.«»⟦⟧]"
+# A `use` line of a type's constructors: the module, and the type.
+CONSTRUCTORS = re.compile(r"\buse Rattle\.([^\s{;]+)\.([^\s{;.]+)\.\{")
+TOKEN = re.compile(r"[^\s(){}\[\],;.«»⟦⟧]+")
 
 
-def spec(files, move):
-    """A definition or a lemma."""
-    (crate, *_), old, new = move.words[0].split("/"), *move.words[1:]
-    scopes = antt.Scopes(files)
-    homes = [module for module, names in scopes.declared.items() if old in names and move.renames(module, old)]
+def spec(files, moves):
+    """Definitions and lemmas, all of these at once: an old name is what it means before the first of them is done."""
+    scopes, wanted, refused = antt.Scopes(files), {}, []
+    for move in moves:
+        try:
+            home = home_of(scopes, move)
+            if (home, move.words[1]) in wanted:
+                raise Refused("it has another name already")
+            wanted[home, move.words[1]] = move.words[2]
+        except Refused as why:
+            refused.append((move, why))
+    refused += [(move, why) for move in moves for why in taken(scopes, wanted, move)]
+    if refused:
+        return refused
+    for path in code(files):
+        rename_in(files, path, scopes, wanted)
+    for (module, old), new in wanted.items():
+        # (Attributes name a lemma by its whole path.)
+        crate, _, inside = module.partition(".")
+        inside = "::".join(inside.split("."))
+        for front, paths in ("crate", code(files, crate)), (crate, code(files)):
+            paths = [path for path in paths if f"::{old}" in files.texts[path]]
+            sub(files, paths, rf"(?<![\w:]){front}::{inside}::{re.escape(old)}(?=[,)])", f"{front}::{inside}::{new}")
+    for (module, old), new in wanted.items():
+        speak_of(files, module.split(".")[0], old, new, sum(old in names for names in scopes.declared.values()) == 1)
+    return []
+
+
+def home_of(scopes, move):
+    """The module that declares what the move renames."""
+    homes = [module for module, names in scopes.declared.items() if move.words[1] in names and move.renames(module, move.words[1])]
     if len(homes) != 1:
         raise Refused(f"declared in {', '.join(homes) or 'no file of it'}")
-    if any(new in names for module, names in scopes.declared.items() if module.split(".")[0] == crate):
-        raise Refused(f"{crate} has a {new}")
-    for path in code(files):
-        rename_in(files, path, scopes, (homes[0], old), new)
-    # (Attributes name a lemma by its whole path.)
-    inside = "::".join(homes[0].split(".")[1:])
-    for front, paths in ("crate", code(files, crate)), (crate, code(files)):
-        sub(files, paths, rf"(?<![\w:]){front}::{inside}::{re.escape(old)}(?=[,)])", f"{front}::{inside}::{new}")
-    speak_of(files, crate, old, new, sum(old in names for names in scopes.declared.values()) == 1)
+    return homes[0]
+
+
+def taken(scopes, wanted, move):
+    """Why the new name can't be had: the crate has it for something that keeps it."""
+    crate, new = move.words[0].split("/")[0], move.words[2]
+    holders = [module for module, names in scopes.declared.items() if module.split(".")[0] == crate and new in names]
+    if any((module, new) not in wanted for module in holders):
+        yield Refused(f"{crate} has a {new}")
+    if sum(it == new and module.split(".")[0] == crate for (module, _), it in wanted.items()) > 1:
+        yield Refused(f"another line of {crate} gives the name {new}, too")
 
 
 def speak_of(files, crate, old, new, alone):
@@ -39,35 +69,46 @@ def speak_of(files, crate, old, new, alone):
                 print(f"by hand: {path}:{number}: {old}, of {crate} now {new}: {line.strip()[:120]}")
 
 
-def rename_in(files, path, scopes, origin, new):
-    """Renames in a file what stands there for a declaration: in a file of src/ only in its clauses."""
-    text, old = files.texts[path], origin[1]
-    if old not in text or path.endswith(".edit"):
+def rename_in(files, path, scopes, wanted):
+    """Renames in a file what stands there for these declarations (by module and name): in a file of src/ only in its
+    clauses."""
+    text = files.texts[path]
+    olds = {old for _, old in wanted} & set(TOKEN.findall(text))
+    if not olds or path.endswith(".edit"):
         return
+
+    def constructed(found):
+        origin = scopes.origin(found[1], found[2])
+        return f"use Rattle.{found[1]}.{wanted[origin]}.{{" if origin in wanted else found[0]
+
+    text = CONSTRUCTORS.sub(constructed, text)
     crate, folder, place = place_of(path)
     scope = scopes.scope(text, ".".join([crate, folder, *place]) if path.endswith(".antt") else None)
-    meant = scope.get(old) == origin
-    heads = [use.span for use in antt.uses(text) for name, _ in use.names
-             if name == old and scopes.origin(use.path, name) == origin]
-    if not meant and not heads:
-        return
-    if path.endswith(".rt") and re.search(rf"[(,]\s*(?:mut )?{re.escape(old)}: ", rattle.masked(text)):
-        print(f"by hand: {path}: has a parameter {old}, too")
+    meant = {old: wanted[scope[old]] for old in olds if scope.get(old) in wanted and scope[old][1] == old}
+    heads = {(use.span, name): wanted[origin] for use in antt.uses(text) for name, _ in use.names
+             if name in olds and (origin := scopes.origin(use.path, name)) in wanted and origin[1] == name}
+    for old in meant if path.endswith(".rt") else ():
+        if re.search(rf"[(,]\s*(?:mut )?{re.escape(old)}: ", rattle.masked(text)):
+            print(f"by hand: {path}: has a parameter {old}, too")
     spans = rattle.clause_spans(text) if path.endswith(".rt") else [(0, len(text))]
-    files.texts[path] = renamed(text, old, new, spans if meant else [], heads)
+    files.texts[path] = renamed(text, meant, spans, heads)
 
 
-def renamed(text, old, new, spans, heads):
-    """The text with a name renamed: on these `use` lines, and within these spans as a word that is no field."""
+def renamed(text, meant, spans, heads):
+    """The text with names renamed: on `use` lines as the heads say, and within these spans as words that are no fields."""
     plain = antt.without_comments(text)
     imports = [use.span for use in antt.uses(text)]
-    word = re.compile(rf"(?<!{LETTER})(?<![.«]){re.escape(old)}(?!{LETTER})")
     pieces, last = [], 0
-    for found in word.finditer(text):
-        start, end = found.span()
-        wanted = is_in(start, heads) if is_in(start, imports) else is_in(start, spans) and not is_field(plain, start, end)
+    for found in TOKEN.finditer(text):
+        old, (start, end) = found[0], found.span()
+        if old not in meant and not heads or text[start - 1:start] in (".", "«"):
+            continue
+        on = next((span for span in imports if span[0] <= start < span[1]), None)
+        new = heads.get((on, old)) if on else meant.get(old) if is_in(start, spans) else None
+        if new is None or not on and is_field(plain, start, end):
+            continue
         # In a comment a small word is English.
-        if wanted and (plain[start:end] == old or re.search(r"[A-Z_-]", old)):
+        if plain[start:end] == old or re.search(r"[A-Z_-]", old):
             pieces += [text[last:start], new]
             last = end
     return "".join([*pieces, text[last:]])
@@ -108,7 +149,7 @@ def type_name(files, move):
             rename_type(files, at, old, new)
     for at in code(files):
         if f"Rattle.{home}.{{" in files.texts[at]:
-            rename_in(files, at, Declared(antt.Scopes(files), home, old), (home, old), new)
+            rename_in(files, at, Declared(antt.Scopes(files), home, old), {(home, old): new})
     move_paths(files, move)
     move_files(files, move)
     speak_of(files, crate, old, new, alone)

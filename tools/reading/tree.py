@@ -77,4 +77,4 @@ class Tree:
 
 def is_product(crate):
     """Whether a crate is part of the product: no tests, no examples, nothing that is timed."""
-    return not re.match(r"(test|example)_|bench$|calls$|embed$", crate) and not re.search(r"_(tests|uses)$", crate)
+    return not re.match(r"(test|example)_|bench$", crate)

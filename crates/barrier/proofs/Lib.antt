@@ -1,1 +1,1 @@
-pub mod Full
+pub mod LastArrivals

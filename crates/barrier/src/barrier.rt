@@ -4,7 +4,7 @@ ghost use Rattle.std.specs.Prelude.{count_by};
 ghost use Rattle.std.specs.List.{list_all};
 ghost use Rattle.base.specs.Prelude.{most_processors};
 ghost use Rattle.vtime.specs.Times.{join};
-ghost use Rattle.barrier.specs.Episodes.{unmet, is_here, episode_full, arrived_at, arrived, departed, HasGathered, Gathers};
+ghost use Rattle.barrier.specs.Episodes.{unmet_episodes, is_here, episode_full, episode_with_arrival, episode_arrived, episode_departed, HasGathered, Gathers};
 
 use smallvec::SmallVec;
 use std::alloc::Global;
@@ -56,7 +56,7 @@ impl Barrier {
     pub fn new(alloc: Global, processors: usize) -> Self
         requires some { 1 ≤ processors }
         requires most { processors ≤ most_processors }
-        ensures value { result ≡ unmet processors }
+        ensures value { result ≡ unmet_episodes processors }
         ensures gathers { HasGathered result [] }
     {
         Barrier {
@@ -71,10 +71,10 @@ impl Barrier {
     pub fn arrive(&mut self, processor: usize, time: &VTime) -> bool
         requires away { slice_get self.old.stages processor ≡ Some Stage.Away }
         requires long { length time.now ≡ length self.old.stages }
-        ensures barrier { self.new ≡ arrived self.old processor time.now }
+        ensures barrier { self.new ≡ episode_arrived self.old processor time.now }
         ensures complete { IsTrue result ↔
             (count_by is_here self.old.stages + 1 ≡ length self.old.stages) }
-        ensures full { result ≡ episode_full (arrived_at self.old processor time.now) }
+        ensures full { result ≡ episode_full (episode_with_arrival self.old processor time.now) }
         ensures same_length { length self.new.stages ≡ length self.old.stages }
 
         // Whichever arrivals led here, the time of a complete episode is the join of them all.
@@ -99,7 +99,7 @@ impl Barrier {
         requires { slice_get self.now.stages processor ≡ Some Stage.Away }
         ensures complete { IsTrue result ↔
             (count_by is_here self.now.stages + 1 ≡ length self.now.stages) }
-        ensures full { (time : List ℕ) → result ≡ episode_full (arrived_at self.now processor time) }
+        ensures full { (time : List ℕ) → result ≡ episode_full (episode_with_arrival self.now processor time) }
     {
         count_here(self.stages.as_slice()) + 1 == self.stages.len()
     }
@@ -143,7 +143,7 @@ impl Barrier {
     /// Lets a processor that is ready depart.
     pub fn depart(&mut self, processor: usize)
         requires { slice_get self.old.stages processor ≡ Some Stage.Free }
-        ensures barrier { self.new ≡ departed self.old processor }
+        ensures barrier { self.new ≡ episode_departed self.old processor }
         ensures gathers { (times : List (List ℕ)) → HasGathered self.old times
             → HasGathered self.new times }
     {

@@ -1,7 +1,7 @@
 -- Filters and searches by tests that agree, or that pass nothing.
 use Rattle.std.proofs.Common.{suc, ◌≡◌, Bool, true, false, cond, inl, inr, Some, None, List, [], ◌∷◌, filter, find, refl, sym, ap, ◌∙◌}
 use Rattle.std.proofs.lemmas.Bool.{cases_Bool, cond-true, cond-false, both_ways}
-use Rattle.base.specs.Places.{Has}
+use Rattle.base.specs.InOrderOnce.{Has}
 
 -- a test that no item passes picks nothing
 pub filter_none : {A : Type 0} (p : A → Bool) (xs : List A) → ((x : A) → Has xs x → p x ≡ false) → filter p xs ≡ []

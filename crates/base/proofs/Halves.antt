@@ -2,7 +2,7 @@
 use Rattle.std.proofs.Common.{ℕ, zero, suc, ◌≡◌, ◌+◌, ◌-◌, ◌<◌, ◌≤◌, inl, inr, List, [], ◌∷◌, ◌++◌, Some, slice_get, map, refl, ap, ap₂, arith}
 use Rattle.std.proofs.lemmas.Bool.{cases_lt}
 use Rattle.std.proofs.lemmas.Option.{none-some, same_Some}
-use Rattle.base.specs.Places.{Has, InOrder}
+use Rattle.base.specs.InOrderOnce.{Has, InOrder}
 
 -- numbers below n, and then numbers from n on, told by how far they are past it
 pub record Halves (n : ℕ) (xs : List ℕ) : Type 0 where

@@ -3,8 +3,8 @@ use Rattle.std.proofs.Common.{ℕ, zero, suc, ◌+◌, ◌≡◌, ◌≢◌, ◌
 use Rattle.std.proofs.lemmas.Bool.{cases_eq}
 use Rattle.std.proofs.lemmas.Option.{slice_get-map, slice_get_within, same_Some, none-some}
 use Rattle.std.specs.List.{concat}
-use Rattle.base.specs.Places.{Has, InOrder}
-use Rattle.base.proofs.Places.{slice_get-append_left, slice_get-append_right, append_cases}
+use Rattle.base.specs.InOrderOnce.{Has, InOrder}
+use Rattle.base.proofs.SlicesAndCounts.{slice_get-append_left, slice_get-append_right, append_cases}
 
 -- nothing stands in the empty list
 pub has-nil : {A : Type 0} (x : A) → ¬ Has {A = A} [] x

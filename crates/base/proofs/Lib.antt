@@ -1,11 +1,11 @@
-pub mod Places
-pub mod Sets
-pub mod LastWrites
+pub mod SlicesAndCounts
+pub mod SliceSets
+pub mod LastWritten
 pub mod Records
-pub mod Harvests
+pub mod MarkedHarvests
 pub mod Unmarked
 pub mod Joined
-pub mod Once
-pub mod Picked
+pub mod OnceWithout
+pub mod FilteredInOrder
 pub mod Filters
 pub mod Halves

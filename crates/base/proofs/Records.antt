@@ -2,10 +2,10 @@
 use Rattle.std.proofs.Common.{ℕ, ◌≡◌, ◌<◌, ◌↔◌, List, [], ◌∷◌, length, Option, Some, arith, refl, sym, ap, ◌∙◌}
 use Rattle.std.proofs.lemmas.Option.{same_Some}
 use Rattle.std.specs.List.{concat}
-use Rattle.base.specs.Places.{Has}
-use Rattle.base.specs.Writes.{written, LastWrite}
-use Rattle.base.specs.Records.{record_applied, records_applied, IsRecordOf, AreRecordsOf, none, more}
-use Rattle.base.proofs.LastWrites.{length-written, same_written, written-append, last_same}
+use Rattle.base.specs.InOrderOnce.{Has}
+use Rattle.base.specs.LastWritten.{written, LastWrite}
+use Rattle.base.specs.MarkedRecords.{record_applied, records_applied, IsRecordOf, AreRecordsOf, none, more}
+use Rattle.base.proofs.LastWritten.{length-written, same_written, written-append, last_same}
 
 -- each word of a record is its own last write
 pub last_of_record : {A : Type 0} (f : A → Option (ℕ × ℕ)) (xs : List A) (words : List (ℕ × ℕ)) (o v : ℕ)

@@ -1,6 +1,6 @@
 -- Pages of which no word is marked, and their harvests.
 use Rattle.std.proofs.Common.{ℕ, suc, ◌≡◌, List, [], ◌∷◌, Bool, true, false, length, replicate, ap, refl, arith}
-use Rattle.base.specs.Records.{harvest}
+use Rattle.base.specs.MarkedRecords.{harvest}
 
 -- where no word is marked, nothing is harvested
 pub harvest_unmarked : (i : ℕ) (words : List ℕ) → harvest i words (replicate (length words) false) ≡ []

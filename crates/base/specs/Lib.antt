@@ -1,5 +1,5 @@
-pub mod Places
-pub mod Writes
-pub mod Records
+pub mod InOrderOnce
+pub mod LastWritten
+pub mod MarkedRecords
 pub mod Limits
 pub mod Prelude

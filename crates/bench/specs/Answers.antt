@@ -1,7 +1,7 @@
 -- What each work answers.
 use Rattle.std.specs.Prelude.{ℕ, List, codes, ◌≡◌, ◌↔◌, IsTrue, MatchOption, ◌+◌, length}
 use Rattle.journal.specs.Log.{Log}
-use Rattle.journal.specs.Flat.{Replays as replays}
+use Rattle.journal.specs.FlatMemory.{Replays as replays}
 use Rattle.journal.specs.RacesFrom.{RaceFreeFrom, IsFirstRaceFrom}
 use Rattle.journal.specs.Traffic.{messages, records, words}
 use Rattle.bench.specs.declared.work.Work.{Work}

@@ -1,3 +1,3 @@
 pub mod Parts
-pub mod Keeps
+pub mod Told
 pub mod Calling

@@ -3,14 +3,14 @@
 -- A file a part: locks' lines, flags, barrier, timestamps, mail, closed intervals. Told puts them together.
 pub mod Each
 pub mod History
-pub mod Doings
+pub mod LastAndCounts
 pub mod Stamps
 pub mod Lines
 pub mod Mail
 pub mod Flags
-pub mod Meetings
+pub mod BarrierStages
 pub mod ClosedIntervals
-pub mod Tight
+pub mod Trimmed
 pub mod Timed
-pub mod Told
+pub mod TimesAndAwaits
 pub mod News

@@ -5,7 +5,7 @@ use Rattle.book.specs.declared.awaited.Awaited.{Awaited}
 use Rattle.book.specs.declared.awaited.Awaited.TheVariants.{Grant, Departure, Signal}
 
 -- the kind of that event
-abbrev pub kind_of : Awaited → Kind
-kind_of (Grant l) = Acquire l
-kind_of Departure = Depart
-kind_of (Signal f) = Await f
+abbrev pub awaited_kind : Awaited → Kind
+awaited_kind (Grant l) = Acquire l
+awaited_kind Departure = Depart
+awaited_kind (Signal f) = Await f

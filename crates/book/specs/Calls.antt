@@ -6,10 +6,10 @@ use Rattle.journal.specs.declared.event.Kind.TheVariants.{Await}
 use Rattle.journal.specs.Sizes.{Sizes}
 use Rattle.journal.specs.Events.{At, is_closing, is_taking}
 use Rattle.journal.specs.WellFormed.{KindInRange, Holds}
-use Rattle.interval.specs.Closings.{Closings, KeepsBetween, between}
+use Rattle.interval.specs.Closings.{Closings, KeepsClosingsBetween, closings_between}
 use Rattle.book.specs.State.{State, time_of}
-use Rattle.book.specs.Brought.{message_for, sent_with}
-use Rattle.book.specs.ClosedIntervals.{AreFromFirst, IsTight}
+use Rattle.book.specs.Messages.{message_for, sent_with_message}
+use Rattle.book.specs.ClosedIntervals.{AreClosedFromFirst, IsTight}
 use Rattle.book.specs.Told.{IsToldBySome}
 
 -- the event is a load, a store or a fetch of p within the sizes
@@ -24,34 +24,34 @@ abbrev pub IsBlockOf : Sizes → ℕ → List Event → Type 0
 IsBlockOf s p block = (k : ℕ) (e : Event) → At block k e → IsInner s p e
 
 -- p waits for nothing, and hands in a block
-pub record MayHandIn (s : Sizes) (b : State) (p : ℕ) (block : List Event) : Type 0 where
+pub record AllowsIdleBlock (s : Sizes) (b : State) (p : ℕ) (block : List Event) : Type 0 where
   pub idle : slice_get b.awaits p ≡ Some None
   pub inner : IsBlockOf s p block
 
 -- p is a processor, and hands in a block, which is empty where it waits
-pub record MayGive (s : Sizes) (b : State) (p : ℕ) (block : List Event) : Type 0 where
+pub record AllowsBlock (s : Sizes) (b : State) (p : ℕ) (block : List Event) : Type 0 where
   pub waits : (w : Option Kind) × (slice_get b.awaits p ≡ Some w) × (w ≢ None → block ≡ [])
   pub inner : IsBlockOf s p block
 
 -- by some history, p may hand in this block, which is empty where p waits
-pub record MayFlush (b : State) (p : ℕ) (block : List Event) : Type 0 where
+pub record AllowsFlush (b : State) (p : ℕ) (block : List Event) : Type 0 where
   pub by : IsToldBySome b
-  pub gives : MayGive by.sizes b p block
+  pub gives : AllowsBlock by.sizes b p block
 
 -- by some history, p waits for nothing and may hand in this block
-pub record MayCloseIdle (b : State) (p : ℕ) (block : List Event) : Type 0 where
+pub record AllowsClosing (b : State) (p : ℕ) (block : List Event) : Type 0 where
   pub by : IsToldBySome b
-  pub hands_in : MayHandIn by.sizes b p block
+  pub hands_in : AllowsIdleBlock by.sizes b p block
 
 -- p may hand in this block and ask for lock l, which it doesn't hold by the same history
-pub record MayAsk (b : State) (p l : ℕ) (block : List Event) : Type 0 where
-  pub call : MayCloseIdle b p block
+pub record AllowsAsk (b : State) (p l : ℕ) (block : List Event) : Type 0 where
+  pub call : AllowsClosing b p block
   pub range : l < call.by.sizes.locks
   pub free : ¬ Holds call.by.history p l
 
 -- p may hand in this block and release lock l, which it holds by the same history
-pub record MayRelease (b : State) (p l : ℕ) (block : List Event) : Type 0 where
-  pub call : MayCloseIdle b p block
+pub record AllowsRelease (b : State) (p l : ℕ) (block : List Event) : Type 0 where
+  pub call : AllowsClosing b p block
   pub range : l < call.by.sizes.locks
   pub held : Holds call.by.history p l
 
@@ -61,14 +61,14 @@ pub record IsProcessor (b : State) (p : ℕ) : Type 0 where
   pub processor : p < by.sizes.processors
 
 -- some history tells the book, and p waits for this
-pub record MayTake (b : State) (p : ℕ) (k : Kind) : Type 0 where
+pub record AllowsTake (b : State) (p : ℕ) (k : Kind) : Type 0 where
   pub by : IsToldBySome b
   pub waits : slice_get b.awaits p ≡ Some (Some k)
 
 -- p waits for something
-pub record MayTakeSome (b : State) (p : ℕ) : Type 0 where
+pub record AllowsSomeTake (b : State) (p : ℕ) : Type 0 where
   pub kind : Kind
-  pub take : MayTake b p kind
+  pub take : AllowsTake b p kind
 
 -- p has a timestamp, with an entry of its own
 pub record IsOpen (b : State) (p : ℕ) : Type 0 where
@@ -76,27 +76,27 @@ pub record IsOpen (b : State) (p : ℕ) : Type 0 where
   pub own : p < length (time_of b p)
 
 -- processor r has a timestamp, and no interval is dropped that it doesn't cover
-pub record MayBeSent (c : Closings) (times : List (List ℕ)) (r : ℕ) : Type 0 where
+pub record AllowsNotices (c : Closings) (times : List (List ℕ)) (r : ℕ) : Type 0 where
   pub within : r < length times
   pub long : length (slice_index_or times r []) ≡ length c.first
   pub kept : (q : ℕ) → slice_index c.first q ≤ slice_index (slice_index_or times r []) q
 
 -- the flag can be signalled to one with the timestamp `own`
-pub record MaySignal (c : Closings) (flags : List (Option (List ℕ))) (own : List ℕ) (f : ℕ) : Type 0 where
+pub record AllowsSignal (c : Closings) (flags : List (Option (List ℕ))) (own : List ℕ) (f : ℕ) : Type 0 where
   pub within : f < length flags
-  pub keeps : (t : List ℕ) → slice_index_or flags f None ≡ Some t → KeepsBetween c own t
+  pub keeps : (t : List ℕ) → slice_index_or flags f None ≡ Some t → KeepsClosingsBetween c own t
 
 -- the signal of flag f, which has the timestamp `time`, is what p waits for, whose timestamp is `own`
 pub record IsSignalled (b : State) (p f : ℕ) (own time : List ℕ) : Type 0 where
-  pub keeps : KeepsBetween b.closed own time
-  pub brings : between b.closed own time ≡ sent_with (message_for b p (Await f))
+  pub keeps : KeepsClosingsBetween b.closed own time
+  pub brings : closings_between b.closed own time ≡ sent_with_message (message_for b p (Await f))
 
 -- the intervals may be trimmed after p's timestamp has risen from `before`: where p isn't alone, nothing was left
 -- to trim till then
-pub record MayTrim (c : Closings) (times : List (List ℕ)) (p : ℕ) (before : List ℕ) : Type 0 where
+pub record AllowsTrim (c : Closings) (times : List (List ℕ)) (p : ℕ) (before : List ℕ) : Type 0 where
   pub within : p < length times
   pub owners : length c.first ≡ length times
   pub long : (i : ℕ) (t : List ℕ) → slice_get times i ≡ Some t → length t ≡ length times
   pub old_long : length before ≡ length times
-  pub from : AreFromFirst c
+  pub from : AreClosedFromFirst c
   pub tight : 1 < length times → IsTight c.first (slice_set times p before)

@@ -3,22 +3,22 @@ use Rattle.std.specs.Prelude.{ℕ, ◌≡◌, ◌+◌, List, length, Result, OnO
 use Rattle.journal.specs.declared.event.Event.{Event}
 use Rattle.book.specs.declared.refused.Refused.{Refused}
 use Rattle.book.specs.State.{State}
-use Rattle.book.specs.Transitions.{handed_in}
-use Rattle.book.specs.Refusals.{IsFullAt, IsWantOfRoom}
+use Rattle.book.specs.Transitions.{book_handed_in}
+use Rattle.book.specs.Refusals.{IsFullRefusal, IsRoomRefusal}
 
 -- the call makes the book `after` of the old one, with this many events in its journal; or it is refused, where the
 -- journal or memory has no room, and leaves the book as it was
 pub record EndsIn {A : Type 0} (events : ℕ) (after old new : State) (result : Result A Refused) : Type 0 where
   pub ok : OnOk result (new ≡ after)
   pub err : OnErr result (new ≡ old)
-  pub full : IsFullAt events result
-  pub only : IfErr result IsWantOfRoom
+  pub full : IsFullRefusal events result
+  pub only : IfErr result IsRoomRefusal
 
 -- the call hands the block in
-abbrev pub HandsIn : {A : Type 0} → List Event → State → State → Result A Refused → Type 0
-HandsIn block old new result = EndsIn (length old.journal.events + length block) (handed_in old block) old new result
+abbrev pub EndsHandedIn : {A : Type 0} → List Event → State → State → Result A Refused → Type 0
+EndsHandedIn block old new result = EndsIn (length old.journal.events + length block) (book_handed_in old block) old new result
 
 -- the call hands the block in, and closes the interval by an event, which makes this of the book
-abbrev pub Closes : {A : Type 0} → List Event → (State → State) → State → State → Result A Refused → Type 0
-Closes block f old new result =
-    EndsIn (length old.journal.events + length block + 1) (f (handed_in old block)) old new result
+abbrev pub EndsClosed : {A : Type 0} → List Event → (State → State) → State → State → Result A Refused → Type 0
+EndsClosed block f old new result =
+    EndsIn (length old.journal.events + length block + 1) (f (book_handed_in old block)) old new result

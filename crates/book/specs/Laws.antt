@@ -8,25 +8,25 @@ use Rattle.journal.specs.Sizes.{Sizes}
 use Rattle.journal.specs.Events.{count_of, is_closing}
 use Rattle.journal.specs.WellFormed.{Holds, Allowed}
 use Rattle.journal.specs.Brings.{Brings}
-use Rattle.journal.specs.Missing.{InClosingOrder, AreMissingNotices}
+use Rattle.journal.specs.MissingWords.{MissingInOrder, AreMissingNotices}
 use Rattle.vtime.specs.Times.{join}
-use Rattle.interval.specs.Closings.{between}
-use Rattle.page.specs.Changes.{Changes}
+use Rattle.interval.specs.Closings.{closings_between}
+use Rattle.page.specs.RisingChanges.{Changes}
 use Rattle.transit.specs.Letters.{Letter}
-use Rattle.journal.specs.Did.{did}
-use Rattle.book.specs.Brought.{message_for}
-use Rattle.book.specs.ClosedIntervals.{AreContents}
+use Rattle.journal.specs.DidEvent.{did}
+use Rattle.book.specs.Messages.{message_for}
+use Rattle.book.specs.ClosedIntervals.{AreIntervalContents}
 use Rattle.book.specs.State.{State, time_of}
 use Rattle.book.specs.Stamps.{IsStamp}
-use Rattle.book.specs.News.{missing_in}
-use Rattle.book.specs.Transitions.{new_book, handed_in, handed_last, book_asked, book_released, book_arrived, book_set, book_watched, book_taken}
-use Rattle.book.specs.Cutting.{WasBookCut}
-use Rattle.book.specs.Calls.{MayHandIn, MayGive}
+use Rattle.book.specs.News.{news_of_page}
+use Rattle.book.specs.Transitions.{new_book, book_handed_in, book_handed_last, book_asked, book_released, book_arrived, book_set, book_watched, book_taken}
+use Rattle.book.specs.BookCut.{WasBookCut}
+use Rattle.book.specs.Calls.{AllowsIdleBlock, AllowsBlock}
 use Rattle.book.specs.Told.{Represents}
 
 -- the records are those of p's open interval
 abbrev pub AreOpenRecords : Sizes → List Event → ℕ → List Changes → Type 0
-AreOpenRecords s h p records = AreContents s h p (count_of is_closing h p) records
+AreOpenRecords s h p records = AreIntervalContents s h p (count_of is_closing h p) records
 
 -- an empty book is told by the empty history
 abbrev pub NewLaw : Type 0
@@ -34,49 +34,49 @@ NewLaw = (s : Sizes) → 0 < s.processors → Represents s [] (new_book s)
 
 -- a block that is handed in, also by one who waits if it is empty
 abbrev pub HandInLaw : Type 0
-HandInLaw = (s : Sizes) (h block : List Event) (b : State) (p : ℕ) → Represents s h b → MayGive s b p block
-    → Represents s (h ++ block) (handed_in b block)
+HandInLaw = (s : Sizes) (h block : List Event) (b : State) (p : ℕ) → Represents s h b → AllowsBlock s b p block
+    → Represents s (h ++ block) (book_handed_in b block)
 
 -- a last block
 abbrev pub LastLaw : Type 0
-LastLaw = (s : Sizes) (h block : List Event) (b : State) (p : ℕ) → Represents s h b → MayGive s b p block
-    → Represents s (h ++ block) (handed_last b block)
+LastLaw = (s : Sizes) (h block : List Event) (b : State) (p : ℕ) → Represents s h b → AllowsBlock s b p block
+    → Represents s (h ++ block) (book_handed_last b block)
 
 -- an ask of a lock that p doesn't hold
 abbrev pub AskLaw : Type 0
 AskLaw = (s : Sizes) (h block : List Event) (b : State) (p l : ℕ) (records : List Changes) → Represents s h b
-    → MayHandIn s b p block → AreOpenRecords s (h ++ block) p records → l < s.locks → ¬ Holds h p l
-    → Represents s (did (h ++ block) p (Ask l)) (book_asked (handed_in b block) p l records)
+    → AllowsIdleBlock s b p block → AreOpenRecords s (h ++ block) p records → l < s.locks → ¬ Holds h p l
+    → Represents s (did (h ++ block) p (Ask l)) (book_asked (book_handed_in b block) p l records)
 
 -- a release of a lock that p holds
 abbrev pub ReleaseLaw : Type 0
 ReleaseLaw = (s : Sizes) (h block : List Event) (b : State) (p l : ℕ) (records : List Changes) → Represents s h b
-    → MayHandIn s b p block → AreOpenRecords s (h ++ block) p records → l < s.locks → Holds h p l
-    → Represents s (did (h ++ block) p (Release l)) (book_released (handed_in b block) p l records)
+    → AllowsIdleBlock s b p block → AreOpenRecords s (h ++ block) p records → l < s.locks → Holds h p l
+    → Represents s (did (h ++ block) p (Release l)) (book_released (book_handed_in b block) p l records)
 
 -- an arrival
 abbrev pub ArriveLaw : Type 0
 ArriveLaw = (s : Sizes) (h block : List Event) (b : State) (p : ℕ) (records : List Changes) → Represents s h b
-    → MayHandIn s b p block → AreOpenRecords s (h ++ block) p records
-    → Represents s (did (h ++ block) p Arrive) (book_arrived (handed_in b block) p records)
+    → AllowsIdleBlock s b p block → AreOpenRecords s (h ++ block) p records
+    → Represents s (did (h ++ block) p Arrive) (book_arrived (book_handed_in b block) p records)
 
 -- a set of a flag
 abbrev pub SetLaw : Type 0
 SetLaw = (s : Sizes) (h block : List Event) (b : State) (p f : ℕ) (records : List Changes) → Represents s h b
-    → MayHandIn s b p block → AreOpenRecords s (h ++ block) p records → f < s.flags
-    → Represents s (did (h ++ block) p (Set f)) (book_set (handed_in b block) p f records)
+    → AllowsIdleBlock s b p block → AreOpenRecords s (h ++ block) p records → f < s.flags
+    → Represents s (did (h ++ block) p (Set f)) (book_set (book_handed_in b block) p f records)
 
 -- a watch of a flag
 abbrev pub WatchLaw : Type 0
 WatchLaw = (s : Sizes) (h block : List Event) (b : State) (p f : ℕ) (records : List Changes) → Represents s h b
-    → MayHandIn s b p block → AreOpenRecords s (h ++ block) p records → f < s.flags
-    → Represents s (did (h ++ block) p (Watch f)) (book_watched (handed_in b block) p f records)
+    → AllowsIdleBlock s b p block → AreOpenRecords s (h ++ block) p records → f < s.flags
+    → Represents s (did (h ++ block) p (Watch f)) (book_watched (book_handed_in b block) p f records)
 
 -- p's message lets p do what it waits for, has the time of what that brings, and what p lacks of it
 pub record IsMessage (s : Sizes) (h : List Event) (b : State) (p : ℕ) (k : Kind) (m : Letter) : Type 0 where
   pub allowed : Allowed s h p k
   pub time : IsStamp s.processors h (Brings h p k) m.time
-  pub notices : m.notices ≡ between b.closed (time_of b p) m.time
+  pub notices : m.notices ≡ closings_between b.closed (time_of b p) m.time
 
 -- what has come for one who waits
 abbrev pub MessageLaw : Type 0
@@ -99,9 +99,9 @@ abbrev pub NewsLaw : Type 0
 NewsLaw = (s : Sizes) (h : List Event) (b : State) (p n : ℕ) (k : Kind) (u : List ℕ) → Represents s h b
     → p < s.processors → IsStamp s.processors h (Brings h p k) u
     → AreMissingNotices s h p n (slice_index (time_of b p)) (slice_index (join (time_of b p) u))
-    (missing_in n (between b.closed (time_of b p) u))
+    (news_of_page n (closings_between b.closed (time_of b p) u))
 
 -- what lies between two timestamps is in closing order
 abbrev pub NewsOrderLaw : Type 0
 NewsOrderLaw = (s : Sizes) (h : List Event) (b : State) (n : ℕ) (old new : List ℕ) → Represents s h b
-    → InClosingOrder (missing_in n (between b.closed old new))
+    → MissingInOrder (news_of_page n (closings_between b.closed old new))

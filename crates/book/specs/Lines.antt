@@ -2,11 +2,11 @@
 use Rattle.std.specs.Prelude.{ℕ, ◌≡◌, ◌<◌, ◌⊎◌, Some, None, List, [], slice_get}
 use Rattle.journal.specs.declared.event.Event.{Event}
 use Rattle.journal.specs.declared.event.Kind.TheVariants.{Ask, Release}
-use Rattle.base.specs.Places.{Has}
+use Rattle.base.specs.InOrderOnce.{Has}
 use Rattle.journal.specs.WellFormed.{LastIs, Holds}
 use Rattle.journal.specs.Pasts.{UpToSome}
 use Rattle.journal.specs.Brings.{SomeDoes}
-use Rattle.lockq.specs.Lock.{Lock, line}
+use Rattle.lockq.specs.LockQueues.{Lock, lock_line}
 use Rattle.book.specs.Stamps.{IsStamp}
 
 -- the open asks of lock l stand in the line in their order, and its holder, if there is one, first
@@ -19,6 +19,6 @@ pub record IsLine (h : List Event) (l : ℕ) (xs : List ℕ) : Type 0 where
 
 -- the lock has this line, and keeps the time of its releases
 pub record IsLock (n : ℕ) (h : List Event) (l : ℕ) (k : Lock) : Type 0 where
-  pub line_is : IsLine h l (line k)
+  pub line_is : IsLine h l (lock_line k)
   pub held : k.holder ≡ None → k.queue ≡ []
   pub time : IsStamp n h (UpToSome h (SomeDoes h (Release l))) k.time

@@ -12,25 +12,25 @@ use Rattle.transit.specs.Letters
 use Rattle.book.specs.Stamps.{IsStamp}
 
 -- a message lets its receiver do this: a grant an Acquire, and a departure a Depart
-abbrev pub LetsDo : Letters.Kind → Kind → Type 0
-LetsDo grant (Acquire l) = Unit {0}
-LetsDo departure Depart = Unit {0}
-LetsDo _ _ = ⊥
+abbrev pub MailLets : Letters.Kind → Kind → Type 0
+MailLets grant (Acquire l) = Unit {0}
+MailLets departure Depart = Unit {0}
+MailLets _ _ = ⊥
 
 -- what is let by a message
-abbrev pub IsPosted : Kind → Type 0
-IsPosted (Acquire l) = Unit {0}
-IsPosted Depart = Unit {0}
-IsPosted _ = ⊥
+abbrev pub ComesByMail : Kind → Type 0
+ComesByMail (Acquire l) = Unit {0}
+ComesByMail Depart = Unit {0}
+ComesByMail _ = ⊥
 
 -- the message lets p do what it is allowed to do, and has the time of what that brings
-pub record Carries (s : Sizes) (h : List Event) (p : ℕ) (m : Letter) : Type 0 where
+pub record MailCarries (s : Sizes) (h : List Event) (p : ℕ) (m : Letter) : Type 0 where
   pub kind : Kind
-  pub lets : LetsDo m.kind kind
+  pub lets : MailLets m.kind kind
   pub allowed : Allowed s h p kind
   pub time : IsStamp s.processors h (Brings h p kind) m.time
 
 -- p's message, or none where p is allowed nothing that a message lets it do
 abbrev pub IsMail : Sizes → List Event → ℕ → Option Letter → Type 0
-IsMail s h p None = (k : Kind) → IsPosted k → ¬ Allowed s h p k
-IsMail s h p (Some m) = Carries s h p m
+IsMail s h p None = (k : Kind) → ComesByMail k → ¬ Allowed s h p k
+IsMail s h p (Some m) = MailCarries s h p m

@@ -5,9 +5,9 @@ use Rattle.book.specs.declared.refused.Refused.{Refused}
 use Rattle.book.specs.declared.refused.Refused.TheVariants.{JournalFull, NoMemory}
 
 -- JournalFull exactly where the journal would have this many events, which are more than it may have
-abbrev pub IsFullAt : {A : Type 0} → ℕ → Result A Refused → Type 0
-IsFullAt n result = result ≡ Err JournalFull ↔ (most_events < n)
+abbrev pub IsFullRefusal : {A : Type 0} → ℕ → Result A Refused → Type 0
+IsFullRefusal n result = result ≡ Err JournalFull ↔ (most_events < n)
 
 -- want of room in the journal, or of memory
-abbrev pub IsWantOfRoom : Refused → Type 0
-IsWantOfRoom e = (e ≡ JournalFull) ⊎ (e ≡ NoMemory)
+abbrev pub IsRoomRefusal : Refused → Type 0
+IsRoomRefusal e = (e ≡ JournalFull) ⊎ (e ≡ NoMemory)

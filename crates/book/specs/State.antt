@@ -3,7 +3,7 @@ use Rattle.std.specs.Prelude.{ℕ, Option, List, [], slice_index_or}
 use Rattle.journal.specs.declared.event.Kind.{Kind}
 use Rattle.journal.specs.Log.{Log}
 use Rattle.interval.specs.Closings.{Closings}
-use Rattle.lockq.specs.Lock.{Locks}
+use Rattle.lockq.specs.LockQueues.{Locks}
 use Rattle.barrier.specs.Episodes.{Episodes}
 use Rattle.transit.specs.Letters.{Letter}
 

@@ -4,15 +4,15 @@ use Rattle.journal.specs.declared.event.Event.{Event}
 use Rattle.journal.specs.Sizes.{Sizes, addresses}
 use Rattle.journal.specs.WellFormed.{WellFormed}
 use Rattle.journal.specs.Pasts.{InPast}
-use Rattle.interval.specs.Closings.{between}
+use Rattle.interval.specs.Closings.{closings_between}
 use Rattle.transit.specs.Letters.{Letter}
 use Rattle.book.specs.Stamps.{EachAt, IsStamp, IsAwaited}
 use Rattle.book.specs.Lines.{IsLock}
 use Rattle.book.specs.Mail.{IsMail}
-use Rattle.book.specs.Meetings.{IsBarrier}
+use Rattle.book.specs.BarrierStages.{IsBarrier}
 use Rattle.book.specs.Flags.{IsFlag}
-use Rattle.book.specs.ClosedIntervals.{AreClosed, DropsOnlyCovered, IsTight}
-use Rattle.journal.specs.Log.{Log, HoldsRest}
+use Rattle.book.specs.ClosedIntervals.{AreClosed, DropsOnlyCoveredIntervals, IsTight}
+use Rattle.journal.specs.Log.{Log, HoldsRestOfHistory}
 use Rattle.book.specs.State.{State}
 
 -- the book is one of a cluster of these sizes
@@ -25,7 +25,7 @@ pub record HasSizes (s : Sizes) (b : State) : Type 0 where
 -- the journal holds what is left of this history after some of it was cut off
 pub record HoldsSome (log : Log) (h : List Event) : Type 0 where
   pub taken : List Event
-  pub rest : HoldsRest log taken h
+  pub rest : HoldsRestOfHistory log taken h
 
 -- the book is told by the history
 pub record Represents (s : Sizes) (h : List Event) (b : State) : Type 0 where
@@ -40,8 +40,8 @@ pub record Represents (s : Sizes) (h : List Event) (b : State) : Type 0 where
   pub awaits : EachAt s.processors (IsAwaited h) b.awaits
   pub transit : EachAt s.processors (IsMail s h) b.transit
   pub notices : (p : ℕ) (m : Letter) (t : List ℕ) → slice_get b.transit p ≡ Some (Some m)
-      → slice_get b.times p ≡ Some t → m.notices ≡ between b.closed t m.time
-  pub within : DropsOnlyCovered b.closed.first b.times
+      → slice_get b.times p ≡ Some t → m.notices ≡ closings_between b.closed t m.time
+  pub within : DropsOnlyCoveredIntervals b.closed.first b.times
   pub tight : 1 < s.processors → IsTight b.closed.first b.times
 
 -- some history tells the book

@@ -10,18 +10,18 @@ use Rattle.journal.specs.declared.event.Kind.TheVariants.{Ask, Release, Arrive, 
 use Rattle.journal.specs.Log.{Log, new_log}
 use Rattle.journal.specs.Sizes.{Sizes, addresses}
 use Rattle.journal.specs.Waits.{awaited}
-use Rattle.page.specs.Changes.{Changes}
+use Rattle.page.specs.RisingChanges.{Changes}
 use Rattle.vtime.specs.Times.{tick, join}
-use Rattle.interval.specs.Intervals.{ClosedInterval}
-use Rattle.interval.specs.Closings.{Closings, pushed, trimmed, between}
-use Rattle.lockq.specs.Lock.{unheld, lock_at, with_lock, asked, released}
-use Rattle.barrier.specs.Episodes.{Episodes, unmet, episode_full, arrived_at, arrived, departed}
+use Rattle.interval.specs.SentIntervals.{ClosedInterval}
+use Rattle.interval.specs.Closings.{Closings, pushed, trimmed, closings_between}
+use Rattle.lockq.specs.LockQueues.{unheld_lock, lock_at, with_lock, asked_lock, released_lock}
+use Rattle.barrier.specs.Episodes.{Episodes, unmet_episodes, episode_full, episode_with_arrival, episode_arrived, episode_departed}
 use Rattle.transit.specs.Letters.{Letter, letter}
 use Rattle.transit.specs.declared.message.Message.{Message}
 use Rattle.transit.specs.Letters.Kind.{grant, departure}
-use Rattle.journal.specs.Did.{event}
+use Rattle.journal.specs.DidEvent.{event}
 use Rattle.book.specs.State.{State, time_of}
-use Rattle.book.specs.Brought.{message_for}
+use Rattle.book.specs.Messages.{message_for}
 
 -- no closed interval of n processors
 abbrev pub no_closings : ℕ → Closings
@@ -34,8 +34,8 @@ new_book s = record {
   journal = record (new_log s.processors (addresses s)) { room = 256 * s.processors };
   closed = no_closings s.processors;
   times = replicate s.processors (replicate s.processors 0);
-  locks = record { processors = s.processors; locks = replicate s.locks (unheld s.processors) };
-  barrier = unmet s.processors;
+  locks = record { processors = s.processors; locks = replicate s.locks (unheld_lock s.processors) };
+  barrier = unmet_episodes s.processors;
   flags = replicate s.flags None;
   awaits = replicate s.processors None;
   transit = replicate s.processors None;
@@ -46,39 +46,39 @@ abbrev pub appended : Log → List Event → Log
 appended log es = record log { events = log.events ++ es }
 
 -- a block is handed in
-abbrev pub handed_in : State → List Event → State
-handed_in b block = record b { journal = appended b.journal block }
+abbrev pub book_handed_in : State → List Event → State
+book_handed_in b block = record b { journal = appended b.journal block }
 
 -- the last block of a processor is handed in, for which room was kept
-abbrev pub handed_last : State → List Event → State
-handed_last b block =
+abbrev pub book_handed_last : State → List Event → State
+book_handed_last b block =
     record b {
       journal =
           record b.journal { events = b.journal.events ++ block; room = b.journal.room - length block };
     }
 
 -- p does this
-abbrev pub logged : State → ℕ → Kind → State
-logged b p k = record b { journal = appended b.journal (event p k ∷ []); awaits = slice_set b.awaits p (awaited k) }
+abbrev pub book_logged : State → ℕ → Kind → State
+book_logged b p k = record b { journal = appended b.journal (event p k ∷ []); awaits = slice_set b.awaits p (awaited k) }
 
 -- p's open interval, with what it stored
-abbrev pub open_interval : State → ℕ → List Changes → ClosedInterval
-open_interval b p records = record { owner = p; number = slice_index (time_of b p) p; records = records }
+abbrev pub book_open_interval : State → ℕ → List Changes → ClosedInterval
+book_open_interval b p records = record { owner = p; number = slice_index (time_of b p) p; records = records }
 
 -- p does this and closes its interval
-abbrev pub closed_by : State → ℕ → Kind → List Changes → State
-closed_by b p k records = record (logged b p k) {
-  closed = pushed b.closed (open_interval b p records);
+abbrev pub book_closed_by : State → ℕ → Kind → List Changes → State
+book_closed_by b p k records = record (book_logged b p k) {
+  closed = pushed b.closed (book_open_interval b p records);
   times = slice_set b.times p (tick (time_of b p) p);
 }
 
 -- a grant, at this time, to a processor with that timestamp
 abbrev pub grant_to : Closings → List ℕ → List ℕ → Letter
-grant_to c t own = record { kind = grant; time = t; notices = between c own t }
+grant_to c t own = record { kind = grant; time = t; notices = closings_between c own t }
 
 -- the book's grant to p of a lock that was released at this time
-abbrev pub grant_from : State → ℕ → List ℕ → Letter
-grant_from b p t = grant_to b.closed t (time_of b p)
+abbrev pub book_grant : State → ℕ → List ℕ → Letter
+book_grant b p t = grant_to b.closed t (time_of b p)
 
 -- the message, where nobody holds the lock
 abbrev pub if_free : Option ℕ → Letter → Option Letter
@@ -87,10 +87,10 @@ if_free (Some q) m = None
 
 -- p asks for a lock
 abbrev pub book_asked : State → ℕ → ℕ → List Changes → State
-book_asked b p l records = record (closed_by b p (Ask l) records) {
-  locks = with_lock b.locks l (asked (lock_at b.locks l) p);
+book_asked b p l records = record (book_closed_by b p (Ask l) records) {
+  locks = with_lock b.locks l (asked_lock (lock_at b.locks l) p);
   transit = slice_set b.transit p
-      (if_free (lock_at b.locks l).holder (grant_from (closed_by b p (Ask l) records) p (lock_at b.locks l).time));
+      (if_free (lock_at b.locks l).holder (book_grant (book_closed_by b p (Ask l) records) p (lock_at b.locks l).time));
 }
 
 -- a message and who is to have it
@@ -102,61 +102,61 @@ abbrev pub addressed_grant : Closings → List (List ℕ) → List ℕ → ℕ �
 addressed_grant c times t r = (r, grant_to c t (slice_index_or times r []))
 
 -- the first of the queue is granted the lock
-abbrev pub mail_passed_on : State → List ℕ → List ℕ → List (Option Letter)
-mail_passed_on b [] t = b.transit
-mail_passed_on b (r ∷ queue) t = slice_set b.transit r (Some (grant_from b r t))
+abbrev pub book_mail_passed : State → List ℕ → List ℕ → List (Option Letter)
+book_mail_passed b [] t = b.transit
+book_mail_passed b (r ∷ queue) t = slice_set b.transit r (Some (book_grant b r t))
 
 -- p releases a lock
 abbrev pub book_released : State → ℕ → ℕ → List Changes → State
-book_released b p l records = record (closed_by b p (Release l) records) {
-  locks = with_lock b.locks l (released (lock_at b.locks l) (tick (time_of b p) p));
-  transit = mail_passed_on (closed_by b p (Release l) records) (lock_at b.locks l).queue (tick (time_of b p) p);
+book_released b p l records = record (book_closed_by b p (Release l) records) {
+  locks = with_lock b.locks l (released_lock (lock_at b.locks l) (tick (time_of b p) p));
+  transit = book_mail_passed (book_closed_by b p (Release l) records) (lock_at b.locks l).queue (tick (time_of b p) p);
 }
 
 -- a departure, at this time, to a processor with that timestamp
 abbrev pub departure_to : Closings → List ℕ → List ℕ → Letter
-departure_to c t own = record { kind = departure; time = t; notices = between c own t }
+departure_to c t own = record { kind = departure; time = t; notices = closings_between c own t }
 
 -- the departures that p's arrival at this time brings to those with these timestamps
 abbrev pub departures_to : Closings → Episodes → List (List ℕ) → ℕ → List ℕ → Option (List Letter)
-departures_to c b times p t = cond (episode_full (arrived_at b p t)) (Some (map (departure_to c (join b.gathered t)) times)) None
+departures_to c b times p t = cond (episode_full (episode_with_arrival b p t)) (Some (map (departure_to c (join b.gathered t)) times)) None
 
 -- a complete episode lets all depart
-abbrev pub mail_met : Bool → State → List ℕ → List (Option Letter)
-mail_met false b t = b.transit
-mail_met true b t = map (λ (own : List ℕ). Some (departure_to b.closed t own)) b.times
+abbrev pub book_mail_met : Bool → State → List ℕ → List (Option Letter)
+book_mail_met false b t = b.transit
+book_mail_met true b t = map (λ (own : List ℕ). Some (departure_to b.closed t own)) b.times
 
 -- p arrives at the barrier
 abbrev pub book_arrived : State → ℕ → List Changes → State
-book_arrived b p records = record (closed_by b p Arrive records) {
-  barrier = arrived b.barrier p (tick (time_of b p) p);
-  transit = mail_met (episode_full (arrived_at b.barrier p (tick (time_of b p) p))) (closed_by b p Arrive records)
+book_arrived b p records = record (book_closed_by b p Arrive records) {
+  barrier = episode_arrived b.barrier p (tick (time_of b p) p);
+  transit = book_mail_met (episode_full (episode_with_arrival b.barrier p (tick (time_of b p) p))) (book_closed_by b p Arrive records)
       (join b.barrier.gathered (tick (time_of b p) p));
 }
 
 -- the time of a flag after one more set
-abbrev pub flag_joined : Option (List ℕ) → List ℕ → List ℕ
-flag_joined None t = t
-flag_joined (Some u) t = join u t
+abbrev pub book_flag_joined : Option (List ℕ) → List ℕ → List ℕ
+book_flag_joined None t = t
+book_flag_joined (Some u) t = join u t
 
 -- p sets a flag
 abbrev pub book_set : State → ℕ → ℕ → List Changes → State
-book_set b p f records = record (closed_by b p (Set f) records) {
-  flags = slice_set b.flags f (Some (flag_joined (slice_index_or b.flags f None) (tick (time_of b p) p)));
+book_set b p f records = record (book_closed_by b p (Set f) records) {
+  flags = slice_set b.flags f (Some (book_flag_joined (slice_index_or b.flags f None) (tick (time_of b p) p)));
 }
 
 -- p watches a flag
 abbrev pub book_watched : State → ℕ → ℕ → List Changes → State
-book_watched b p f records = closed_by b p (Watch f) records
+book_watched b p f records = book_closed_by b p (Watch f) records
 
 -- p does this, which takes this time over
 abbrev pub book_joined : State → ℕ → Kind → List ℕ → State
-book_joined b p k t = record (logged b p k) { times = slice_set b.times p (join (time_of b p) t) }
+book_joined b p k t = record (book_logged b p k) { times = slice_set b.times p (join (time_of b p) t) }
 
 -- the barrier after p takes a grant or a departure
-abbrev pub barrier_left : Kind → Episodes → ℕ → Episodes
-barrier_left Depart b p = departed b p
-barrier_left _ b p = b
+abbrev pub book_barrier_left : Kind → Episodes → ℕ → Episodes
+book_barrier_left Depart b p = episode_departed b p
+book_barrier_left _ b p = b
 
 -- the lesser of a number and an entry for q
 abbrev pub lesser : ℕ → ℕ → List ℕ → ℕ
@@ -178,14 +178,14 @@ book_trimmed b = record b { closed = trimmed_by b.closed b.times (length b.times
 -- p takes this message, for which it waited
 abbrev pub book_received : State → ℕ → Kind → Letter → State
 book_received b p k m =
-    record (book_joined b p k m.time) { transit = slice_set b.transit p None; barrier = barrier_left k b.barrier p }
+    record (book_joined b p k m.time) { transit = slice_set b.transit p None; barrier = book_barrier_left k b.barrier p }
 
 -- and what everyone has performed then is trimmed
 abbrev pub book_taken : State → ℕ → Kind → Letter → State
 book_taken b p k m = book_trimmed (book_received b p k m)
 
 -- p takes this message, which has come for what it waits for
-pub record Takes (old : State) (p : ℕ) (m : Letter) (new : State) : Type 0 where
+pub record BookTakes (old : State) (p : ℕ) (m : Letter) (new : State) : Type 0 where
   pub kind : Kind
   pub awaits : slice_get old.awaits p ≡ Some (Some kind)
   pub message : message_for old p kind ≡ Some m

@@ -2,7 +2,7 @@
 use Rattle.std.specs.Prelude.{ℕ, ◌+◌, Bool, true, false, List, [], ◌∷◌}
 
 -- the places of the marks, counted from n
-abbrev pub places_from : ℕ → List Bool → List ℕ
-places_from n [] = []
-places_from n (true ∷ marks) = n ∷ places_from ((n + 1)) marks
-places_from n (false ∷ marks) = places_from ((n + 1)) marks
+abbrev pub waiters_from : ℕ → List Bool → List ℕ
+waiters_from n [] = []
+waiters_from n (true ∷ marks) = n ∷ waiters_from ((n + 1)) marks
+waiters_from n (false ∷ marks) = waiters_from ((n + 1)) marks

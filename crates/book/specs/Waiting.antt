@@ -3,26 +3,26 @@ use Rattle.std.specs.Prelude.{ℕ, ◌≡◌, ◌≢◌, ◌<◌, true, false, S
 use Rattle.journal.specs.declared.event.Event.{Event}
 use Rattle.journal.specs.declared.event.Kind.{Kind}
 use Rattle.journal.specs.declared.event.Kind.TheVariants.{Acquire, Release, Arrive, Depart, Set, Await}
-use Rattle.journal.specs.Did.{did}
+use Rattle.journal.specs.DidEvent.{did}
 use Rattle.journal.specs.Sizes.{Sizes}
 use Rattle.journal.specs.Events.{is_closing}
 use Rattle.journal.specs.WellFormed.{Ready}
 use Rattle.base.specs.Limits.{most_processors}
-use Rattle.lockq.specs.Lock.{lock_at}
+use Rattle.lockq.specs.LockQueues.{lock_at}
 use Rattle.book.specs.State.{State}
-use Rattle.book.specs.Brought.{has_come}
+use Rattle.book.specs.Messages.{message_has_come}
 use Rattle.book.specs.Told.{Represents}
 
 -- p waits for this, which has come
-pub record HasComeFor (b : State) (k : Kind) (p : ℕ) : Type 0 where
+pub record IsDoneWaiting (b : State) (k : Kind) (p : ℕ) : Type 0 where
   pub waits : slice_get b.awaits p ≡ Some (Some k)
-  pub come : has_come b.flags b.transit p k ≡ true
+  pub come : message_has_come b.flags b.transit p k ≡ true
 
 -- p waits for what has not come
 pub record WaitsInVain (b : State) (p : ℕ) : Type 0 where
   pub kind : Kind
   pub waits : slice_get b.awaits p ≡ Some (Some kind)
-  pub come : has_come b.flags b.transit p kind ≡ false
+  pub come : message_has_come b.flags b.transit p kind ≡ false
 
 -- some history that ends with this closing event of p tells the book
 pub record HasClosed (b : State) (p : ℕ) (k : Kind) : Type 0 where
@@ -34,13 +34,13 @@ pub record HasClosed (b : State) (p : ℕ) (k : Kind) : Type 0 where
 -- after this event of p the book names q: who holds the released lock next, who waits for the departure where p may
 -- depart, and who waits for the flag that was set
 abbrev pub IsNamed : State → ℕ → Kind → ℕ → Type 0
-IsNamed b p (Release l) q = ((lock_at b.locks l).holder ≡ Some q) × (q < most_processors) × HasComeFor b (Acquire l) q
-IsNamed b p Arrive q = (has_come b.flags b.transit p Depart ≡ true) × (q < most_processors) × HasComeFor b Depart q
-IsNamed b p (Set f) q = (q < most_processors) × HasComeFor b (Await f) q
+IsNamed b p (Release l) q = ((lock_at b.locks l).holder ≡ Some q) × (q < most_processors) × IsDoneWaiting b (Acquire l) q
+IsNamed b p Arrive q = (message_has_come b.flags b.transit p Depart ≡ true) × (q < most_processors) × IsDoneWaiting b Depart q
+IsNamed b p (Set f) q = (q < most_processors) × IsDoneWaiting b (Await f) q
 IsNamed b p _ q = ⊥
 
 -- p's block and the event after it let q go on, another of the first 16 processors, who couldn't before
-pub record LetsOn (s : Sizes) (h block : List Event) (p : ℕ) (k : Kind) (q : ℕ) : Type 0 where
+pub record LetsWaitingOn (s : Sizes) (h block : List Event) (p : ℕ) (k : Kind) (q : ℕ) : Type 0 where
   pub other : q ≢ p
   pub few : q < most_processors
   pub before : ¬ Ready s h q

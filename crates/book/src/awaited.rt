@@ -2,7 +2,7 @@
 ghost use Rattle.std.specs.Prelude.{◌≡◌};
 ghost use Rattle.std.specs.Option.{option_map};
 ghost use Rattle.journal.specs.Prelude.{awaited};
-ghost use Rattle.book.specs.Prelude.{kind_of};
+ghost use Rattle.book.specs.Prelude.{awaited_kind};
 
 use journal::Kind;
 
@@ -20,7 +20,7 @@ pub enum Awaited {
 impl Awaited {
     /// What is awaited after a call of this kind: None where the call doesn't wait.
     pub fn after(kind: Kind) -> Option<Awaited>
-        ensures { option_map kind_of result ≡ awaited kind }
+        ensures { option_map awaited_kind result ≡ awaited kind }
     {
         match kind {
             Kind::Ask(lock) => Some(Awaited::Grant(lock)),
@@ -39,7 +39,7 @@ impl Awaited {
 
     /// The kind of the event that ends the wait.
     pub fn kind(self) -> Kind
-        ensures { result ≡ kind_of self }
+        ensures { result ≡ awaited_kind self }
     {
         match self {
             Awaited::Grant(lock) => Kind::Acquire(lock),

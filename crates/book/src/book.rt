@@ -7,14 +7,14 @@ ghost use Rattle.journal.specs.Prelude.{Sizes, Ready, IsCutFault, IsDeadlock, di
 ghost use Rattle.journal.specs.declared.event.Event.{Event as AnEvent};
 ghost use Rattle.interval.specs.Prelude.{HasRisingPages, is_of_page};
 ghost use Rattle.transit.specs.Prelude.{letter};
-ghost use Rattle.book.specs.Prelude.{brought, WasBookCut, MayFlush, MayCloseIdle, MayAsk, MayRelease, MayTakeSome};
-ghost use Rattle.book.specs.Prelude.{IsProcessor, new_book, handed_in, handed_last, book_watched, book_set, book_asked};
-ghost use Rattle.book.specs.Prelude.{book_released, book_arrived, Closes, HandsIn, IsFullAt, Represents, IsWantOfRoom};
-ghost use Rattle.book.specs.Prelude.{HasClosed, IsBlockOf, IsToldBySome, LetsOn, Takes};
+ghost use Rattle.book.specs.Prelude.{brought, WasBookCut, AllowsFlush, AllowsClosing, AllowsAsk, AllowsRelease, AllowsSomeTake};
+ghost use Rattle.book.specs.Prelude.{IsProcessor, new_book, book_handed_in, book_handed_last, book_watched, book_set, book_asked};
+ghost use Rattle.book.specs.Prelude.{book_released, book_arrived, EndsClosed, EndsHandedIn, IsFullRefusal, Represents, IsRoomRefusal};
+ghost use Rattle.book.specs.Prelude.{HasClosed, IsBlockOf, IsToldBySome, LetsWaitingOn, BookTakes};
 
 use crate::awaited::Awaited;
+use crate::empty::{empty_history, empty_locks, empty_timestamps};
 use crate::messages::{grant_to, has_come, post_all, receive};
-use crate::opening::{empty_history, idle, unused};
 use crate::protocol::{Protocol, leave, with_set};
 use crate::refused::Refused;
 use crate::room::{LIMIT, append_all, make_room};
@@ -75,8 +75,8 @@ impl Book {
     {
         let owing = 256 * processors;
         let (journal, closed) = empty_history(alloc, processors, pages * words, owing)?;
-        let (times, awaits) = idle(alloc, processors)?;
-        let (locks, flags, transit) = unused(alloc, processors, locks, flags)?;
+        let (times, awaits) = empty_timestamps(alloc, processors)?;
+        let (locks, flags, transit) = empty_locks(alloc, processors, locks, flags)?;
         let barrier = Barrier::new(alloc, processors);
         let parts = Protocol {
             words,
@@ -95,12 +95,12 @@ impl Book {
         })
     }
 
-    /// Hands in a block of loads, stores and fetches of processor `p`, which is empty where `p` waits.
+    /// Hands in a block of loads, stores and fetches of `processor`, which is empty where `processor` waits.
     /// JournalFull exactly where the journal would have more than 2^20 events.
-    pub fn hand_in(&mut self, p: usize, block: &[Event]) -> Result<(), Refused>
-        requires call { MayFlush self.old p block.now }
+    pub fn hand_in(&mut self, processor: usize, block: &[Event]) -> Result<(), Refused>
+        requires call { AllowsFlush self.old processor block.now }
         requires short { length block.now ≤ most_in_block }
-        ensures { HandsIn block.now self.old self.new result }
+        ensures { EndsHandedIn block.now self.old self.new result }
     {
         let parts = &mut *self.parts;
         make_room(&mut parts.journal, parts.owing, block.len())?;
@@ -109,10 +109,10 @@ impl Book {
     }
 
     /// Hands in a block as `hand_in` does, and answers a copy of the whole journal after it.
-    pub fn audit(&mut self, p: usize, block: &[Event]) -> Result<Journal, Refused>
-        requires call { MayFlush self.old p block.now }
+    pub fn audit(&mut self, processor: usize, block: &[Event]) -> Result<Journal, Refused>
+        requires call { AllowsFlush self.old processor block.now }
         requires short { length block.now ≤ most_in_block }
-        ensures call { HandsIn block.now self.old self.new result }
+        ensures call { EndsHandedIn block.now self.old self.new result }
         ensures copy { IfOk result (λ j. j ≡ record self.new.journal { room = j.room }) }
     {
         let parts = &mut *self.parts;
@@ -123,156 +123,161 @@ impl Book {
         Ok(copy)
     }
 
-    /// Watches a flag: closes the interval, whose records these are, and from then on `p` waits for the
+    /// Watches a flag: closes the interval, whose records these are, and from then on `processor` waits for the
     /// flag. Otherwise as `hand_in`, with one event more.
     pub fn watch(
         &mut self,
-        p: usize,
-        f: usize,
+        processor: usize,
+        flag: usize,
         block: &[Event],
         records: Vec<Arc<Record>>,
     ) -> Result<(), Refused>
-        requires call { MayCloseIdle self.old p block.now }
+        requires call { AllowsClosing self.old processor block.now }
         requires short { length block.now ≤ most_in_block }
         requires rising { HasRisingPages (map arc_value records.items) }
-        ensures { Closes block.now (λ b. book_watched b p f (map arc_value records.items))
+        ensures { EndsClosed block.now (λ b. book_watched b processor flag (map arc_value records.items))
             self.old self.new result }
     {
         let parts = &mut *self.parts;
-        let interval = parts.open_interval(p, records);
-        parts.close(p, Kind::Watch(f), block, interval)
+        let interval = parts.open_interval(processor, records);
+        parts.close(processor, Kind::Watch(flag), block, interval)
     }
 
-    /// Sets a flag: closes the interval, and joins the timestamp of `p` after that into the flag's.
+    /// Sets a flag: closes the interval, and joins the timestamp of `processor` after that into the flag's.
     /// Otherwise as `watch`.
     pub fn set(
         &mut self,
-        p: usize,
-        f: usize,
+        processor: usize,
+        flag: usize,
         block: &[Event],
         records: Vec<Arc<Record>>,
     ) -> Result<(), Refused>
-        requires call { MayCloseIdle self.old p block.now }
-        requires flag { f < length self.old.flags }
+        requires call { AllowsClosing self.old processor block.now }
+        requires flag { flag < length self.old.flags }
         requires short { length block.now ≤ most_in_block }
         requires rising { HasRisingPages (map arc_value records.items) }
-        ensures { Closes block.now (λ b. book_set b p f (map arc_value records.items))
+        ensures { EndsClosed block.now (λ b. book_set b processor flag (map arc_value records.items))
             self.old self.new result }
     {
         let parts = &mut *self.parts;
-        let interval = parts.open_interval(p, records);
-        parts.close(p, Kind::Set(f), block, interval)?;
-        let time = with_set(&parts.flags[f], &parts.times[p]);
-        parts.flags[f] = Some(time);
+        let interval = parts.open_interval(processor, records);
+        parts.close(processor, Kind::Set(flag), block, interval)?;
+        let time = with_set(&parts.flags[flag], &parts.times[processor]);
+        parts.flags[flag] = Some(time);
         Ok(())
     }
 
-    /// Asks for a lock that `p` doesn't hold: closes the interval, and puts `p` into the lock's line. Where
-    /// nobody holds the lock, the grant is posted, with what the lock's last release knew and `p` doesn't.
-    /// Otherwise as `watch`.
+    /// Asks for a lock that `processor` doesn't hold: closes the interval, and puts `processor` into the lock's line.
+    /// Where nobody holds the lock, the grant is posted, with what the lock's last release knew and `processor`
+    /// doesn't. Otherwise as `watch`.
     pub fn ask(
         &mut self,
-        p: usize,
-        l: usize,
+        processor: usize,
+        lock: usize,
         block: &[Event],
         records: Vec<Arc<Record>>,
     ) -> Result<(), Refused>
-        requires call { MayAsk self.old p l block.now }
+        requires call { AllowsAsk self.old processor lock block.now }
         requires short { length block.now ≤ most_in_block }
         requires rising { HasRisingPages (map arc_value records.items) }
-        ensures { Closes block.now (λ b. book_asked b p l (map arc_value records.items))
+        ensures { EndsClosed block.now (λ b. book_asked b processor lock (map arc_value records.items))
             self.old self.new result }
     {
         let parts = &mut *self.parts;
         make_room(&mut parts.journal, parts.owing, block.len() + 1)?;
-        let grant = parts.grant_if_free(p, l)?;
-        let interval = parts.open_interval(p, records);
-        parts.close(p, Kind::Ask(l), block, interval)?;
-        parts.locks.ask(l, p);
+        let grant = parts.grant_if_free(processor, lock)?;
+        let interval = parts.open_interval(processor, records);
+        parts.close(processor, Kind::Ask(lock), block, interval)?;
+        parts.locks.ask(lock, processor);
         if let Some(message) = grant {
-            parts.transit.post(p, message);
+            parts.transit.post(processor, message);
         }
         Ok(())
     }
 
-    /// Releases a lock that `p` holds: closes the interval, and leaves the timestamp of `p` after that with
-    /// the lock. The first of the lock's queue gets its grant, with what it doesn't know. Otherwise as
-    /// `watch`.
+    /// Releases a lock that `processor` holds: closes the interval, and leaves the timestamp of `processor` after that
+    /// with the lock. The first of the lock's queue gets its grant, with what it doesn't know. Otherwise as `watch`.
     pub fn release(
         &mut self,
-        p: usize,
-        l: usize,
+        processor: usize,
+        lock: usize,
         block: &[Event],
         records: Vec<Arc<Record>>,
     ) -> Result<(), Refused>
-        requires call { MayRelease self.old p l block.now }
+        requires call { AllowsRelease self.old processor lock block.now }
         requires short { length block.now ≤ most_in_block }
         requires rising { HasRisingPages (map arc_value records.items) }
-        ensures { Closes block.now (λ b. book_released b p l (map arc_value records.items))
+        ensures { EndsClosed block.now (λ b. book_released b processor lock (map arc_value records.items))
             self.old self.new result }
     {
         let parts = &mut *self.parts;
         make_room(&mut parts.journal, parts.owing, block.len() + 1)?;
-        let interval = parts.open_interval(p, records);
-        let time = parts.closing_time(p);
+        let interval = parts.open_interval(processor, records);
+        let time = parts.closing_time(processor);
         let locks = &parts.locks;
-        let grant = grant_to(locks.next(l), &parts.closed, &parts.times, &interval, &time)?;
-        parts.close(p, Kind::Release(l), block, interval)?;
-        parts.locks.release(l, p, time);
+        let grant = grant_to(
+            locks.next(lock),
+            &parts.closed,
+            &parts.times,
+            &interval,
+            &time,
+        )?;
+        parts.close(processor, Kind::Release(lock), block, interval)?;
+        parts.locks.release(lock, processor, time);
         if let Some((next, message)) = grant {
             parts.transit.post(next, message);
         }
         Ok(())
     }
 
-    /// Arrives at the barrier: closes the interval, and joins the timestamp of `p` after that into the
+    /// Arrives at the barrier: closes the interval, and joins the timestamp of `processor` after that into the
     /// episode's. Where all others have arrived, the episode is complete, and each processor gets its
     /// departure, with what it doesn't know. Otherwise as `watch`.
     pub fn arrive(
         &mut self,
-        p: usize,
+        processor: usize,
         block: &[Event],
         records: Vec<Arc<Record>>,
     ) -> Result<(), Refused>
-        requires call { MayCloseIdle self.old p block.now }
+        requires call { AllowsClosing self.old processor block.now }
         requires short { length block.now ≤ most_in_block }
         requires rising { HasRisingPages (map arc_value records.items) }
-        ensures { Closes block.now (λ b. book_arrived b p (map arc_value records.items))
+        ensures { EndsClosed block.now (λ b. book_arrived b processor (map arc_value records.items))
             self.old self.new result }
     {
         let parts = &mut *self.parts;
         make_room(&mut parts.journal, parts.owing, block.len() + 1)?;
-        let interval = parts.open_interval(p, records);
-        let time = parts.closing_time(p);
+        let interval = parts.open_interval(processor, records);
+        let time = parts.closing_time(processor);
         let departures = parts.departures_with(&interval, &time)?;
-        parts.close(p, Kind::Arrive, block, interval)?;
-        parts.barrier.arrive(p, &time);
+        parts.close(processor, Kind::Arrive, block, interval)?;
+        parts.barrier.arrive(processor, &time);
         if let Some(messages) = departures {
             post_all(&mut parts.transit, messages);
         }
         Ok(())
     }
 
-    /// Takes what `p` waits for: its grant, its departure, or the signal of its flag as the flag stands now,
-    /// with what it is to perform. NotYet exactly where that hasn't come: where `p` isn't ready in any history
+    /// Takes what `processor` waits for: its grant, its departure, or the signal of its flag as the flag stands now,
+    /// with what it is to perform. NotYet exactly where that hasn't come: where `processor` isn't ready in any history
     /// that tells the book. Else JournalFull exactly where the journal would have more than 2^20 events.
     /// Intervals that everyone has performed are dropped then; a refused call drops none.
-    pub fn take(&mut self, p: usize) -> Result<Message, Refused>
-        requires call { MayTakeSome self.old p }
-        ensures ok { IfOk result (λ m. Takes self.old p (letter m) self.new) }
-        ensures brings { IfOk result (λ m. (letter m).notices ≡ brought self.old p) }
+    pub fn take(&mut self, processor: usize) -> Result<Message, Refused>
+        requires call { AllowsSomeTake self.old processor }
+        ensures ok { IfOk result (λ m. BookTakes self.old processor (letter m) self.new) }
+        ensures brings { IfOk result (λ m. (letter m).notices ≡ brought self.old processor) }
         ensures err { OnErr result (self.new ≡ self.old) }
         ensures absent { (s : Sizes) (h : List AnEvent) → Represents s h self.old
-            → result ≡ Err Refused.NotYet ↔ (¬ Ready s h p) }
+            → result ≡ Err Refused.NotYet ↔ (¬ Ready s h processor) }
         ensures full { result ≢ Err Refused.NotYet
-            → IsFullAt (length self.old.journal.events + 1) result }
-        ensures only { IfErr result (λ e. (e ≡ Refused.NotYet) ⊎ IsWantOfRoom e) }
+            → IsFullRefusal (length self.old.journal.events + 1) result }
+        ensures only { IfErr result (λ e. (e ≡ Refused.NotYet) ⊎ IsRoomRefusal e) }
     {
         let parts = &mut *self.parts;
-        let Some(awaited) = parts.awaits[p] else {
+        let Some(awaited) = parts.awaits[processor] else {
             unreachable!("the processor waits")
         };
-        if !has_come(&parts.flags, &parts.transit, p, awaited) {
+        if !has_come(&parts.flags, &parts.transit, processor, awaited) {
             return Err(Refused::NotYet);
         }
         make_room(&mut parts.journal, parts.owing, 1)?;
@@ -281,25 +286,25 @@ impl Book {
             &mut parts.transit,
             closed,
             flags,
-            &parts.times[p],
-            p,
+            &parts.times[processor],
+            processor,
             awaited,
         )?;
         let kind = awaited.kind();
-        parts.journal.append(Event { processor: p, kind });
-        let before = parts.times[p].copy();
-        parts.times[p].join(message.time());
-        parts.awaits[p] = None;
-        leave(&mut parts.barrier, awaited, p);
-        trim(&mut parts.closed, &parts.times, p, &before);
+        parts.journal.append(Event { processor, kind });
+        let before = parts.times[processor].copy();
+        parts.times[processor].join(message.time());
+        parts.awaits[processor] = None;
+        leave(&mut parts.barrier, awaited, processor);
+        trim(&mut parts.closed, &parts.times, processor, &before);
         Ok(message)
     }
 
-    /// Hands in the last block of `p` at the end, past the limit. It takes no memory.
-    pub fn last(&mut self, p: usize, block: &[Event])
-        requires call { MayFlush self.old p block.now }
+    /// Hands in the last block of `processor` at the end, past the limit. It takes no memory.
+    pub fn last(&mut self, processor: usize, block: &[Event])
+        requires call { AllowsFlush self.old processor block.now }
         requires room { length block.now ≤ self.old.journal.room }
-        ensures { self.new ≡ handed_last self.old block.now }
+        ensures { self.new ≡ book_handed_last self.old block.now }
     {
         let parts = &mut *self.parts;
         append_all(&mut parts.journal, block);
@@ -326,17 +331,17 @@ impl Book {
         self.parts.journal.len() >= LIMIT
     }
 
-    /// Whether `p` is ready: what it waits for has come, so that a take isn't answered NotYet. It takes no memory, and
-    /// costs the same however much has come.
-    pub fn is_ready(&self, p: usize) -> bool
-        requires call { MayTakeSome self.now p }
-        ensures { (s : Sizes) (h : List AnEvent) → Represents s h self.now → IsTrue result ↔ Ready s h p }
+    /// Whether `processor` is ready: what it waits for has come, so that a take isn't answered NotYet. It takes no
+    /// memory, and costs the same however much has come.
+    pub fn is_ready(&self, processor: usize) -> bool
+        requires call { AllowsSomeTake self.now processor }
+        ensures { (s : Sizes) (h : List AnEvent) → Represents s h self.now → IsTrue result ↔ Ready s h processor }
     {
         let parts = &*self.parts;
-        let Some(awaited) = parts.awaits[p] else {
+        let Some(awaited) = parts.awaits[processor] else {
             unreachable!("the processor waits")
         };
-        has_come(&parts.flags, &parts.transit, p, awaited)
+        has_come(&parts.flags, &parts.transit, processor, awaited)
     }
 
     /// Whether the history is a deadlock: each processor waits, and what it waits for has come for none. It takes no
@@ -349,20 +354,20 @@ impl Book {
         all_wait_in_vain(&parts.awaits, &parts.flags, &parts.transit)
     }
 
-    /// Whom `p` has let go on by this event, with which it has just closed its interval: who holds the lock next that
-    /// it released, all that wait for the departure if it completed the episode, all that wait for the flag that it
-    /// set. Of the others nobody has begun to be ready by this event. It takes no memory. It costs nothing after an
-    /// ask, a watch, and an arrival that completes nothing, and the same however many processors there are after a
-    /// release.
-    pub fn let_on(&self, p: usize, kind: Kind) -> Waiters
-        requires closed { HasClosed self.now p kind }
+    /// Whom `processor` has let go on by this event, with which it has just closed its interval: who holds the lock
+    /// next that it released, all that wait for the departure if it completed the episode, all that wait for the flag
+    /// that it set. Of the others nobody has begun to be ready by this event. It takes no memory. It costs nothing
+    /// after an ask, a watch, and an arrival that completes nothing, and the same however many processors there are
+    /// after a release.
+    pub fn let_on(&self, processor: usize, kind: Kind) -> Waiters
+        requires closed { HasClosed self.now processor kind }
         ensures ready { (s : Sizes) (h : List AnEvent) (q : ℕ) → Represents s h self.now → Has result q → Ready s h q }
-        ensures all { (s : Sizes) (h block : List AnEvent) (q : ℕ) → Represents s (did (h ++ block) p kind) self.now
-            → IsBlockOf s p block → LetsOn s h block p kind q → Has result q }
+        ensures all { (s : Sizes) (h block : List AnEvent) (q : ℕ) → Represents s (did (h ++ block) processor kind) self.now
+            → IsBlockOf s processor block → LetsWaitingOn s h block processor kind q → Has result q }
         ensures within { (q : ℕ) → Has result q → q < length self.now.awaits }
     {
         let parts = &*self.parts;
-        parts.named_by(p, kind)
+        parts.named_by(processor, kind)
     }
 
     /// The number of the first kept interval of processor `q`.
@@ -381,33 +386,37 @@ impl Book {
         Box::into_inner(self.parts).journal
     }
 
-    /// How many notices of the page a take by `p` would bring now: none where `p` waits for nothing, or
+    /// How many notices of the page a take by `processor` would bring now: none where `processor` waits for nothing, or
     /// where what it waits for isn't there. It takes no memory.
-    pub fn due(&self, p: usize, page: usize) -> usize
-        requires call { IsProcessor self.now p }
-        ensures { result ≡ count_by (is_of_page page) (brought self.now p) }
+    pub fn due(&self, processor: usize, page: usize) -> usize
+        requires call { IsProcessor self.now processor }
+        ensures { result ≡ count_by (is_of_page page) (brought self.now processor) }
     {
         let parts = &*self.parts;
-        match parts.awaits[p] {
-            Some(Awaited::Grant(_) | Awaited::Departure) => parts.due_by_message(p, page),
-            Some(Awaited::Signal(flag)) => parts.due_by_flag(p, flag, page),
+        match parts.awaits[processor] {
+            Some(Awaited::Grant(_) | Awaited::Departure) => parts.count_page_by_message(
+                processor, page,
+            ),
+            Some(Awaited::Signal(flag)) => parts.count_page_by_flag(processor, flag, page),
             None => 0,
         }
     }
 
-    /// How many notices of each page a take by `p` would bring now: entry n of the slice, whatever stood
+    /// How many notices of each page a take by `processor` would bring now: entry n of the slice, whatever stood
     /// there, becomes the number for page n, as `due` answers it. Pages past the slice's end are not counted.
     /// It takes no memory, and costs in the order of the slice and of what a take would bring.
-    pub fn count_due(&self, p: usize, counts: &mut [usize])
-        requires call { IsProcessor self.now p }
+    pub fn count_due(&self, processor: usize, counts: &mut [usize])
+        requires call { IsProcessor self.now processor }
         ensures each { EachIndex counts.new (λ n. slice_index counts.new n
-            ≡ count_by (is_of_page n) (brought self.now p)) }
+            ≡ count_by (is_of_page n) (brought self.now processor)) }
         ensures same_length { length counts.new ≡ length counts.old }
     {
         let parts = &*self.parts;
-        match parts.awaits[p] {
-            Some(Awaited::Grant(_) | Awaited::Departure) => parts.count_by_message(p, counts),
-            Some(Awaited::Signal(flag)) => parts.count_by_flag(p, flag, counts),
+        match parts.awaits[processor] {
+            Some(Awaited::Grant(_) | Awaited::Departure) => parts.count_by_message(
+                processor, counts,
+            ),
+            Some(Awaited::Signal(flag)) => parts.count_by_flag(processor, flag, counts),
             None => counts.fill(0),
         }
     }

@@ -16,9 +16,9 @@
 
 mod awaited;
 mod book;
+mod empty;
 pub mod laws;
 mod messages;
-mod opening;
 mod protocol;
 mod refused;
 mod room;

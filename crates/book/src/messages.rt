@@ -2,10 +2,10 @@
 ghost use Rattle.std.specs.Prelude.{◌≡◌, ◌≢◌, ℕ, ◌<◌, ◌≤◌, IfOk, IfSome, IsSome, List, OnOk, OnErr, None, Some, true};
 ghost use Rattle.std.specs.Prelude.{length, map, replicate, slice_index, slice_set};
 ghost use Rattle.std.specs.Option.{option_map};
-ghost use Rattle.interval.specs.Prelude.{HasRisingPages, KeepsBetween, pushed};
+ghost use Rattle.interval.specs.Prelude.{HasRisingPages, KeepsClosingsBetween, pushed};
 ghost use Rattle.transit.specs.Prelude.{letter};
-ghost use Rattle.book.specs.Prelude.{addressed, addressed_grant, departure_to, kind_of, has_come, message_among};
-ghost use Rattle.book.specs.Prelude.{signal_to, MayBeSent, MaySignal};
+ghost use Rattle.book.specs.Prelude.{addressed, addressed_grant, departure_to, awaited_kind, message_has_come, message_among};
+ghost use Rattle.book.specs.Prelude.{signal_message, AllowsNotices, AllowsSignal};
 
 use crate::awaited::Awaited;
 use interval::{Closed, Interval};
@@ -25,7 +25,7 @@ pub(crate) fn grant_to(
     requires owner { interval.now.owner < length closed.now.next }
     requires pages { HasRisingPages interval.now.records }
     requires long { length time.now ≡ length closed.now.first }
-    requires next { IfSome next (λ r. MayBeSent closed.now times.now r) }
+    requires next { IfSome next (λ r. AllowsNotices closed.now times.now r) }
     ensures { IfOk result (λ g. option_map addressed g
         ≡ option_map (addressed_grant (pushed closed.now interval.now) times.now time.now) next) }
 {
@@ -52,7 +52,7 @@ pub(crate) fn departures(
     requires pages { HasRisingPages interval.now.records }
     requires long { length time.now ≡ length closed.now.first }
     requires all { (r : ℕ) → r < length times.now
-        → MayBeSent closed.now (slice_set times.now interval.now.owner own.now) r }
+        → AllowsNotices closed.now (slice_set times.now interval.now.owner own.now) r }
     ensures { IfOk result (λ ms. map letter ms.items
         ≡ map (departure_to (pushed closed.now interval.now) time.now)
         (slice_set times.now interval.now.owner own.now)) }
@@ -86,41 +86,46 @@ pub(crate) fn post_all(transit: &mut Transit, messages: Vec<Message>)
     }
 }
 
-/// Whether what `p` waits for has come: the flag is set, or there is mail.
-pub(crate) fn has_come(flags: &[Option<VTime>], mail: &Transit, p: usize, awaited: Awaited) -> bool
-    requires processor { p < length mail.now }
+/// Whether what `processor` waits for has come: the flag is set, or there is mail.
+pub(crate) fn has_come(
+    flags: &[Option<VTime>],
+    mail: &Transit,
+    processor: usize,
+    awaited: Awaited,
+) -> bool
+    requires processor { processor < length mail.now }
     requires flag { (f : ℕ) → awaited ≡ Awaited.Signal f → f < length flags.now }
-    ensures { result ≡ has_come flags.now mail.now p (kind_of awaited) }
+    ensures { result ≡ message_has_come flags.now mail.now processor (awaited_kind awaited) }
 {
     match awaited {
-        Awaited::Grant(_) | Awaited::Departure => mail.ready(p),
+        Awaited::Grant(_) | Awaited::Departure => mail.ready(processor),
         Awaited::Signal(flag) => flags[flag].is_some(),
     }
 }
 
-/// The message for `p`, who has the timestamp `own` and waits for this, which has come: a flag's signal is
+/// The message for `processor`, who has the timestamp `own` and waits for this, which has come: a flag's signal is
 /// made now, mail is taken as it was posted.
 pub(crate) fn receive(
     mail: &mut Transit,
     closed: &Closed,
     flags: &[Option<VTime>],
     own: &VTime,
-    p: usize,
+    processor: usize,
     awaited: Awaited,
 ) -> Result<Message, AllocError>
-    requires come { has_come flags.now mail.old p (kind_of awaited) ≡ true }
-    requires processor { p < length mail.old }
+    requires come { message_has_come flags.now mail.old processor (awaited_kind awaited) ≡ true }
+    requires processor { processor < length mail.old }
     requires flag { (f : ℕ) → awaited ≡ Awaited.Signal f
-        → MaySignal closed.now flags.now own.now f }
-    requires none { (f : ℕ) → awaited ≡ Awaited.Signal f → mail.old ≡ slice_set mail.old p None }
+        → AllowsSignal closed.now flags.now own.now f }
+    requires none { (f : ℕ) → awaited ≡ Awaited.Signal f → mail.old ≡ slice_set mail.old processor None }
     ensures ok { IfOk result (λ m.
-        message_among closed.now flags.now mail.old own.now p (kind_of awaited) ≡ Some (letter m)) }
-    ensures after { OnOk result (mail.new ≡ slice_set mail.old p None) }
+        message_among closed.now flags.now mail.old own.now processor (awaited_kind awaited) ≡ Some (letter m)) }
+    ensures after { OnOk result (mail.new ≡ slice_set mail.old processor None) }
     ensures err { OnErr result (mail.new ≡ mail.old) }
 {
     match awaited {
         Awaited::Grant(_) | Awaited::Departure => {
-            let Some(message) = mail.take(p) else {
+            let Some(message) = mail.take(processor) else {
                 unreachable!("the mail is there")
             };
             Ok(message)
@@ -132,9 +137,9 @@ pub(crate) fn receive(
 /// The signal of a flag that is set, to one with the timestamp `own`.
 fn signal(closed: &Closed, flag: &Option<VTime>, own: &VTime) -> Result<Message, AllocError>
     requires set { IsSome flag.now }
-    requires keeps { IfSome flag.now (λ t. KeepsBetween closed.now own.now t) }
+    requires keeps { IfSome flag.now (λ t. KeepsClosingsBetween closed.now own.now t) }
     ensures { IfOk result (λ m.
-        option_map (λ (t : List ℕ). signal_to closed.now t own.now) flag.now ≡ Some (letter m)) }
+        option_map (λ (t : List ℕ). signal_message closed.now t own.now) flag.now ≡ Some (letter m)) }
 {
     let Some(time) = flag else {
         unreachable!("the flag is set")

@@ -6,14 +6,14 @@ ghost use Rattle.std.specs.Option.{option_map};
 ghost use Rattle.base.specs.Prelude.{most_in_block};
 ghost use Rattle.journal.specs.Prelude.{is_closing};
 ghost use Rattle.vtime.specs.Times.{tick};
-ghost use Rattle.interval.specs.Prelude.{HasRisingPages, KeepsBetween, pushed};
-ghost use Rattle.lockq.specs.Lock.{lock_at};
+ghost use Rattle.interval.specs.Prelude.{HasRisingPages, KeepsClosingsBetween, pushed};
+ghost use Rattle.lockq.specs.LockQueues.{lock_at};
 ghost use Rattle.transit.specs.Prelude.{letter};
-ghost use Rattle.book.specs.Prelude.{kind_of, MayCloseIdle, IsOpen, MayBeSent, open_interval, closed_by, if_free};
-ghost use Rattle.book.specs.Prelude.{grant_from, barrier_left, flag_joined, departures_to, time_of, Closes};
+ghost use Rattle.book.specs.Prelude.{awaited_kind, AllowsClosing, IsOpen, AllowsNotices, book_open_interval, book_closed_by, if_free};
+ghost use Rattle.book.specs.Prelude.{book_grant, book_barrier_left, book_flag_joined, departures_to, time_of, EndsClosed};
 
-mod going_on;
-mod pending;
+mod counting;
+mod named;
 
 use crate::awaited::Awaited;
 use crate::messages::departures;
@@ -47,11 +47,11 @@ pub(crate) struct Protocol {
 
 impl Model for Protocol {
     ghost use Rattle.book.specs.State.{State};
-    ghost use Rattle.book.specs.Holding.{state_of, BookInvariant};
+    ghost use Rattle.book.specs.BookInvariant.{book_state, BookInvariant};
 
     ghost Value = { State };
 
-    ghost view = { state_of };
+    ghost view = { book_state };
 
     ghost invariant = { BookInvariant };
 }
@@ -71,7 +71,7 @@ impl Protocol {
         requires own_long { length own.now ≡ length self.now.barrier.stages }
         requires long { length self.now.barrier.stages ≡ length self.now.closed.first }
         requires all { (r : ℕ) → r < length self.now.times
-            → MayBeSent self.now.closed (slice_set self.now.times interval.now.owner own.now) r }
+            → AllowsNotices self.now.closed (slice_set self.now.times interval.now.owner own.now) r }
         ensures { IfOk result (λ o. option_map (λ ms. map letter ms.items) o ≡ departures_to
             (pushed self.now.closed interval.now) self.now.barrier
             (slice_set self.now.times interval.now.owner own.now) interval.now.owner own.now) }
@@ -87,70 +87,74 @@ impl Protocol {
         Ok(Some(all))
     }
 
-    /// The grant to `p` of a lock that nobody holds. That `p` is about to close its interval changes
+    /// The grant to `processor` of a lock that nobody holds. That `processor` is about to close its interval changes
     /// nothing in it: the lock's time doesn't cover that interval.
-    pub(crate) fn grant_if_free(&self, p: usize, l: usize) -> Result<Option<Message>, AllocError>
-        requires lock { l < length self.now.locks.locks }
-        requires processor { p < length self.now.times }
-        requires keeps { KeepsBetween self.now.closed (time_of self.now p) (lock_at self.now.locks l).time }
+    pub(crate) fn grant_if_free(
+        &self,
+        processor: usize,
+        lock: usize,
+    ) -> Result<Option<Message>, AllocError>
+        requires lock { lock < length self.now.locks.locks }
+        requires processor { processor < length self.now.times }
+        requires keeps { KeepsClosingsBetween self.now.closed (time_of self.now processor) (lock_at self.now.locks lock).time }
         ensures { IfOk result (λ m. option_map letter m
-            ≡ if_free (lock_at self.now.locks l).holder (grant_from self.now p (lock_at self.now.locks l).time)) }
+            ≡ if_free (lock_at self.now.locks lock).holder (book_grant self.now processor (lock_at self.now.locks lock).time)) }
     {
         let locks = &self.locks;
-        if locks.holder(l).is_some() {
+        if locks.holder(lock).is_some() {
             return Ok(None);
         }
-        let (closed, own) = (&self.closed, &self.times[p]);
-        let time = locks.time(l).copy();
+        let (closed, own) = (&self.closed, &self.times[processor]);
+        let time = locks.time(lock).copy();
         let notices = closed.between(own, &time)?;
         Ok(Some(Message::Grant { time, notices }))
     }
 
-    /// The open interval of `p`, with what it stored.
-    pub(crate) fn open_interval(&self, p: usize, records: Vec<Arc<Record>>) -> Interval
-        requires { IsOpen self.now p }
-        ensures { result ≡ open_interval self.now p (map arc_value records.items) }
+    /// The open interval of `processor`, with what it stored.
+    pub(crate) fn open_interval(&self, processor: usize, records: Vec<Arc<Record>>) -> Interval
+        requires { IsOpen self.now processor }
+        ensures { result ≡ book_open_interval self.now processor (map arc_value records.items) }
     {
         Interval {
-            owner: p,
-            number: self.times[p].entry(p),
+            owner: processor,
+            number: self.times[processor].entry(processor),
             records,
         }
     }
 
-    /// The timestamp that `p` will have when it has closed its interval.
-    pub(crate) fn closing_time(&self, p: usize) -> VTime
-        requires open { IsOpen self.now p }
-        requires fits { slice_index (time_of self.now p) p + 1 < 2 ^ 64 }
-        ensures { result ≡ tick (time_of self.now p) p }
+    /// The timestamp that `processor` will have when it has closed its interval.
+    pub(crate) fn closing_time(&self, processor: usize) -> VTime
+        requires open { IsOpen self.now processor }
+        requires fits { slice_index (time_of self.now processor) processor + 1 < 2 ^ 64 }
+        ensures { result ≡ tick (time_of self.now processor) processor }
     {
-        let mut time = self.times[p].copy();
-        time.tick(p);
+        let mut time = self.times[processor].copy();
+        time.tick(processor);
         time
     }
 
-    /// Hands the block in, closes the open interval of `p` and appends the event that closes it. All growths
+    /// Hands the block in, closes the open interval of `processor` and appends the event that closes it. All growths
     /// come first.
     pub(crate) fn close(
         &mut self,
-        p: usize,
+        processor: usize,
         kind: Kind,
         block: &[Event],
         interval: Interval,
     ) -> Result<(), Refused>
-        requires call { MayCloseIdle self.old p block.now }
+        requires call { AllowsClosing self.old processor block.now }
         requires short { length block.now ≤ most_in_block }
-        requires open { interval ≡ open_interval self.old p interval.records }
+        requires open { interval ≡ book_open_interval self.old processor interval.records }
         requires rising { HasRisingPages interval.records }
         requires kind { is_closing kind ≡ true }
-        ensures { Closes block.now (λ b. closed_by b p kind interval.records) self.old self.new result }
+        ensures { EndsClosed block.now (λ b. book_closed_by b processor kind interval.records) self.old self.new result }
     {
         make_room(&mut self.journal, self.owing, block.len() + 1)?;
         self.closed.push(interval)?;
         append_all(&mut self.journal, block);
-        self.journal.append(Event { processor: p, kind });
-        self.times[p].tick(p);
-        self.awaits[p] = Awaited::after(kind);
+        self.journal.append(Event { processor, kind });
+        self.times[processor].tick(processor);
+        self.awaits[processor] = Awaited::after(kind);
         Ok(())
     }
 }
@@ -158,7 +162,7 @@ impl Protocol {
 /// The time of a flag after one more set.
 pub(crate) fn with_set(kept: &Option<VTime>, time: &VTime) -> VTime
     requires { IfSome kept.now (λ t. length t ≡ length time.now) }
-    ensures { result ≡ flag_joined kept.now time.now }
+    ensures { result ≡ book_flag_joined kept.now time.now }
 {
     match kept {
         Some(kept) => {
@@ -171,12 +175,12 @@ pub(crate) fn with_set(kept: &Option<VTime>, time: &VTime) -> VTime
 }
 
 /// The barrier's part of a take.
-pub(crate) fn leave(barrier: &mut Barrier, awaited: Awaited, p: usize)
-    requires { awaited ≡ Awaited.Departure → slice_get barrier.old.stages p ≡ Some Stage.Free }
-    ensures { barrier.new ≡ barrier_left (kind_of awaited) barrier.old p }
+pub(crate) fn leave(barrier: &mut Barrier, awaited: Awaited, processor: usize)
+    requires { awaited ≡ Awaited.Departure → slice_get barrier.old.stages processor ≡ Some Stage.Free }
+    ensures { barrier.new ≡ book_barrier_left (awaited_kind awaited) barrier.old processor }
 {
     match awaited {
-        Awaited::Departure => barrier.depart(p),
+        Awaited::Departure => barrier.depart(processor),
         Awaited::Grant(_) | Awaited::Signal(_) => {}
     }
 }

@@ -1,6 +1,6 @@
 //! Why a call is refused.
 ghost use Rattle.std.specs.Prelude.{◌≡◌};
-ghost use Rattle.book.specs.Prelude.{refused_by};
+ghost use Rattle.book.specs.Prelude.{book_cut_refusal};
 ghost use Rattle.book.specs.declared.refused.Refused.TheVariants.{NoMemory};
 
 use journal::CutFault;
@@ -68,7 +68,7 @@ pub enum Refused {
 }
 
 impl From<CutFault> for Refused {
-    ghost from_gives = { λ f r. r ≡ refused_by f };
+    ghost from_gives = { λ f r. r ≡ book_cut_refusal f };
 
     fn from(fault: CutFault) -> Refused {
         match fault {

@@ -2,7 +2,7 @@
 ghost use Rattle.std.specs.Prelude.{◌≡◌, ◌+◌, ◌-◌, ◌^◌, ◌≤◌, ◌<◌, ◌++◌, All, IfErr, OnOk, length, Err};
 ghost use Rattle.base.specs.Prelude.{most_events};
 ghost use Rattle.journal.specs.Prelude.{AddressInRange};
-ghost use Rattle.book.specs.Prelude.{IsFullAt, IsWantOfRoom};
+ghost use Rattle.book.specs.Prelude.{IsFullRefusal, IsRoomRefusal};
 
 use crate::refused::Refused;
 use journal::{Event, Journal};
@@ -22,8 +22,8 @@ pub(crate) fn make_room(
         × (length journal.old.events + additional ≤ most_events)) }
     ensures same { journal.new ≡ record journal.old { room = journal.new.room } }
     ensures grows { journal.old.room ≤ journal.new.room }
-    ensures full { IsFullAt (length journal.old.events + additional) result }
-    ensures only { IfErr result IsWantOfRoom }
+    ensures full { IsFullRefusal (length journal.old.events + additional) result }
+    ensures only { IfErr result IsRoomRefusal }
 {
     if journal.len() + additional > LIMIT {
         return Err(Refused::JournalFull);

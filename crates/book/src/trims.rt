@@ -1,6 +1,6 @@
 //! Trims of the closed intervals.
 ghost use Rattle.std.specs.Prelude.{◌≡◌, ℕ, ◌<◌, List, Some, length, slice_get};
-ghost use Rattle.book.specs.Prelude.{least, trimmed_by, MayTrim};
+ghost use Rattle.book.specs.Prelude.{least, trimmed_by, AllowsTrim};
 
 use interval::Closed;
 use vtime::VTime;
@@ -18,15 +18,15 @@ fn least(times: &[VTime], q: usize) -> u64
     least
 }
 
-/// Drops the intervals that all of these timestamps cover, after that of `p` has risen from `before`. Of an
-/// owner whose entry hasn't risen nothing is left to drop, but where there is no processor beside `p`.
-pub(crate) fn trim(closed: &mut Closed, times: &[VTime], p: usize, before: &VTime)
-    requires { MayTrim closed.old times.now p before.now }
+/// Drops the intervals that all of these timestamps cover, after that of `processor` has risen from `before`. Of an
+/// owner whose entry hasn't risen nothing is left to drop, but where there is no processor beside `processor`.
+pub(crate) fn trim(closed: &mut Closed, times: &[VTime], processor: usize, before: &VTime)
+    requires { AllowsTrim closed.old times.now processor before.now }
     ensures { closed.new ≡ trimmed_by closed.old times.now (length times.now) }
 {
     for owner in 0..times.len() {
-        let has_risen = before.entry(owner) < times[p].entry(owner);
-        if has_risen || owner == p {
+        let has_risen = before.entry(owner) < times[processor].entry(owner);
+        if has_risen || owner == processor {
             closed.trim(owner, least(times, owner));
         }
     }

@@ -16,11 +16,11 @@ pub struct Waiters {
 
 impl Model for Waiters {
     ghost use Rattle.std.specs.Prelude.{ℕ, List};
-    ghost use Rattle.book.specs.Waiters.{places_from};
+    ghost use Rattle.book.specs.Waiters.{waiters_from};
 
     ghost Value = { List ℕ };
 
-    ghost view = { λ w. places_from 0 w.marks };
+    ghost view = { λ w. waiters_from 0 w.marks };
 }
 
 impl Waiters {
@@ -34,11 +34,11 @@ impl Waiters {
     }
 
     /// Adds a processor, if its number is below 16.
-    pub(crate) fn add(&mut self, p: usize)
-        ensures { (q : ℕ) → Has self.new q ↔ (((q ≡ p) × (q < most_processors)) ⊎ Has self.old q) }
+    pub(crate) fn add(&mut self, processor: usize)
+        ensures { (q : ℕ) → Has self.new q ↔ (((q ≡ processor) × (q < most_processors)) ⊎ Has self.old q) }
     {
-        if p < MOST_PROCESSORS {
-            self.marks[p] = true;
+        if processor < MOST_PROCESSORS {
+            self.marks[processor] = true;
         }
     }
 }

@@ -1,7 +1,7 @@
 //! Who waits, and who of them may go on.
 ghost use Rattle.std.specs.Prelude.{ℕ, ◌≡◌, ◌<◌, ◌↔◌, EachIndex, IfSome, IsTrue, Some, true, false, length, slice_get};
 ghost use Rattle.base.specs.Prelude.{most_processors, Has};
-ghost use Rattle.book.specs.Prelude.{has_come, kind_of};
+ghost use Rattle.book.specs.Prelude.{message_has_come, awaited_kind};
 ghost use Rattle.book.specs.declared.awaited.Awaited.{Awaited as AnAwaited};
 
 use crate::awaited::Awaited;
@@ -21,7 +21,7 @@ pub(crate) fn all_wait_in_vain(
         → f < length flags.now }
     ensures { IsTrue result ↔ EachIndex awaits.now (λ p. (a : AnAwaited)
         × (slice_get awaits.now p ≡ Some (Some a))
-        × (has_come flags.now mail.now p (kind_of a) ≡ false)) }
+        × (message_has_come flags.now mail.now p (awaited_kind a) ≡ false)) }
 {
     for (p, awaited) in awaits.iter().enumerate() {
         let Some(awaited) = *awaited else {
@@ -45,7 +45,7 @@ pub(crate) fn all_who_may_go_on(
     requires flag { (f : ℕ) → awaited ≡ Awaited.Signal f → f < length flags.now }
     ensures { (p : ℕ) → Has result p ↔ ((p < most_processors)
         × (slice_get awaits.now p ≡ Some (Some awaited))
-        × (has_come flags.now mail.now p (kind_of awaited) ≡ true)) }
+        × (message_has_come flags.now mail.now p (awaited_kind awaited) ≡ true)) }
 {
     let mut waiters = Waiters::none();
     for p in 0..awaits.len() {
@@ -69,7 +69,7 @@ pub(crate) fn one_who_may_go_on(
     requires one { IfSome one (λ p. p < length awaits.now) }
     ensures { (p : ℕ) → Has result p ↔ ((one ≡ Some p) × (p < most_processors)
         × (slice_get awaits.now p ≡ Some (Some awaited))
-        × (has_come flags.now mail.now p (kind_of awaited) ≡ true)) }
+        × (message_has_come flags.now mail.now p (awaited_kind awaited) ≡ true)) }
 {
     let mut waiters = Waiters::none();
     if let Some(p) = one {
@@ -80,20 +80,20 @@ pub(crate) fn one_who_may_go_on(
     waiters
 }
 
-/// Whether `p` waits for this, which has come.
+/// Whether `processor` waits for this, which has come.
 fn may_go_on(
     awaits: &[Option<Awaited>],
     flags: &[Option<VTime>],
     mail: &Transit,
-    p: usize,
+    processor: usize,
     awaited: Awaited,
 ) -> bool
-    requires processor { p < length awaits.now }
+    requires processor { processor < length awaits.now }
     requires mail { length awaits.now ≡ length mail.now }
     requires flag { (f : ℕ) → awaited ≡ Awaited.Signal f → f < length flags.now }
-    ensures { IsTrue result ↔ ((slice_get awaits.now p ≡ Some (Some awaited))
-        × (has_come flags.now mail.now p (kind_of awaited) ≡ true)) }
+    ensures { IsTrue result ↔ ((slice_get awaits.now processor ≡ Some (Some awaited))
+        × (message_has_come flags.now mail.now processor (awaited_kind awaited) ≡ true)) }
 {
-    let waits = awaits[p];
-    waits == Some(awaited) && has_come(flags, mail, p, awaited)
+    let waits = awaits[processor];
+    waits == Some(awaited) && has_come(flags, mail, processor, awaited)
 }

@@ -2,14 +2,14 @@
 use Rattle.std.proofs.Common.{◌≡◌, ◌≢◌, ℕ, ◌+◌, ◌<◌, inl, inr, List, [], ◌∷◌, ◌++◌, Option, Some, length, slice_get, slice_index_or, subst, sym, refl, ap, ◌∙◌, arith}
 use Rattle.std.proofs.lemmas.Bool.{cases_eq}
 use Rattle.std.proofs.lemmas.Option.{same_Some, slice_get_within, slice_get-get_or}
-use Rattle.base.proofs.Places.{push_cases}
+use Rattle.base.proofs.SlicesAndCounts.{push_cases}
 use Rattle.journal.specs.declared.event.Event.{Event}
 use Rattle.journal.specs.declared.event.Kind.TheVariants.{Load, Store}
-use Rattle.journal.specs.Did.{event}
+use Rattle.journal.specs.DidEvent.{event}
 use Rattle.journal.specs.Events.{At}
-use Rattle.journal.specs.Loads.{IsAnswer, LatestStore, Untouched}
+use Rattle.journal.specs.ExplainedAnswers.{IsAnswer, LatestStore, Untouched}
 use Rattle.journal.specs.WellFormed.{Does}
-use Rattle.journal.proofs.Order.Places.{at_within, at_same, does_same}
+use Rattle.journal.proofs.Order.CountedAndNumbered.{at_within, at_same, does_same}
 use Rattle.judge.specs.Sources.Latest.{AreLatest, IsLatest, IsReadableRow}
 use Rattle.judge.proofs.sources.Answering.{answers_law, untouched}
 use Rattle.causes.specs.declared.source.Source.{Source}

@@ -5,15 +5,15 @@ use Rattle.std.specs.Prelude.{None}
 use Rattle.std.specs.Global.{Vec}
 use Rattle.std.proofs.lemmas.Bool.{cases_eq, cases_lt}
 use Rattle.std.proofs.lemmas.Option.{none-some, slice_get_within}
-use Rattle.base.specs.Places.{Has}
-use Rattle.base.proofs.Places.{push_cases, slice_get-append_left, slice_get-last}
+use Rattle.base.specs.InOrderOnce.{Has}
+use Rattle.base.proofs.SlicesAndCounts.{push_cases, slice_get-append_left, slice_get-last}
 use Rattle.journal.specs.declared.event.Event.{Event}
 use Rattle.journal.specs.Events.{interval_at, is_closing}
 use Rattle.journal.specs.InRange.{ProcessorsInRange}
 use Rattle.journal.specs.Pasts.{UpTo}
 use Rattle.journal.specs.Times.{ClosesAt}
-use Rattle.journal.proofs.Order.Places.{count_of-mono}
-use Rattle.journal.proofs.Times.Leaving.{own_order}
+use Rattle.journal.proofs.Order.CountedAndNumbered.{count_of-mono}
+use Rattle.journal.proofs.Times.LeavingCloses.{own_order}
 use Rattle.causes.specs.declared.news.Step.{Step}
 use Rattle.causes.specs.Edges.{EdgeFromOther}
 use Rattle.causes.specs.Entrances.{AreEntrances, IsLastNew}

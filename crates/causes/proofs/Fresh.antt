@@ -9,19 +9,19 @@ use Rattle.std.proofs.lemmas.List.Kept.{AllPairs-from_increasing}
 use Rattle.std.proofs.lemmas.List.Sorted.{Contains-permutation, IsPermutation-sym}
 use Rattle.std.proofs.lemmas.Map.Keys.{IsDistinct-from_apart, IsDistinct-IsPermutation, IsStrictlyIncreasing-from_distinct}
 use Rattle.std.proofs.lemmas.Option.{none-some, same_Some, slice_get-get_or, slice_get_read, slice_get_within}
-use Rattle.base.specs.Places.{Has, InOrder, IsOnce}
-use Rattle.base.proofs.Places.{push_cases, slice_get-append_left, slice_get-last, slice_get-take}
+use Rattle.base.specs.InOrderOnce.{Has, InOrder, IsOnce}
+use Rattle.base.proofs.SlicesAndCounts.{push_cases, slice_get-append_left, slice_get-last, slice_get-take}
 use Rattle.journal.specs.declared.event.Event.{Event}
 use Rattle.journal.specs.declared.event.Kind.{Kind}
 use Rattle.journal.specs.declared.event.Kind.TheVariants.{Acquire, Depart, Await}
 use Rattle.journal.specs.Events.{At, count_of, interval_at, is_arrive, is_closing, is_depart}
 use Rattle.journal.specs.InRange.{ProcessorsInRange}
-use Rattle.journal.specs.Order.{HappensBefore}
-use Rattle.journal.specs.Order.HappensBefore.{edge}
+use Rattle.journal.specs.HappensBeforeEdges.{HappensBefore}
+use Rattle.journal.specs.HappensBeforeEdges.HappensBefore.{edge}
 use Rattle.journal.specs.Pasts.{InPast}
 use Rattle.journal.specs.Times.{ClosesAt, IsTimeIn, IsTimeOf}
-use Rattle.journal.proofs.Order.HappensBefore.{longer, shorter}
-use Rattle.journal.proofs.Order.Places.{at_same, count_of-take-le, does_at, does_same}
+use Rattle.journal.proofs.Order.HappensBefore.{before_longer, before_shorter}
+use Rattle.journal.proofs.Order.CountedAndNumbered.{at_same, count_of-take-le, does_at, does_same}
 use Rattle.causes.specs.declared.news.Step.{Step}
 use Rattle.causes.specs.Edges.{EdgeFromOther, LetsOn}
 use Rattle.causes.specs.declared.index.Turn.{Turn}
@@ -52,12 +52,12 @@ lets_closes a n _ m is = absurd is
 pub in_front : (j : List Event) (n i m : ℕ) → n ≤ length j → m < n → HappensBefore j i m → HappensBefore (take n j) i m
 in_front j n i m le lt h =
     let long : length (take n j) ≡ n = length-take-le n j le in
-    shorter (take n j) (drop n j) (omega arith)
+    before_shorter (take n j) (drop n j) (omega arith)
     (subst (λ xs. HappensBefore xs i m) (sym (take-append-drop n j)) h)
 
 pub from_front : (j : List Event) (n i m : ℕ) → HappensBefore (take n j) i m → HappensBefore j i m
 from_front j n i m h =
-    subst (λ xs. HappensBefore xs i m) (take-append-drop n j) (longer (take n j) (drop n j) h)
+    subst (λ xs. HappensBefore xs i m) (take-append-drop n j) (before_longer (take n j) (drop n j) h)
 
 closes_in_front : (j : List Event) (n q i : ℕ) → i < n → ClosesAt j q i → ClosesAt (take n j) q i
 closes_in_front j n q i lt x =

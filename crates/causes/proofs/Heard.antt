@@ -6,15 +6,15 @@ use Rattle.journal.specs.declared.event.Event.{Event}
 use Rattle.journal.specs.declared.event.Kind.{Kind}
 use Rattle.journal.specs.declared.event.Kind.TheVariants.{Load, Store}
 use Rattle.journal.specs.Events.{At, address_of, is_taking}
-use Rattle.journal.specs.Order.{HappensBefore}
+use Rattle.journal.specs.HappensBeforeEdges.{HappensBefore}
 use Rattle.journal.specs.Races.{IsFirstRace, Race, RaceFree}
 use Rattle.journal.specs.RacesFrom.{IsFirstRaceFrom, RaceFreeFrom}
 use Rattle.journal.specs.Base.{Base, no_base}
 use Rattle.journal.specs.Log.{Log, HoldsHistory}
 use Rattle.journal.specs.WellFormed.{Does}
-use Rattle.journal.proofs.Order.Places.{at_same, at_within, does_at}
-use Rattle.journal.proofs.Order.HappensBefore.{goes_forward}
-use Rattle.journal.proofs.Bases.Uncut.{uncut_race}
+use Rattle.journal.proofs.Order.CountedAndNumbered.{at_same, at_within, does_at}
+use Rattle.journal.proofs.Order.HappensBefore.{before_goes_forward}
+use Rattle.journal.proofs.FromBase.Uncut.{uncut_race}
 use Rattle.causes.specs.Heard.{IsHeard}
 
 -- q's event at place i happens before place k, and no later one of q below place n does
@@ -57,12 +57,12 @@ heard_other j q k n (Some i) away old =
 
 -- what happens before place k stands below it
 pub heard_all : (j : List Event) (q k n : ℕ) (o : Option ℕ) → k ≤ n → IsHeardBelow j q k n o → IsHeard j q k o
-heard_all j q k n None le none = λ m a does h. (let lt = goes_forward j h in none m a (omega arith) does h)
+heard_all j q k n None le none = λ m a does h. (let lt = before_goes_forward j h in none m a (omega arith) does h)
 heard_all j q k n (Some i) le old = record {
   kind = old.kind;
   does = old.does;
   before = old.before;
-  last = λ m a does h. (let lt = goes_forward j h in old.last m a (omega arith) does h);
+  last = λ m a does h. (let lt = before_goes_forward j h in old.last m a (omega arith) does h);
 }
 
 -- where nothing was cut off, the first race from there is the first race

@@ -4,15 +4,15 @@ use Rattle.std.proofs.lemmas.Bool.{cases_eq, eq-eqb, ne_eqb}
 use Rattle.std.proofs.lemmas.List.{length-take-le, get_or-set_same, get_or-set_other}
 use Rattle.std.proofs.lemmas.List.Sums.{count_by-le-length}
 use Rattle.std.proofs.lemmas.Option.{none-some, slice_get_within}
-use Rattle.base.specs.Places.{Has, InOrder}
-use Rattle.base.proofs.Places.{push_cases, slice_get-append_left, slice_get-last}
+use Rattle.base.specs.InOrderOnce.{Has, InOrder}
+use Rattle.base.proofs.SlicesAndCounts.{push_cases, slice_get-append_left, slice_get-last}
 use Rattle.journal.specs.declared.event.Event.{Event}
 use Rattle.journal.specs.declared.event.Kind.{Kind}
 use Rattle.journal.specs.declared.event.Kind.TheVariants.{Acquire, Release, Depart, Set, Await}
 use Rattle.journal.specs.Events.{At, count_of, is_arrive, is_depart}
-use Rattle.journal.specs.Order.{LetsThrough, Link, same, lets, meets}
-use Rattle.journal.proofs.Order.Places.{at_same}
-use Rattle.journal.proofs.Passes.RaceSteps.{count_next}
+use Rattle.journal.specs.HappensBeforeEdges.{LetsThrough, Link, same, lets, meets}
+use Rattle.journal.proofs.Order.CountedAndNumbered.{at_same}
+use Rattle.journal.proofs.Passes.ReachedNextRaces.{count_next}
 use Rattle.causes.specs.Edges.{AreEdges, EdgeFromOther, LetsOn}
 
 through_on : (a b : Kind) (n m : ℕ) → LetsThrough a b → LetsOn a n b m

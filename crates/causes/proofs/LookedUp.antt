@@ -4,13 +4,13 @@ use Rattle.std.specs.Global.{Vec}
 use Rattle.std.proofs.lemmas.Bool.{cases_eq, cases_lt, eq-eqb, ne_eqb, eqb-true, and_parts}
 use Rattle.std.proofs.lemmas.List.{length-append, length-take-le, take_all}
 use Rattle.std.proofs.lemmas.List.Sums.{count_by-le-length}
-use Rattle.base.proofs.Places.{push_cases}
-use Rattle.base.proofs.Sets.{slice_get-set_found, slice_get-set_other, slice_get-replicate_found}
+use Rattle.base.proofs.SlicesAndCounts.{push_cases}
+use Rattle.base.proofs.SliceSets.{slice_get-set_found, slice_get-set_other, slice_get-replicate_found}
 use Rattle.journal.specs.declared.event.Event.{Event}
 use Rattle.journal.specs.Events.{At, count_of, is_arrive, is_closing, is_depart}
 use Rattle.journal.specs.declared.event.Kind.{Kind}
-use Rattle.journal.proofs.Order.Places.{at_same, count_of-past, does_at}
-use Rattle.journal.proofs.Passes.RaceSteps.{count_next}
+use Rattle.journal.proofs.Order.CountedAndNumbered.{at_same, count_of-past, does_at}
+use Rattle.journal.proofs.Passes.ReachedNextRaces.{count_next}
 use Rattle.causes.specs.declared.index.Turn.{Turn}
 use Rattle.causes.specs.Index.{AreClosingsOf, IsClosing, IsTurn}
 

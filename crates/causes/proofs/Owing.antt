@@ -7,26 +7,26 @@ use Rattle.std.specs.Global.{Vec}
 use Rattle.std.proofs.lemmas.Bool.{cases_eq, cases_lt}
 use Rattle.std.proofs.lemmas.Nat.{div_below}
 use Rattle.std.proofs.lemmas.Option.{none-some, slice_get_within}
-use Rattle.base.specs.Places.{Has, InOrder}
-use Rattle.base.proofs.Places.{push_cases, slice_get-append_left, slice_get-from_take, slice_get-last}
+use Rattle.base.specs.InOrderOnce.{Has, InOrder}
+use Rattle.base.proofs.SlicesAndCounts.{push_cases, slice_get-append_left, slice_get-from_take, slice_get-last}
 use Rattle.journal.specs.declared.event.Event.{Event}
 use Rattle.journal.specs.declared.event.Kind.{Kind}
 use Rattle.journal.specs.declared.event.Kind.TheVariants.{Fetch, Store}
 use Rattle.journal.specs.Blocks.{IsBlock}
-use Rattle.journal.specs.Copies.{HasCount, StoredInGap}
-use Rattle.journal.specs.Did.{event}
+use Rattle.journal.specs.PageImages.{HasCount, StoredInGap}
+use Rattle.journal.specs.DidEvent.{event}
 use Rattle.journal.specs.Events.{At, interval_at, is_closing, is_taking}
 use Rattle.journal.specs.InRange.{ProcessorsInRange}
 use Rattle.journal.specs.Sizes.{Sizes}
 use Rattle.journal.specs.Times.{IsTimeOf}
 use Rattle.journal.specs.WellFormed.{Does}
-use Rattle.journal.proofs.Copies.Complete.{gap_block}
-use Rattle.journal.proofs.Copies.Stores.{store_same}
+use Rattle.journal.proofs.CopyOfPage.CompleteBlocks.{gap_block}
+use Rattle.journal.proofs.CopyOfPage.Stores.{store_same}
 use Rattle.journal.proofs.Missing.Counted.{count_of_same}
-use Rattle.journal.proofs.Missing.Gaps.{gap_taken, stored_on}
-use Rattle.journal.proofs.Order.Places.{at_within, count_of-front}
-use Rattle.journal.proofs.Passes.ClockSteps.{front_next}
-use Rattle.journal.proofs.Times.Pushes.{covered}
+use Rattle.journal.proofs.Missing.GapsTaken.{gap_taken, stored_on}
+use Rattle.journal.proofs.Order.CountedAndNumbered.{at_within, count_of-front}
+use Rattle.journal.proofs.Passes.NextClocks.{front_next}
+use Rattle.journal.proofs.Times.PushesCovered.{covered}
 use Rattle.judge.specs.Gaps.{FetchedUpTo, StoresInPage}
 use Rattle.judge.specs.Miscounted.{IsWithin}
 use Rattle.judge.specs.Tallies.{row_index}

@@ -5,22 +5,22 @@
 use Rattle.std.proofs.Common.{◌≡◌, ◌≢◌, ℕ, ◌+◌, ◌-◌, ◌<◌, ◌≤◌, inl, inr, ◌↔◌, IsTrue, List, [], ◌∷◌, ◌++◌, Some, length, take, slice_get, slice_index, zero, suc, subst, sym, refl, ap, ◌∙◌, length-append, arith}
 use Rattle.std.proofs.lemmas.Bool.{cases_eq, cases_lt}
 use Rattle.std.proofs.lemmas.Option.{same_Some, slice_get_within}
-use Rattle.base.specs.Places.{InOrder}
-use Rattle.base.proofs.Places.{push_cases, slice_get-append_left, slice_get-from_take, slice_get-last, slice_get-take, slice_get-take_within}
+use Rattle.base.specs.InOrderOnce.{InOrder}
+use Rattle.base.proofs.SlicesAndCounts.{push_cases, slice_get-append_left, slice_get-from_take, slice_get-last, slice_get-take, slice_get-take_within}
 use Rattle.journal.specs.declared.event.Event.{Event}
 use Rattle.journal.specs.declared.event.Kind.{Kind}
 use Rattle.journal.specs.declared.event.Kind.TheVariants.{Acquire, Release, Set, Await}
-use Rattle.journal.specs.Did.{event}
+use Rattle.journal.specs.DidEvent.{event}
 use Rattle.journal.specs.Events.{interval_at, is_closing, is_taking}
-use Rattle.journal.specs.Order.{Edge, HappensBefore, LetsThrough, Link, same, lets, meets}
+use Rattle.journal.specs.HappensBeforeEdges.{Edge, HappensBefore, LetsThrough, Link, same, lets, meets}
 use Rattle.journal.specs.Pasts.{InPast, UpTo}
 use Rattle.journal.specs.Times.{IsTimeOf}
 use Rattle.journal.specs.WellFormed.{Does}
-use Rattle.journal.proofs.Order.Places.{at_same, at_within, count_of-mono, does_at, does_same}
-use Rattle.journal.proofs.Order.HappensBefore.{goes_forward}
-use Rattle.journal.proofs.Order.Pasts.{last_step, up_to_back}
-use Rattle.journal.proofs.Times.Leaving.{own_order}
-use Rattle.journal.proofs.Times.Pushes.{covered}
+use Rattle.journal.proofs.Order.CountedAndNumbered.{at_same, at_within, count_of-mono, does_at, does_same}
+use Rattle.journal.proofs.Order.HappensBefore.{before_goes_forward}
+use Rattle.journal.proofs.Order.EdgesIntoPast.{last_step, up_to_back}
+use Rattle.journal.proofs.Times.LeavingCloses.{own_order}
+use Rattle.journal.proofs.Times.PushesCovered.{covered}
 use Rattle.causes.specs.declared.takings.Taking.{Taking}
 use Rattle.causes.specs.Edges.{EdgeFromOther}
 use Rattle.causes.specs.News.{IsNews}
@@ -31,7 +31,7 @@ use Rattle.causes.proofs.Fresh.{from_front, in_front, number_in_front}
 -- what is up to a place doesn't stand behind it
 pub up_to_le : (j : List Event) (k i : ℕ) → UpTo j k i → i ≤ k
 up_to_le j k i (inl is) = omega arith
-up_to_le j k i (inr h) = let lt : i < k = goes_forward j h in omega arith
+up_to_le j k i (inr h) = let lt : i < k = before_goes_forward j h in omega arith
 
 -- what is up to something is up to what that is up to
 pub up_to_on : (j : List Event) (i m k : ℕ) → UpTo j m i → UpTo j k m → UpTo j k i
@@ -57,7 +57,7 @@ taken_tells j p q i m a b t does at apart time = (there, back)
     there : UpTo j m i → interval_at j p i < t p
     there (inl is) = absurd (apart (does_same j m p q a b (subst (λ n. Does j n p a) is does) at).0)
     there (inr h) =
-        let lt : i < m = goes_forward j h in
+        let lt : i < m = before_goes_forward j h in
         let inside = within in
         let number = number_in_front j (m + 1) p i (omega arith) in
         let past : InPast (take (m + 1) j) q i =

@@ -6,17 +6,17 @@ use Rattle.std.specs.Global.{Vec}
 use Rattle.std.proofs.lemmas.Bool.{cases_eq}
 use Rattle.std.proofs.lemmas.List.{get_or_append_left, length-set}
 use Rattle.std.proofs.lemmas.Option.{none-some, slice_get_within}
-use Rattle.base.proofs.Places.{push_cases, slice_get-append_left, slice_get-last}
-use Rattle.base.proofs.Sets.{slice_get-set_found, slice_get-set_other}
-use Rattle.base.specs.Places.{InOrder}
+use Rattle.base.proofs.SlicesAndCounts.{push_cases, slice_get-append_left, slice_get-last}
+use Rattle.base.proofs.SliceSets.{slice_get-set_found, slice_get-set_other}
+use Rattle.base.specs.InOrderOnce.{InOrder}
 use Rattle.std.proofs.Math.Seq.{get_or-append_seam}
 use Rattle.journal.specs.declared.event.Event.{Event}
 use Rattle.journal.specs.declared.event.Kind.{Kind}
-use Rattle.journal.specs.Did.{event}
+use Rattle.journal.specs.DidEvent.{event}
 use Rattle.journal.specs.Events.{At, interval_at, is_taking}
 use Rattle.journal.specs.Times.{IsTimeOf}
 use Rattle.journal.specs.WellFormed.{Does}
-use Rattle.journal.proofs.Order.Places.{at_same, does_at}
+use Rattle.journal.proofs.Order.CountedAndNumbered.{at_same, does_at}
 use Rattle.causes.specs.declared.takings.Taking.{Taking}
 use Rattle.causes.specs.Takings.{AreAllTakings, AreTakings, IsTaking}
 

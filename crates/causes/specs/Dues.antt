@@ -1,11 +1,11 @@
 -- What copies of pages lack, and which events tell of it.
 use Rattle.std.specs.Prelude.{ℕ, ◌≡◌, ◌≢◌, ◌⊎◌, ◌+◌, ◌<◌, ◌≤◌, ◌↔◌, List, Option, Some, MatchOption, slice_get, slice_index, take}
 use Rattle.std.specs.Global.{Vec}
-use Rattle.base.specs.Places.{Has, InOrder}
+use Rattle.base.specs.InOrderOnce.{Has, InOrder}
 use Rattle.journal.specs.declared.event.Event.{Event}
 use Rattle.journal.specs.declared.event.Kind.{Kind}
 use Rattle.journal.specs.declared.event.Kind.TheVariants.{Fetch}
-use Rattle.journal.specs.Copies.{HasCount, StoredInGap}
+use Rattle.journal.specs.PageImages.{HasCount, StoredInGap}
 use Rattle.journal.specs.Events.{At}
 use Rattle.journal.specs.Sizes.{Sizes}
 use Rattle.judge.specs.Gaps.{StoresInPage}

@@ -1,10 +1,10 @@
 -- The events of other processors with an edge to an event.
 use Rattle.std.specs.Prelude.{ℕ, ◌≡◌, ◌≢◌, ◌<◌, ◌↔◌, List}
-use Rattle.base.specs.Places.{Has, InOrder}
+use Rattle.base.specs.InOrderOnce.{Has, InOrder}
 use Rattle.journal.specs.declared.event.Event.{Event}
 use Rattle.journal.specs.declared.event.Kind.{Kind}
 use Rattle.journal.specs.declared.event.Kind.TheVariants.{Acquire, Release, Arrive, Depart, Set, Await}
-use Rattle.journal.specs.Order.{Edge}
+use Rattle.journal.specs.HappensBeforeEdges.{Edge}
 
 -- an edge leads from place i to place k, and their events are of two processors
 pub record EdgeFromOther (j : List Event) (i k : ℕ) : Type 0 where

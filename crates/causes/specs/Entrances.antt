@@ -1,7 +1,7 @@
 -- The last of the news of an event, of each other processor.
 use Rattle.std.specs.Prelude.{ℕ, ◌≡◌, List, Some, length, slice_get}
 use Rattle.std.specs.Global.{Vec}
-use Rattle.base.specs.Places.{Has}
+use Rattle.base.specs.InOrderOnce.{Has}
 use Rattle.journal.specs.declared.event.Event.{Event}
 use Rattle.journal.specs.Pasts.{UpTo}
 use Rattle.causes.specs.declared.news.Step.{Step}

@@ -1,10 +1,10 @@
 -- What each event brings its processor news of.
 use Rattle.std.specs.Prelude.{ℕ, ◌≡◌, ◌+◌, ◌<◌, ◌≤◌, ◌↔◌, List, Some, slice_get, slice_index, take}
 use Rattle.std.specs.Global.{Vec}
-use Rattle.base.specs.Places.{Has, InOrder}
+use Rattle.base.specs.InOrderOnce.{Has, InOrder}
 use Rattle.journal.specs.declared.event.Event.{Event}
 use Rattle.journal.specs.Events.{At, interval_at}
-use Rattle.journal.specs.Order.{HappensBefore}
+use Rattle.journal.specs.HappensBeforeEdges.{HappensBefore}
 use Rattle.journal.specs.Times.{ClosesAt, IsTimeOf}
 use Rattle.causes.specs.declared.news.Step.{Step}
 use Rattle.causes.specs.Edges.{EdgeFromOther}

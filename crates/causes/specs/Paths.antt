@@ -3,7 +3,7 @@ use Rattle.std.specs.Prelude.{ℕ, ◌≡◌, ◌+◌, ◌-◌, ◌<◌, List, O
 use Rattle.journal.specs.declared.event.Event.{Event}
 use Rattle.journal.specs.declared.event.Kind.{Kind}
 use Rattle.journal.specs.InRange.{ProcessorsInRange}
-use Rattle.journal.specs.Order.{Edge}
+use Rattle.journal.specs.HappensBeforeEdges.{Edge}
 use Rattle.journal.specs.Pasts.{UpTo}
 use Rattle.journal.specs.WellFormed.{Does}
 use Rattle.causes.specs.declared.paths.Ways.{Ways}

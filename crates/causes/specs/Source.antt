@@ -2,7 +2,7 @@
 use Rattle.std.specs.Prelude.{ℕ, ◌≡◌, List, Option, Some, None, slice_get}
 use Rattle.journal.specs.declared.event.Event.{Event}
 use Rattle.journal.specs.declared.event.Kind.TheVariants.{Load}
-use Rattle.journal.specs.Loads.{IsAnswer, LatestStore, Untouched}
+use Rattle.journal.specs.ExplainedAnswers.{IsAnswer, LatestStore, Untouched}
 use Rattle.journal.specs.WellFormed.{Does}
 use Rattle.causes.specs.declared.source.Source.{Source}
 use Rattle.causes.specs.declared.source.Source.TheVariants.{StoreAt, NoStore, Unexplained}

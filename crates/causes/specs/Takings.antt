@@ -1,7 +1,7 @@
 -- Of each processor, the events that take, with its timestamps after them; of each event, the number of its interval.
 use Rattle.std.specs.Prelude.{ℕ, ◌≡◌, ◌+◌, ◌<◌, ◌≤◌, IsTrue, List, Some, length, slice_get, slice_index, take}
 use Rattle.std.specs.Global.{Vec}
-use Rattle.base.specs.Places.{InOrder}
+use Rattle.base.specs.InOrderOnce.{InOrder}
 use Rattle.journal.specs.declared.event.Event.{Event}
 use Rattle.journal.specs.declared.event.Kind.{Kind}
 use Rattle.journal.specs.Events.{At, interval_at, is_taking}

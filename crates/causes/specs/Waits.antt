@@ -1,6 +1,6 @@
 -- What a processor waits for at the end of a history.
 use Rattle.std.specs.Prelude.{ℕ, ◌≡◌, ◌≢◌, ◌<◌, ◌≤◌, ◌↔◌, IsTrue, List, Some, MatchOption, slice_get}
-use Rattle.base.specs.Places.{Has, InOrder}
+use Rattle.base.specs.InOrderOnce.{Has, InOrder}
 use Rattle.journal.specs.declared.event.Event.{Event}
 use Rattle.journal.specs.declared.event.Kind.TheVariants.{Arrive, Ask, Set, Watch}
 use Rattle.journal.specs.Events.{At, count_of, is_arrive, is_depart}

@@ -1,7 +1,7 @@
 //! What each event brings its processor news of: the events that let it through and that its processor had not heard of.
 ghost use Rattle.std.specs.Prelude.{◌≡◌, ◌↔◌, ◌⊎◌, ℕ, ◌+◌, ◌<◌, ◌≤◌, [], IsTrue, IfOk, OnOk, length, take, vec_len};
 ghost use Rattle.base.specs.Prelude.{Has, most_held, most_processors};
-ghost use Rattle.base.specs.Places.{IsOnce};
+ghost use Rattle.base.specs.InOrderOnce.{IsOnce};
 ghost use Rattle.journal.specs.Times.{ClosesAt};
 ghost use Rattle.journal.specs.Prelude.{AreClocks, ProcessorsInRange};
 ghost use Rattle.causes.specs.Prelude.{AreIncoming, AreNewlyOrdered, AreTurns, EdgeFromOther, IsIndex, IsNewOf, TimesAround};

@@ -1,6 +1,6 @@
 //! Of each processor, the events that take, with its timestamps after them; of each event, the number of its interval.
 ghost use Rattle.std.specs.Prelude.{◌≡◌, ◌+◌, ◌<◌, ◌≤◌, IfOk, List, MatchOption, OnOk, cond, length, slice_index};
-ghost use Rattle.base.specs.Places.{InOrder};
+ghost use Rattle.base.specs.InOrderOnce.{InOrder};
 ghost use Rattle.base.specs.Prelude.{most_held, most_processors};
 ghost use Rattle.journal.specs.declared.event.Event.{Event};
 ghost use Rattle.journal.specs.Prelude.{ProcessorsInRange, is_closing, is_taking};

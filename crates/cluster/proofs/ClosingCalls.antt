@@ -5,39 +5,39 @@ use Rattle.std.proofs.lemmas.List.Elements.{filter-append}
 use Rattle.journal.specs.declared.event.Event.{Event}
 use Rattle.journal.specs.declared.event.Kind.{Kind}
 use Rattle.journal.specs.declared.event.Kind.TheVariants.{Load, Fetch, Ask, Release, Arrive, Set, Watch}
-use Rattle.journal.specs.Did.{event, did}
+use Rattle.journal.specs.DidEvent.{event, did}
 use Rattle.journal.specs.Waits.{awaited}
-use Rattle.journal.specs.Events.{is_closing, part}
+use Rattle.journal.specs.Events.{is_closing, events_of}
 use Rattle.journal.specs.WellFormed.{WellFormed, Holds, KindInRange}
 use Rattle.base.specs.Limits.{most_events}
-use Rattle.page.specs.Changes.{Changes}
+use Rattle.page.specs.RisingChanges.{Changes}
 use Rattle.book.specs.State.{State}
 use Rattle.book.specs.Told.{Represents}
 use Rattle.book.specs.Waiting.{HasClosed}
-use Rattle.book.specs.Transitions.{handed_in}
+use Rattle.book.specs.Transitions.{book_handed_in}
 use Rattle.book.specs.declared.refused.Refused.{Refused}
-use Rattle.book.specs.Refusals.{IsFullAt}
-use Rattle.book.proofs.Keeps.Whole.{ask_law, release_law, arrive_law, set_law, watch_law}
+use Rattle.book.specs.Refusals.{IsFullRefusal}
+use Rattle.book.proofs.Told.Whole.{ask_law, release_law, arrive_law, set_law, watch_law}
 use Rattle.turn.specs.declared.chair.ChairToken.{ChairToken}
 use Rattle.vtime.specs.Times.{tick}
 use Rattle.cluster.specs.Copies.Local.{Local, calls}
-use Rattle.cluster.specs.Copies.Records.{AreHarvests, DirtyAreMarked}
+use Rattle.cluster.specs.Copies.MarksAndHarvests.{AreHarvests, DirtyAreMarked}
 use Rattle.cluster.specs.Copies.Sound.{IsSound, most_seen}
-use Rattle.cluster.specs.Copies.Steps.{found, handed, interval_closed, cleaned, held_after}
+use Rattle.cluster.specs.Copies.AfterNews.{found, handed, interval_closed, cleaned, held_after}
 use Rattle.cluster.proofs.copies.Calls.{called_sound}
-use Rattle.cluster.proofs.copies.Locks.{held_mark}
-use Rattle.cluster.proofs.copies.Records.{harvest_contents}
+use Rattle.cluster.proofs.copies.Locks.{lock_held_mark}
+use Rattle.cluster.proofs.copies.Records.{record_harvest_contents}
 use Rattle.cluster.specs.declared.keeper.View.{View}
 use Rattle.cluster.specs.Refusals.{flush_refusal}
 use Rattle.cluster.specs.Calls.{IsCall, Nothing}
 use Rattle.cluster.specs.Closing.{MayMake, MayHold, MayClose, IsClosedBy, book_closed}
 use Rattle.cluster.specs.Entering.{Finds, IsCallOf, entered}
-use Rattle.cluster.proofs.Finding.{here_sound, may_hand_in, may_call}
-use Rattle.cluster.proofs.Handing.{had_room, calls_handed}
-use Rattle.cluster.proofs.Histories.{told_few}
-use Rattle.cluster.proofs.Visiting.{Visit, on, left_as}
-use Rattle.cluster.proofs.Made.{entered_sound, not_spent, now_is, call_done}
-use Rattle.cluster.proofs.Leaving.{call_of_nothing, call_of_event}
+use Rattle.cluster.proofs.Found.{found_here_sound, found_may_hand_in, found_may_call}
+use Rattle.cluster.proofs.Handing.{handing_had_room, calls_handed}
+use Rattle.cluster.proofs.FaithfulHistory.{history_told_few}
+use Rattle.cluster.proofs.Visiting.{Visit, on, visit_left_as}
+use Rattle.cluster.proofs.UnchangedCalls.{entered_sound, call_not_spent, now_is, call_done}
+use Rattle.cluster.proofs.LeavingCalls.{call_of_nothing, call_of_event}
 
 module _ (m : Local) (sound : IsSound m) (b : State) (f : Finds m b) where
   abbrev h : List Event
@@ -46,51 +46,51 @@ module _ (m : Local) (sound : IsSound m) (b : State) (f : Finds m b) where
   -- whether it holds a lock is known to the processor
   lacks : (l : ℕ) → l < m.sizes.locks → slice_index_or m.held l false ≡ false → ¬ Holds h m.number l
   lacks l within mark holds =
-      true≢false (sym ((held_mark (found m f.rest) l (here_sound m sound b f) within).1 holds) ∙ mark)
+      true≢false (sym ((lock_held_mark (found m f.rest) l (found_here_sound m sound b f) within).1 holds) ∙ mark)
 
   has : (l : ℕ) → l < m.sizes.locks → slice_index_or m.held l false ≡ true → Holds h m.number l
-  has l within mark = (held_mark (found m f.rest) l (here_sound m sound b f) within).0 mark
+  has l within mark = (lock_held_mark (found m f.rest) l (found_here_sound m sound b f) within).0 mark
 
   -- the book lets it
   pub may_close : (k : Kind) → MayMake m k → MayClose k b m.number m.block
   may_close (Ask l) may =
-      record { call = may_call m sound b f may.idle; range = may.in_range; free = lacks l may.in_range may.held }
+      record { call = found_may_call m sound b f may.idle; range = may.in_range; free = lacks l may.in_range may.held }
   may_close (Release l) may =
-      record { call = may_call m sound b f may.idle; range = may.in_range; held = has l may.in_range may.held }
+      record { call = found_may_call m sound b f may.idle; range = may.in_range; held = has l may.in_range may.held }
   may_close (Set f') may =
-      (may_call m sound b f may.idle, (let long = f.kept.told.flags.long in let within = may.in_range in omega arith))
-  may_close _ may = may_call m sound b f may.idle
+      (found_may_call m sound b f may.idle, (let long = f.kept.told.flags.long in let within = may.in_range in omega arith))
+  may_close _ may = found_may_call m sound b f may.idle
 
   -- and is told then by one event more
   pub told_closed : (k : Kind) (records : List Changes) → MayMake m k → AreHarvests m.copies records
-      → Represents m.sizes (did (h ++ m.block) m.number k) (book_closed k (handed_in b m.block) m.number records)
+      → Represents m.sizes (did (h ++ m.block) m.number k) (book_closed k (book_handed_in b m.block) m.number records)
   told_closed k records may are = go k may.closes may.in_range may.held
     where
       told : Represents m.sizes h b
       told = f.kept.told
 
       go : (k : Kind) → is_closing k ≡ true → KindInRange m.sizes k → MayHold m.held k
-          → Represents m.sizes (did (h ++ m.block) m.number k) (book_closed k (handed_in b m.block) m.number records)
+          → Represents m.sizes (did (h ++ m.block) m.number k) (book_closed k (book_handed_in b m.block) m.number records)
       go (Ask l) closes range held =
-          ask_law m.sizes h m.block b m.number l records told (may_hand_in m sound b f may.idle)
-          (harvest_contents (found m f.rest) (here_sound m sound b f) records are) range (lacks l range held)
+          ask_law m.sizes h m.block b m.number l records told (found_may_hand_in m sound b f may.idle)
+          (record_harvest_contents (found m f.rest) (found_here_sound m sound b f) records are) range (lacks l range held)
       go (Release l) closes range held =
-          release_law m.sizes h m.block b m.number l records told (may_hand_in m sound b f may.idle)
-          (harvest_contents (found m f.rest) (here_sound m sound b f) records are) range (has l range held)
+          release_law m.sizes h m.block b m.number l records told (found_may_hand_in m sound b f may.idle)
+          (record_harvest_contents (found m f.rest) (found_here_sound m sound b f) records are) range (has l range held)
       go Arrive closes range held =
-          arrive_law m.sizes h m.block b m.number records told (may_hand_in m sound b f may.idle)
-          (harvest_contents (found m f.rest) (here_sound m sound b f) records are)
+          arrive_law m.sizes h m.block b m.number records told (found_may_hand_in m sound b f may.idle)
+          (record_harvest_contents (found m f.rest) (found_here_sound m sound b f) records are)
       go (Set l) closes range held =
-          set_law m.sizes h m.block b m.number l records told (may_hand_in m sound b f may.idle)
-          (harvest_contents (found m f.rest) (here_sound m sound b f) records are) range
+          set_law m.sizes h m.block b m.number l records told (found_may_hand_in m sound b f may.idle)
+          (record_harvest_contents (found m f.rest) (found_here_sound m sound b f) records are) range
       go (Watch l) closes range held =
-          watch_law m.sizes h m.block b m.number l records told (may_hand_in m sound b f may.idle)
-          (harvest_contents (found m f.rest) (here_sound m sound b f) records are) range
+          watch_law m.sizes h m.block b m.number l records told (found_may_hand_in m sound b f may.idle)
+          (record_harvest_contents (found m f.rest) (found_here_sound m sound b f) records are) range
       go _ closes range held = absurd (true≢false (sym closes))
 
   -- so it is one after this closing event
   pub has_closed : (k : Kind) (records : List Changes) → MayMake m k → AreHarvests m.copies records
-      → HasClosed (book_closed k (handed_in b m.block) m.number records) m.number k
+      → HasClosed (book_closed k (book_handed_in b m.block) m.number records) m.number k
   has_closed k records may are = record {
     sizes = m.sizes;
     history = h ++ m.block;
@@ -135,22 +135,22 @@ module _ (m : Local) (sound : IsSound m) (b : State) (k : Kind) (may : MayMake m
     (are : AreHarvests m.copies records) where
   -- it is a call of p
   pub call_of_closing : length b.journal.events + length m.block + 1 ≤ most_events
-      → IsCallOf m b (m.block ++ event m.number k ∷ []) (book_closed k (handed_in b m.block) m.number records)
+      → IsCallOf m b (m.block ++ event m.number k ∷ []) (book_closed k (book_handed_in b m.block) m.number records)
   call_of_closing fits =
-      let same = journal_closed k (handed_in b m.block) m.number records in
-      call_of_event m sound b k (book_closed k (handed_in b m.block) m.number records) (closing_no_load k may.closes)
-      (closing_no_fetch k may.closes) fits (events_closed k may.closes (handed_in b m.block) m.number records
+      let same = journal_closed k (book_handed_in b m.block) m.number records in
+      call_of_event m sound b k (book_closed k (book_handed_in b m.block) m.number records) (closing_no_load k may.closes)
+      (closing_no_fetch k may.closes) fits (events_closed k may.closes (book_handed_in b m.block) m.number records
       ∙ append_assoc b.journal.events m.block (event m.number k ∷ []))
       same.0 same.1 (λ f. told_closed m sound b f k records may are)
 
   -- whatever the book answers
   pub call_of_close : {A : Type 0} (r : Result A Refused) (block : List Event) (new : State) → block ≡ m.block
-      → OnOk r (new ≡ book_closed k (handed_in b block) m.number records) → OnErr r (new ≡ b)
-      → IsFullAt (length b.journal.events + length block + 1) r → (es : List Event) × IsCallOf m b es new
+      → OnOk r (new ≡ book_closed k (book_handed_in b block) m.number records) → OnErr r (new ≡ b)
+      → IsFullRefusal (length b.journal.events + length block + 1) r → (es : List Event) × IsCallOf m b es new
   call_of_close (Ok a) block new same ok err full = (
     m.block ++ event m.number k ∷ [],
     rw (ok, same)
-        (call_of_closing (rw (← same) (had_room a (length b.journal.events + length block + 1) full))),
+        (call_of_closing (rw (← same) (handing_had_room a (length b.journal.events + length block + 1) full))),
   )
   call_of_close (Err e) block new same ok err full = ([], rw err (call_of_nothing m b))
 
@@ -158,7 +158,7 @@ module _ (m : Local) (sound : IsSound m) (b : State) (k : Kind) (may : MayMake m
 calls_closed : (m : Local) (k : Kind) → IsSound m → calls (interval_closed (handed m) k) ≡ calls m ++ event m.number k ∷ []
 calls_closed m k sound =
     rw (append-nil, filter-append, eq-eqb m.number m.number refl) (ap (λ (xs : List Event). xs ++ event m.number k
-    ∷ []) (sym (append-nil (part (m.seen ++ m.block) m.number)) ∙ calls_handed m sound))
+    ∷ []) (sym (append-nil (events_of (m.seen ++ m.block) m.number)) ∙ calls_handed m sound))
 
 -- a visit that closed the interval by this event
 pub record Closed (m : Local) (b : State) (k : Kind) (records : List Changes)
@@ -166,23 +166,23 @@ pub record Closed (m : Local) (b : State) (k : Kind) (records : List Changes)
   pub may : MayMake m k
   pub are : AreHarvests m.copies records
   pub fits : length b.journal.events + length m.block + 1 ≤ most_events
-  pub visit : Visit m b (book_closed k (handed_in b m.block) m.number records) after
+  pub visit : Visit m b (book_closed k (book_handed_in b m.block) m.number records) after
 
 -- as the book answered
 pub closed_visit : {A : Type 0} {m : Local} {b new : State} {k : Kind} {records : List Changes}
     {after : ChairToken State View} {block : List Event} (a : A) → MayMake m k → AreHarvests m.copies records
-    → Visit m b new after → block ≡ m.block → new ≡ book_closed k (handed_in b block) m.number records
-    → IsFullAt (length b.journal.events + length block + 1) (Ok a) → Closed m b k records after
+    → Visit m b new after → block ≡ m.block → new ≡ book_closed k (book_handed_in b block) m.number records
+    → IsFullRefusal (length b.journal.events + length block + 1) (Ok a) → Closed m b k records after
 closed_visit {b = b} {block = block} a may are v same ok full = record {
   may = may;
   are = are;
-  fits = rw (← same) (had_room a (length b.journal.events + length block + 1) full);
-  visit = left_as v (rw (← same) ok);
+  fits = rw (← same) (handing_had_room a (length b.journal.events + length block + 1) full);
+  visit = visit_left_as v (rw (← same) ok);
 }
 
 module _ {m : Local} {b : State} {k : Kind} {records : List Changes} {after : ChairToken State View}
     (t : Closed m b k records after) where
-  abbrev v : Visit m b (book_closed k (handed_in b m.block) m.number records) after
+  abbrev v : Visit m b (book_closed k (book_handed_in b m.block) m.number records) after
   v = t.visit
 
   -- the processor after its interval was closed
@@ -197,7 +197,7 @@ module _ {m : Local} {b : State} {k : Kind} {records : List Changes} {after : Ch
   }
 
   abbrev last : State
-  last = book_closed k (handed_in b m.block) m.number records
+  last = book_closed k (book_handed_in b m.block) m.number records
 
   abbrev then : Local
   then = entered m v.finds.rest last.journal.base.cut
@@ -217,7 +217,7 @@ module _ {m : Local} {b : State} {k : Kind} {records : List Changes} {after : Ch
   same : closed_now ≡ interval_closed (handed then) k
   same =
       now_is v (m.block ++ event m.number k ∷ []) call closed_now refl
-      (journal_closed k (handed_in b m.block) m.number records).1
+      (journal_closed k (book_handed_in b m.block) m.number records).1
       ∙ ap (λ (h : List Event). record (interval_closed (handed then) k) { seen = h }) moved
 
   -- it is as it has to be
@@ -227,11 +227,11 @@ module _ {m : Local} {b : State} {k : Kind} {records : List Changes} {after : Ch
       let Q : List Event → Type 0 = λ h. length h ≤ most_seen in
       let told = call.told v.finds in
       subst IsSound (sym same) (called_sound then k before t.may.closes t.may.in_range (subst P moved told.well_formed)
-      (subst Q moved (told_few m.sizes history last told (call.few v.finds))))
+      (subst Q moved (history_told_few m.sizes history last told (call.few v.finds))))
 
   pub closed_done : {many : ℕ}
       → IsCall (flush_refusal m) many Nothing (IsClosedBy k) (event m.number k ∷ []) m closed_now None
   closed_done =
-      call_done v (m.block ++ event m.number k ∷ []) call closed_now refl (not_spent v)
-      (journal_closed k (handed_in b m.block) m.number records).1 closed_good same
+      call_done v (m.block ++ event m.number k ∷ []) call closed_now refl (call_not_spent v)
+      (journal_closed k (book_handed_in b m.block) m.number records).1 closed_good same
       (ap calls same ∙ calls_closed then k before)

@@ -4,33 +4,33 @@ use Rattle.std.proofs.lemmas.List.Elements.{filter-append}
 use Rattle.std.proofs.lemmas.Option.{none-some}
 use Rattle.journal.specs.declared.event.Event.{Event}
 use Rattle.journal.specs.declared.event.Kind.{Kind}
-use Rattle.journal.specs.Events.{At, part}
+use Rattle.journal.specs.Events.{At, events_of}
 use Rattle.journal.specs.WellFormed.{WellFormed}
 use Rattle.journal.specs.Waits.{IsIdle}
-use Rattle.journal.specs.Loads.{Explained}
+use Rattle.journal.specs.ExplainedAnswers.{Explained}
 use Rattle.journal.specs.Counted.{AreCounted}
-use Rattle.journal.specs.Brought.{NoGap}
+use Rattle.journal.specs.BroughtCopy.{NoGap}
 use Rattle.journal.specs.Blocks.{IsBlock}
-use Rattle.journal.specs.Pages.{IsStaleCopy}
-use Rattle.journal.proofs.Journals.Ready.{plain_block}
-use Rattle.journal.proofs.Journals.WellFormed.{last_shorter}
+use Rattle.journal.specs.ValidAndStaleCopy.{IsStaleCopy}
+use Rattle.journal.proofs.Journals.ReadyIdleWaits.{plain_block}
+use Rattle.journal.proofs.Journals.WellFormedLast.{last_shorter}
 use Rattle.journal.proofs.Times.Blocks.{block_time}
-use Rattle.journal.proofs.Times.Pushes.{others_keep}
-use Rattle.journal.proofs.Copies.OpenBlocks.{explained_block, answers_others}
-use Rattle.journal.proofs.Copies.Pages.{valid_others, valid_lawful, valid_no_gap, stale_others, stale_gap}
+use Rattle.journal.proofs.Times.PushesCovered.{others_keep_time}
+use Rattle.journal.proofs.CopyOfPage.BlockAnswers.{explained_block, answers_others}
+use Rattle.journal.proofs.CopyOfPage.ValidAndStale.{valid_others, valid_lawful, valid_no_gap, stale_others, stale_gap}
 use Rattle.journal.proofs.Missing.Counted.{block_counts_others, counted_block}
-use Rattle.interval.specs.Intervals.{SentRecord}
+use Rattle.interval.specs.SentIntervals.{SentRecord}
 use Rattle.page.specs.declared.page.Access.{Access}
 use Rattle.page.specs.declared.page.Access.TheVariants.{Valid, Invalid}
-use Rattle.book.specs.News.{missing_of}
-use Rattle.cluster.specs.Copies.Copies.{Copied, IsReplica}
+use Rattle.book.specs.News.{news_of_notice}
+use Rattle.cluster.specs.Copies.PageReplica.{Copied, IsReplica}
 use Rattle.cluster.specs.Copies.Local.{Local}
 use Rattle.cluster.specs.Copies.Sound.{IsSound}
-use Rattle.cluster.specs.Kept.{view_of}
+use Rattle.cluster.specs.KeptViews.{view_having_seen}
 use Rattle.cluster.specs.Covers.{LockAllows, IsCovered, HasCoverage}
 
 -- events of others have no part of p
-pub part_away : (es : List Event) (p : ℕ) → ((k : ℕ) (e : Event) → At es k e → e.processor ≢ p) → part es p ≡ []
+pub part_away : (es : List Event) (p : ℕ) → ((k : ℕ) (e : Event) → At es k e → e.processor ≢ p) → events_of es p ≡ []
 part_away [] p away = refl
 part_away (e ∷ es) p away = rw (ne_eqb e.processor p (away zero e refl)) (part_away es p (λ k f at. away (suc k) f at))
 
@@ -39,9 +39,9 @@ module _ (m : Local) (sound : IsSound m) where
   is_block k e at = let inner = sound.inner k e at in (inner.mine, inner.takes)
 
   -- who waits for nothing may go on with its block
-  pub block_follows : (rest : List Event) → ((k : ℕ) (e : Event) → At rest k e → e.processor ≢ m.number)
+  pub covered_block_follows : (rest : List Event) → ((k : ℕ) (e : Event) → At rest k e → e.processor ≢ m.number)
       → WellFormed m.sizes (m.seen ++ rest) → WellFormed m.sizes ((m.seen ++ rest) ++ m.block)
-  block_follows rest away well = go m.awaits refl
+  covered_block_follows rest away well = go m.awaits refl
     where
       go : (o : Option Kind) → m.awaits ≡ o → WellFormed m.sizes ((m.seen ++ rest) ++ m.block)
       go None none =
@@ -58,9 +58,9 @@ module _ (m : Local) (sound : IsSound m) where
 
   module _ (rest : List Event) (away : (k : ℕ) (e : Event) → At rest k e → e.processor ≢ m.number) where
     -- a copy is valid exactly where it lacks nothing
-    valid_without_gap : (n : ℕ) (c : Copied) → IsReplica m.sizes m.seen m.block m.number n (sound.bases n) c
+    covered_valid_without_gap : (n : ℕ) (c : Copied) → IsReplica m.sizes m.seen m.block m.number n (sound.bases n) c
         → c.page.access ≡ Valid ↔ NoGap m.sizes ((m.seen ++ rest) ++ m.block) m.number n
-    valid_without_gap n c r = (
+    covered_valid_without_gap n c r = (
       (λ valid. valid_no_gap m.sizes (m.seen ++ rest) m.block m.number n (sound.bases n) c.page.words is_block
           (valid_others m.sizes m.seen rest m.block m.number n (sound.bases n) c.page.words away
           (r.valid valid).0)),
@@ -68,12 +68,12 @@ module _ (m : Local) (sound : IsSound m) where
     )
       where
         lacks : (missing : List SentRecord) → missing ≢ []
-            → IsStaleCopy m.sizes (m.seen ++ rest) m.block m.number n c.page.words (map missing_of missing)
+            → IsStaleCopy m.sizes (m.seen ++ rest) m.block m.number n c.page.words (map news_of_notice missing)
             → NoGap m.sizes ((m.seen ++ rest) ++ m.block) m.number n → ⊥
         lacks [] some stale none = some refl
         lacks (x ∷ xs) some stale none =
             let gap =
-            stale_gap m.sizes (m.seen ++ rest) m.block m.number n c.page.words (missing_of x) (map missing_of xs)
+            stale_gap m.sizes (m.seen ++ rest) m.block m.number n c.page.words (news_of_notice x) (map news_of_notice xs)
             is_block stale in
             none gap.0 gap.1
 
@@ -83,18 +83,18 @@ module _ (m : Local) (sound : IsSound m) where
         go Invalid is none =
             let s = r.stale is in
             absurd (lacks c.missing s.1 (stale_others m.sizes m.seen rest m.block m.number n c.page.words
-            (map missing_of c.missing) away s.0) none)
+            (map news_of_notice c.missing) away s.0) none)
 
     pub covered_on : WellFormed m.sizes (m.seen ++ rest) → Explained (m.seen ++ rest)
         → AreCounted m.sizes (m.seen ++ rest) → IsCovered m (m.seen ++ rest)
     covered_on well explained counted = record {
-      well_formed = block_follows rest away well;
+      well_formed = covered_block_follows rest away well;
       calls_are = rw (filter-append, part_away rest m.number away, append-nil);
       time =
           block_time (m.seen ++ rest) m.block m.number (slice_index m.time) is_block (λ k e at.
           (sound.inner k e at).closes)
-          (others_keep m.seen rest m.number (slice_index m.time) away sound.time.is);
-      valid = λ n c at. valid_without_gap n c (sound.copies.each n c at);
+          (others_keep_time m.seen rest m.number (slice_index m.time) away sound.time.is);
+      valid = λ n c at. covered_valid_without_gap n c (sound.copies.each n c at);
       lawful =
           λ n c at valid. valid_lawful m.sizes (m.seen ++ rest) m.block m.number n (sound.bases n) c.page.words
           is_block (valid_others m.sizes m.seen rest m.block m.number n (sound.bases n) c.page.words away
@@ -113,7 +113,7 @@ module _ (m : Local) (sound : IsSound m) where
     where
       each : (h : List Event) → LockAllows m h → IsCovered m h
       each h allows =
-          let goes = allows.kept.each m.number (view_of m.sizes m.seen m.cut m.own_cut) allows.mine in
+          let goes = allows.kept.each m.number (view_having_seen m.sizes m.seen m.cut m.own_cut) allows.mine in
           let P : List Event → Type 0 = λ es. WellFormed m.sizes es in
           let Q : List Event → Type 0 = λ es. AreCounted m.sizes es in
           subst (IsCovered m) (sym goes.begins)

@@ -8,35 +8,35 @@ use Rattle.journal.specs.declared.cut.CutFault.{CutFault}
 use Rattle.journal.specs.declared.cut.CutFault.TheVariants.{Racy, NoEpisode, BaseFull, NoMemory}
 use Rattle.journal.specs.Sizes.{Sizes, addresses}
 use Rattle.journal.specs.WellFormed.{WellFormed}
-use Rattle.journal.specs.Cuts.{IsCut, NoCut, IsBaseOf}
-use Rattle.journal.specs.Cutting.{MayCut, IsCutFault}
+use Rattle.journal.specs.EpisodeBases.{IsEpisodeCut, NoEpisodeCut, IsBaseOf}
+use Rattle.journal.specs.CutFaults.{MayCut, IsCutFault}
 use Rattle.journal.specs.Log.{Log}
 use Rattle.journal.specs.Races.{RaceFree, IsFirstRace}
 use Rattle.journal.specs.RacesFrom.{IsFirstRaceFrom}
-use Rattle.journal.proofs.Journals.WellFormed.{well_formed_front}
-use Rattle.journal.proofs.Bases.Whole.{same_law, well_formed_law, flat_law, copy_law}
-use Rattle.journal.specs.Copies.{Lawful}
+use Rattle.journal.proofs.Journals.WellFormedLast.{well_formed_front}
+use Rattle.journal.proofs.FromBase.Whole.{same_law, well_formed_law, flat_law, copy_law}
+use Rattle.journal.specs.PageImages.{Lawful}
 use Rattle.cluster.specs.Laws.{FromBaseLaw, LeftLaw}
-use Rattle.journal.specs.Loads.{Explained}
-use Rattle.book.specs.Cutting.{WasBookCut, refused_by}
+use Rattle.journal.specs.ExplainedAnswers.{Explained}
+use Rattle.book.specs.BookCut.{WasBookCut, book_cut_refusal}
 use Rattle.book.specs.State.{State}
 use Rattle.book.specs.Told.{Represents}
 use Rattle.book.specs.declared.refused.Refused.{Refused}
 use Rattle.book.specs.declared.refused.Refused.TheVariants.{SeatSpent}
-use Rattle.book.proofs.Keeps.Whole.{cut_law}
+use Rattle.book.proofs.Told.Whole.{cut_law}
 use Rattle.turn.specs.declared.chair.ChairToken.{ChairToken}
 use Rattle.cluster.specs.Copies.Local.{Local, calls}
 use Rattle.cluster.specs.Copies.Sound.{IsSound}
 use Rattle.cluster.specs.declared.keeper.View.{View}
-use Rattle.cluster.specs.Cutting.{IsCuttingCall, IsUncut, MayCutOff, WasCutOff}
+use Rattle.cluster.specs.Cutting.{IsCuttingCall, IsCuttingRefusal, MayCutOff, WasCutOff}
 use Rattle.cluster.specs.Entering.{IsCallOf, entered}
-use Rattle.cluster.specs.Kept.{view_of}
+use Rattle.cluster.specs.KeptViews.{view_having_seen}
 use Rattle.cluster.proofs.copies.Entering as entering
 use Rattle.cluster.specs.Refusals.{flush_refusal}
 use Rattle.cluster.proofs.Covering.{covers}
-use Rattle.cluster.proofs.Histories.{taken_is}
-use Rattle.cluster.proofs.Leaving.{call_of_nothing}
-use Rattle.cluster.proofs.Made.{alike_all, calls_entered, entered_sound, free_of, seat_spent, not_spent, now_by, now_same, few_now, now_allowed, unchanged_after, unchanged_is, unchanged_calls, unchanged_allowed, unchanged_sound}
+use Rattle.cluster.proofs.FaithfulHistory.{history_taken_is}
+use Rattle.cluster.proofs.LeavingCalls.{call_of_nothing}
+use Rattle.cluster.proofs.UnchangedCalls.{alike_all, calls_entered, entered_sound, free_of, call_seat_spent, call_not_spent, now_by, called_now_same, few_now, called_now_allowed, unchanged_after, unchanged_is, unchanged_calls, unchanged_allowed, unchanged_sound}
 use Rattle.cluster.proofs.Visiting.{Visit, on}
 
 -- what is dropped makes a list no longer
@@ -45,15 +45,15 @@ length-drop_le n xs =
     let both = ap length (take-append-drop n xs) in let long = length-append (take n xs) (drop n xs) in omega arith
 
 module _ (m : Local) (b new : State) (was : WasBookCut b new) where
-  events_left : new.journal.events ≡ drop was.journal.taken b.journal.events
-  events_left = ap (λ (l : Log). l.events) was.journal.left
+  cutting_leaves_events : new.journal.events ≡ drop was.journal.taken b.journal.events
+  cutting_leaves_events = ap (λ (l : Log). l.events) was.journal.left
 
-  fewer : length new.journal.events ≤ length b.journal.events
-  fewer = let le = length-drop_le was.journal.taken b.journal.events in let all = ap length events_left in omega arith
+  cutting_leaves_fewer : length new.journal.events ≤ length b.journal.events
+  cutting_leaves_fewer = let le = length-drop_le was.journal.taken b.journal.events in let all = ap length cutting_leaves_events in omega arith
 
   -- and by so many more are cut off
-  pub grown : new.journal.base.cut ≡ b.journal.base.cut + was.journal.taken
-  grown =
+  pub cutting_has_grown : new.journal.base.cut ≡ b.journal.base.cut + was.journal.taken
+  cutting_has_grown =
       let cut = was.journal.base.cut in
       let within = was.journal.may.place.within in
       cut ∙ ap (λ (n : ℕ). b.journal.base.cut + n) (length-take-le was.journal.taken b.journal.events within)
@@ -62,14 +62,14 @@ module _ (m : Local) (b new : State) (was : WasBookCut b new) where
   pub call_of_cut : IsCallOf m b [] new
   call_of_cut = record {
     mine = λ k e at. absurd (none-some e at);
-    adds = drop_all (length b.journal.events) new.journal.events fewer;
+    adds = drop_all (length b.journal.events) new.journal.events cutting_leaves_fewer;
     room = ap (λ (l : Log). l.room) was.journal.left;
     told = λ f. rw append-nil (cut_law m.sizes (m.seen ++ f.rest) b new f.kept.told was);
     explained = λ f. rw append-nil f.kept.explained;
     counted = λ f. rw append-nil f.kept.counted;
-    few = λ f. (let few = f.kept.few in let less = fewer in omega arith);
+    few = λ f. (let few = f.kept.few in let less = cutting_leaves_fewer in omega arith);
     taken = was.journal.taken;
-    cuts = grown;
+    cuts = cutting_has_grown;
   }
 
 -- whatever the book answers
@@ -89,14 +89,14 @@ module _ (s : Sizes) (h : List Event) (b : State) (told : Represents s h b) wher
   long = let is = told.holds.rest.base.after.cut in omega arith
 
   -- what is left of the history is the journal
-  left_is : drop cut h ≡ b.journal.events
-  left_is =
+  cutting_left_is : drop cut h ≡ b.journal.events
+  cutting_left_is =
       ap₂ (λ (n : ℕ) (xs : List Event). drop n xs) (sym long) told.holds.rest.history
       ∙ drop-append_seam taken b.journal.events
 
   -- and its front what was cut off, and the journal's
-  front_is : (n : ℕ) → take (cut + n) h ≡ taken ++ take n b.journal.events
-  front_is n =
+  cutting_front_is : (n : ℕ) → take (cut + n) h ≡ taken ++ take n b.journal.events
+  cutting_front_is n =
       ap₂ (λ (k : ℕ) (xs : List Event). take (k + n) xs) (sym long) told.holds.rest.history
       ∙ take-append-add taken b.journal.events n
 
@@ -105,35 +105,35 @@ module _ (s : Sizes) (h : List Event) (b : State) (told : Represents s h b) wher
       subst₂ (λ (p n : ℕ). IsBaseOf p n taken b.journal.base) told.sizes.processors told.sizes.addresses
       told.holds.rest.base
 
-  well_front : (n : ℕ) → WellFormed s (taken ++ take n b.journal.events)
-  well_front n =
+  cutting_front_well : (n : ℕ) → WellFormed s (taken ++ take n b.journal.events)
+  cutting_front_well n =
       let whole : h ≡ (taken ++ take n b.journal.events) ++ drop n b.journal.events =
       told.holds.rest.history ∙ ap (λ (xs : List Event). taken ++ xs) (sym (take-append-drop n b.journal.events))
       ∙ sym (append_assoc taken (take n b.journal.events) (drop n b.journal.events)) in
       well_formed_front s (taken ++ take n b.journal.events) (drop n b.journal.events)
       (subst (WellFormed s) whole told.well_formed)
 
-  is_cut : (n : ℕ) → IsCut b.journal.processors b.journal.events n → IsCut s.processors (drop cut h) n
-  is_cut n place = subst₂ (λ (p : ℕ) (xs : List Event). IsCut p xs n) told.sizes.processors (sym left_is) place
+  cutting_is_cut : (n : ℕ) → IsEpisodeCut b.journal.processors b.journal.events n → IsEpisodeCut s.processors (drop cut h) n
+  cutting_is_cut n place = subst₂ (λ (p : ℕ) (xs : List Event). IsEpisodeCut p xs n) told.sizes.processors (sym cutting_left_is) place
 
-  pub may_cut_off : (n : ℕ) → MayCut b.journal n → MayCutOff s h cut n
-  may_cut_off n may = record { place = is_cut n may.place; few = may.few }
+  pub cutting_may_cut_off : (n : ℕ) → MayCut b.journal n → MayCutOff s h cut n
+  cutting_may_cut_off n may = record { place = cutting_is_cut n may.place; few = may.few }
 
   first_race : (n i k : ℕ) → IsFirstRaceFrom b.journal.base (take n b.journal.events) i k
       → IsFirstRace (take (cut + n) h) (cut + i) (cut + k)
   first_race n i k first =
       let there =
-      ((same_law s b.journal.base taken (take n b.journal.events) (well_front n) base).first_race i k).1 first in
+      ((same_law s b.journal.base taken (take n b.journal.events) (cutting_front_well n) base).first_race i k).1 first in
       let P : List Event → Type 0 = λ xs. IsFirstRace xs (cut + i) (cut + k) in
       let Q : ℕ → Type 0 = λ c. IsFirstRace (taken ++ take n b.journal.events) (c + i) (c + k) in
-      subst P (sym (front_is n)) (subst Q long there)
+      subst P (sym (cutting_front_is n)) (subst Q long there)
 
   -- why the journal isn't cut
-  pub uncut : (e : CutFault) → IsCutFault b.journal e → IsUncut s h cut (refused_by e)
-  uncut (Racy i k) fault = (fault.0, may_cut_off fault.0 fault.1, first_race fault.0 i k fault.2)
-  uncut NoEpisode none = subst₂ (λ (p : ℕ) (xs : List Event). NoCut p xs) told.sizes.processors (sym left_is) none
-  uncut BaseFull fault = (fault.0, is_cut fault.0 fault.1, fault.2)
-  uncut NoMemory fault = (fault.0, may_cut_off fault.0 fault.1)
+  pub cutting_refuses : (e : CutFault) → IsCutFault b.journal e → IsCuttingRefusal s h cut (book_cut_refusal e)
+  cutting_refuses (Racy i k) fault = (fault.0, cutting_may_cut_off fault.0 fault.1, first_race fault.0 i k fault.2)
+  cutting_refuses NoEpisode none = subst₂ (λ (p : ℕ) (xs : List Event). NoEpisodeCut p xs) told.sizes.processors (sym cutting_left_is) none
+  cutting_refuses BaseFull fault = (fault.0, cutting_is_cut fault.0 fault.1, fault.2)
+  cutting_refuses NoMemory fault = (fault.0, cutting_may_cut_off fault.0 fault.1)
 
 -- a call that cut
 module _ {m : Local} {b new : State} {after : ChairToken State View} (v : Visit m b new after)
@@ -153,12 +153,12 @@ module _ {m : Local} {b new : State} {after : ChairToken State View} (v : Visit 
   same : on after m ≡ record then { cut = new.journal.base.cut; own_cut = own_grown }
   same =
       now_by v [] call (on after m) refl own_grown
-      (let cuts = call.cuts in let more = grown m b new was in omega arith)
+      (let cuts = call.cuts in let more = cutting_has_grown m b new was in omega arith)
       ∙ ap (λ (h : List Event). record then { seen = h; cut = new.journal.base.cut; own_cut = own_grown })
       (append-nil history)
 
-  pub cut_good : IsSound (on after m)
-  cut_good =
+  pub cutting_good : IsSound (on after m)
+  cutting_good =
       subst IsSound (sym same)
       (entering.entered_sound then then.entries new.journal.base.cut own_grown
       (entered_sound m b v.sound v.finds b.journal.base.cut))
@@ -167,63 +167,63 @@ module _ {m : Local} {b new : State} {after : ChairToken State View} (v : Visit 
   race_free =
       let told = cut_law m.sizes history b new v.finds.kept.told was in
       let P : ℕ → Type 0 = λ n. RaceFree (take n history) in
-      subst P (grown m b new was) (subst RaceFree (taken_is m.sizes history new told) told.holds.rest.base.race_free)
+      subst P (cutting_has_grown m b new was) (subst RaceFree (history_taken_is m.sizes history new told) told.holds.rest.base.race_free)
 
-  cut_off : WasCutOff then (on after m)
-  cut_off = record {
+  cutting_was_cut_off : WasCutOff then (on after m)
+  cutting_was_cut_off = record {
     taken = was.journal.taken;
-    may = may_cut_off m.sizes history b v.finds.kept.told was.journal.taken was.journal.may;
+    may = cutting_may_cut_off m.sizes history b v.finds.kept.told was.journal.taken was.journal.may;
     race_free = race_free;
-    after = same ∙ ap (λ (n : ℕ). record then { cut = n; own_cut = own_grown }) (grown m b new was);
+    after = same ∙ ap (λ (n : ℕ). record then { cut = n; own_cut = own_grown }) (cutting_has_grown m b new was);
   }
 
-  pub cut_done : IsCuttingCall m (on after m) None
-  cut_done = record {
-    same = now_same v [] call (on after m) refl;
-    outside = λ d there. absurd (free_of (flush_refusal m) d (not_spent v) there);
+  pub cutting_done : IsCuttingCall m (on after m) None
+  cutting_done = record {
+    same = called_now_same v [] call (on after m) refl;
+    outside = λ d there. absurd (free_of (flush_refusal m) d (call_not_spent v) there);
     ok = λ _. (
       record {
         rest = v.finds.rest;
         away = v.finds.away;
         cut = b.journal.base.cut;
-        more = v.finds.kept.behind m.number (view_of m.sizes m.seen m.cut m.own_cut) v.finds.at;
-        after = cut_off;
+        more = v.finds.kept.behind m.number (view_having_seen m.sizes m.seen m.cut m.own_cut) v.finds.at;
+        after = cutting_was_cut_off;
       },
       few_now v [] call (on after m) refl,
     );
     err = λ e _ is. absurd (none-some e is);
     calls_are = ap calls same ∙ calls_entered m b v.finds new.journal.base.cut;
-    covers = covers (on after m) cut_good;
-    allowed = λ _. now_allowed v [] call (on after m) refl;
+    covers = covers (on after m) cutting_good;
+    allowed = λ _. called_now_allowed v [] call (on after m) refl;
   }
 
 -- a call that was refused inside
-pub cut_refused : {m : Local} {b : State} {after : ChairToken State View} (v : Visit m b b after) (e : CutFault)
-    → IsCutFault b.journal e → IsCuttingCall m (on after m) (Some (refused_by e))
-cut_refused {m} {b} {after} v e fault =
+pub cutting_refused : {m : Local} {b : State} {after : ChairToken State View} (v : Visit m b b after) (e : CutFault)
+    → IsCutFault b.journal e → IsCuttingCall m (on after m) (Some (book_cut_refusal e))
+cutting_refused {m} {b} {after} v e fault =
     let alike = alike_all m.copies in
     let now = on after m in
     let is = unchanged_is v m.copies alike in
-    let P : Local → Type 0 = λ n. IsUncut n.sizes n.seen n.cut (refused_by e) in
-    let why = subst P (sym is) (uncut m.sizes (m.seen ++ v.finds.rest) b v.finds.kept.told e fault) in
-    let Q : Refused → Type 0 = λ r. IsUncut now.sizes now.seen now.cut r in
+    let P : Local → Type 0 = λ n. IsCuttingRefusal n.sizes n.seen n.cut (book_cut_refusal e) in
+    let why = subst P (sym is) (cutting_refuses m.sizes (m.seen ++ v.finds.rest) b v.finds.kept.told e fault) in
+    let Q : Refused → Type 0 = λ r. IsCuttingRefusal now.sizes now.seen now.cut r in
     record {
       same = record { lock = v.same_lock; number = refl; sizes = refl };
-      outside = λ d there. absurd (free_of (flush_refusal m) d (not_spent v) there);
-      ok = λ none. absurd (none-some (refused_by e) (sym none));
-      err = λ d _ some. (unchanged_after v m.copies alike, subst Q (same_Some (refused_by e) d some) why);
+      outside = λ d there. absurd (free_of (flush_refusal m) d (call_not_spent v) there);
+      ok = λ none. absurd (none-some (book_cut_refusal e) (sym none));
+      err = λ d _ some. (unchanged_after v m.copies alike, subst Q (same_Some (book_cut_refusal e) d some) why);
       calls_are = unchanged_calls v m.copies alike;
       covers = covers now (unchanged_sound v m.copies alike);
       allowed = λ _. unchanged_allowed v m.copies alike;
     }
 
 -- a call that has entered as often as it may
-pub cut_spent : {m : Local} → IsSound m → m.entries ≡ m.lock.limit → IsCuttingCall m m (Some SeatSpent)
-cut_spent {m} sound all = record {
+pub cutting_spent : {m : Local} → IsSound m → m.entries ≡ m.lock.limit → IsCuttingCall m m (Some SeatSpent)
+cutting_spent {m} sound all = record {
   same = record { lock = refl; number = refl; sizes = refl };
-  outside = λ d there. (sym (seat_spent m all) ∙ there, refl);
+  outside = λ d there. (sym (call_seat_spent m all) ∙ there, refl);
   ok = λ none. absurd (none-some SeatSpent (sym none));
-  err = λ d free _. absurd (free_of (flush_refusal m) SeatSpent free (seat_spent m all));
+  err = λ d free _. absurd (free_of (flush_refusal m) SeatSpent free (call_seat_spent m all));
   calls_are = refl;
   covers = covers m sound;
   allowed = λ h. h;
@@ -243,8 +243,8 @@ from_base m h a n c cover within at valid here =
     (subst P whole (covered.lawful n c at valid))
 
 -- what is left of a faithful history is faithful from what was kept
-pub left_faithful : LeftLaw
-left_faithful s c h j of faithful =
+pub left_history_law : LeftLaw
+left_history_law s c h j of faithful =
     let base : IsBaseOf s.processors (addresses s) c j.base =
     subst₂ (λ (p n : ℕ). IsBaseOf p n c j.base) of.processors of.addresses_are of.holds.base in
     let well = subst (WellFormed s) of.holds.history faithful.well_formed in

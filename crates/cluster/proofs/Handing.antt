@@ -3,33 +3,33 @@ use Rattle.std.proofs.Common.{ℕ, zero, suc, ◌≡◌, ◌+◌, ◌≤◌, Res
 use Rattle.std.proofs.lemmas.Bool.{cases_lt, eq-eqb}
 use Rattle.std.proofs.lemmas.List.Elements.{filter-append}
 use Rattle.journal.specs.declared.event.Event.{Event}
-use Rattle.journal.specs.Events.{At, part}
+use Rattle.journal.specs.Events.{At, events_of}
 use Rattle.journal.specs.Log.{Log}
 use Rattle.base.specs.Limits.{most_events}
 use Rattle.book.specs.State.{State}
-use Rattle.book.specs.Transitions.{handed_in}
+use Rattle.book.specs.Transitions.{book_handed_in}
 use Rattle.book.specs.declared.refused.Refused.{Refused}
 use Rattle.book.specs.declared.refused.Refused.TheVariants.{JournalFull}
-use Rattle.book.specs.Refusals.{IsFullAt}
+use Rattle.book.specs.Refusals.{IsFullRefusal}
 use Rattle.book.specs.Told.{Represents}
 use Rattle.turn.specs.declared.chair.ChairToken.{ChairToken}
-use Rattle.cluster.specs.Copies.Steps.{handed}
+use Rattle.cluster.specs.Copies.AfterNews.{handed}
 use Rattle.cluster.proofs.copies.HandingIn.{handed_sound}
 use Rattle.cluster.specs.Copies.Local.{Local, calls}
 use Rattle.cluster.specs.Copies.Sound.{IsSound}
 use Rattle.cluster.specs.declared.keeper.View.{View}
 use Rattle.cluster.specs.Refusals.{flush_refusal}
-use Rattle.cluster.specs.Calls.{IsCall, IsHanded, Nothing}
+use Rattle.cluster.specs.Calls.{IsCall, IsHandedByCall, Nothing}
 use Rattle.cluster.specs.Entering.{IsCallOf, entered}
-use Rattle.cluster.proofs.Leaving.{call_of_nothing, call_of_block}
-use Rattle.cluster.specs.Histories.{IsAudit, IsFaithful, IsJournalOf}
-use Rattle.cluster.proofs.Histories.{faithful, journal_of, taken_is, told_few}
-use Rattle.cluster.proofs.Visiting.{Visit, on, left_as}
-use Rattle.cluster.proofs.Made.{entered_sound, not_spent, now_is, call_done}
+use Rattle.cluster.proofs.LeavingCalls.{call_of_nothing, call_of_block}
+use Rattle.cluster.specs.FaithfulJournals.{IsAudit, IsFaithful, IsJournalOf}
+use Rattle.cluster.proofs.FaithfulHistory.{faithful, history_journal, history_taken_is, history_told_few}
+use Rattle.cluster.proofs.Visiting.{Visit, on, visit_left_as}
+use Rattle.cluster.proofs.UnchangedCalls.{entered_sound, call_not_spent, now_is, call_done}
 
 -- what was done had room
-pub had_room : {A : Type 0} (a : A) (n : ℕ) → IsFullAt n (Ok a) → n ≤ most_events
-had_room {A} a n full = elim (cases_lt most_events n) [
+pub handing_had_room : {A : Type 0} (a : A) (n : ℕ) → IsFullRefusal n (Ok a) → n ≤ most_events
+handing_had_room {A} a n full = elim (cases_lt most_events n) [
   | inl more ↦ (let no : ◌≡◌ {A = Result A Refused} (Ok a) (Err JournalFull) = full.1 more in absurd (cc no))
   | inr le ↦ le
 ]
@@ -37,43 +37,43 @@ had_room {A} a n full = elim (cases_lt most_events n) [
 module _ (m : Local) (sound : IsSound m) (b : State) where
   -- whatever it answers, it is a call of p
   pub call_of_hand_in : {A : Type 0} (r : Result A Refused) (block : List Event) (new : State) → block ≡ m.block
-      → OnOk r (new ≡ handed_in b block) → OnErr r (new ≡ b) → IsFullAt (length b.journal.events + length block) r
+      → OnOk r (new ≡ book_handed_in b block) → OnErr r (new ≡ b) → IsFullRefusal (length b.journal.events + length block) r
       → (es : List Event) × IsCallOf m b es new
   call_of_hand_in (Ok a) block new same ok err full = (
     m.block,
-    rw (ok, same) (call_of_block m sound b (rw (← same) (had_room a (length b.journal.events
+    rw (ok, same) (call_of_block m sound b (rw (← same) (handing_had_room a (length b.journal.events
         + length block) full))),
   )
   call_of_hand_in (Err e) block new same ok err full = ([], rw err (call_of_nothing m b))
 
 -- events of p are p's part
-pub part_own : (es : List Event) (p : ℕ) → ((k : ℕ) (e : Event) → At es k e → e.processor ≡ p) → part es p ≡ es
-part_own [] p mine = refl
-part_own (e ∷ es) p mine = rw (mine zero e refl, eq-eqb p p refl, part_own es p (λ k f at. mine (suc k) f at)) refl
+pub handed_part_own : (es : List Event) (p : ℕ) → ((k : ℕ) (e : Event) → At es k e → e.processor ≡ p) → events_of es p ≡ es
+handed_part_own [] p mine = refl
+handed_part_own (e ∷ es) p mine = rw (mine zero e refl, eq-eqb p p refl, handed_part_own es p (λ k f at. mine (suc k) f at)) refl
 
 -- handing in adds no call
 pub calls_handed : (m : Local) → IsSound m → calls (handed m) ≡ calls m
 calls_handed m sound =
-    rw (filter-append, part_own m.block m.number (λ k e at. (sound.inner k e at).mine), append-nil) refl
+    rw (filter-append, handed_part_own m.block m.number (λ k e at. (sound.inner k e at).mine), append-nil) refl
 
 -- a visit that handed the block in
 pub record Handed (m : Local) (b new : State) (after : ChairToken State View) : Type 0 where
   pub fits : length b.journal.events + length m.block ≤ most_events
-  pub is : new ≡ handed_in b m.block
-  pub visit : Visit m b (handed_in b m.block) after
+  pub is : new ≡ book_handed_in b m.block
+  pub visit : Visit m b (book_handed_in b m.block) after
 
 -- as the book answered
 pub handed_visit : {A : Type 0} {m : Local} {b new : State} {after : ChairToken State View} {block : List Event} (a : A)
-    → Visit m b new after → block ≡ m.block → new ≡ handed_in b block
-    → IsFullAt (length b.journal.events + length block) (Ok a) → Handed m b new after
+    → Visit m b new after → block ≡ m.block → new ≡ book_handed_in b block
+    → IsFullRefusal (length b.journal.events + length block) (Ok a) → Handed m b new after
 handed_visit {b = b} {block = block} a v same ok full = record {
-  fits = rw (← same) (had_room a (length b.journal.events + length block) full);
+  fits = rw (← same) (handing_had_room a (length b.journal.events + length block) full);
   is = rw (← same) ok;
-  visit = left_as v (rw (← same) ok);
+  visit = visit_left_as v (rw (← same) ok);
 }
 
 module _ {m : Local} {b new : State} {after : ChairToken State View} (t : Handed m b new after) where
-  abbrev v : Visit m b (handed_in b m.block) after
+  abbrev v : Visit m b (book_handed_in b m.block) after
   v = t.visit
 
   -- the processor after its block was handed in
@@ -86,10 +86,10 @@ module _ {m : Local} {b new : State} {after : ChairToken State View} (t : Handed
   abbrev history : List Event
   history = (m.seen ++ v.finds.rest) ++ m.block
 
-  call : IsCallOf m b m.block (handed_in b m.block)
+  call : IsCallOf m b m.block (book_handed_in b m.block)
   call = call_of_block m v.sound b t.fits
 
-  told : Represents m.sizes history (handed_in b m.block)
+  told : Represents m.sizes history (book_handed_in b m.block)
   told = call.told v.finds
 
   same : handed_now ≡ handed then
@@ -99,28 +99,28 @@ module _ {m : Local} {b new : State} {after : ChairToken State View} (t : Handed
   pub handed_good : IsSound handed_now
   handed_good =
       subst IsSound (sym same) (handed_sound then (entered_sound m b v.sound v.finds b.journal.base.cut)
-      told.well_formed (told_few m.sizes history (handed_in b m.block) told (call.few v.finds)))
+      told.well_formed (history_told_few m.sizes history (book_handed_in b m.block) told (call.few v.finds)))
 
-  pub handed_done : {many : ℕ} → IsCall (flush_refusal m) many Nothing IsHanded [] m handed_now None
+  pub handed_done : {many : ℕ} → IsCall (flush_refusal m) many Nothing IsHandedByCall [] m handed_now None
   handed_done =
-      call_done v m.block call handed_now refl (not_spent v) refl handed_good same (ap calls same
+      call_done v m.block call handed_now refl (call_not_spent v) refl handed_good same (ap calls same
       ∙ calls_handed then (entered_sound m b v.sound v.finds b.journal.base.cut) ∙ sym (append-nil (calls then)))
 
   -- and a journal like the book's is what an audit answers
-  pub audit_done : (j : Log) → j ≡ record new.journal { room = j.room } → IsAudit m handed_now j
-  audit_done j copy =
+  pub handed_audit_done : (j : Log) → j ≡ record new.journal { room = j.room } → IsAudit m handed_now j
+  handed_audit_done j copy =
       let ends : handed_now.seen ≡ history = ap (λ (n : Local). n.seen) same in
       let ends_cut : handed_now.cut ≡ b.journal.base.cut = ap (λ (n : Local). n.cut) same in
       let P : ℕ → List Event → Type 0 = λ c h. IsJournalOf m.sizes (take c h) h j in
       record {
         journal =
             subst₂ P (sym ends_cut) (sym ends) (subst (λ (c : List Event). IsJournalOf m.sizes c history j)
-            (taken_is m.sizes history (handed_in b m.block) told)
-            (journal_of m.sizes history (handed_in b m.block) j told
+            (history_taken_is m.sizes history (book_handed_in b m.block) told)
+            (history_journal m.sizes history (book_handed_in b m.block) j told
             (copy ∙ ap (λ (x : State). record x.journal { room = j.room }) t.is)));
         faithful =
             subst (IsFaithful m.sizes) (sym ends)
             (faithful m.sizes history told.well_formed (call.explained v.finds) (call.counted v.finds));
         begins = (v.finds.rest ++ m.block, ends ∙ append_assoc m.seen v.finds.rest m.block);
-        calls_are = sym (append-nil (part handed_now.seen m.number));
+        calls_are = sym (append-nil (events_of handed_now.seen m.number));
       }

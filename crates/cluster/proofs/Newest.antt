@@ -7,26 +7,26 @@ use Rattle.journal.specs.declared.event.Event.{Event}
 use Rattle.journal.specs.declared.event.Kind.TheVariants.{Store}
 use Rattle.journal.specs.Sizes.{Sizes}
 use Rattle.journal.specs.WellFormed.{Does}
-use Rattle.journal.specs.Copies.{InGap, page_write}
-use Rattle.journal.specs.Intervals.{ClosedAt}
-use Rattle.journal.specs.Missing.{Missing, AreMissing, InClosingOrder}
-use Rattle.journal.proofs.Copies.Stores.{store_writes}
+use Rattle.journal.specs.PageImages.{InGap, page_write}
+use Rattle.journal.specs.ClosedIntervals.{ClosedAt}
+use Rattle.journal.specs.MissingWords.{Missing, AreMissing, MissingInOrder}
+use Rattle.journal.proofs.CopyOfPage.Stores.{store_writes}
 use Rattle.journal.proofs.Missing.InGroups.{AreGroups, groups_of, groups_gap, store_closed}
 use Rattle.journal.proofs.Missing.Placed.{placed_before}
 use Rattle.journal.proofs.Times.Closing.{closed_once}
-use Rattle.base.specs.Places.{Has, InOrder}
-use Rattle.base.specs.Records.{records_applied}
+use Rattle.base.specs.InOrderOnce.{Has, InOrder}
+use Rattle.base.specs.MarkedRecords.{records_applied}
 use Rattle.base.proofs.Joined.{in_order_concat}
-use Rattle.base.proofs.LastWrites.{word_written}
+use Rattle.base.proofs.LastWritten.{word_written}
 use Rattle.base.proofs.Records.{records_same}
-use Rattle.cluster.specs.Accesses.{IsLastInGap, IsOutsideGap, AreNewest}
+use Rattle.cluster.specs.Accesses.{IsLastStoreInGap, HasNoStoreInGap, AreNewestStores}
 
 -- the store at place i was closed before that at place k, or in one interval with it and it stands before
 abbrev pub ClosedBefore : List Event → ℕ → ℕ → Type 0
 ClosedBefore j i k = (c d : ℕ) → ClosedAt j i c → ClosedAt j k d → (c < d) ⊎ ((c ≡ d) × (i ≤ k))
 
 module _ (s : Sizes) (j : List Event) (p n : ℕ) (missing : List Missing) (lacks : AreMissing s j p n missing)
-    (order : InClosingOrder missing) where
+    (order : MissingInOrder missing) where
   -- the stores of the gap, by intervals in closing order
   in_order : (groups : List (List ℕ)) → AreGroups s j n missing groups → InOrder (ClosedBefore j) (concat groups)
   in_order groups of = in_order_concat (ClosedBefore j) groups within across
@@ -63,11 +63,11 @@ module _ (s : Sizes) (j : List Event) (p n : ℕ) (missing : List Missing) (lack
           inl (omega arith)
 
   -- what the last of their writes has
-  last_in_gap : (o v : ℕ) (groups : List (List ℕ)) → AreGroups s j n missing groups → (i k : ℕ)
+  newest_in_gap : (o v : ℕ) (groups : List (List ℕ)) → AreGroups s j n missing groups → (i k : ℕ)
       → slice_get (concat groups) k ≡ Some i → page_write s (slice_get j i) ≡ Some (o, v)
       → ((m y u : ℕ) → k < m → slice_get (concat groups) m ≡ Some y → page_write s (slice_get j y) ≢ Some (o, u))
-      → IsLastInGap s j p n o v
-  last_in_gap o v groups of i k here written_there later = record {
+      → IsLastStoreInGap s j p n o v
+  newest_in_gap o v groups of i k here written_there later = record {
     place = i;
     by = gap.store.by;
     address = gap.store.address;
@@ -108,16 +108,16 @@ module _ (s : Sizes) (j : List Event) (p n : ℕ) (missing : List Missing) (lack
           ]
 
   -- the missing records leave each word with the store of the gap that was closed last
-  pub newest : (page : List ℕ) → AreNewest s j p n page (records_applied page (map (λ (x : Missing). x.words) missing))
+  pub newest : (page : List ℕ) → AreNewestStores s j p n page (records_applied page (map (λ (x : Missing). x.words) missing))
   newest page o v at = go (groups_of s j n missing lacks.contents)
     where
       go : ((groups : List (List ℕ)) × AreGroups s j n missing groups)
-          → IsLastInGap s j p n o v ⊎ ((slice_get page o ≡ Some v) × IsOutsideGap s j p n o)
+          → IsLastStoreInGap s j p n o v ⊎ ((slice_get page o ≡ Some v) × HasNoStoreInGap s j p n o)
       go (groups, of) =
           elim (word_written (λ (i : ℕ). page_write s (slice_get j i)) page (concat groups) o v
           (ap (λ (ws : List ℕ). slice_get ws o)
           (sym (records_same (λ (i : ℕ). page_write s (slice_get j i)) page of.records_of)) ∙ at)) [
-            | inl last ↦ inl (last_in_gap o v groups of last.item last.place last.at last.writes last.last)
+            | inl last ↦ inl (newest_in_gap o v groups of last.item last.place last.at last.writes last.last)
             | inr kept ↦
                 inr (
                   kept.0,

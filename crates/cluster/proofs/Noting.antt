@@ -8,45 +8,45 @@ use Rattle.journal.specs.declared.event.Kind.{Kind}
 use Rattle.journal.specs.declared.event.Kind.TheVariants.{Load, Store}
 use Rattle.journal.specs.Events.{At, is_taking, is_closing}
 use Rattle.journal.specs.WellFormed.{KindInRange}
-use Rattle.journal.specs.Blocks.{write_in, BlockAnswers}
+use Rattle.journal.specs.Blocks.{block_write, BlockAnswers}
 use Rattle.journal.specs.Counted.{BlockCounts}
-use Rattle.journal.specs.Did.{event}
-use Rattle.journal.proofs.Copies.OpenBlocks.{answers_push}
-use Rattle.journal.proofs.Copies.Pages.{valid_load}
-use Rattle.journal.proofs.Intervals.Contents.{store_in}
+use Rattle.journal.specs.DidEvent.{event}
+use Rattle.journal.proofs.CopyOfPage.BlockAnswers.{answers_push}
+use Rattle.journal.proofs.CopyOfPage.ValidAndStale.{valid_load}
+use Rattle.journal.proofs.Intervals.StoreContents.{store_in}
 use Rattle.journal.proofs.Missing.Counted.{block_counts_push}
-use Rattle.base.specs.Writes.{wrote}
-use Rattle.base.specs.Records.{mark}
-use Rattle.base.proofs.Places.{push_cases}
-use Rattle.base.proofs.Sets.{slice_get-set_found, slice_get-set_other}
+use Rattle.base.specs.LastWritten.{wrote}
+use Rattle.base.specs.MarkedRecords.{mark}
+use Rattle.base.proofs.SlicesAndCounts.{push_cases}
+use Rattle.base.proofs.SliceSets.{slice_get-set_found, slice_get-set_other}
 use Rattle.page.specs.declared.page.Access.TheVariants.{Valid, Invalid}
 use Rattle.page.specs.Contents.{IsClean}
 use Rattle.book.specs.Calls.{IsInner}
 use Rattle.book.specs.Stamps.{EachAt}
 use Rattle.base.specs.Limits.{most_in_block}
-use Rattle.cluster.specs.Copies.Copies.{Copied, IsReplica, written_at}
+use Rattle.cluster.specs.Copies.PageReplica.{Copied, IsReplica, replica_written_at}
 use Rattle.cluster.specs.Copies.Local.{Local, noted}
 use Rattle.cluster.specs.Accesses.{stored_at}
 use Rattle.cluster.specs.Refusals.{access_refusal}
 use Rattle.cluster.specs.Copies.Sound.{IsSound}
 use Rattle.cluster.proofs.copies.Replicas.{replica_long, replica_pushed}
-use Rattle.cluster.proofs.Refusing.{MayAccess, may_access}
+use Rattle.cluster.proofs.MayAccessAndFetch.{MayAccess, may_access}
 
 pub valid_is_not_stale : Valid ≢ Invalid
 valid_is_not_stale h = cc
 
 -- the offset of an address lies in its page
-pub offset_within : (m : Local) (a : ℕ) (c : Copied) → slice_get m.copies (a / m.sizes.words) ≡ Some c → IsSound m
+pub noted_offset_within : (m : Local) (a : ℕ) (c : Copied) → slice_get m.copies (a / m.sizes.words) ≡ Some c → IsSound m
     → a % m.sizes.words < length c.page.words
-offset_within m a c at sound =
+noted_offset_within m a c at sound =
     rw (replica_long m.sizes m.seen m.block m.number (a / m.sizes.words) (sound.bases (a / m.sizes.words)) c
     (sound.copies.each (a / m.sizes.words) c at)) (mod-lt a sound.sizes.some_words)
 
 -- the block with one more event of p, inside the sizes
-pub inner_pushed : (m : Local) (k : Kind) → is_taking k ≡ false → is_closing k ≡ false → KindInRange m.sizes k
+pub noted_inner_pushed : (m : Local) (k : Kind) → is_taking k ≡ false → is_closing k ≡ false → KindInRange m.sizes k
     → ((i : ℕ) (e : Event) → At m.block i e → IsInner m.sizes m.number e) → (i : ℕ) (e : Event)
     → At (m.block ++ event m.number k ∷ []) i e → IsInner m.sizes m.number e
-inner_pushed m k takes closes range inner i e at = elim (push_cases m.block (event m.number k) i e at) [
+noted_inner_pushed m k takes closes range inner i e at = elim (push_cases m.block (event m.number k) i e at) [
   | inl h ↦ inner i e h.1
   | inr h ↦ subst (IsInner m.sizes m.number) h.1 (record {
     mine = refl;
@@ -67,8 +67,8 @@ MayNote m k = record {
 }
 
 -- with that event in the block, what p did there, these copies and these marks are right
-abbrev pub StaysRight : Local → Kind → List Copied → List Bool → (ℕ → List ℕ) → Type 0
-StaysRight m k cs st bases = record {
+abbrev pub NotedStaysRight : Local → Kind → List Copied → List Bool → (ℕ → List ℕ) → Type 0
+NotedStaysRight m k cs st bases = record {
   answers : BlockAnswers m.sizes m.seen (m.block ++ event m.number k ∷ []) m.number bases;
   counts : BlockCounts m.sizes m.seen (m.block ++ event m.number k ∷ []) m.number;
   copies : EachAt m.sizes.pages (λ n c.
@@ -79,13 +79,13 @@ StaysRight m k cs st bases = record {
 
 -- one more event of its open block keeps p sound, where its copies, its marks and what it did in the block stay right
 pub noted_sound : (m : Local) (k : Kind) (cs : List Copied) (st : List Bool) (bases : ℕ → List ℕ) → IsSound m
-    → MayNote m k → StaysRight m k cs st bases → IsSound (record (noted m k) { copies = cs; stored = st })
+    → MayNote m k → NotedStaysRight m k cs st bases → IsSound (record (noted m k) { copies = cs; stored = st })
 noted_sound m k cs st bases sound may right = record {
   sizes = sound.sizes;
   mine = sound.mine;
   few = sound.few;
   well_formed = sound.well_formed;
-  inner = inner_pushed m k may.takes may.closes may.range sound.inner;
+  inner = noted_inner_pushed m k may.takes may.closes may.range sound.inner;
   short = let long = length_push m.block (event m.number k) in let less = may.room in omega arith;
   time = sound.time;
   bases = bases;
@@ -121,8 +121,8 @@ module _ (m : Local) (a v : ℕ) (c : Copied) (free : access_refusal m a ≡ Non
   }
 
   -- a load answers a word of a valid copy
-  pub loaded : slice_get c.page.words (a % m.sizes.words) ≡ Some v → IsSound m → IsSound (noted m (Load a v))
-  loaded word sound =
+  pub loaded_noted : slice_get c.page.words (a % m.sizes.words) ≡ Some v → IsSound m → IsSound (noted m (Load a v))
+  loaded_noted word sound =
       noted_sound m (Load a v) m.copies m.stored sound.bases sound (noting (Load a v) refl refl may.within) (record {
         answers = valid_load m.sizes m.seen m.block m.number a v sound.bases (sound.bases n) c.page.words refl
             ((sound.copies.each n c at).valid valid).0 word sound.answers;
@@ -170,7 +170,7 @@ module _ (m : Local) (a v : ℕ) (c : Copied) (free : access_refusal m a ≡ Non
       e = event m.number (Store a v)
 
       d : Copied
-      d = written_at c (a % m.sizes.words) v
+      d = replica_written_at c (a % m.sizes.words) v
 
       here : IsReplica m.sizes m.seen (m.block ++ e ∷ []) m.number n (sound.bases n) d
       here = replica_pushed m.sizes m.seen m.block e m.number n (sound.bases n) c d refl refl (record {
@@ -199,7 +199,7 @@ module _ (m : Local) (a v : ℕ) (c : Copied) (free : access_refusal m a ≡ Non
         }) (sound.copies.each i x (sym (slice_get-set_other m.copies n i d other) ∙ found))
       ]
         where
-          elsewhere : (i : ℕ) → i ≢ n → write_in m.sizes i (Store a v) ≡ None
+          elsewhere : (i : ℕ) → i ≢ n → block_write m.sizes i (Store a v) ≡ None
           elsewhere i other = rw (ne_eqb n i (λ same. other (sym same)))
 
       clean : (i : ℕ) (x : Copied) → slice_get (slice_set m.copies n d) i ≡ Some x
@@ -214,11 +214,11 @@ module _ (m : Local) (a v : ℕ) (c : Copied) (free : access_refusal m a ≡ Non
       ]
 
 -- the parts of a processor after a store
-pub store_done : (was m : Local) (a v page offset : ℕ) (x y : Copied) (block : List Event) (marks : List Bool)
-    → was ≡ m → page ≡ a / m.sizes.words → offset ≡ a % m.sizes.words → y ≡ written_at x offset v
+pub store_noted_done : (was m : Local) (a v page offset : ℕ) (x y : Copied) (block : List Event) (marks : List Bool)
+    → was ≡ m → page ≡ a / m.sizes.words → offset ≡ a % m.sizes.words → y ≡ replica_written_at x offset v
     → block ≡ was.block ++ event was.number (Store a v) ∷ [] → marks ≡ slice_set was.stored page true
     → record was { block = block; copies = slice_set was.copies page y; stored = marks } ≡ stored_at m a v x
-store_done was m a v page offset x y block marks same page_is offset_is y_is block_is marks_are =
+store_noted_done was m a v page offset x y block marks same page_is offset_is y_is block_is marks_are =
     rw (
       y_is,
       block_is,
@@ -227,6 +227,6 @@ store_done was m a v page offset x y block marks same page_is offset_is y_is blo
       offset_is,
     ) (ap (λ (l : Local). record l {
       block = l.block ++ event l.number (Store a v) ∷ [];
-      copies = slice_set l.copies (a / m.sizes.words) (written_at x (a % m.sizes.words) v);
+      copies = slice_set l.copies (a / m.sizes.words) (replica_written_at x (a % m.sizes.words) v);
       stored = slice_set l.stored (a / m.sizes.words) true;
     }) same)

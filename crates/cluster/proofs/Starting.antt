@@ -10,35 +10,35 @@ use Rattle.journal.specs.Sizes.{Sizes}
 use Rattle.journal.specs.Pasts.{InPast}
 use Rattle.journal.specs.Times.{IsTimeOf}
 use Rattle.journal.specs.WellFormed.{Holds}
-use Rattle.journal.specs.Missing.{Missing}
-use Rattle.journal.proofs.Journals.WellFormed.{well_formed_empty}
+use Rattle.journal.specs.MissingWords.{Missing}
+use Rattle.journal.proofs.Journals.WellFormedLast.{well_formed_empty}
 use Rattle.journal.proofs.Times.Times.{time_none, time_equal}
-use Rattle.journal.proofs.Copies.Pages.{valid_start, answers_start}
+use Rattle.journal.proofs.CopyOfPage.ValidAndStale.{valid_start, answers_start}
 use Rattle.journal.proofs.Intervals.Dirty.{dirty_start}
 use Rattle.journal.proofs.Missing.Counted.{counted_start, block_counts_start}
-use Rattle.base.proofs.Sets.{index-zeros}
+use Rattle.base.proofs.SliceSets.{index-zeros}
 use Rattle.base.proofs.Joined.{in_order-nil}
-use Rattle.base.proofs.Places.{push_cases, slice_get-append_right}
-use Rattle.base.proofs.Sets.{slice_get-replicate_found, slice_get-replicate}
+use Rattle.base.proofs.SlicesAndCounts.{push_cases, slice_get-append_right}
+use Rattle.base.proofs.SliceSets.{slice_get-replicate_found, slice_get-replicate}
 use Rattle.turn.specs.Chairs.{LockId, lock, view, entries}
 use Rattle.turn.specs.declared.chair.ChairToken.{ChairToken}
-use Rattle.lockq.specs.Lock.{unheld}
+use Rattle.lockq.specs.LockQueues.{unheld_lock}
 use Rattle.book.specs.State.{State}
 use Rattle.book.specs.Transitions.{new_book}
-use Rattle.book.proofs.Keeps.Whole.{new_law}
+use Rattle.book.proofs.Told.Whole.{new_law}
 use Rattle.cluster.specs.declared.keeper.View.{View}
-use Rattle.cluster.specs.Copies.Copies.{Copied, IsReplica}
+use Rattle.cluster.specs.Copies.PageReplica.{Copied, IsReplica}
 use Rattle.cluster.specs.Copies.Local.{Local, blank, new_local}
 use Rattle.cluster.specs.Seats.{local}
-use Rattle.cluster.specs.Clusters.{Shared, IsNewChair, IsSeatedAt, AreNew, AreCovered}
+use Rattle.cluster.specs.Clusters.{SharedCluster, IsNewChair, IsSeatedAt, IsNewCluster, IsClusterCovered}
 use Rattle.cluster.proofs.Covering.{covers}
-use Rattle.cluster.specs.Copies.Sound.{AreSizes, IsSound}
-use Rattle.cluster.specs.Kept.{ExtendsView, LockInvariant, nothing_seen, book_sizes}
+use Rattle.cluster.specs.Copies.Sound.{AreSoundSizes, IsSound}
+use Rattle.cluster.specs.KeptViews.{ExtendsView, LockInvariant, view_of_nothing, book_sizes}
 use Rattle.cluster.specs.Covers.{LockAllows}
 use Rattle.cluster.proofs.Noting.{valid_is_not_stale}
 
-blank_replica : (s : Sizes) (p n : ℕ) → IsReplica s [] [] p n (replicate s.words 0) (blank s)
-blank_replica s p n = record {
+start_replica_blank : (s : Sizes) (p n : ℕ) → IsReplica s [] [] p n (replicate s.words 0) (blank s)
+start_replica_blank s p n = record {
   valid = λ _. (valid_start s p n, refl);
   stale = λ h. absurd (valid_is_not_stale h);
   order = in_order-nil (λ (x y : Missing). x.place < y.place);
@@ -46,16 +46,16 @@ blank_replica s p n = record {
 }
 
 -- what nobody did is in no past
-none_past : (p i : ℕ) → InPast [] p i → ⊥
-none_past p i x = none-some x.event x.at
+start_none_past : (p i : ℕ) → InPast [] p i → ⊥
+start_none_past p i x = none-some x.event x.at
 
-zero_time : (p n : ℕ) → IsTimeOf [] p (slice_index (replicate n 0))
-zero_time p n =
+start_time_zero : (p n : ℕ) → IsTimeOf [] p (slice_index (replicate n 0))
+start_time_zero p n =
     time_equal [] (InPast [] p) (λ _. 0) (slice_index (replicate n 0)) (λ q. sym (index-zeros n q))
-    (time_none [] (InPast [] p) (none_past p))
+    (time_none [] (InPast [] p) (start_none_past p))
 
 -- a processor before its first call
-pub start_sound : (l : LockId) (p : ℕ) (s : Sizes) → AreSizes s → p < s.processors → IsSound (new_local l p s)
+pub start_sound : (l : LockId) (p : ℕ) (s : Sizes) → AreSoundSizes s → p < s.processors → IsSound (new_local l p s)
 start_sound l p s sizes mine = record {
   sizes = sizes;
   mine = mine;
@@ -63,7 +63,7 @@ start_sound l p s sizes mine = record {
   well_formed = well_formed_empty s;
   inner = λ k e at. absurd (none-some e at);
   short = omega arith;
-  time = record { long = length-replicate s.processors 0; is = zero_time p s.processors };
+  time = record { long = length-replicate s.processors 0; is = start_time_zero p s.processors };
   bases = λ _. replicate s.words 0;
   answers = answers_start s [] p (λ _. replicate s.words 0);
   counts = block_counts_start s [] p;
@@ -71,7 +71,7 @@ start_sound l p s sizes mine = record {
     long = length-replicate s.pages (blank s);
     each =
         λ n c at. subst (IsReplica s [] [] p n (replicate s.words 0))
-        (slice_get-replicate_found s.pages (blank s) c n at) (blank_replica s p n);
+        (slice_get-replicate_found s.pages (blank s) c n at) (start_replica_blank s p n);
   };
   marks = refl;
   clean =
@@ -95,33 +95,33 @@ start_sound l p s sizes mine = record {
 }
 
 -- an empty book with a view of nothing for each processor
-pub start_kept : (s : Sizes) → 0 < s.processors → LockInvariant s [] (new_book s) (replicate s.processors (nothing_seen s))
+pub start_kept : (s : Sizes) → 0 < s.processors → LockInvariant s [] (new_book s) (replicate s.processors (view_of_nothing s))
 start_kept s some = record {
   told = new_law s some;
   explained = λ k p a v d. absurd (none-some (record { processor = p; kind = Load a v }) d);
   counted = counted_start s;
   few = omega arith;
-  all = length-replicate s.processors (nothing_seen s);
-  each = λ p v at. subst (ExtendsView s [] p) (slice_get-replicate_found s.processors (nothing_seen s) v p at) (record {
+  all = length-replicate s.processors (view_of_nothing s);
+  each = λ p v at. subst (ExtendsView s [] p) (slice_get-replicate_found s.processors (view_of_nothing s) v p at) (record {
     shape = refl;
     rest = [];
     begins = refl;
     away = λ k e at. absurd (none-some e at);
   });
   behind =
-      λ p v at. subst (λ (x : View). x.cut ≤ 0) (slice_get-replicate_found s.processors (nothing_seen s) v p at)
+      λ p v at. subst (λ (x : View). x.cut ≤ 0) (slice_get-replicate_found s.processors (view_of_nothing s) v p at)
       (omega arith);
-  whole = (0, nothing_seen s, slice_get-replicate s.processors (nothing_seen s) 0 some, refl);
+  whole = (0, view_of_nothing s, slice_get-replicate s.processors (view_of_nothing s) 0 some, refl);
   cuts =
-      sum_by-replicate (λ (v : View). v.own_cut) s.processors (nothing_seen s) ∙ mul-zero s.processors;
+      sum_by-replicate (λ (v : View). v.own_cut) s.processors (view_of_nothing s) ∙ mul-zero s.processors;
   owing = refl;
 }
 
 -- the sizes of an empty book
-pub new_sizes : (s : Sizes) → 0 < s.words → book_sizes (new_book s) ≡ s
-new_sizes s some =
+pub start_sizes : (s : Sizes) → 0 < s.words → book_sizes (new_book s) ≡ s
+start_sizes s some =
     rw (
-      length-replicate s.locks (unheld s.processors),
+      length-replicate s.locks (unheld_lock s.processors),
       length-replicate {A = Option (List ℕ)} s.flags None,
       mul-div_cancel s.pages some,
     )
@@ -130,14 +130,14 @@ new_sizes s some =
 pub start_allowed : (l : LockId) (p : ℕ) (s : Sizes) → p < s.processors → LockAllows (new_local l p s) []
 start_allowed l p s mine = record {
   book = new_book s;
-  views = replicate s.processors (nothing_seen s);
-  mine = slice_get-replicate s.processors (nothing_seen s) p mine;
+  views = replicate s.processors (view_of_nothing s);
+  mine = slice_get-replicate s.processors (view_of_nothing s) p mine;
   kept = start_kept s (omega arith);
 }
 
 -- the parts of a new processor
 made : (l : LockId) (e p : ℕ) (s : Sizes) (v : View) (block : List Event) (copies : List Copied) (stored : List Bool)
-    (time : List ℕ) (held : List Bool) → e ≡ 0 → v ≡ nothing_seen s → block ≡ []
+    (time : List ℕ) (held : List Bool) → e ≡ 0 → v ≡ view_of_nothing s → block ≡ []
     → copies ≡ replicate s.pages (blank s) → stored ≡ replicate 64 false → time ≡ replicate s.processors 0
     → held ≡ replicate s.locks false
     → ◌≡◌ {A = Local} (record {
@@ -166,8 +166,8 @@ start_parts chair p s block copies stored time held new a b c d e =
     d e
 
 -- new processors may have some book, and are covered
-pub new_covered : (c : Shared) (ms : List Local) → AreSizes c.sizes → AreNew c ms → AreCovered ms
-new_covered c ms sizes new = record {
+pub start_covered : (c : SharedCluster) (ms : List Local) → AreSoundSizes c.sizes → IsNewCluster c ms → IsClusterCovered ms
+start_covered c ms sizes new = record {
   allowed =
       λ p m at. (
         [],

@@ -4,51 +4,51 @@ use Rattle.std.proofs.lemmas.Option.{none-some, same_Some}
 use Rattle.journal.specs.declared.event.Event.{Event}
 use Rattle.journal.specs.declared.event.Kind.{Kind}
 use Rattle.journal.specs.declared.event.Kind.TheVariants.{Store}
-use Rattle.journal.specs.Did.{event}
+use Rattle.journal.specs.DidEvent.{event}
 use Rattle.journal.specs.Events.{interval_at}
 use Rattle.journal.specs.Sizes.{Sizes}
-use Rattle.journal.specs.Copies.{HasCount, StoredInGap}
-use Rattle.base.specs.Places.{Has}
-use Rattle.base.proofs.Once.{once_le}
+use Rattle.journal.specs.PageImages.{HasCount, StoredInGap}
+use Rattle.base.specs.InOrderOnce.{Has}
+use Rattle.base.proofs.OnceWithout.{once_le}
 
 -- where an event stores
-address_of : Kind → ℕ
-address_of (Store a v) = a
-address_of _ = 0
+stored_address : Kind → ℕ
+stored_address (Store a v) = a
+stored_address _ = 0
 
 -- who did each of these events, in which of its intervals, and where it stored
-marks_of : List Event → ℕ → List Event → List (ℕ × ℕ × ℕ)
-marks_of j start [] = []
-marks_of j start (e ∷ es) =
-    (e.processor, interval_at j e.processor start, address_of e.kind) ∷ marks_of j (suc start) es
+stored_marks : List Event → ℕ → List Event → List (ℕ × ℕ × ℕ)
+stored_marks j start [] = []
+stored_marks j start (e ∷ es) =
+    (e.processor, interval_at j e.processor start, stored_address e.kind) ∷ stored_marks j (suc start) es
 
-length-marks_of : (j : List Event) (start : ℕ) (es : List Event) → length (marks_of j start es) ≡ length es
-unfolding marks_of
-length-marks_of j start [] = refl
-length-marks_of j start (e ∷ es) = ap suc (length-marks_of j (suc start) es)
+length-stored_marks : (j : List Event) (start : ℕ) (es : List Event) → length (stored_marks j start es) ≡ length es
+unfolding stored_marks
+length-stored_marks j start [] = refl
+length-stored_marks j start (e ∷ es) = ap suc (length-stored_marks j (suc start) es)
 
-mark_at : (j : List Event) (start : ℕ) (es : List Event) (i q a v : ℕ) → slice_get es i ≡ Some (event q (Store a v))
-    → Has (marks_of j start es) (q, interval_at j q (start + i), a)
-unfolding marks_of address_of
-mark_at j start [] i q a v at = absurd (none-some (event q (Store a v)) at)
-mark_at j start (e ∷ es) zero q a v at =
+stored_mark_at : (j : List Event) (start : ℕ) (es : List Event) (i q a v : ℕ) → slice_get es i ≡ Some (event q (Store a v))
+    → Has (stored_marks j start es) (q, interval_at j q (start + i), a)
+unfolding stored_marks stored_address
+stored_mark_at j start [] i q a v at = absurd (none-some (event q (Store a v)) at)
+stored_mark_at j start (e ∷ es) zero q a v at =
     let is : e ≡ event q (Store a v) = same_Some e (event q (Store a v)) at in
     let same : start ≡ start + 0 = omega arith in
     (zero, rw (is, ← same) refl)
-mark_at j start (e ∷ es) (suc i) q a v at =
-    let rest = mark_at j (suc start) es i q a v at in
+stored_mark_at j start (e ∷ es) (suc i) q a v at =
+    let rest = stored_mark_at j (suc start) es i q a v at in
     let same : suc start + i ≡ start + suc i = omega arith in
     (suc rest.0, rw (← same) rest.1)
 
 -- so what is counted of them is no more than its events
 pub stored_few : (s : Sizes) (j : List Event) (p n words : ℕ) → HasCount (StoredInGap s j p n) words → words ≤ length j
 stored_few s j p n words count =
-    let le = once_le count.list (marks_of j 0 j) count.once (λ x h. (
+    let le = once_le count.list (stored_marks j 0 j) count.once (λ x h. (
     let stored = (count.each x).0 h in
-    let here = mark_at j 0 j stored.0 x.0 x.2 stored.1 stored.2 in
+    let here = stored_mark_at j 0 j stored.0 x.0 x.2 stored.1 stored.2 in
     let from : 0 + stored.0 ≡ stored.0 = omega arith in
-    let P : ℕ → Type 0 = λ k. Has (marks_of j 0 j) (x.0, k, x.2) in
+    let P : ℕ → Type 0 = λ k. Has (stored_marks j 0 j) (x.0, k, x.2) in
     subst P (ap (λ (i : ℕ). interval_at j x.0 i) from ∙ stored.4) here)) in
-    let all = length-marks_of j 0 j in
+    let all = length-stored_marks j 0 j in
     let long = count.length_is in
     omega arith

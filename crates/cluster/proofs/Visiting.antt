@@ -3,7 +3,7 @@
 use Rattle.std.proofs.Common.{ℕ, ◌≡◌, ◌<◌, ◌+◌, Some, List, ◌++◌, slice_get, slice_set, refl, sym, ap, ap₂, subst, subst₂, ◌∙◌, arith}
 use Rattle.journal.specs.declared.event.Event.{Event}
 use Rattle.journal.specs.Sizes.{Sizes}
-use Rattle.base.proofs.Sets.{slice_get-set_same}
+use Rattle.base.proofs.SliceSets.{slice_get-set_same}
 use Rattle.std.proofs.lemmas.Option.{slice_get_within}
 use Rattle.turn.specs.Chairs.{LockId, lock, view, entries, IsInside}
 use Rattle.turn.specs.declared.chair.ChairToken.{ChairToken}
@@ -13,10 +13,10 @@ use Rattle.cluster.specs.Copies.Local.{Local}
 use Rattle.cluster.specs.Copies.Sound.{IsSound}
 use Rattle.cluster.specs.declared.keeper.View.{View}
 use Rattle.cluster.specs.Seats.{local, IsSeated}
-use Rattle.cluster.specs.Kept.{added, view_of}
+use Rattle.cluster.specs.KeptViews.{added, view_having_seen}
 use Rattle.cluster.specs.Covers.{IsAllowed}
 use Rattle.cluster.specs.Entering.{Finds, FindsBook, HasEntered, HasLeft, IsCallOf, IsChairOf}
-use Rattle.cluster.proofs.Leaving.{finds, call_kept}
+use Rattle.cluster.proofs.LeavingCalls.{finds, call_kept}
 
 -- the processor on this chair
 abbrev pub on : ChairToken State View → Local → Local
@@ -35,45 +35,45 @@ pub record Visit (m : Local) (b new : State) (after : ChairToken State View) : T
   pub own_cut : (view after).own_cut + b.journal.base.cut ≡ m.own_cut + new.journal.base.cut
 
 -- of a book that is left as this one
-pub left_as : {m : Local} {b new last : State} {after : ChairToken State View} → Visit m b new after → new ≡ last
+pub visit_left_as : {m : Local} {b new last : State} {after : ChairToken State View} → Visit m b new after → new ≡ last
     → Visit m b last after
-left_as {m} {b} {new} {last} {after} v is = subst (λ (n : State). Visit m b n after) is v
+visit_left_as {m} {b} {new} {last} {after} v is = subst (λ (n : State). Visit m b n after) is v
 
 module _ {m : Local} {old : ChairToken State View} (sound : IsSound m) (seated : IsSeated old m.number m.sizes)
     (is : m ≡ on old m) where
   -- what the chair has seen is what p has
-  view_is : view old ≡ view_of m.sizes m.seen m.cut m.own_cut
-  view_is =
-      ap (λ (z : Sizes). view_of z (view old).seen (view old).cut (view old).own_cut) seated.shape_is
-      ∙ ap₂ (λ (h : List Event) (n : ℕ). view_of m.sizes h n (view old).own_cut) (sym (ap (λ (x : Local). x.seen) is))
+  visit_view_is : view old ≡ view_having_seen m.sizes m.seen m.cut m.own_cut
+  visit_view_is =
+      ap (λ (z : Sizes). view_having_seen z (view old).seen (view old).cut (view old).own_cut) seated.shape_is
+      ∙ ap₂ (λ (h : List Event) (n : ℕ). view_having_seen m.sizes h n (view old).own_cut) (sym (ap (λ (x : Local). x.seen) is))
       (sym (ap (λ (x : Local). x.cut) is))
-      ∙ ap (view_of m.sizes m.seen m.cut) (sym (ap (λ (x : Local). x.own_cut) is))
+      ∙ ap (view_having_seen m.sizes m.seen m.cut) (sym (ap (λ (x : Local). x.own_cut) is))
 
-  chair_of : {mid : ChairToken State View} {right : Held} {b : State} → HasEntered old mid right b → IsChairOf m mid
-  chair_of into =
-      record { place_is = into.same.1 ∙ seated.place_is; view_is = into.view_is ∙ view_is }
+  visiting_chair : {mid : ChairToken State View} {right : Held} {b : State} → HasEntered old mid right b → IsChairOf m mid
+  visiting_chair into =
+      record { place_is = into.same.1 ∙ seated.place_is; view_is = into.view_is ∙ visit_view_is }
 
   -- the book that it finds
-  pub book_found : (b : State) → FindsBook old b → Finds m b
-  book_found b stands =
+  pub visited_book_found : (b : State) → FindsBook old b → Finds m b
+  visited_book_found b stands =
       let P : ℕ → View → Type 0 = λ k v. slice_get stands.0 k ≡ Some v in
-      finds m b stands.0 (subst₂ P seated.place_is view_is stands.1) stands.2
+      finds m b stands.0 (subst₂ P seated.place_is visit_view_is stands.1) stands.2
 
   -- a call of p may be given back
-  pub may_give_back : {mid : ChairToken State View} {right : Held} {b new : State} → HasEntered old mid right b
+  pub visit_gives_back : {mid : ChairToken State View} {right : Held} {b new : State} → HasEntered old mid right b
       → ((es : List Event) × IsCallOf m b es new) → (n : Local) × (found : State) × (es : List Event)
       × IsChairOf n mid × IsInside mid right found × IsCallOf n found es new
-  may_give_back {b = b} into call = (m, b, call.0, chair_of into, into.inside, call.1)
+  visit_gives_back {b = b} into call = (m, b, call.0, visiting_chair into, into.inside, call.1)
 
   -- and it was
   pub visited : {mid after : ChairToken State View} {right : Held} {b new : State} → HasEntered old mid right b
       → HasLeft mid after right new → Visit m b new after
   visited {mid} {b = b} {new} into left =
       let sees = left.seen b into.inside in
-      let chair = chair_of into in
+      let chair = visiting_chair into in
       let P : ℕ → View → Type 0 = λ k v. slice_get sees.views k ≡ Some v in
       let at = subst₂ P chair.place_is chair.view_is sees.at in
-      let goes = sees.kept.each m.number (view_of m.sizes m.seen m.cut m.own_cut) at in
+      let goes = sees.kept.each m.number (view_having_seen m.sizes m.seen m.cut m.own_cut) at in
       let times = ap (λ (x : Local). x.entries) is in
       let mine = ap (λ (x : Local). x.lock) is in
       record {
@@ -107,43 +107,43 @@ same_told n l l' e e' h h' k k' o o' a b c d f = rw (a, b, c, d, f) refl
 module _ {m : Local} {b new : State} {after : ChairToken State View} (v : Visit m b new after) (es : List Event)
     (call : IsCallOf m b es new) where
   -- what it has seen then
-  abbrev pub seen_then : List Event
-  seen_then = (m.seen ++ v.finds.rest) ++ es
+  abbrev pub visit_seen_then : List Event
+  visit_seen_then = (m.seen ++ v.finds.rest) ++ es
 
   own_cut_is : (view after).own_cut ≡ m.own_cut + call.taken
   own_cut_is = let own = v.own_cut in let cuts = call.cuts in omega arith
 
   -- the processor afterwards, whatever else it changed
-  pub local_after : (n : Local) → n ≡ record (on after n) { number = m.number; sizes = m.sizes }
+  pub visit_local_after : (n : Local) → n ≡ record (on after n) { number = m.number; sizes = m.sizes }
       → n ≡ record n {
         lock = m.lock;
         entries = m.entries + 1;
         number = m.number;
         sizes = m.sizes;
-        seen = seen_then;
+        seen = visit_seen_then;
         cut = new.journal.base.cut;
         own_cut = m.own_cut + call.taken;
       }
-  local_after n own =
+  visit_local_after n own =
       let seen_is = v.seen ∙ ap (λ (xs : List Event). (m.seen ++ v.finds.rest) ++ xs) call.adds in
       own
       ∙ same_told (record n { number = m.number; sizes = m.sizes }) (lock after) m.lock (entries after) (m.entries + 1)
-      (view after).seen seen_then (view after).cut new.journal.base.cut (view after).own_cut (m.own_cut + call.taken)
+      (view after).seen visit_seen_then (view after).cut new.journal.base.cut (view after).own_cut (m.own_cut + call.taken)
       v.same_lock v.once_more seen_is v.cut own_cut_is
 
   -- the lock's fact allows what it has seen
-  pub allowed_after : (n : Local) → n.number ≡ m.number → n.sizes ≡ m.sizes → n.seen ≡ seen_then
+  pub visit_allowed_after : (n : Local) → n.number ≡ m.number → n.sizes ≡ m.sizes → n.seen ≡ visit_seen_then
       → n.cut ≡ new.journal.base.cut → n.own_cut ≡ m.own_cut + call.taken → IsAllowed n
-  allowed_after n number sizes seen cut own_cut =
+  visit_allowed_after n number sizes seen cut own_cut =
       let f = v.finds in
-      let now = view_of m.sizes seen_then new.journal.base.cut (m.own_cut + call.taken) in (
-        seen_then,
+      let now = view_having_seen m.sizes visit_seen_then new.journal.base.cut (m.own_cut + call.taken) in (
+        visit_seen_then,
         record {
           book = new;
           views = slice_set f.views m.number now;
           mine =
               rw (number, sizes, seen, cut, own_cut) (slice_get-set_same f.views m.number now
-              (slice_get_within f.views m.number (view_of m.sizes m.seen m.cut m.own_cut) f.at));
+              (slice_get_within f.views m.number (view_having_seen m.sizes m.seen m.cut m.own_cut) f.at));
           kept = rw sizes (call_kept m b es new call f);
         },
       )

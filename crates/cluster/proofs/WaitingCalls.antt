@@ -15,11 +15,11 @@ use Rattle.cluster.specs.Copies.Sound.{IsSound}
 use Rattle.cluster.specs.declared.keeper.View.{View}
 use Rattle.cluster.specs.declared.waited.Waited.{Waited}
 use Rattle.cluster.specs.declared.waited.Waited.TheVariants.{MayHaveCome, Stuck, Deserted}
-use Rattle.cluster.specs.Kept.{view_of}
+use Rattle.cluster.specs.KeptViews.{view_having_seen}
 use Rattle.cluster.specs.Refusals.{flush_refusal}
 use Rattle.cluster.specs.Waiting.{IsWaitingCall}
 use Rattle.cluster.proofs.Covering.{covers}
-use Rattle.cluster.proofs.Made.{alike_all, free_of, not_spent, seat_spent, unchanged_is, unchanged_seen, unchanged_calls, unchanged_allowed, unchanged_sound}
+use Rattle.cluster.proofs.UnchangedCalls.{alike_all, free_of, call_not_spent, call_seat_spent, unchanged_is, unchanged_seen, unchanged_calls, unchanged_allowed, unchanged_sound}
 use Rattle.cluster.proofs.Visiting.{Visit, on}
 
 -- what is there is something
@@ -52,8 +52,8 @@ pub wait_spent : {m : Local} → IsSound m → m.awaits ≢ None → m.entries �
 wait_spent {m} sound waits all = record {
   kept = refl;
   idle = λ none. absurd (waits none);
-  outside = λ _ e there. (let same : ◌≡◌ {A = Option Refused} (Some SeatSpent) (Some e) = sym (seat_spent m all) ∙ there in cc same, refl);
-  looked = λ _ free. absurd (free_of (flush_refusal m) SeatSpent free (seat_spent m all));
+  outside = λ _ e there. (let same : ◌≡◌ {A = Option Refused} (Some SeatSpent) (Some e) = sym (call_seat_spent m all) ∙ there in cc same, refl);
+  looked = λ _ free. absurd (free_of (flush_refusal m) SeatSpent free (call_seat_spent m all));
   stuck = λ is. absurd (cc is);
   deserted = λ is. absurd (cc is);
   calls_are = refl;
@@ -81,13 +81,13 @@ wait_looked {m} {b} {after} v waits w stuck deserted =
     record {
       kept = subst Keeps (sym is) refl;
       idle = λ none. absurd (waits none);
-      outside = λ _ e there. absurd (free_of (flush_refusal m) e (not_spent v) there);
+      outside = λ _ e there. absurd (free_of (flush_refusal m) e (call_not_spent v) there);
       looked = λ _ _. record {
         entered = record {
           rest = v.finds.rest;
           away = v.finds.away;
           cut = b.journal.base.cut;
-          more = v.finds.kept.behind m.number (view_of m.sizes m.seen m.cut m.own_cut) v.finds.at;
+          more = v.finds.kept.behind m.number (view_having_seen m.sizes m.seen m.cut m.own_cut) v.finds.at;
           after = is;
         };
         ok = refl;

@@ -5,24 +5,24 @@ use Rattle.base.specs.Limits.{most_events}
 use Rattle.book.specs.declared.refused.Refused.{Refused}
 use Rattle.book.specs.declared.refused.Refused.TheVariants.{NotYet, JournalFull, NoMemory}
 use Rattle.cluster.specs.Copies.Local.{Local, calls}
-use Rattle.cluster.specs.Copies.Steps.{AreSameCopies, handed}
+use Rattle.cluster.specs.Copies.AfterNews.{AreSameCopies, handed}
 use Rattle.cluster.specs.Refusals.{flush_refusal}
 use Rattle.cluster.specs.Entering.{EnteredAndDid}
 use Rattle.cluster.specs.Covers.{HasCoverage, IsAllowed}
 
 -- all is the same, but that lists of missing records may have memory for more
-pub record IsSame (m n : Local) : Type 0 where
+pub record IsSameAfterCall (m n : Local) : Type 0 where
   pub copies : AreSameCopies m.copies n.copies
   pub same : n ≡ record m { copies = n.copies }
 
 -- the block was handed in
-abbrev pub IsHanded : Local → Local → Type 0
-IsHanded m n = n ≡ handed m
+abbrev pub IsHandedByCall : Local → Local → Type 0
+IsHandedByCall m n = n ≡ handed m
 
 -- the call entered, and left all as it found it: what it waits for is absent, or the journal has no room for that many
 -- events, or no memory was to be had
-pub record IsRefusedInside (many : ℕ) (absent : Local → Type 0) (old new : Local) (e : Refused) : Type 0 where
-  pub entered : EnteredAndDid IsSame old new
+pub record IsCallRefusedInside (many : ℕ) (absent : Local → Type 0) (old new : Local) (e : Refused) : Type 0 where
+  pub entered : EnteredAndDid IsSameAfterCall old new
   pub why : (e ≡ NotYet) ⊎ (e ≡ JournalFull) ⊎ (e ≡ NoMemory)
   pub not_yet : e ≡ NotYet ↔ absent new
   -- whoever comes too early got no room
@@ -36,8 +36,8 @@ pub record IsSameProcessor (old new : Local) : Type 0 where
   pub sizes : new.sizes ≡ old.sizes
 
 -- memory was refused before the call could enter, which no call meets that may have to wait
-abbrev pub IsUnmade : (Local → Type 0) → Local → Local → Refused → Type 0
-IsUnmade absent old new e = (e ≡ NoMemory) × (new ≡ old) × ((m : Local) → ¬ absent m)
+abbrev pub IsCallUnmade : (Local → Type 0) → Local → Local → Refused → Type 0
+IsCallUnmade absent old new e = (e ≡ NoMemory) × (new ≡ old) × ((m : Local) → ¬ absent m)
 
 -- A call that enters the book: it is refused before it enters where there is a reason for it, which the processor
 -- knows by itself; else it enters, and is done or refused, or memory was refused before it could enter.
@@ -48,7 +48,7 @@ pub record IsCall (first : Option Refused) (many : ℕ) (absent : Local → Type
   pub ok : refused ≡ None
       → EnteredAndDid done old new × (length new.seen ≤ most_events + new.cut) × (calls new ≡ calls old ++ added)
   pub err : (e : Refused) → first ≡ None → refused ≡ Some e
-      → IsRefusedInside many absent old new e ⊎ IsUnmade absent old new e
+      → IsCallRefusedInside many absent old new e ⊎ IsCallUnmade absent old new e
   pub kept : refused ≢ None → calls new ≡ calls old
   pub uncut : new.own_cut ≡ old.own_cut
   pub covers : HasCoverage new
@@ -60,4 +60,4 @@ Nothing m = ⊥
 
 -- a call that hands the block in
 abbrev pub IsHandingCall : Local → Local → Option Refused → Type 0
-IsHandingCall old new refused = IsCall (flush_refusal old) (length old.block) Nothing IsHanded [] old new refused
+IsHandingCall old new refused = IsCall (flush_refusal old) (length old.block) Nothing IsHandedByCall [] old new refused

@@ -3,17 +3,17 @@ use Rattle.std.specs.Prelude.{ℕ, ◌≡◌, ◌<◌, ◌+◌, Bool, true, fals
 use Rattle.journal.specs.declared.event.Event.{Event}
 use Rattle.journal.specs.declared.event.Kind.{Kind}
 use Rattle.journal.specs.declared.event.Kind.TheVariants.{Ask, Release, Arrive, Set, Watch}
-use Rattle.journal.specs.Did.{event}
+use Rattle.journal.specs.DidEvent.{event}
 use Rattle.journal.specs.Events.{is_closing}
 use Rattle.journal.specs.WellFormed.{KindInRange}
-use Rattle.page.specs.Changes.{Changes}
+use Rattle.page.specs.RisingChanges.{Changes}
 use Rattle.book.specs.State.{State}
-use Rattle.book.specs.Calls.{MayCloseIdle, MayAsk, MayRelease}
+use Rattle.book.specs.Calls.{AllowsClosing, AllowsAsk, AllowsRelease}
 use Rattle.book.specs.Transitions.{book_asked, book_released, book_arrived, book_set, book_watched}
 use Rattle.book.specs.declared.refused.Refused.{Refused}
 use Rattle.cluster.specs.Copies.Local.{Local}
-use Rattle.cluster.specs.Copies.Steps.{handed, interval_closed}
-use Rattle.cluster.specs.Refusals.{or_spent}
+use Rattle.cluster.specs.Copies.AfterNews.{handed, interval_closed}
+use Rattle.cluster.specs.Refusals.{refusal_or_spent}
 use Rattle.cluster.specs.Calls.{IsCall, Nothing}
 
 -- the block was handed in, and the interval closed by this event
@@ -31,10 +31,10 @@ book_closed _ b p records = b
 
 -- what the book asks of such a call
 abbrev pub MayClose : Kind → State → ℕ → List Event → Type 0
-MayClose (Ask l) b p block = MayAsk b p l block
-MayClose (Release l) b p block = MayRelease b p l block
-MayClose (Set f) b p block = MayCloseIdle b p block × (f < length b.flags)
-MayClose _ b p block = MayCloseIdle b p block
+MayClose (Ask l) b p block = AllowsAsk b p l block
+MayClose (Release l) b p block = AllowsRelease b p l block
+MayClose (Set f) b p block = AllowsClosing b p block × (f < length b.flags)
+MayClose _ b p block = AllowsClosing b p block
 
 -- the locks that a processor holds let it do this
 abbrev pub MayHold : List Bool → Kind → Type 0
@@ -52,4 +52,4 @@ pub record MayMake (m : Local) (k : Kind) : Type 0 where
 -- a call that closes the interval by this event, where the test finds no reason against it
 abbrev pub IsClosingCall : Option Refused → Kind → Local → Local → Option Refused → Type 0
 IsClosingCall test k old new refused =
-    IsCall (or_spent test old) (length old.block + 1) Nothing (IsClosedBy k) (event old.number k ∷ []) old new refused
+    IsCall (refusal_or_spent test old) (length old.block + 1) Nothing (IsClosedBy k) (event old.number k ∷ []) old new refused

@@ -8,19 +8,19 @@ use Rattle.book.specs.State.{State}
 use Rattle.cluster.specs.declared.keeper.View.{View}
 use Rattle.cluster.specs.declared.processor.Parts.{Parts}
 use Rattle.cluster.specs.Copies.Local.{Local, blank, new_local}
-use Rattle.cluster.specs.Kept.{nothing_seen}
+use Rattle.cluster.specs.KeptViews.{view_of_nothing}
 use Rattle.cluster.specs.Covers.{IsAllowed, HasCoverage}
 
 -- its lock and its sizes
-pub record Shared : Type 0 where
+pub record SharedCluster : Type 0 where
   pub lock : LockId
   pub sizes : Sizes
 
-abbrev pub shared : LockId → Sizes → Shared
-shared l s = record { lock = l; sizes = s }
+abbrev pub shared_cluster : LockId → Sizes → SharedCluster
+shared_cluster l s = record { lock = l; sizes = s }
 
 -- a block with room, blank copies, no lock held and no interval performed
-pub record AreParts (s : Sizes) (x : Parts) : Type 0 where
+pub record AreClusterParts (s : Sizes) (x : Parts) : Type 0 where
   pub block : x.block.items ≡ []
   pub room : most_in_block ≤ vec_capacity x.block
   pub replicas : x.replicas.items ≡ replicate s.pages (blank s)
@@ -31,7 +31,7 @@ pub record AreParts (s : Sizes) (x : Parts) : Type 0 where
 pub record IsNewChair (l : LockId) (s : Sizes) (p : ℕ) (c : ChairToken State View) : Type 0 where
   pub lock_is : lock c ≡ l
   pub place_is : place c ≡ p
-  pub view_is : view c ≡ nothing_seen s
+  pub view_is : view c ≡ view_of_nothing s
   pub entries_are : entries c ≡ 0
   pub outside : IsOutside c
 
@@ -46,16 +46,16 @@ pub record IsSeatedAt (s : Sizes) (cs : List (ChairToken State View)) (p : ℕ) 
   pub is : m ≡ new_local (lock chair) p s
 
 -- each of them
-pub record AreSeated (s : Sizes) (cs : List (ChairToken State View)) (ms : List Local) : Type 0 where
+pub record IsClusterSeated (s : Sizes) (cs : List (ChairToken State View)) (ms : List Local) : Type 0 where
   pub all : length ms ≡ length cs
   pub each : (p : ℕ) (m : Local) → slice_get ms p ≡ Some m → IsSeatedAt s cs p m
 
 -- all processors of the cluster in the order of their numbers, before their first calls
-pub record AreNew (c : Shared) (ms : List Local) : Type 0 where
+pub record IsNewCluster (c : SharedCluster) (ms : List Local) : Type 0 where
   pub all : length ms ≡ c.sizes.processors
   pub each : (p : ℕ) (m : Local) → slice_get ms p ≡ Some m → m ≡ new_local c.lock p c.sizes
 
 -- the lock may have some book for each processor, and each such book covers it
-pub record AreCovered (ms : List Local) : Type 0 where
+pub record IsClusterCovered (ms : List Local) : Type 0 where
   pub allowed : (p : ℕ) (m : Local) → slice_get ms p ≡ Some m → IsAllowed m
   pub covers : (p : ℕ) (m : Local) → slice_get ms p ≡ Some m → HasCoverage m

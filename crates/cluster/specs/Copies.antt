@@ -1,8 +1,8 @@
 pub mod Backlogs
-pub mod Copies
+pub mod PageReplica
 pub mod Counts
 pub mod Local
 pub mod Sound
-pub mod Steps
-pub mod Records
+pub mod AfterNews
+pub mod MarksAndHarvests
 pub mod Prelude

@@ -1,25 +1,25 @@
 -- What each call on a processor promises of every journal that the book may have until its next call.
 use Rattle.std.specs.Prelude.{ℕ, ◌≡◌, ◌↔◌, Some, List, ◌++◌, slice_get, slice_index}
 use Rattle.journal.specs.declared.event.Event.{Event}
-use Rattle.journal.specs.Events.{part}
+use Rattle.journal.specs.Events.{events_of}
 use Rattle.journal.specs.WellFormed.{WellFormed}
 use Rattle.journal.specs.Times.{IsTimeOf}
-use Rattle.journal.specs.Loads.{Explained}
+use Rattle.journal.specs.ExplainedAnswers.{Explained}
 use Rattle.journal.specs.Counted.{AreCounted}
-use Rattle.journal.specs.Copies.{Lawful}
-use Rattle.journal.specs.Brought.{NoGap}
+use Rattle.journal.specs.PageImages.{Lawful}
+use Rattle.journal.specs.BroughtCopy.{NoGap}
 use Rattle.page.specs.declared.page.Access.TheVariants.{Valid}
 use Rattle.book.specs.State.{State}
 use Rattle.cluster.specs.declared.keeper.View.{View}
-use Rattle.cluster.specs.Copies.Copies.{Copied}
+use Rattle.cluster.specs.Copies.PageReplica.{Copied}
 use Rattle.cluster.specs.Copies.Local.{Local, calls}
-use Rattle.cluster.specs.Kept.{LockInvariant, view_of}
+use Rattle.cluster.specs.KeptViews.{LockInvariant, view_having_seen}
 
 -- the lock may have a book that is told by this history, with what p has seen at p's place
 pub record LockAllows (m : Local) (h : List Event) : Type 0 where
   pub book : State
   pub views : List View
-  pub mine : slice_get views m.number ≡ Some (view_of m.sizes m.seen m.cut m.own_cut)
+  pub mine : slice_get views m.number ≡ Some (view_having_seen m.sizes m.seen m.cut m.own_cut)
   pub kept : LockInvariant m.sizes h book views
 
 -- and there is such a history
@@ -30,7 +30,7 @@ IsAllowed m = (h : List Event) × LockAllows m h
 -- page is valid exactly where nothing is missing, and then it is what p's past makes of the page
 pub record IsCovered (m : Local) (h : List Event) : Type 0 where
   pub well_formed : WellFormed m.sizes (h ++ m.block)
-  pub calls_are : part h m.number ++ m.block ≡ calls m
+  pub calls_are : events_of h m.number ++ m.block ≡ calls m
   pub time : IsTimeOf (h ++ m.block) m.number (slice_index m.time)
   pub valid : (n : ℕ) (c : Copied) → slice_get m.copies n ≡ Some c
       → c.page.access ≡ Valid ↔ NoGap m.sizes (h ++ m.block) m.number n

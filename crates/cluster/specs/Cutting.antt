@@ -2,17 +2,17 @@
 use Rattle.std.specs.Prelude.{ℕ, ◌≡◌, ◌+◌, ◌<◌, ◌≤◌, Option, Some, None, List, drop, take, length}
 use Rattle.journal.specs.declared.event.Event.{Event}
 use Rattle.journal.specs.Sizes.{Sizes}
-use Rattle.journal.specs.Cuts.{IsCut, NoCut}
-use Rattle.journal.specs.Cutting.{IsCutFault}
+use Rattle.journal.specs.EpisodeBases.{IsEpisodeCut, NoEpisodeCut}
+use Rattle.journal.specs.CutFaults.{IsCutFault}
 use Rattle.journal.specs.Log.{Log}
 use Rattle.journal.specs.declared.cut.CutFault.{CutFault}
-use Rattle.book.specs.Cutting.{refused_by}
+use Rattle.book.specs.BookCut.{book_cut_refusal}
 use Rattle.journal.specs.Races.{RaceFree, IsFirstRace}
 use Rattle.base.specs.Limits.{most_cut, most_events}
 use Rattle.book.specs.declared.refused.Refused.{Refused}
 use Rattle.book.specs.declared.refused.Refused.TheVariants.{NoMemory, Racy, NoEpisode, BaseFull}
 use Rattle.cluster.specs.Copies.Local.{Local, calls}
-use Rattle.cluster.specs.Calls.{IsSame, IsSameProcessor}
+use Rattle.cluster.specs.Calls.{IsSameAfterCall, IsSameProcessor}
 use Rattle.cluster.specs.Covers.{HasCoverage, IsAllowed}
 use Rattle.cluster.specs.Entering.{EnteredAndDid}
 use Rattle.cluster.specs.Refusals.{flush_refusal}
@@ -20,7 +20,7 @@ use Rattle.cluster.specs.Refusals.{flush_refusal}
 -- of a history of which that many events were cut off, the next n are to be cut off: they end an episode, and no longer
 -- front of what is left does; and all that is cut off stays within the limit
 pub record MayCutOff (s : Sizes) (h : List Event) (cut n : ℕ) : Type 0 where
-  pub place : IsCut s.processors (drop cut h) n
+  pub place : IsEpisodeCut s.processors (drop cut h) n
   pub few : cut + n ≤ most_cut
 
 -- they were, by this processor, and all that is cut off has no race
@@ -31,16 +31,16 @@ pub record WasCutOff (m n : Local) : Type 0 where
   pub after : n ≡ record m { cut = m.cut + taken; own_cut = m.own_cut + taken }
 
 -- why no more of such a history is cut off: places are counted from the first event that is left
-abbrev pub IsUncut : Sizes → List Event → ℕ → Refused → Type 0
-IsUncut s h cut (Racy i k) = (n : ℕ) × MayCutOff s h cut n × IsFirstRace (take (cut + n) h) (cut + i) (cut + k)
-IsUncut s h cut NoEpisode = NoCut s.processors (drop cut h)
-IsUncut s h cut BaseFull = (n : ℕ) × IsCut s.processors (drop cut h) n × (most_cut < cut + n)
-IsUncut s h cut NoMemory = (n : ℕ) × MayCutOff s h cut n
-IsUncut s h cut _ = ⊥
+abbrev pub IsCuttingRefusal : Sizes → List Event → ℕ → Refused → Type 0
+IsCuttingRefusal s h cut (Racy i k) = (n : ℕ) × MayCutOff s h cut n × IsFirstRace (take (cut + n) h) (cut + i) (cut + k)
+IsCuttingRefusal s h cut NoEpisode = NoEpisodeCut s.processors (drop cut h)
+IsCuttingRefusal s h cut BaseFull = (n : ℕ) × IsEpisodeCut s.processors (drop cut h) n × (most_cut < cut + n)
+IsCuttingRefusal s h cut NoMemory = (n : ℕ) × MayCutOff s h cut n
+IsCuttingRefusal s h cut _ = ⊥
 
 -- a journal isn't cut, for this reason
-abbrev pub IsNoCut : Log → Refused → Type 0
-IsNoCut log e = (f : CutFault) × (e ≡ refused_by f) × IsCutFault log f
+abbrev pub IsCuttingFault : Log → Refused → Type 0
+IsCuttingFault log e = (f : CutFault) × (e ≡ book_cut_refusal f) × IsCutFault log f
 
 -- the call is refused where the entries are spent; else it enters, and cuts, or leaves all as it found it
 pub record IsCuttingCall (old new : Local) (refused : Option Refused) : Type 0 where
@@ -48,7 +48,7 @@ pub record IsCuttingCall (old new : Local) (refused : Option Refused) : Type 0 w
   pub outside : (e : Refused) → flush_refusal old ≡ Some e → (refused ≡ Some e) × (new ≡ old)
   pub ok : refused ≡ None → EnteredAndDid WasCutOff old new × (length new.seen ≤ most_events + new.cut)
   pub err : (e : Refused) → flush_refusal old ≡ None → refused ≡ Some e
-      → EnteredAndDid IsSame old new × IsUncut new.sizes new.seen new.cut e
+      → EnteredAndDid IsSameAfterCall old new × IsCuttingRefusal new.sizes new.seen new.cut e
   pub calls_are : calls new ≡ calls old
   pub covers : HasCoverage new
   pub allowed : IsAllowed old → IsAllowed new

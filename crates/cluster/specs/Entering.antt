@@ -2,7 +2,7 @@
 use Rattle.std.specs.Prelude.{ℕ, ◌≡◌, ◌≢◌, ◌+◌, ◌<◌, ◌≤◌, Some, List, ◌++◌, length, slice_get}
 use Rattle.journal.specs.declared.event.Event.{Event}
 use Rattle.journal.specs.Events.{At}
-use Rattle.journal.specs.Loads.{Explained}
+use Rattle.journal.specs.ExplainedAnswers.{Explained}
 use Rattle.journal.specs.Counted.{AreCounted}
 use Rattle.base.specs.Limits.{most_events}
 use Rattle.turn.specs.Chairs.{lock, place, view, entries, IsSameChair, IsInside, IsOutside, Stands}
@@ -11,16 +11,16 @@ use Rattle.turn.specs.declared.chair.ChairToken.{ChairToken}
 use Rattle.book.specs.State.{State}
 use Rattle.book.specs.Told.{Represents}
 use Rattle.cluster.specs.Copies.Local.{Local}
-use Rattle.cluster.specs.Copies.Steps.{found}
+use Rattle.cluster.specs.Copies.AfterNews.{found}
 use Rattle.cluster.specs.declared.keeper.View.{View}
-use Rattle.cluster.specs.Kept.{LockInvariant, Kept, Sees, added, view_of}
+use Rattle.cluster.specs.KeptViews.{LockInvariant, KeptWithViews, SeesView, added, view_having_seen}
 
 -- p finds this book: a history of it that is kept goes on from what p has seen
 pub record Finds (m : Local) (b : State) : Type 0 where
   pub rest : List Event
   pub views : List View
   pub away : (k : ℕ) (e : Event) → At rest k e → e.processor ≢ m.number
-  pub at : slice_get views m.number ≡ Some (view_of m.sizes m.seen m.cut m.own_cut)
+  pub at : slice_get views m.number ≡ Some (view_having_seen m.sizes m.seen m.cut m.own_cut)
   pub kept : LockInvariant m.sizes (m.seen ++ rest) b views
 
 -- and leaves the new book, which its events make of the old one, with that many more events cut off
@@ -38,7 +38,7 @@ pub record IsCallOf (m : Local) (old : State) (es : List Event) (new : State) : 
 -- the chair is that of processor m
 pub record IsChairOf (m : Local) (c : ChairToken State View) : Type 0 where
   pub place_is : place c ≡ m.number
-  pub view_is : view c ≡ view_of m.sizes m.seen m.cut m.own_cut
+  pub view_is : view c ≡ view_having_seen m.sizes m.seen m.cut m.own_cut
 
 -- the chair has entered once more, and is inside with the book
 pub record HasEntered (old new : ChairToken State View) (held : Held) (b : State) : Type 0 where
@@ -53,11 +53,11 @@ pub record HasLeft (old new : ChairToken State View) (held : Held) (b : State) :
   pub same : IsSameChair old new
   pub entries_are : entries new ≡ entries old
   pub outside : IsOutside new
-  pub seen : (found : State) → IsInside old held found → Sees found b (place old) (view old) (view new)
+  pub seen : (found : State) → IsInside old held found → SeesView found b (place old) (view old) (view new)
 
 -- the lock keeps this book, with the chair's view at its place
 abbrev pub FindsBook : ChairToken State View → State → Type 0
-FindsBook c b = Stands Kept b (place c) (view c)
+FindsBook c b = Stands KeptWithViews b (place c) (view c)
 
 -- the processor after it entered, others' events had come, and that many were cut off
 abbrev pub entered : Local → List Event → ℕ → Local

@@ -3,8 +3,8 @@ use Rattle.std.specs.Prelude.{ℕ, ◌≡◌, ◌≢◌, ◌*◌, ◌+◌, ◌<�
 use Rattle.std.specs.List.{flat_map}
 use Rattle.journal.specs.declared.event.Event.{Event}
 use Rattle.journal.specs.Sizes.{Sizes}
-use Rattle.journal.specs.Events.{At, part}
-use Rattle.journal.specs.Loads.{Explained}
+use Rattle.journal.specs.Events.{At, events_of}
+use Rattle.journal.specs.ExplainedAnswers.{Explained}
 use Rattle.journal.specs.Counted.{AreCounted}
 use Rattle.journal.specs.Log.{Log}
 use Rattle.base.specs.Limits.{most_in_block}
@@ -15,25 +15,25 @@ use Rattle.book.specs.Told.{Represents}
 use Rattle.cluster.specs.Copies.Local.{Local, calls}
 use Rattle.cluster.specs.Copies.Sound.{IsSound}
 use Rattle.cluster.specs.declared.keeper.View.{View}
-use Rattle.cluster.specs.Clusters.{Shared}
+use Rattle.cluster.specs.Clusters.{SharedCluster}
 use Rattle.cluster.specs.Entering.{IsChairOf}
-use Rattle.cluster.specs.Histories.{IsFaithful, IsJournalOf}
+use Rattle.cluster.specs.FaithfulJournals.{IsFaithful, IsJournalOf}
 
 -- the processor is the one with this number of this cluster
-pub record IsProcessorOf (c : Shared) (p : ℕ) (m : Local) : Type 0 where
+pub record IsProcessorOf (c : SharedCluster) (p : ℕ) (m : Local) : Type 0 where
   pub lock : m.lock ≡ c.lock
   pub number : m.number ≡ p
   pub sizes : m.sizes ≡ c.sizes
 
 -- all processors of the cluster, by rising number
-pub record AreAllOf (c : Shared) (ms : List Local) : Type 0 where
+pub record AreAllToFinish (c : SharedCluster) (ms : List Local) : Type 0 where
   pub all : length ms ≡ c.sizes.processors
   pub each : (p : ℕ) (m : Local) → slice_get ms p ≡ Some m → IsProcessorOf c p m
 
 -- the history goes on from what the processor had seen, and has its calls
 pub record HasCallsOf (h : List Event) (m : Local) : Type 0 where
   pub begins : (rest : List Event) × (h ≡ m.seen ++ rest)
-  pub calls_are : part h m.number ≡ calls m
+  pub calls_are : events_of h m.number ≡ calls m
 
 -- the journal holds what is left, after their own cuts took off the rest, of a faithful history with the calls of all
 -- processors, and at its end their open blocks in turn
@@ -62,7 +62,7 @@ pub record AreTakenApart (ms : List Local) (cs : List (ChairToken State View)) (
       → slice_get cs p ≡ Some c → slice_get blocks p ≡ Some block → IsTakenApart m c block
 
 -- the history goes on without the processor, whose block is to come
-pub record IsToCome (h : List Event) (m : Local) : Type 0 where
+pub record IsToFinish (h : List Event) (m : Local) : Type 0 where
   pub rest : List Event
   pub begins : h ≡ m.seen ++ rest
   pub away : (k : ℕ) (e : Event) → At rest k e → e.processor ≢ m.number
@@ -76,11 +76,11 @@ pub record IsFinishing (s : Sizes) (ms : List Local) (k : ℕ) (h : List Event) 
   pub room : most_in_block * length ms ≤ b.journal.room + most_in_block * k
   pub sound : (p : ℕ) (m : Local) → slice_get ms p ≡ Some m → IsSound m × (m.number ≡ p) × (m.sizes ≡ s)
   pub done : (p : ℕ) (m : Local) → p < k → slice_get ms p ≡ Some m → HasCallsOf h m
-  pub to_come : (p : ℕ) (m : Local) → k ≤ p → slice_get ms p ≡ Some m → IsToCome h m
+  pub to_come : (p : ℕ) (m : Local) → k ≤ p → slice_get ms p ≡ Some m → IsToFinish h m
   pub in_turn : (front : List Event) × (h ≡ front ++ flat_map (λ m. m.block) (take k ms))
 
 -- these are the processors' blocks
-pub record AreBlocksOf (ms : List Local) (blocks : List (List Event)) : Type 0 where
+pub record AreBlocksToFinish (ms : List Local) (blocks : List (List Event)) : Type 0 where
   pub all : length blocks ≡ length ms
   pub each : (p : ℕ) (m : Local) (block : List Event) → slice_get ms p ≡ Some m → slice_get blocks p ≡ Some block
       → block ≡ m.block

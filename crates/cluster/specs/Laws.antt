@@ -1,29 +1,29 @@
 -- What is promised for itself.
 use Rattle.std.specs.Prelude.{ℕ, ◌≡◌, ◌<◌, Some, List, ◌++◌, slice_get}
 use Rattle.journal.specs.declared.event.Event.{Event}
-use Rattle.journal.specs.CopiesFrom.{LawfulFrom}
+use Rattle.journal.specs.PageImagesFrom.{LawfulFrom}
 use Rattle.journal.specs.WellFormedFrom.{IsAway}
 use Rattle.book.specs.State.{State}
 use Rattle.book.specs.Told.{HoldsSome}
 use Rattle.page.specs.declared.page.Access.TheVariants.{Valid}
-use Rattle.cluster.specs.Copies.Copies.{Copied}
+use Rattle.cluster.specs.Copies.PageReplica.{Copied}
 use Rattle.cluster.specs.Copies.Local.{Local}
 use Rattle.cluster.specs.declared.keeper.View.{View}
-use Rattle.cluster.specs.Kept.{IsSeen, Kept}
+use Rattle.cluster.specs.KeptViews.{IsSeenInViews, KeptWithViews}
 use Rattle.cluster.specs.Covers.{LockAllows, HasCoverage, IsAllowed}
-use Rattle.cluster.specs.Histories.{IsFaithful, IsFaithfulFrom, IsJournalOf}
+use Rattle.cluster.specs.FaithfulJournals.{IsFaithful, IsFaithfulFrom, IsJournalOf}
 use Rattle.journal.specs.Log.{Log}
 use Rattle.journal.specs.Sizes.{Sizes}
 
 -- somebody has seen this history, of which the journal holds what is left, and what each has seen is a beginning of it
 pub record IsHistoryOf (b : State) (views : List View) (h : List Event) : Type 0 where
   pub holds : HoldsSome b.journal h
-  pub whole : IsSeen views h
+  pub whole : IsSeenInViews views h
   pub begins : (p : ℕ) (v : View) → slice_get views p ≡ Some v → (rest : List Event) × (h ≡ v.seen ++ rest)
 
 -- a book that the lock keeps has such a history
 abbrev pub SeenLaw : Type 0
-SeenLaw = (b : State) (views : List View) → Kept b views → (h : List Event) × IsHistoryOf b views h
+SeenLaw = (b : State) (views : List View) → KeptWithViews b views → (h : List Event) × IsHistoryOf b views h
 
 -- what a processor does by itself, without entering, leaves the histories that the book's lock allows it
 abbrev pub AllowedLaw : Type 0

@@ -1,7 +1,7 @@
 pub mod Seats
 pub mod Refusals
 pub mod Accesses
-pub mod Kept
+pub mod KeptViews
 pub mod Entering
 pub mod Covers
 pub mod Calls
@@ -9,7 +9,7 @@ pub mod Closing
 pub mod Taking
 pub mod Waiting
 pub mod Cutting
-pub mod Histories
+pub mod FaithfulJournals
 pub mod Clusters
 pub mod Finishing
 pub mod Laws

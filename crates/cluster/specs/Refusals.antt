@@ -7,23 +7,23 @@ use Rattle.journal.specs.declared.event.Kind.{Kind}
 use Rattle.journal.specs.declared.event.Kind.TheVariants.{Ask, Release, Arrive, Set, Watch}
 use Rattle.journal.specs.Sizes.{addresses}
 use Rattle.base.specs.Limits.{most_in_block}
-use Rattle.cluster.specs.Copies.Copies.{Copied, may_use, words_if}
+use Rattle.cluster.specs.Copies.PageReplica.{Copied, may_use_replica, words_if}
 use Rattle.cluster.specs.Copies.Local.{Local}
 
 -- the first of these that applies
-abbrev pub first_due : List (Bool × Refused) → Option Refused
-first_due [] = None
-first_due (r ∷ rs) = cond r.0 (Some r.1) (first_due rs)
+abbrev pub first_refusal_due : List (Bool × Refused) → Option Refused
+first_refusal_due [] = None
+first_refusal_due (r ∷ rs) = cond r.0 (Some r.1) (first_refusal_due rs)
 
 -- the copy may be used, if there is one
 abbrev pub serves : Option Copied → Bool
 serves None = false
-serves (Some c) = may_use c.page.access
+serves (Some c) = may_use_replica c.page.access
 
 -- the words of the copy, where it may be used
 abbrev pub words_in : Option Copied → Option (List ℕ)
 words_in None = None
-words_in (Some c) = words_if (may_use c.page.access) c
+words_in (Some c) = words_if (may_use_replica c.page.access) c
 
 -- the words of p's copy of page n, where it is valid
 abbrev pub page_of : Local → ℕ → Option (List ℕ)
@@ -43,11 +43,11 @@ block_full m = nat_le most_in_block (length m.block)
 
 -- why the open block may not have one more event
 abbrev pub event_refusal : Local → Option Refused
-event_refusal m = first_due ((is_waiting m, Waiting) ∷ (block_full m, BlockFull) ∷ [])
+event_refusal m = first_refusal_due ((is_waiting m, Waiting) ∷ (block_full m, BlockFull) ∷ [])
 
 -- why a load or a store at this address is refused
 abbrev pub access_refusal : Local → ℕ → Option Refused
-access_refusal m a = first_due (
+access_refusal m a = first_refusal_due (
     (nat_le (addresses m.sizes) a, OutOfRange)
     ∷ (not (has_valid m (a / m.sizes.words)), refused.Invalid (a / m.sizes.words))
     ∷ (is_waiting m, Waiting)
@@ -55,7 +55,7 @@ access_refusal m a = first_due (
 
 -- why a fetch of this page is refused
 abbrev pub fetch_refusal : Local → ℕ → Option Refused
-fetch_refusal m n = first_due (
+fetch_refusal m n = first_refusal_due (
     (nat_le m.sizes.pages n, OutOfRange)
     ∷ (is_waiting m, Waiting)
     ∷ (block_full m, BlockFull)
@@ -71,44 +71,44 @@ has_lock m l = slice_index_or m.held l false
 
 -- why a flush or an audit doesn't enter the book
 abbrev pub flush_refusal : Local → Option Refused
-flush_refusal m = first_due ((is_spent m, SeatSpent) ∷ [])
+flush_refusal m = first_refusal_due ((is_spent m, SeatSpent) ∷ [])
 
 -- this reason, or else that the entries are spent
-abbrev pub or_spent : Option Refused → Local → Option Refused
-or_spent None m = flush_refusal m
-or_spent (Some e) m = Some e
+abbrev pub refusal_or_spent : Option Refused → Local → Option Refused
+refusal_or_spent None m = flush_refusal m
+refusal_or_spent (Some e) m = Some e
 
 -- why a call that closes the interval is refused that names no lock
-abbrev pub arrive_test : Local → Option Refused
-arrive_test m = first_due ((is_waiting m, Waiting) ∷ [])
+abbrev pub arrive_refusal : Local → Option Refused
+arrive_refusal m = first_refusal_due ((is_waiting m, Waiting) ∷ [])
 
 -- why an ask of this lock is
-abbrev pub ask_test : Local → ℕ → Option Refused
-ask_test m l = first_due (
+abbrev pub ask_refusal : Local → ℕ → Option Refused
+ask_refusal m l = first_refusal_due (
     (nat_le m.sizes.locks l, BadLock)
     ∷ (is_waiting m, Waiting)
     ∷ (has_lock m l, AlreadyHeld) ∷ [])
 
 -- why a release of this lock is
-abbrev pub release_test : Local → ℕ → Option Refused
-release_test m l = first_due (
+abbrev pub release_refusal : Local → ℕ → Option Refused
+release_refusal m l = first_refusal_due (
     (nat_le m.sizes.locks l, BadLock)
     ∷ (is_waiting m, Waiting)
     ∷ (not (has_lock m l), NotHeld) ∷ [])
 
 -- why a set or a watch of this flag is
-abbrev pub flag_test : Local → ℕ → Option Refused
-flag_test m f = first_due ((nat_le m.sizes.flags f, BadFlag) ∷ (is_waiting m, Waiting) ∷ [])
+abbrev pub flag_refusal : Local → ℕ → Option Refused
+flag_refusal m f = first_refusal_due ((nat_le m.sizes.flags f, BadFlag) ∷ (is_waiting m, Waiting) ∷ [])
 
 -- why a call that closes the interval by this event is
-abbrev pub closing_test : Local → Kind → Option Refused
-closing_test m (Ask l) = ask_test m l
-closing_test m (Release l) = release_test m l
-closing_test m Arrive = arrive_test m
-closing_test m (Set f) = flag_test m f
-closing_test m (Watch f) = flag_test m f
-closing_test m _ = None
+abbrev pub closing_refusal : Local → Kind → Option Refused
+closing_refusal m (Ask l) = ask_refusal m l
+closing_refusal m (Release l) = release_refusal m l
+closing_refusal m Arrive = arrive_refusal m
+closing_refusal m (Set f) = flag_refusal m f
+closing_refusal m (Watch f) = flag_refusal m f
+closing_refusal m _ = None
 
 -- why a take is
-abbrev pub take_test : Local → Option Refused
-take_test m = first_due ((not (is_waiting m), NothingAwaited) ∷ [])
+abbrev pub take_refusal : Local → Option Refused
+take_refusal m = first_refusal_due ((not (is_waiting m), NothingAwaited) ∷ [])

@@ -7,7 +7,7 @@ use Rattle.turn.specs.Chairs.{lock, place, view, entries, IsOutside}
 use Rattle.turn.specs.declared.chair.ChairToken.{ChairToken}
 use Rattle.book.specs.State.{State}
 use Rattle.cluster.specs.declared.keeper.View.{View}
-use Rattle.cluster.specs.Copies.Copies.{Copied}
+use Rattle.cluster.specs.Copies.PageReplica.{Copied}
 use Rattle.cluster.specs.Copies.Local.{Local}
 
 -- the processor with these parts

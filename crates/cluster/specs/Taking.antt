@@ -3,25 +3,25 @@ use Rattle.std.specs.Prelude.{ℕ, ◌≡◌, Option, Some, None, List, [], ◌�
 use Rattle.journal.specs.declared.event.Event.{Event}
 use Rattle.journal.specs.declared.event.Kind.{Kind}
 use Rattle.journal.specs.declared.event.Kind.TheVariants.{Acquire}
-use Rattle.journal.specs.Did.{event}
+use Rattle.journal.specs.DidEvent.{event}
 use Rattle.journal.specs.Brings.{Brings}
-use Rattle.journal.specs.Missing.{AreMissingNotices}
+use Rattle.journal.specs.MissingWords.{AreMissingNotices}
 use Rattle.journal.specs.WellFormed.{Allowed, Ready}
 use Rattle.vtime.specs.Times.{join}
-use Rattle.interval.specs.Intervals.{SentRecord}
+use Rattle.interval.specs.SentIntervals.{SentRecord}
 use Rattle.interval.specs.Closings.{is_of_page}
-use Rattle.book.specs.News.{missing_in}
+use Rattle.book.specs.News.{news_of_page}
 use Rattle.book.specs.Stamps.{IsStamp}
 use Rattle.book.specs.declared.refused.Refused.{Refused}
-use Rattle.cluster.specs.Copies.Copies.{Copied}
+use Rattle.cluster.specs.Copies.PageReplica.{Copied}
 use Rattle.cluster.specs.Copies.Local.{Local}
-use Rattle.cluster.specs.Copies.Steps.{AreAfterNews, took}
-use Rattle.cluster.specs.Refusals.{or_spent, take_test}
+use Rattle.cluster.specs.Copies.AfterNews.{AreAfterNews, took_news}
+use Rattle.cluster.specs.Refusals.{refusal_or_spent, take_refusal}
 use Rattle.cluster.specs.Calls.{IsCall}
 
 -- what p waits for hasn't come, by what it has seen
-abbrev pub IsLate : Local → Type 0
-IsLate m = ¬ Ready m.sizes m.seen m.number
+abbrev pub IsTakeLate : Local → Type 0
+IsTakeLate m = ¬ Ready m.sizes m.seen m.number
 
 -- the event that ends p's wait
 abbrev pub awaited_event : ℕ → Option Kind → List Event
@@ -30,7 +30,7 @@ awaited_event p (Some k) = event p k ∷ []
 
 -- p took what it waited for, which had come: it takes over the time of what that brings, and of each page the news, and
 -- a copy with news is stale
-pub record IsTaken (m n : Local) : Type 0 where
+pub record IsTakeDone (m n : Local) : Type 0 where
   pub kind : Kind
   pub waits : m.awaits ≡ Some kind
   pub allowed : Allowed m.sizes m.seen m.number kind
@@ -39,9 +39,9 @@ pub record IsTaken (m n : Local) : Type 0 where
   pub sent : List SentRecord
   pub news : (page : ℕ)
       → AreMissingNotices m.sizes m.seen m.number page (slice_index m.time) (slice_index (join m.time time))
-      (missing_in page sent)
+      (news_of_page page sent)
   pub told : AreAfterNews m.copies sent n.copies
-  pub after : n ≡ took m kind time n.copies
+  pub after : n ≡ took_news m kind time n.copies
 
 -- the lock that this acquires is one of n
 abbrev pub MayHoldOne : ℕ → Kind → Type 0
@@ -49,11 +49,11 @@ MayHoldOne n (Acquire l) = l < n
 MayHoldOne n _ = Unit {0}
 
 -- each copy has room for what these bring of its page
-abbrev pub HasRoomFor : List SentRecord → List Copied → Type 0
-HasRoomFor sent copies =
+abbrev pub HasRoomToTake : List SentRecord → List Copied → Type 0
+HasRoomToTake sent copies =
     (n : ℕ) (c : Copied) → slice_get copies n ≡ Some c → count_by (is_of_page n) sent ≤ c.room
 
 -- a call that takes what is awaited
 abbrev pub IsTakingCall : Local → Local → Option Refused → Type 0
 IsTakingCall old new refused =
-    IsCall (or_spent (take_test old) old) 1 IsLate IsTaken (awaited_event old.number old.awaits) old new refused
+    IsCall (refusal_or_spent (take_refusal old) old) 1 IsTakeLate IsTakeDone (awaited_event old.number old.awaits) old new refused

@@ -8,19 +8,19 @@ use Rattle.cluster.specs.declared.waited.Waited.TheVariants.{MayHaveCome, Stuck,
 use Rattle.cluster.specs.Refusals.{flush_refusal}
 use Rattle.cluster.specs.Covers.{HasCoverage, IsAllowed}
 use Rattle.cluster.specs.Entering.{EnteredAndDid}
-use Rattle.cluster.specs.Taking.{IsLate}
+use Rattle.cluster.specs.Taking.{IsTakeLate}
 
 -- what is answered where a look came to this: after a sleep something may have come
-abbrev pub answer_of : Option Waited → Waited
-answer_of None = MayHaveCome
-answer_of (Some w) = w
+abbrev pub waited_answer : Option Waited → Waited
+waited_answer None = MayHaveCome
+waited_answer (Some w) = w
 
 -- nothing was changed
 abbrev pub IsUnchanged : Local → Local → Type 0
 IsUnchanged m n = n ≡ m
 
 -- the call entered and changed nothing, and says so if the history that it found is a deadlock
-pub record HasLooked (old new : Local) (answer : Result Waited Refused) : Type 0 where
+pub record HasLookedAndWaits (old new : Local) (answer : Result Waited Refused) : Type 0 where
   pub entered : EnteredAndDid IsUnchanged old new
   pub ok : IsOk answer
   pub exact : IsDeadlock new.sizes new.seen → answer ≡ Ok Stuck
@@ -32,9 +32,9 @@ pub record IsWaitingCall (old new : Local) (answer : Result Waited Refused) : Ty
   pub kept : new ≡ record old { entries = new.entries; seen = new.seen; cut = new.cut }
   pub idle : old.awaits ≡ None → (answer ≡ Ok MayHaveCome) × (new ≡ old)
   pub outside : old.awaits ≢ None → (e : Refused) → flush_refusal old ≡ Some e → (answer ≡ Err e) × (new ≡ old)
-  pub looked : old.awaits ≢ None → flush_refusal old ≡ None → HasLooked old new answer
+  pub looked : old.awaits ≢ None → flush_refusal old ≡ None → HasLookedAndWaits old new answer
   pub stuck : answer ≡ Ok Stuck → IsDeadlock new.sizes new.seen
-  pub deserted : answer ≡ Ok Deserted → IsLate new
+  pub deserted : answer ≡ Ok Deserted → IsTakeLate new
   pub calls_are : calls new ≡ calls old
   pub covers : HasCoverage new
   pub allowed : IsAllowed old → IsAllowed new

@@ -1,15 +1,15 @@
 //! Clusters.
 ghost use Rattle.std.specs.Prelude.{◌≡◌, ◌≢◌, ◌⊎◌, ◌↔◌, ◌^◌, ◌≤◌, ◌<◌, Err, IfErr, IfOk, IsTrue, ℕ, List, [], length};
 ghost use Rattle.std.specs.Prelude.{vec_len, vec_capacity, slice_get, Some};
-ghost use Rattle.cluster.specs.Copies.Prelude.{AreSizes};
-ghost use Rattle.cluster.specs.Prelude.{AreParts, AreNewChairs, AreSeated, AreNew, AreCovered};
+ghost use Rattle.cluster.specs.Copies.Prelude.{AreSoundSizes};
+ghost use Rattle.cluster.specs.Prelude.{AreClusterParts, AreNewChairs, IsClusterSeated, IsNewCluster, IsClusterCovered};
 
 mod calls;
 mod closing;
 mod cutting;
 mod entering;
 mod finishing;
-mod handing;
+mod flush_and_audit;
 mod taking;
 mod waiting;
 
@@ -36,14 +36,14 @@ pub struct Cluster<T: BookTurn> {
 
 impl<T: BookTurn> Model for Cluster<T> {
     ghost use Rattle.std.specs.Prelude.{◌≡◌};
-    ghost use Rattle.cluster.specs.Copies.Sound.{AreSizes};
-    ghost use Rattle.cluster.specs.Clusters.{Shared, shared};
+    ghost use Rattle.cluster.specs.Copies.Sound.{AreSoundSizes};
+    ghost use Rattle.cluster.specs.Clusters.{SharedCluster, shared_cluster};
 
-    ghost Value = { Shared };
+    ghost Value = { SharedCluster };
 
-    ghost view = { λ c. shared (T.id c.turn) c.shape };
+    ghost view = { λ c. shared_cluster (T.id c.turn) c.shape };
 
-    ghost invariant = { λ c. (T.size c.turn ≡ c.shape.processors) × AreSizes c.shape };
+    ghost invariant = { λ c. (T.size c.turn ≡ c.shape.processors) × AreSoundSizes c.shape };
 }
 
 impl<T: BookTurn> Cluster<T> {
@@ -61,7 +61,7 @@ impl<T: BookTurn> Cluster<T> {
         flags: usize,
     ) -> Result<(Cluster<T>, Vec<Processor<T>>), Refused>
         requires { T.ENTRIES ≤ 2 ^ 40 }
-        ensures size { result ≢ Err Refused.BadSize ↔ AreSizes (record {
+        ensures size { result ≢ Err Refused.BadSize ↔ AreSoundSizes (record {
           processors = processors;
           pages = pages;
           words = words;
@@ -77,8 +77,8 @@ impl<T: BookTurn> Cluster<T> {
           flags = flags;
         }) }
         ensures limit { IfOk result (λ r. r.0.lock.limit ≡ T.ENTRIES) }
-        ensures new { IfOk result (λ r. AreNew r.0 r.1.items) }
-        ensures covers { IfOk result (λ r. AreCovered r.1.items) }
+        ensures new { IfOk result (λ r. IsNewCluster r.0 r.1.items) }
+        ensures covers { IfOk result (λ r. IsClusterCovered r.1.items) }
     {
         let shape = Shape {
             processors,
@@ -97,11 +97,11 @@ impl<T: BookTurn> Cluster<T> {
     /// A cluster of these sizes. All memory but the lock's own is taken first.
     fn lawful(alloc: Global, shape: Shape) -> Result<(Cluster<T>, Vec<Processor<T>>), AllocError>
         requires entries { T.ENTRIES ≤ 2 ^ 40 }
-        requires sizes { AreSizes shape }
+        requires sizes { AreSoundSizes shape }
         ensures sizes { IfOk result (λ r. r.0.sizes ≡ shape) }
         ensures limit { IfOk result (λ r. r.0.lock.limit ≡ T.ENTRIES) }
-        ensures new { IfOk result (λ r. AreNew r.0 r.1.items) }
-        ensures covers { IfOk result (λ r. AreCovered r.1.items) }
+        ensures new { IfOk result (λ r. IsNewCluster r.0 r.1.items) }
+        ensures covers { IfOk result (λ r. IsClusterCovered r.1.items) }
     {
         let Shape {
             processors,
@@ -133,12 +133,12 @@ impl<T: BookTurn> Cluster<T> {
         mut parts: Vec<Parts>,
         mut all: Vec<Processor<T>>,
     ) -> Vec<Processor<T>>
-        requires sizes { AreSizes shape }
+        requires sizes { AreSoundSizes shape }
         requires chairs { (vec_len chairs ≡ shape.processors) × AreNewChairs shape chairs.items }
         requires parts { (vec_len parts ≡ shape.processors)
-            × ((p : ℕ) (x : Parts) → slice_get parts.items p ≡ Some x → AreParts shape x) }
+            × ((p : ℕ) (x : Parts) → slice_get parts.items p ≡ Some x → AreClusterParts shape x) }
         requires room { (all.items ≡ []) × (shape.processors ≤ vec_capacity all) }
-        ensures { AreSeated shape chairs.items result.items }
+        ensures { IsClusterSeated shape chairs.items result.items }
     {
         for chair in chairs {
             let Some(own) = parts.pop() else {
@@ -152,10 +152,10 @@ impl<T: BookTurn> Cluster<T> {
 
 /// What each processor has before it has a chair.
 fn parts_of(alloc: Global, shape: Shape) -> Result<Vec<Parts>, AllocError>
-    requires { AreSizes shape }
+    requires { AreSoundSizes shape }
     ensures long { IfOk result (λ all. vec_len all ≡ shape.processors) }
     ensures each { IfOk result (λ all. (p : ℕ) (x : Parts) → slice_get all.items p ≡ Some x
-        → AreParts shape x) }
+        → AreClusterParts shape x) }
 {
     let mut all = Vec::with_capacity(alloc, shape.processors)?;
     for _ in 0..shape.processors {

@@ -8,12 +8,12 @@
 //! - The laws of what calls do to a processor (`Local`, specs/Copies/Local) stand in proofs/: crate `cluster` cites them.
 
 mod harvesting;
-mod incorporating;
+mod learning;
 mod marks;
 mod missing;
 mod page_copy;
 
 pub use self::harvesting::{clean, harvest};
-pub use self::incorporating::{learn, make_room};
+pub use self::learning::{learn, make_room};
 pub use self::marks::Marks;
 pub use self::page_copy::{MissingCounts, Replica};

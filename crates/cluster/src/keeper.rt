@@ -1,5 +1,5 @@
 //! What the book's lock keeps.
-ghost use Rattle.cluster.specs.Prelude.{Kept, nothing_seen, book_sizes, Sees};
+ghost use Rattle.cluster.specs.Prelude.{KeptWithViews, view_of_nothing, book_sizes, SeesView};
 
 use crate::shape::Shape;
 use book::Book;
@@ -22,15 +22,15 @@ pub struct View {
 pub struct Rule;
 
 impl Keeper<Book> for Rule {
-    ghost use Rattle.cluster.specs.Kept.{Kept, nothing_seen, book_sizes};
+    ghost use Rattle.cluster.specs.KeptViews.{KeptWithViews, view_of_nothing, book_sizes};
 
     type View = View;
 
-    ghost fact = { Kept };
+    ghost fact = { KeptWithViews };
 
-    ghost first = { λ b. nothing_seen (book_sizes b) };
+    ghost first = { λ b. view_of_nothing (book_sizes b) };
 
-    ghost nobody = { nothing_seen (record
+    ghost nobody = { view_of_nothing (record
         { processors = 0; pages = 0; words = 0; locks = 0; flags = 0 }) };
 }
 
@@ -38,9 +38,9 @@ impl Keeper<Book> for Rule {
 pub(crate) struct Looking;
 
 impl Outcome<Book, View> for Looking {
-    ghost use Rattle.cluster.specs.Kept.{Sees};
+    ghost use Rattle.cluster.specs.KeptViews.{SeesView};
 
-    ghost then = { Sees };
+    ghost then = { SeesView };
 }
 
 /// A lock round the book, under this crate's rule. A lock of one's own that meets [`Turn`] gets it by an impl with nothing

@@ -2,12 +2,12 @@
 //! yet, and a chair at the book's lock (Keleher, Cox and Zwaenepoel, Lazy Release Consistency for
 //! Software Distributed Shared Memory, ISCA 1992).
 //!
-//! **What contracts see.** A `Processor` is a `Local` (crate `cluster`): its lock and entries, number, sizes, what it has
+//! **What contracts see.** A `Processor` is a `Local`: its lock and entries, number, sizes, what it has
 //! seen of the journal, its open block, copies, marks, timestamp, locks held and what it waits for. A `Cluster` is a
-//! `Shared`: its lock and sizes. What the book's lock keeps is `IsKept`.
+//! `SharedCluster`: its lock and sizes. What the book's lock keeps is `LockInvariant`.
 //!
 //! **What is proved.** The accesses: the answer and each refusal exactly. The calls that enter: `IsCall`. After each,
-//! `Covers`: what holds of the processor in every journal that the lock allows; `allowed_law` and `allowed`: there is one.
+//! `HasCoverage`: what holds of the processor in every journal that the lock allows; `allowed_law` and `allowed`: there is one.
 //! `audit` and `finish`: faithful histories with each processor's calls. `wait`: it says that all are stuck exactly if the
 //! history that it finds is a deadlock.
 //!

@@ -7,11 +7,11 @@ ghost use Rattle.std.specs.Result.{result_err};
 ghost use Rattle.base.specs.Prelude.{most_in_block};
 ghost use Rattle.turn.specs.Prelude.{lock};
 ghost use Rattle.journal.specs.Prelude.{event, is_closing};
-ghost use Rattle.cluster.specs.Copies.Prelude.{blank, DirtyAreMarked, cleaned, AreSizes, calls, noted, new_local};
+ghost use Rattle.cluster.specs.Copies.Prelude.{blank, DirtyAreMarked, cleaned, AreSoundSizes, calls, noted, new_local};
 ghost use Rattle.cluster.specs.Copies.Prelude.{AreHarvests};
-ghost use Rattle.cluster.specs.Prelude.{AreParts, IsNewChair, page_of, has_valid, is_waiting, access_refusal};
-ghost use Rattle.cluster.specs.Prelude.{fetch_refusal, event_refusal, arrive_test, ask_test, release_test, flag_test};
-ghost use Rattle.cluster.specs.Prelude.{take_test, closing_test, HasWord, StoreDone, FetchDone, HasCoverage, IsTakenApart};
+ghost use Rattle.cluster.specs.Prelude.{AreClusterParts, IsNewChair, page_of, has_valid, is_waiting, access_refusal};
+ghost use Rattle.cluster.specs.Prelude.{fetch_refusal, event_refusal, arrive_refusal, ask_refusal, release_refusal, flag_refusal};
+ghost use Rattle.cluster.specs.Prelude.{take_refusal, closing_refusal, HasWord, StoreDone, FetchDone, HasCoverage, IsTakenApart};
 
 use crate::copies::{Marks, Replica};
 use crate::keeper::{BookTurn, Rule};
@@ -40,8 +40,8 @@ pub(crate) struct Parts {
 impl Parts {
     /// An open block with room, a zero copy of each page, and a zero timestamp.
     pub(crate) fn new(alloc: Global, shape: Shape) -> Result<Parts, AllocError>
-        requires { AreSizes shape }
-        ensures { IfOk result (λ x. AreParts shape x) }
+        requires { AreSoundSizes shape }
+        ensures { IfOk result (λ x. AreClusterParts shape x) }
     {
         Ok(Parts {
             block: Vec::with_capacity(alloc, MOST_IN_BLOCK)?,
@@ -54,7 +54,7 @@ impl Parts {
 
 /// A zero copy of each page.
 fn replicas_of(alloc: Global, shape: Shape) -> Result<Vec<Replica>, AllocError>
-    requires { AreSizes shape }
+    requires { AreSoundSizes shape }
     ensures { IfOk result (λ all. all.items ≡ replicate shape.pages (blank shape)) }
 {
     let mut replicas = Vec::with_capacity(alloc, shape.pages)?;
@@ -108,10 +108,10 @@ impl<T: BookTurn> Processor<T> {
         chair: Chair<Book, Rule>,
         parts: Parts,
     ) -> Processor<T>
-        requires sizes { AreSizes shape }
+        requires sizes { AreSoundSizes shape }
         requires number { number < shape.processors }
         requires chair { IsNewChair (lock chair) shape number chair }
-        requires parts { AreParts shape parts }
+        requires parts { AreClusterParts shape parts }
         ensures { result ≡ new_local (lock chair) number shape }
     {
         let Parts {
@@ -310,7 +310,7 @@ impl<T: BookTurn> Processor<T> {
     /// Whether the processor may make the call that closes its interval by this event.
     pub(crate) fn admit_closing(&self, kind: Kind) -> Result<(), Refused>
         requires { is_closing kind ≡ true }
-        ensures { result_err result ≡ closing_test self.now kind }
+        ensures { result_err result ≡ closing_refusal self.now kind }
     {
         match kind {
             Kind::Ask(lock) => self.admit_ask(lock),
@@ -323,7 +323,7 @@ impl<T: BookTurn> Processor<T> {
 
     /// Whether the processor may arrive at the barrier.
     fn admit_arrival(&self) -> Result<(), Refused>
-        ensures { result_err result ≡ arrive_test self.now }
+        ensures { result_err result ≡ arrive_refusal self.now }
     {
         match self.awaits {
             Some(_) => Err(Refused::Waiting),
@@ -333,7 +333,7 @@ impl<T: BookTurn> Processor<T> {
 
     /// Whether it may ask for the lock.
     fn admit_ask(&self, lock: usize) -> Result<(), Refused>
-        ensures { result_err result ≡ ask_test self.now lock }
+        ensures { result_err result ≡ ask_refusal self.now lock }
     {
         if lock >= self.shape.locks {
             Err(Refused::BadLock)
@@ -348,7 +348,7 @@ impl<T: BookTurn> Processor<T> {
 
     /// Whether it may release the lock.
     fn admit_release(&self, lock: usize) -> Result<(), Refused>
-        ensures { result_err result ≡ release_test self.now lock }
+        ensures { result_err result ≡ release_refusal self.now lock }
     {
         if lock >= self.shape.locks {
             Err(Refused::BadLock)
@@ -363,7 +363,7 @@ impl<T: BookTurn> Processor<T> {
 
     /// Whether it may set the flag, or watch it.
     fn admit_flag(&self, flag: usize) -> Result<(), Refused>
-        ensures { result_err result ≡ flag_test self.now flag }
+        ensures { result_err result ≡ flag_refusal self.now flag }
     {
         if flag >= self.shape.flags {
             Err(Refused::BadFlag)
@@ -376,7 +376,7 @@ impl<T: BookTurn> Processor<T> {
 
     /// What it waits for.
     pub(crate) fn admit_take(&self) -> Result<Kind, Refused>
-        ensures test { result_err result ≡ take_test self.now }
+        ensures test { result_err result ≡ take_refusal self.now }
         ensures kind { IfOk result (λ k. self.now.awaits ≡ Some k) }
     {
         match self.awaits {

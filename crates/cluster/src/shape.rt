@@ -1,6 +1,6 @@
 //! The sizes of a cluster.
 ghost use Rattle.std.specs.Prelude.{◌↔◌, IsTrue};
-ghost use Rattle.cluster.specs.Copies.Prelude.{AreSizes};
+ghost use Rattle.cluster.specs.Copies.Prelude.{AreSoundSizes};
 
 use std::marker::Model;
 
@@ -40,7 +40,7 @@ impl Model for Shape {
 impl Shape {
     /// Whether the sizes are within the product's.
     pub(crate) fn is_lawful(&self) -> bool
-        ensures { IsTrue result ↔ AreSizes self.now }
+        ensures { IsTrue result ↔ AreSoundSizes self.now }
     {
         (1..=16).contains(&self.processors)
             && (1..=64).contains(&self.pages)

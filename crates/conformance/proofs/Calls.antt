@@ -6,50 +6,50 @@ use Rattle.std.proofs.lemmas.List.{map-append}
 use Rattle.std.proofs.lemmas.List.Elements.{filter-append}
 use Rattle.journal.specs.declared.event.Event.{Event}
 use Rattle.journal.specs.declared.event.Kind.{Kind}
-use Rattle.journal.specs.Did.{event, did}
-use Rattle.journal.specs.Events.{part}
-use Rattle.conformance.specs.Follows.{is_fetch, kinds_of, calls_of}
+use Rattle.journal.specs.DidEvent.{event, did}
+use Rattle.journal.specs.Events.{events_of}
+use Rattle.conformance.specs.Follows.{is_fetch, call_kinds, calls_of}
 
 -- the kinds of two lists are those of the first and those of the second
-pub kinds_of-append : (xs ys : List Event) → kinds_of (xs ++ ys) ≡ kinds_of xs ++ kinds_of ys
-kinds_of-append xs ys =
+pub call_kinds-append : (xs ys : List Event) → call_kinds (xs ++ ys) ≡ call_kinds xs ++ call_kinds ys
+call_kinds-append xs ys =
     ap (filter (λ k. not (is_fetch k))) (map-append (λ (e : Event). e.kind) xs ys)
     ∙ filter-append (λ k. not (is_fetch k)) (map (λ (e : Event). e.kind) xs) (map (λ (e : Event). e.kind) ys)
 
 -- one event that is no fetch has its kind
-pub kinds_of-one : (e : Event) → is_fetch e.kind ≡ false → kinds_of (e ∷ []) ≡ e.kind ∷ []
-kinds_of-one e is = cond-true (not (is_fetch e.kind)) (e.kind ∷ []) [] (ap not is)
+pub call_kinds-one : (e : Event) → is_fetch e.kind ≡ false → call_kinds (e ∷ []) ≡ e.kind ∷ []
+call_kinds-one e is = cond-true (not (is_fetch e.kind)) (e.kind ∷ []) [] (ap not is)
 
 -- and a fetch none
-pub kinds_of-fetch : (e : Event) → is_fetch e.kind ≡ true → kinds_of (e ∷ []) ≡ []
-kinds_of-fetch e is = cond-false (not (is_fetch e.kind)) (e.kind ∷ []) [] (ap not is)
+pub call_kinds-fetch : (e : Event) → is_fetch e.kind ≡ true → call_kinds (e ∷ []) ≡ []
+call_kinds-fetch e is = cond-false (not (is_fetch e.kind)) (e.kind ∷ []) [] (ap not is)
 
-pub part-append : (xs ys : List Event) (p : ℕ) → part (xs ++ ys) p ≡ part xs p ++ part ys p
+pub part-append : (xs ys : List Event) (p : ℕ) → events_of (xs ++ ys) p ≡ events_of xs p ++ events_of ys p
 part-append xs ys p = filter-append (λ (e : Event). e.processor == p) xs ys
 
 -- what p calls in two lists is what it calls in the first, and then in the second
 pub calls_of-append : (xs ys : List Event) (p : ℕ) → calls_of (xs ++ ys) p ≡ calls_of xs p ++ calls_of ys p
-calls_of-append xs ys p = ap kinds_of (part-append xs ys p) ∙ kinds_of-append (part xs p) (part ys p)
+calls_of-append xs ys p = ap call_kinds (part-append xs ys p) ∙ call_kinds-append (events_of xs p) (events_of ys p)
 
 -- one call is its processor's
 pub calls_of_one : (p : ℕ) (k : Kind) → is_fetch k ≡ false → calls_of (event p k ∷ []) p ≡ k ∷ []
 calls_of_one p k is =
-    let mine : part (event p k ∷ []) p ≡ event p k ∷ [] = cond-true (p == p) (event p k ∷ []) [] (eq-eqb p p refl) in
-    ap kinds_of mine ∙ kinds_of-one (event p k) is
+    let mine : events_of (event p k ∷ []) p ≡ event p k ∷ [] = cond-true (p == p) (event p k ∷ []) [] (eq-eqb p p refl) in
+    ap call_kinds mine ∙ call_kinds-one (event p k) is
 
 -- and no other's
 pub calls_of_one-other : (p q : ℕ) (k : Kind) → p ≢ q → calls_of (event p k ∷ []) q ≡ []
 calls_of_one-other p q k apart =
-    let none : part (event p k ∷ []) q ≡ [] = cond-false (p == q) (event p k ∷ []) [] (ne_eqb p q apart) in
-    ap kinds_of none
+    let none : events_of (event p k ∷ []) q ≡ [] = cond-false (p == q) (event p k ∷ []) [] (ne_eqb p q apart) in
+    ap call_kinds none
 
 -- a fetch is no call
 pub calls_of_one-fetch : (p q : ℕ) (k : Kind) → is_fetch k ≡ true → calls_of (event p k ∷ []) q ≡ []
 calls_of_one-fetch p q k is = cases (p == q) refl
   where
     cases : (b : Bool) → (p == q) ≡ b → calls_of (event p k ∷ []) q ≡ []
-    cases true e = ap kinds_of (cond-true (p == q) (event p k ∷ []) [] e) ∙ kinds_of-fetch (event p k) is
-    cases false e = ap kinds_of (cond-false (p == q) (event p k ∷ []) [] e)
+    cases true e = ap call_kinds (cond-true (p == q) (event p k ∷ []) [] e) ∙ call_kinds-fetch (event p k) is
+    cases false e = ap call_kinds (cond-false (p == q) (event p k ∷ []) [] e)
 
 -- what p calls, where its own call comes last
 pub calls_of-own : (h : List Event) (p : ℕ) (k : Kind) → is_fetch k ≡ false

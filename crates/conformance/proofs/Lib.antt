@@ -1,9 +1,9 @@
 pub mod Calls
-pub mod Beginnings
+pub mod Begins
 pub mod Instructions
 pub mod Like
 pub mod Script
 pub mod Recomputing
-pub mod Fetchless
-pub mod Fetches
+pub mod WithoutFetches
+pub mod WantedFetches
 pub mod Schedules

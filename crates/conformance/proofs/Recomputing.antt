@@ -4,4 +4,4 @@
 pub mod Replaying
 pub mod Redoing
 pub mod Recomputed
-pub mod Only
+pub mod OnlySameCalls

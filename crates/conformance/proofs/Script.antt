@@ -2,4 +2,4 @@
 -- A step says of the next call what the script says of it, but for the reply of a load. (Steps)
 -- Calls follow a section exactly where they are, one by one, as its steps say. (Sections)
 pub mod Steps
-pub mod Sections
+pub mod SectionSteps

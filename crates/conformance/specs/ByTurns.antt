@@ -10,35 +10,35 @@ use Rattle.conformance.specs.declared.progress.TurnProgress.TheVariants.{Passed}
 use Rattle.conformance.specs.Ends.{IsJournalSoFar}
 use Rattle.conformance.specs.Orders.{round_order}
 use Rattle.conformance.specs.Reports.{IsReportOf}
-use Rattle.conformance.specs.Turns.{AreReached, Stage}
+use Rattle.conformance.specs.Turns.{AreReachedByTurns, TurnStage}
 
 -- a report of the script's run by turns in these orders: in its history all processors have passed the closing barrier,
 -- and then processor 0 has loaded what is shown
-pub record IsReportBy (s : Plan) (orders : ℕ → List ℕ) (r : Report) : Type 0 where
+pub record IsReportByTurns (s : Plan) (orders : ℕ → List ℕ) (r : Report) : Type 0 where
   pub report : IsReportOf s r
-  pub stages : List Stage
-  pub reached : AreReached s orders report.history stages
-  pub passed : (p : ℕ) (x : Stage) → slice_get stages p ≡ Some x → x.progress ≡ Passed
-  pub calls_are : (p : ℕ) (x : Stage) → slice_get stages p ≡ Some x
+  pub stages : List TurnStage
+  pub reached : AreReachedByTurns s orders report.history stages
+  pub passed : (p : ℕ) (x : TurnStage) → slice_get stages p ≡ Some x → x.progress ≡ Passed
+  pub calls_are : (p : ℕ) (x : TurnStage) → slice_get stages p ≡ Some x
       → calls_of report.history p ≡ x.calls ++ cond (p == 0) (map load_of r.shown.items) []
 
 -- or its journal so far, which is a deadlock: in its history the processors have come so far
-pub record IsHaltBy (s : Plan) (orders : ℕ → List ℕ) (halt : Halt) : Type 0 where
+pub record IsHaltByTurns (s : Plan) (orders : ℕ → List ℕ) (halt : Halt) : Type 0 where
   pub journal : IsJournalSoFar s halt.journal
   pub least : halt.processor ≡ 0
-  pub stages : List Stage
-  pub reached : AreReached s orders journal.history stages
-  pub calls_are : (p : ℕ) (x : Stage) → slice_get stages p ≡ Some x → calls_of journal.history p ≡ x.calls
+  pub stages : List TurnStage
+  pub reached : AreReachedByTurns s orders journal.history stages
+  pub calls_are : (p : ℕ) (x : TurnStage) → slice_get stages p ≡ Some x → calls_of journal.history p ≡ x.calls
 
 -- one of the two
-abbrev pub IsEndBy : Plan → (ℕ → List ℕ) → Ended → Type 0
-IsEndBy s orders (Whole report) = IsReportBy s orders report
-IsEndBy s orders (Halted halt) = IsHaltBy s orders halt
+abbrev pub IsEndByTurns : Plan → (ℕ → List ℕ) → Ended → Type 0
+IsEndByTurns s orders (Whole report) = IsReportByTurns s orders report
+IsEndByTurns s orders (Halted halt) = IsHaltByTurns s orders halt
 
 -- by turns in these orders the script gets into a deadlock, of which this is the least processor
-abbrev pub IsStuckBy : Plan → (ℕ → List ℕ) → ℕ → Type 0
-IsStuckBy s orders p = (halt : Halt) × IsHaltBy s orders halt × (p ≡ halt.processor)
+abbrev pub IsStuckByTurns : Plan → (ℕ → List ℕ) → ℕ → Type 0
+IsStuckByTurns s orders p = (halt : Halt) × IsHaltByTurns s orders halt × (p ≡ halt.processor)
 
 -- the orders of a seed, for the script's processors
-abbrev pub orders_of : Plan → Option ℕ → ℕ → List ℕ
-orders_of s seed round = round_order seed s.processors round
+abbrev pub turn_orders : Plan → Option ℕ → ℕ → List ℕ
+turn_orders s seed round = round_order seed s.processors round

@@ -3,16 +3,16 @@ use Rattle.std.specs.Prelude.{◌≡◌, List, []}
 use Rattle.journal.specs.declared.event.Event.{Event}
 use Rattle.journal.specs.Counted.{AreCounted}
 use Rattle.journal.specs.Deadlocks.{IsDeadlock}
-use Rattle.journal.specs.Loads.{Explained}
-use Rattle.journal.specs.Log.{HoldsRest, Log}
+use Rattle.journal.specs.ExplainedAnswers.{Explained}
+use Rattle.journal.specs.Log.{HoldsRestOfHistory, Log}
 use Rattle.journal.specs.WellFormed.{WellFormed}
-use Rattle.lrc_script.specs.Lawful.{addresses}
+use Rattle.lrc_script.specs.Lawful.{plan_addresses}
 use Rattle.lrc_script.specs.Plan.{Plan}
 use Rattle.conformance.specs.Begins.{BeginsScript}
 use Rattle.conformance.specs.Follows.{plan_sizes}
 use Rattle.conformance.specs.declared.ended.Ended.{Ended}
 use Rattle.conformance.specs.declared.ended.Ended.TheVariants.{Halted, Whole}
-use Rattle.conformance.specs.Cuts.{HasNoCut}
+use Rattle.conformance.specs.CutInstructions.{HasNoCutInstruction}
 use Rattle.conformance.specs.Reports.{FetchesAreNeeded, IsReportOf}
 
 -- the journal has the script's sizes and holds what is left, after some of it was cut off, of a history that is well
@@ -20,11 +20,11 @@ use Rattle.conformance.specs.Reports.{FetchesAreNeeded, IsReportOf}
 -- each processor waits, and none is ready; and nothing is cut off where the script has no cut
 pub record IsJournalSoFar (s : Plan) (j : Log) : Type 0 where
   pub processors : j.processors ≡ s.processors
-  pub addresses_are : j.addresses ≡ addresses s
+  pub addresses_are : j.addresses ≡ plan_addresses s
   pub history : List Event
   pub taken : List Event
-  pub holds : HoldsRest j taken history
-  pub uncut : HasNoCut s → taken ≡ []
+  pub holds : HoldsRestOfHistory j taken history
+  pub uncut : HasNoCutInstruction s → taken ≡ []
   pub well_formed : WellFormed (plan_sizes s) history
   pub explained : Explained history
   pub counted : AreCounted (plan_sizes s) history

@@ -4,11 +4,11 @@ use Rattle.std.specs.Prelude.{ℕ, ◌≡◌, ◌==◌, Bool, true, false, cond,
 use Rattle.journal.specs.declared.event.Event.{Event}
 use Rattle.journal.specs.declared.event.Kind.{Kind}
 use Rattle.journal.specs.declared.event.Kind.TheVariants as kind
-use Rattle.journal.specs.Events.{part}
+use Rattle.journal.specs.Events.{events_of}
 use Rattle.journal.specs.Sizes.{Sizes}
 use Rattle.lrc_script.specs.declared.script.Instruction.{Instruction}
 use Rattle.lrc_script.specs.Plan.{Plan}
-use Rattle.conformance.specs.Instructions.{AreEventsOfAll}
+use Rattle.conformance.specs.Instructions.{AreEventsOfInstructions}
 
 -- the sizes that a script asks for
 abbrev pub plan_sizes : Plan → Sizes
@@ -23,7 +23,7 @@ pub record FollowsSection (section : List Instruction) (shown : List ℕ) (kinds
   pub own : List Kind
   pub loads : List (ℕ × ℕ)
   pub kinds_are : kinds ≡ own ++ kind.Arrive ∷ kind.Depart ∷ map load_of loads
-  pub follows : AreEventsOfAll section own
+  pub follows : AreEventsOfInstructions section own
   pub addresses_are : map (λ (x : ℕ × ℕ). x.0) loads ≡ shown
 
 abbrev pub is_fetch : Kind → Bool
@@ -31,12 +31,12 @@ is_fetch (kind.Fetch writers page records words) = true
 is_fetch _ = false
 
 -- the kinds of these events, fetches aside
-abbrev pub kinds_of : List Event → List Kind
-kinds_of es = filter (λ k. not (is_fetch k)) (map (λ (e : Event). e.kind) es)
+abbrev pub call_kinds : List Event → List Kind
+call_kinds es = filter (λ k. not (is_fetch k)) (map (λ (e : Event). e.kind) es)
 
 -- what p called, its fetches aside
 abbrev pub calls_of : List Event → ℕ → List Kind
-calls_of h p = kinds_of (part h p)
+calls_of h p = call_kinds (events_of h p)
 
 -- each processor's calls follow its section
 abbrev pub Follows : Plan → List Event → Type 0

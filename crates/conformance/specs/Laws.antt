@@ -2,19 +2,19 @@
 use Rattle.std.specs.Prelude.{◌≡◌, List, replicate}
 use Rattle.journal.specs.declared.event.Event.{Event}
 use Rattle.journal.specs.WellFormed.{WellFormed}
-use Rattle.journal.specs.Loads.{Explained}
+use Rattle.journal.specs.ExplainedAnswers.{Explained}
 use Rattle.journal.specs.Races.{RaceFree}
-use Rattle.journal.specs.Flat.{Replays}
+use Rattle.journal.specs.FlatMemory.{Replays}
 use Rattle.lrc_script.specs.Plan.{Plan}
-use Rattle.lrc_script.specs.Lawful.{addresses, IsLawful}
+use Rattle.lrc_script.specs.Lawful.{plan_addresses, IsLawful}
 use Rattle.conformance.specs.Follows.{plan_sizes, Follows}
 use Rattle.conformance.specs.Like.{SameButValues}
-use Rattle.conformance.specs.Recomputed.{IsFlatRun, IsRecomputed, NeverRaces}
+use Rattle.conformance.specs.FlatRuns.{IsFlatRun, IsRecomputedFlat, NeverRacesFlat}
 
 -- each history that follows a script can be recomputed
 abbrev pub RecomputedLaw : Type 0
 RecomputedLaw = (s : Plan) (h : List Event) → WellFormed (plan_sizes s) h → Follows s h
-    → (g : List Event) × IsRecomputed s h g
+    → (g : List Event) × IsRecomputedFlat s h g
 
 -- and in one way only: flat runs of a lawful script that are the same but for values are the same
 abbrev pub OnlyLaw : Type 0
@@ -22,5 +22,5 @@ OnlyLaw = (s : Plan) (f g : List Event) → IsLawful s → IsFlatRun s f → IsF
 
 -- a script that never races on one flat memory never races, and its explained histories replay on one
 abbrev pub RaceFreeLaw : Type 0
-RaceFreeLaw = (s : Plan) (h : List Event) → WellFormed (plan_sizes s) h → Explained h → Follows s h → NeverRaces s
-    → RaceFree h × Replays (replicate (addresses s) 0) h
+RaceFreeLaw = (s : Plan) (h : List Event) → WellFormed (plan_sizes s) h → Explained h → Follows s h → NeverRacesFlat s
+    → RaceFree h × Replays (replicate (plan_addresses s) 0) h

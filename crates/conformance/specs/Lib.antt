@@ -2,14 +2,14 @@ pub mod Instructions
 pub mod Follows
 pub mod Begins
 pub mod Like
-pub mod Recomputed
+pub mod FlatRuns
 pub mod Laws
 pub mod Prelude
 pub mod ByTurns
-pub mod Cuts
+pub mod CutInstructions
 pub mod Draws
 pub mod Ends
-pub mod Fetches
+pub mod WantedFetches
 pub mod Orders
 pub mod Reports
 pub mod Schedules

@@ -2,33 +2,33 @@
 use Rattle.std.specs.Prelude.{ℕ, ◌≡◌, ◌<◌, ◌↔◌, IsTrue, List, [], ◌++◌, map}
 use Rattle.journal.specs.declared.event.Event.{Event}
 use Rattle.journal.specs.declared.event.Kind.{Kind}
-use Rattle.journal.specs.Events.{part}
+use Rattle.journal.specs.Events.{events_of}
 use Rattle.journal.specs.WellFormed.{WellFormed}
-use Rattle.journal.specs.Loads.{Explained}
+use Rattle.journal.specs.ExplainedAnswers.{Explained}
 use Rattle.journal.specs.Counted.{AreCounted}
-use Rattle.journal.specs.Log.{HoldsRest}
+use Rattle.journal.specs.Log.{HoldsRestOfHistory}
 use Rattle.journal.specs.Races.{Race}
 use Rattle.journal.specs.Traffic.{messages, records, words}
-use Rattle.lrc_script.specs.Lawful.{addresses}
+use Rattle.lrc_script.specs.Lawful.{plan_addresses}
 use Rattle.lrc_script.specs.Plan.{Plan}
 use Rattle.lrc_report.specs.declared.report.Report.{Report}
 use Rattle.conformance.specs.Follows.{plan_sizes, Follows, calls_of, load_of}
-use Rattle.conformance.specs.Recomputed.{IsRecomputed}
-use Rattle.conformance.specs.Cuts.{HasNoCut}
-use Rattle.conformance.specs.Fetches.{FetchesAreWanted}
+use Rattle.conformance.specs.FlatRuns.{IsRecomputedFlat}
+use Rattle.conformance.specs.CutInstructions.{HasNoCutInstruction}
+use Rattle.conformance.specs.WantedFetches.{FetchesAreWanted}
 
 -- some two accesses race
 abbrev pub HasRace : List Event → Type 0
 HasRace h = (i k : ℕ) × Race h i k
 
 -- the shown words are the replies of processor 0's last loads
-pub record AreLastReplies (calls : List Kind) (shown : List (ℕ × ℕ)) : Type 0 where
+pub record AreReportedReplies (calls : List Kind) (shown : List (ℕ × ℕ)) : Type 0 where
   pub front : List Kind
   pub ends : calls ≡ front ++ map load_of shown
 
 -- no processor fetches a page but right before an access to it
 abbrev pub FetchesAreNeeded : Plan → List Event → Type 0
-FetchesAreNeeded s h = (p : ℕ) → p < s.processors → FetchesAreWanted s.words (part h p)
+FetchesAreNeeded s h = (p : ℕ) → p < s.processors → FetchesAreWanted s.words (events_of h p)
 
 -- the history is well formed, explained, fetches what is missing, where an access wants it, and follows the script, and
 -- its replies can be recomputed on one flat memory; the verdict, the shown words and the traffic are the history's
@@ -38,10 +38,10 @@ pub record ReportsHistory (s : Plan) (r : Report) (h : List Event) : Type 0 wher
   pub counted : AreCounted (plan_sizes s) h
   pub fetches : FetchesAreNeeded s h
   pub follows : Follows s h
-  pub recomputed : (g : List Event) × IsRecomputed s h g
+  pub recomputed : (g : List Event) × IsRecomputedFlat s h g
   pub racy : IsTrue r.racy ↔ HasRace h
   pub shown_addresses : map (λ (x : ℕ × ℕ). x.0) r.shown.items ≡ s.shown
-  pub replies : AreLastReplies (calls_of h 0) r.shown.items
+  pub replies : AreReportedReplies (calls_of h 0) r.shown.items
   pub messages_are : r.traffic.messages ≡ messages h
   pub records_are : r.traffic.records ≡ records h
   pub words_are : r.traffic.words ≡ words h
@@ -50,9 +50,9 @@ pub record ReportsHistory (s : Plan) (r : Report) (h : List Event) : Type 0 wher
 -- report tells; and nothing is cut off where the script has no cut
 pub record IsReportOf (s : Plan) (r : Report) : Type 0 where
   pub processors : r.journal.processors ≡ s.processors
-  pub addresses_are : r.journal.addresses ≡ addresses s
+  pub addresses_are : r.journal.addresses ≡ plan_addresses s
   pub history : List Event
   pub taken : List Event
-  pub holds : HoldsRest r.journal taken history
-  pub uncut : HasNoCut s → taken ≡ []
+  pub holds : HoldsRestOfHistory r.journal taken history
+  pub uncut : HasNoCutInstruction s → taken ≡ []
   pub tells : ReportsHistory s r history

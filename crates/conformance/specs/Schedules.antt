@@ -3,8 +3,8 @@ use Rattle.std.specs.Prelude.{ℕ, zero, suc, ◌≡◌, ◌≢◌, ◌==◌, �
 use Rattle.std.specs.Fmt.{decimal}
 use Rattle.std.specs.Option.{option_map_or}
 use Rattle.lrc_script.specs.Plan.{Plan}
-use Rattle.lrc_script.specs.Reading.{number_of, parts_of}
-use Rattle.conformance.specs.ByTurns.{orders_of}
+use Rattle.lrc_script.specs.LineReading.{number_read, parts_of_line}
+use Rattle.conformance.specs.ByTurns.{turn_orders}
 use Rattle.conformance.specs.declared.cause.Cause.TheVariants.{Stuck}
 use Rattle.conformance.specs.declared.schedule.Misfit.{Misfit}
 use Rattle.conformance.specs.declared.schedule.Misfit.TheVariants.{NoProcessor}
@@ -14,7 +14,7 @@ use Rattle.conformance.specs.declared.schedule.ScheduleFault.TheVariants as faul
 -- the orders of a run by a schedule: its own turns stand for the first round, and rounds by rising number follow
 abbrev pub scheduled : Plan → List ℕ → ℕ → List ℕ
 scheduled s turns zero = turns
-scheduled s turns (suc round) = orders_of s None round
+scheduled s turns (suc round) = turn_orders s None round
 
 -- so many turns of a processor in a row
 abbrev pub item_text : ℕ → ℕ → List ℕ
@@ -38,19 +38,19 @@ repeated _ _ = None
 
 -- the turns that an item gives, by its parts between colons
 abbrev pub item_turns : List (List ℕ) → Option (List ℕ)
-item_turns (p ∷ []) = repeated (number_of p) (Some 1)
-item_turns (p ∷ count ∷ []) = repeated (number_of p) (number_of count)
+item_turns (p ∷ []) = repeated (number_read p) (Some 1)
+item_turns (p ∷ count ∷ []) = repeated (number_read p) (number_read count)
 item_turns _ = None
 
 -- these turns, and those that items give
 abbrev pub turns_after : List ℕ → List (List ℕ) → Option (List ℕ)
 turns_after turns [] = Some turns
 turns_after turns (item ∷ items) =
-    option_map_or (λ new. turns_after (turns ++ new) items) (item_turns (parts_of 58 item)) None
+    option_map_or (λ new. turns_after (turns ++ new) items) (item_turns (parts_of_line 58 item)) None
 
 -- a text that gives these turns: `-`, or items between commas
 abbrev pub IsScheduleText : List ℕ → List ℕ → Type 0
-IsScheduleText text turns = ((text ≡ codes "-") × (turns ≡ [])) ⊎ (turns_after [] (parts_of 44 text) ≡ Some turns)
+IsScheduleText text turns = ((text ≡ codes "-") × (turns ≡ [])) ⊎ (turns_after [] (parts_of_line 44 text) ≡ Some turns)
 
 -- the schedule has this turn, counted from 1, and its number is no processor's exactly if that is what is said
 pub record IsMisfit (s : Plan) (turns : List ℕ) (turn : ℕ) (misfit : Misfit) : Type 0 where

@@ -7,29 +7,29 @@ use Rattle.lrc_script.specs.declared.script.Instruction.{Instruction}
 use Rattle.lrc_script.specs.declared.script.Instruction.TheVariants.{Barrier}
 use Rattle.lrc_script.specs.Plan.{Plan}
 use Rattle.conformance.specs.Follows.{calls_of, plan_sizes}
-use Rattle.conformance.specs.Instructions.{AreEventsOf}
+use Rattle.conformance.specs.Instructions.{AreEventsOfInstruction}
 use Rattle.conformance.specs.declared.progress.TurnProgress.{TurnProgress}
 use Rattle.conformance.specs.declared.progress.TurnProgress.TheVariants.{Next, Waits, Passed}
 
 -- instruction n of a section; after the last one the closing barrier
-abbrev pub instruction_at : List Instruction → ℕ → Instruction
-instruction_at section n = slice_index_or section n Barrier
+abbrev pub instruction_at_turn : List Instruction → ℕ → Instruction
+instruction_at_turn section n = slice_index_or section n Barrier
 
 -- what comes after instruction n was done, or begun
-abbrev pub progress_after : List Instruction → ℕ → Bool → TurnProgress
-progress_after section n true = cond (nat_lt n (length section)) (Next (n + 1)) Passed
-progress_after section n false = Waits n
+abbrev pub progress_after_turn : List Instruction → ℕ → Bool → TurnProgress
+progress_after_turn section n true = cond (nat_lt n (length section)) (Next (n + 1)) Passed
+progress_after_turn section n false = Waits n
 
 -- how far a processor is, and what it has called until then, its fetches aside
-pub record Stage : Type 0 where
+pub record TurnStage : Type 0 where
   pub progress : TurnProgress
   pub calls : List Kind
 
-abbrev pub stage : TurnProgress → List Kind → Stage
-stage at calls = record { progress = at; calls = calls }
+abbrev pub turn_stage : TurnProgress → List Kind → TurnStage
+turn_stage at calls = record { progress = at; calls = calls }
 
 -- in a beginning of the history in which p has made just these calls it isn't ready
-pub record LooksInVain (s : Plan) (h : List Event) (p : ℕ) (calls : List Kind) : Type 0 where
+pub record TurnLooksInVain (s : Plan) (h : List Event) (p : ℕ) (calls : List Kind) : Type 0 where
   pub found : List Event
   pub rest : List Event
   pub begins : h ≡ found ++ rest
@@ -37,53 +37,53 @@ pub record LooksInVain (s : Plan) (h : List Event) (p : ℕ) (calls : List Kind)
   pub late : ¬ Ready (plan_sizes s) found p
 
 -- instruction n was done, by these calls
-pub record IsDone (section : List Instruction) (n : ℕ) (calls : List Kind) (new : Stage) : Type 0 where
+pub record TurnIsDone (section : List Instruction) (n : ℕ) (calls : List Kind) (new : TurnStage) : Type 0 where
   pub kinds : List Kind
-  pub are : AreEventsOf (instruction_at section n) kinds
-  pub new_is : new ≡ stage (progress_after section n true) (calls ++ kinds)
+  pub are : AreEventsOfInstruction (instruction_at_turn section n) kinds
+  pub new_is : new ≡ turn_stage (progress_after_turn section n true) (calls ++ kinds)
 
 -- it was begun, and what it waits for looked for in vain
-pub record IsBegun (s : Plan) (h : List Event) (p : ℕ) (section : List Instruction) (n : ℕ) (calls : List Kind)
-    (new : Stage) : Type 0 where
+pub record TurnIsBegun (s : Plan) (h : List Event) (p : ℕ) (section : List Instruction) (n : ℕ) (calls : List Kind)
+    (new : TurnStage) : Type 0 where
   pub first : Kind
   pub last : Kind
-  pub are : AreEventsOf (instruction_at section n) (first ∷ last ∷ [])
-  pub new_is : new ≡ stage (progress_after section n false) (calls ++ first ∷ [])
-  pub vain : LooksInVain s h p new.calls
+  pub are : AreEventsOfInstruction (instruction_at_turn section n) (first ∷ last ∷ [])
+  pub new_is : new ≡ turn_stage (progress_after_turn section n false) (calls ++ first ∷ [])
+  pub vain : TurnLooksInVain s h p new.calls
 
 -- it was begun before, and what it waits for was taken
-pub record IsEnded (section : List Instruction) (n : ℕ) (calls : List Kind) (new : Stage) : Type 0 where
+pub record TurnIsEnded (section : List Instruction) (n : ℕ) (calls : List Kind) (new : TurnStage) : Type 0 where
   pub first : Kind
   pub last : Kind
-  pub are : AreEventsOf (instruction_at section n) (first ∷ last ∷ [])
-  pub new_is : new ≡ stage (progress_after section n true) (calls ++ last ∷ [])
+  pub are : AreEventsOfInstruction (instruction_at_turn section n) (first ∷ last ∷ [])
+  pub new_is : new ≡ turn_stage (progress_after_turn section n true) (calls ++ last ∷ [])
 
 -- or looked for in vain once more
-pub record IsSame (s : Plan) (h : List Event) (p n : ℕ) (calls : List Kind) (new : Stage) : Type 0 where
-  pub new_is : new ≡ stage (Waits n) calls
-  pub vain : LooksInVain s h p calls
+pub record TurnIsInVain (s : Plan) (h : List Event) (p n : ℕ) (calls : List Kind) (new : TurnStage) : Type 0 where
+  pub new_is : new ≡ turn_stage (Waits n) calls
+  pub vain : TurnLooksInVain s h p calls
 
 -- a turn of p: it does its next instruction or looks once for what it waits for; past the closing barrier it does nothing
-abbrev pub IsTurn : Plan → List Event → ℕ → List Instruction → TurnProgress → List Kind → Stage → Type 0
-IsTurn s h p section (Next n) calls new = IsDone section n calls new ⊎ IsBegun s h p section n calls new
-IsTurn s h p section (Waits n) calls new = IsEnded section n calls new ⊎ IsSame s h p n calls new
-IsTurn s h p section Passed calls new = new ≡ stage Passed calls
+abbrev pub IsScriptTurn : Plan → List Event → ℕ → List Instruction → TurnProgress → List Kind → TurnStage → Type 0
+IsScriptTurn s h p section (Next n) calls new = TurnIsDone section n calls new ⊎ TurnIsBegun s h p section n calls new
+IsScriptTurn s h p section (Waits n) calls new = TurnIsEnded section n calls new ⊎ TurnIsInVain s h p n calls new
+IsScriptTurn s h p section Passed calls new = new ≡ turn_stage Passed calls
 
 -- p has its turn, and the others stay where they are
-pub record IsTurnAt (s : Plan) (h : List Event) (p : ℕ) (old new : List Stage) : Type 0 where
+pub record IsTurnAt (s : Plan) (h : List Event) (p : ℕ) (old new : List TurnStage) : Type 0 where
   pub section : List Instruction
-  pub before : Stage
-  pub after : Stage
+  pub before : TurnStage
+  pub after : TurnStage
   pub section_is : slice_get s.sections p ≡ Some section
   pub before_is : slice_get old p ≡ Some before
-  pub turn : IsTurn s h p section before.progress before.calls after
+  pub turn : IsScriptTurn s h p section before.progress before.calls after
   pub others : new ≡ slice_set old p after
 
 -- turns of these processors, one after another
-abbrev pub AreTurns : Plan → List Event → List ℕ → List Stage → List Stage → Type 0
-AreTurns s h [] old new = new ≡ old
-AreTurns s h (p ∷ ps) old new =
-    (between : List Stage) × IsTurnAt s h p old between × AreTurns s h ps between new
+abbrev pub AreScriptTurns : Plan → List Event → List ℕ → List TurnStage → List TurnStage → Type 0
+AreScriptTurns s h [] old new = new ≡ old
+AreScriptTurns s h (p ∷ ps) old new =
+    (between : List TurnStage) × IsTurnAt s h p old between × AreScriptTurns s h ps between new
 
 -- the turns of the first rounds, each in its order
 abbrev pub turns_of : (ℕ → List ℕ) → ℕ → List ℕ
@@ -91,6 +91,6 @@ turns_of orders zero = []
 turns_of orders (suc rounds) = turns_of orders rounds ++ orders rounds
 
 -- after some rounds in these orders all processors are there
-pub record AreReached (s : Plan) (orders : ℕ → List ℕ) (h : List Event) (stages : List Stage) : Type 0 where
+pub record AreReachedByTurns (s : Plan) (orders : ℕ → List ℕ) (h : List Event) (stages : List TurnStage) : Type 0 where
   pub rounds : ℕ
-  pub turns : AreTurns s h (turns_of orders rounds) (replicate s.processors (stage (Next 0) [])) stages
+  pub turns : AreScriptTurns s h (turns_of orders rounds) (replicate s.processors (turn_stage (Next 0) [])) stages

@@ -2,8 +2,8 @@
 ghost use Rattle.std.specs.Prelude.{ℕ, ◌≡◌, ◌<◌, IfErr, IfOk, List, Option, Result};
 ghost use Rattle.std.specs.Thread.{IsSync};
 ghost use Rattle.lrc_script.specs.Prelude.{IsLawful, plan_of};
-ghost use Rattle.conformance.specs.Prelude.{IsEndBy, IsEndOf, IsReportBy, IsReportOf, IsScheduleFault, IsStuckBy};
-ghost use Rattle.conformance.specs.Prelude.{orders_of, scheduled};
+ghost use Rattle.conformance.specs.Prelude.{IsEndByTurns, IsEndOf, IsReportByTurns, IsReportOf, IsScheduleFault, IsStuckByTurns};
+ghost use Rattle.conformance.specs.Prelude.{turn_orders, scheduled};
 ghost use Rattle.conformance.specs.declared.cause.Cause.TheVariants as cause;
 
 use crate::cause::RunFault;
@@ -73,9 +73,9 @@ pub trait Runs {
         requires { IsLawful (plan_of script.now) }
         ensures report { IfOk result (IsReportOf (plan_of script.now)) }
         ensures stepped { stepped (plan_of script.now) lock seed result }
-        ensures turns { IfOk result (IsReportBy (plan_of script.now) (orders_of (plan_of script.now) seed)) }
+        ensures turns { IfOk result (IsReportByTurns (plan_of script.now) (turn_orders (plan_of script.now) seed)) }
         ensures stuck { IfErr result (λ fault. fault.cause ≡ cause.Stuck
-            → IsStuckBy (plan_of script.now) (orders_of (plan_of script.now) seed) fault.processor) };
+            → IsStuckByTurns (plan_of script.now) (turn_orders (plan_of script.now) seed) fault.processor) };
 
     /// Runs the script as `step` does, but that a run that can't go on is no fault: it answers the journal so far.
     fn step_as_far<R: Wait>(
@@ -88,7 +88,7 @@ pub trait Runs {
     ) -> Result<Ended, RunFault>
         requires { IsLawful (plan_of script.now) }
         ensures end { IfOk result (IsEndOf (plan_of script.now)) }
-        ensures turns { IfOk result (IsEndBy (plan_of script.now) (orders_of (plan_of script.now) seed)) };
+        ensures turns { IfOk result (IsEndByTurns (plan_of script.now) (turn_orders (plan_of script.now) seed)) };
 
     /// Runs the script by turns on one thread, as far as it goes: first the schedule's turns, and when these are over rounds
     /// by rising number. Each turn of the schedule is one in which its processor gets on; one that isn't is refused.
@@ -104,7 +104,7 @@ pub trait Runs {
         ensures end { IfOk result (IsEndOf (plan_of script.now)) }
         ensures followed { followed (plan_of script.now) lock schedule.now.turns.items result }
         ensures turns { IfOk result
-            (IsEndBy (plan_of script.now) (scheduled (plan_of script.now) schedule.now.turns.items)) }
+            (IsEndByTurns (plan_of script.now) (scheduled (plan_of script.now) schedule.now.turns.items)) }
         ensures fault { IfErr result (IsScheduleFault (plan_of script.now) schedule.now.turns.items) };
 
     /// Runs the script by turns that the seed draws, as far as it goes, and answers them as a schedule.
@@ -117,6 +117,6 @@ pub trait Runs {
         seed: u64,
     ) -> Result<DrawnRun, RunFault>
         requires { IsLawful (plan_of script.now) }
-        ensures { IfOk result (λ run. IsEndBy (plan_of script.now)
+        ensures { IfOk result (λ run. IsEndByTurns (plan_of script.now)
             (scheduled (plan_of script.now) run.schedule.turns.items) run.ended) };
 }

@@ -1,6 +1,6 @@
 //! Schedules: which processor has its turn, one turn after another.
 ghost use Rattle.std.specs.Prelude.{ℕ, ◌≡◌, ◌++◌, IfOk, IfSome, List, OnOk, Some, replicate, string_bytes};
-ghost use Rattle.lrc_script.specs.Prelude.{parts_of};
+ghost use Rattle.lrc_script.specs.Prelude.{parts_of_line};
 ghost use Rattle.conformance.specs.Prelude.{IsScheduleText, item_text, item_turns, schedule_text, turns_text};
 
 use crate::cause::{Cause, RunFault};
@@ -78,7 +78,7 @@ pub struct DrawnRun {
 
 /// The processor and the number of its turns that an item of a schedule's text gives: `P`, or `P:K` with K above 0.
 fn item_of(item: &[u8]) -> Option<(usize, usize)>
-    ensures { IfSome result (λ x. item_turns (parts_of 58 item.now) ≡ Some (replicate x.1 x.0)) }
+    ensures { IfSome result (λ x. item_turns (parts_of_line 58 item.now) ≡ Some (replicate x.1 x.0)) }
 {
     let (word, rest) = split_at_byte(item, b':');
     let processor = number(word)?;
@@ -105,7 +105,7 @@ fn repeat(turns: &mut Vec<usize>, processor: usize, count: usize) -> Result<(), 
 
 /// Adds the turns that an item gives.
 fn add_item(turns: &mut Vec<usize>, item: &[u8]) -> Result<(), ScheduleFault>
-    ensures { OnOk result ((new : List ℕ) × (item_turns (parts_of 58 item.now) ≡ Some new)
+    ensures { OnOk result ((new : List ℕ) × (item_turns (parts_of_line 58 item.now) ≡ Some new)
         × (turns.new.items ≡ turns.old.items ++ new)) }
 {
     let before = turns.len();

@@ -4,15 +4,15 @@ use Rattle.base.proofs.Joined.{has-nil, has-cons, has-append}
 use Rattle.journal.specs.declared.event.Event.{Event}
 use Rattle.journal.specs.declared.event.Kind.{Kind}
 use Rattle.journal.specs.declared.event.Kind.TheVariants.{Ask, Acquire, Release, Arrive, Depart, Set, Watch, Await, Load, Store, Fetch}
-use Rattle.journal.specs.Did.{event}
-use Rattle.journal.specs.Events.{part}
+use Rattle.journal.specs.DidEvent.{event}
+use Rattle.journal.specs.Events.{events_of}
 use Rattle.journal.specs.Waits.{awaited}
 use Rattle.book.specs.declared.refused.Refused.{Refused}
 use Rattle.cluster.specs.Copies.Local.{Local, calls, noted}
 use Rattle.cluster.specs.Accesses.{FetchDone, StoreDone}
 use Rattle.cluster.specs.Calls.{IsCall, IsHandingCall}
 use Rattle.cluster.specs.Closing.{IsClosingCall}
-use Rattle.cluster.specs.Clusters.{Shared}
+use Rattle.cluster.specs.Clusters.{SharedCluster}
 use Rattle.cluster.specs.Taking.{awaited_event, IsTakingCall}
 use Rattle.cluster.specs.Waiting.{IsWaitingCall}
 use Rattle.cluster.specs.declared.waited.Waited.{Waited}
@@ -65,7 +65,7 @@ refused_awaits first many absent done added m n e None is call = elim (call.err 
 ]
 
 -- the same processor, with more calls that are its own
-pub works : (c : Shared) (m n : Local) (added : List Event) → IsAtWork c m → n.lock ≡ m.lock → n.number ≡ m.number
+pub works : (c : SharedCluster) (m n : Local) (added : List Event) → IsAtWork c m → n.lock ≡ m.lock → n.number ≡ m.number
     → n.sizes ≡ m.sizes → calls n ≡ calls m ++ added → StoresAreOwn added → Waits n → Works c m n
 works c m n added at lock number sizes more own waits = record {
   at_work = record {
@@ -78,16 +78,16 @@ works c m n added at lock number sizes more own waits = record {
 }
 
 -- a processor that is as it was
-pub works_same : (c : Shared) (m n : Local) → IsAtWork c m → n ≡ m → Works c m n
+pub works_same : (c : SharedCluster) (m n : Local) → IsAtWork c m → n ≡ m → Works c m n
 works_same c m n at e = subst (Works c m) (sym e) (record { at_work = at; number = refl })
 
 -- first one call, and then another
-pub works_then : (c : Shared) (l m n : Local) → Works c l m → Works c m n → Works c l n
+pub works_then : (c : SharedCluster) (l m n : Local) → Works c l m → Works c m n → Works c l n
 works_then c l m n first next = record { at_work = next.at_work; number = next.number ∙ first.number }
 
 -- a call that enters the book
 pub works_call : {first : Option Refused} {many : ℕ} {absent : Local → Type 0} {done : Local → Local → Type 0}
-    {added : List Event} (c : Shared) (m n : Local) (r : Option Refused) → IsAtWork c m
+    {added : List Event} (c : SharedCluster) (m n : Local) (r : Option Refused) → IsAtWork c m
     → IsCall first many absent done added m n r → StoresAreOwn added
     → ((l : Local) → Waits l → done l n → Waits n) → Works c m n
 works_call {first} {many} {absent} {done} {added} c m n None at call own waits =
@@ -104,19 +104,19 @@ works_call {first} {many} {absent} {done} {added} c m n (Some e) at call own wai
 }
 
 -- a flush
-pub works_flush : (c : Shared) (m n : Local) (r : Option Refused) → IsAtWork c m → IsHandingCall m n r → Works c m n
+pub works_flush : (c : SharedCluster) (m n : Local) (r : Option Refused) → IsAtWork c m → IsHandingCall m n r → Works c m n
 works_flush c m n r at call =
     works_call c m n r at call own_none (λ l waits is a v e. waits a v (ap (λ (x : Local). x.awaits) (sym is) ∙ e))
 
 -- a call that closes the interval
-pub works_close : (c : Shared) (test : Option Refused) (k : Kind) (m n : Local) (r : Option Refused) → IsAtWork c m
+pub works_close : (c : SharedCluster) (test : Option Refused) (k : Kind) (m n : Local) (r : Option Refused) → IsAtWork c m
     → ((a v : ℕ) → k ≢ Store a v) → IsClosingCall test k m n r → Works c m n
 works_close c test k m n r at plain call =
     works_call c m n r at call (own_one m.number k (λ a v e. absurd (plain a v e)))
     (λ l waits is a v e. awaits_no_store k a v (ap (λ (x : Local). x.awaits) (sym is) ∙ e))
 
 -- a take
-pub works_take : (c : Shared) (m n : Local) (r : Option Refused) → IsAtWork c m → IsTakingCall m n r → Works c m n
+pub works_take : (c : SharedCluster) (m n : Local) (r : Option Refused) → IsAtWork c m → IsTakingCall m n r → Works c m n
 works_take c m n r at call = works_call c m n r at call (own m.awaits at.waits)
     (λ l waits is a v e. none_is_no_store n.awaits a v (ap (λ (x : Local). x.awaits) is.after) e)
   where
@@ -125,7 +125,7 @@ works_take c m n r at call = works_call c m n r at call (own m.awaits at.waits)
     own (Some k) free = own_one m.number k (λ a v e. absurd (free a v (ap Some e)))
 
 -- a wait
-pub works_wait : (c : Shared) (m n : Local) (answer : Result Waited Refused) → IsAtWork c m
+pub works_wait : (c : SharedCluster) (m n : Local) (answer : Result Waited Refused) → IsAtWork c m
     → IsWaitingCall m n answer → Works c m n
 works_wait c m n answer at call = record {
   at_work = record {
@@ -138,32 +138,32 @@ works_wait c m n answer at call = record {
 }
 
 -- a load
-pub works_load : (c : Shared) (m n : Local) (a : ℕ) (r : Result ℕ Refused) → IsAtWork c m → OnErr r (n ≡ m)
+pub works_load : (c : SharedCluster) (m n : Local) (a : ℕ) (r : Result ℕ Refused) → IsAtWork c m → OnErr r (n ≡ m)
     → IfOk r (λ v. n ≡ noted m (Load a v)) → Works c m n
 works_load c m n a (Ok v) at err ok = subst (Works c m) (sym ok)
     (works c m (noted m (Load a v)) (event m.number (Load a v) ∷ []) at refl refl refl
-    (sym (append_assoc (part m.seen m.number) m.block _)) (own_one m.number (Load a v) (λ b w e. cc)) at.waits)
+    (sym (append_assoc (events_of m.seen m.number) m.block _)) (own_one m.number (Load a v) (λ b w e. cc)) at.waits)
 works_load c m n a (Err e) at err ok = works_same c m n at err
 
 -- a store where it may
-pub works_store : {A : Type 0} (c : Shared) (m n : Local) (a v : ℕ) (r : Result A Refused) → IsAtWork c m
+pub works_store : {A : Type 0} (c : SharedCluster) (m n : Local) (a v : ℕ) (r : Result A Refused) → IsAtWork c m
     → MayStore m.number a → OnErr r (n ≡ m) → OnOk r (StoreDone m a v n) → Works c m n
 works_store c m n a v (Ok x) at may err ok = subst (Works c m) (sym ok.after)
     (works c m _ (event m.number (Store a v) ∷ []) at refl refl refl
-    (sym (append_assoc (part m.seen m.number) m.block _))
+    (sym (append_assoc (events_of m.seen m.number) m.block _))
     (own_one m.number (Store a v) (λ b w e. let same : a ≡ b = cc in subst (MayStore m.number) same may)) at.waits)
 works_store c m n a v (Err e) at may err ok = works_same c m n at err
 
 -- a fetch
-pub works_fetch : {A : Type 0} (c : Shared) (m n : Local) (page : ℕ) (r : Result A Refused) → IsAtWork c m
+pub works_fetch : {A : Type 0} (c : SharedCluster) (m n : Local) (page : ℕ) (r : Result A Refused) → IsAtWork c m
     → OnErr r (n ≡ m) → OnOk r (FetchDone m page n) → Works c m n
 works_fetch c m n page (Ok x) at err ok = subst (Works c m) (sym ok.after)
     (works c m _ _ at refl refl refl
-    (sym (append_assoc (part m.seen m.number) m.block _)) (own_one m.number _ (λ b w e. cc)) at.waits)
+    (sym (append_assoc (events_of m.seen m.number) m.block _)) (own_one m.number _ (λ b w e. cc)) at.waits)
 works_fetch c m n page (Err e) at err ok = works_same c m n at err
 
 -- a worker whose processor made a call
-pub same_by : (old mid : Placed) (c : Shared) (m n : Local) → IsSameWorker old mid → placed c m ≡ mid → Works c m n
+pub same_by : (old mid : Placed) (c : SharedCluster) (m n : Local) → IsSameWorker old mid → placed c m ≡ mid → Works c m n
     → IsSameWorker old (placed c n)
 same_by old mid c m n same is works = record {
   cluster = ap (λ (x : Placed). x.cluster) is ∙ same.cluster;

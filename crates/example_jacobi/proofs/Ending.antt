@@ -6,36 +6,36 @@ use Rattle.std.proofs.Math.Seq.{take-length}
 use Rattle.std.proofs.lemmas.Bool.{cases_eq}
 use Rattle.std.proofs.lemmas.List.{length-map, length-set}
 use Rattle.std.proofs.lemmas.Option.{slice_get_within, slice_get-get_or, slice_get_read, get_or_from_slice_get, slice_get-map}
-use Rattle.base.specs.Places.{Has}
-use Rattle.base.proofs.Picked.{has-filter}
-use Rattle.base.proofs.Sets.{slice_get-set_found, slice_get-set_other}
+use Rattle.base.specs.InOrderOnce.{Has}
+use Rattle.base.proofs.FilteredInOrder.{has-filter}
+use Rattle.base.proofs.SliceSets.{slice_get-set_found, slice_get-set_other}
 use Rattle.journal.specs.declared.event.Event.{Event}
 use Rattle.journal.specs.declared.event.Kind.TheVariants.{Load, Store}
-use Rattle.journal.specs.BaseLaws.{SaysTheSame}
-use Rattle.journal.specs.Cuts.{IsBaseOf}
-use Rattle.journal.specs.Did.{event}
-use Rattle.journal.specs.Events.{part}
-use Rattle.journal.specs.Flat.{Replays}
+use Rattle.journal.specs.BaseLaws.{BaseSaysTheSame}
+use Rattle.journal.specs.EpisodeBases.{IsBaseOf}
+use Rattle.journal.specs.DidEvent.{event}
+use Rattle.journal.specs.Events.{events_of}
+use Rattle.journal.specs.FlatMemory.{Replays}
 use Rattle.journal.specs.Log.{Log}
 use Rattle.journal.specs.Races.{RaceFree}
 use Rattle.journal.specs.RacesFrom.{RaceFreeFrom}
 use Rattle.journal.specs.Sizes.{Sizes, addresses}
 use Rattle.journal.specs.WellFormed.{WellFormed}
-use Rattle.journal.proofs.Bases.Whole.{same_law}
+use Rattle.journal.proofs.FromBase.Whole.{same_law}
 use Rattle.cluster.specs.Copies.Local.{Local, new_local}
-use Rattle.cluster.specs.Clusters.{AreNew, Shared}
-use Rattle.cluster.specs.Finishing.{AreAllOf, IsFinished}
+use Rattle.cluster.specs.Clusters.{IsNewCluster, SharedCluster}
+use Rattle.cluster.specs.Finishing.{AreAllToFinish, IsFinished}
 use Rattle.example_jacobi.specs.declared.running.Fault.{Fault}
 use Rattle.example_jacobi.specs.Runs.{AreAtWork, IsAtWorkAs, IsRun, plate}
 use Rattle.example_jacobi.specs.Workers.{HasLoaded, IsAtWork, StoresAreOwn, Works}
 use Rattle.example_jacobi.proofs.Calling.{own_none}
 
 -- a processor before its first call
-pub new_at_work : (c : Shared) (p : ℕ) → IsAtWork c (new_local c.lock p c.sizes)
+pub new_at_work : (c : SharedCluster) (p : ℕ) → IsAtWork c (new_local c.lock p c.sizes)
 new_at_work c p = record { lock_is = refl; sizes_are = refl; stores = own_none; waits = λ a v e. cc }
 
 -- all processors came back from their threads
-pub all_back : (c : Shared) (jobs ms : List Local) (outcomes : List (Result Local Fault)) → AreNew c jobs
+pub all_back : (c : SharedCluster) (jobs ms : List Local) (outcomes : List (Result Local Fault)) → IsNewCluster c jobs
     → length outcomes ≡ length jobs → map Ok ms ≡ outcomes
     → ((k : ℕ) (r : Result Local Fault) → k < length jobs → (job : Local) × (job ≡ get_or jobs k job)
     × IfOk (get_or outcomes k r) (Works c job))
@@ -59,12 +59,12 @@ all_back c jobs ms outcomes new long are gives = record { all = many ∙ new.all
         record { at_work = works.at_work; number_is = works.number ∙ ap (λ (l : Local). l.number) is }
 
 -- one of them, where it is there
-pub at_place : (c : Shared) (ms : List Local) (m : Local) (p : ℕ) → AreAtWork c ms → p < length ms → m ≡ get_or ms p m
+pub at_place : (c : SharedCluster) (ms : List Local) (m : Local) (p : ℕ) → AreAtWork c ms → p < length ms → m ≡ get_or ms p m
     → IsAtWorkAs c p m
 at_place c ms m p all less is = all.each p m (slice_get_read ms (length ms) p m refl less is)
 
 -- one of them has done something
-pub all_set : (c : Shared) (ms : List Local) (p : ℕ) (n : Local) → AreAtWork c ms → IsAtWorkAs c p n
+pub all_set : (c : SharedCluster) (ms : List Local) (p : ℕ) (n : Local) → AreAtWork c ms → IsAtWorkAs c p n
     → AreAtWork c (slice_set ms p n)
 all_set c ms p n all own = record { all = length-set ms p n ∙ all.all; each = each }
   where
@@ -78,7 +78,7 @@ all_set c ms p n all own = record { all = length-set ms p n ∙ all.all; each = 
     ]
 
 -- what finishing asks of them
-pub all_of : (c : Shared) (ms : List Local) → AreAtWork c ms → AreAllOf c ms
+pub all_of : (c : SharedCluster) (ms : List Local) → AreAtWork c ms → AreAllToFinish c ms
 all_of c ms all = record {
   all = all.all;
   each = λ p m at.
@@ -87,7 +87,7 @@ all_of c ms all = record {
 }
 
 -- what the journal says that these processors end with, where it has no race and processor 0 loaded the total last
-pub run_is : (c : Shared) (ms : List Local) (m : Local) (total : ℕ) (j : Log) → AreAtWork c ms
+pub run_is : (c : SharedCluster) (ms : List Local) (m : Local) (total : ℕ) (j : Log) → AreAtWork c ms
     → slice_get ms 0 ≡ Some m
     → HasLoaded m 224 total → IsFinished c.sizes ms j → RaceFreeFrom j.base j.events → IsRun c.sizes total j
 run_is c ms m total j all first loaded finished free = record {
@@ -100,7 +100,7 @@ run_is c ms m total j all first loaded finished free = record {
   own = own;
   reply = record {
     front = loaded.front;
-    calls_are = subst (λ n. part h n ≡ loaded.front ++ event n (Load 224 total) ∷ []) zero
+    calls_are = subst (λ n. events_of h n ≡ loaded.front ++ event n (Load 224 total) ∷ []) zero
         ((finished.each 0 m first).calls_are ∙ loaded.calls_are);
   };
 }
@@ -118,7 +118,7 @@ run_is c ms m total j all first loaded finished free = record {
     race_free =
         let B : ℕ → ℕ → Type 0 = λ p a. IsBaseOf p a taken j.base in
         let is = finished.journal.holds.history in
-        let same : SaysTheSame c.sizes j.base taken j.events =
+        let same : BaseSaysTheSame c.sizes j.base taken j.events =
         same_law c.sizes j.base taken j.events (subst (WellFormed c.sizes) is finished.faithful.well_formed)
         (subst₂ B finished.journal.processors finished.journal.addresses_are finished.journal.holds.base) in
         subst RaceFree (sym is) (same.race_free.1 free)
@@ -132,24 +132,24 @@ run_is c ms m total j all first loaded finished free = record {
         let n = get_or ms p m in
         let at = slice_get-get_or ms p m less in
         let its = all.each p n at in
-        let picked : Has (part h p) (event p (Store a v)) =
+        let picked : Has (events_of h p) (event p (Store a v)) =
         (has-filter (λ e. e.processor == p) h (event p (Store a v))).1 (has, eq-eqb p p refl) in
         its.at_work.stores p a v (subst (λ es. Has es (event p (Store a v)))
-        (ap (part h) (sym its.number_is) ∙ (finished.each p n at).calls_are) picked)
+        (ap (events_of h) (sym its.number_is) ∙ (finished.each p n at).calls_are) picked)
 
 -- what holds where there is none
 pub where_none : {A : Type 0} (o : Option A) (P : Type 0) (Q : A → Type 0) → o ≡ None → MatchOption o P Q → P
 where_none {A} o P Q is holds = subst (λ (x : Option A). MatchOption x P Q) is holds
 
 -- a run's processors have their places
-pub some_at_work : (c : Shared) (ms : List Local) → c.sizes ≡ plate → AreAtWork c ms → 0 < length ms
+pub some_at_work : (c : SharedCluster) (ms : List Local) → c.sizes ≡ plate → AreAtWork c ms → 0 < length ms
 some_at_work c ms sizes all =
     let four = ap (λ (s : Sizes). s.processors) sizes in
     let many = all.all in
     omega arith
 
 -- processor 0 has done something
-pub first_set : (c : Shared) (ms : List Local) (m n : Local) → AreAtWork c ms → 0 < length ms → m ≡ get_or ms 0 m
+pub first_set : (c : SharedCluster) (ms : List Local) (m n : Local) → AreAtWork c ms → 0 < length ms → m ≡ get_or ms 0 m
     → (IsAtWork c m → Works c m n) → AreAtWork c (slice_set ms 0 n)
 first_set c ms m n all some is step =
     let first = at_place c ms m 0 all some is in

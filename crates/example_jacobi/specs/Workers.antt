@@ -1,11 +1,11 @@
 -- What a processor of this program does.
 use Rattle.std.specs.Prelude.{ℕ, ◌≡◌, ◌≢◌, ◌⊎◌, ◌<◌, ◌/◌, ◌%◌, ◌-◌, Some, List, [], ◌∷◌, ◌++◌}
-use Rattle.base.specs.Places.{Has}
+use Rattle.base.specs.InOrderOnce.{Has}
 use Rattle.journal.specs.declared.event.Event.{Event}
 use Rattle.journal.specs.declared.event.Kind.TheVariants.{Load, Store}
-use Rattle.journal.specs.Did.{event}
+use Rattle.journal.specs.DidEvent.{event}
 use Rattle.cluster.specs.Copies.Local.{Local, calls}
-use Rattle.cluster.specs.Clusters.{Shared}
+use Rattle.cluster.specs.Clusters.{SharedCluster}
 
 -- the processor that owns the row of this address, in either grid of 14 rows of eight words: each owns three rows, and
 -- the first has the upper border too
@@ -25,14 +25,14 @@ abbrev pub Waits : Local → Type 0
 Waits m = (a v : ℕ) → m.awaits ≢ Some (Store a v)
 
 -- a processor of this cluster, all of whose stores are its own
-pub record IsAtWork (c : Shared) (m : Local) : Type 0 where
+pub record IsAtWork (c : SharedCluster) (m : Local) : Type 0 where
   pub lock_is : m.lock ≡ c.lock
   pub sizes_are : m.sizes ≡ c.sizes
   pub stores : StoresAreOwn (calls m)
   pub waits : Waits m
 
 -- and so it is still, with its number
-pub record Works (c : Shared) (old new : Local) : Type 0 where
+pub record Works (c : SharedCluster) (old new : Local) : Type 0 where
   pub at_work : IsAtWork c new
   pub number : new.number ≡ old.number
 
@@ -43,10 +43,10 @@ pub record HasLoaded (m : Local) (a v : ℕ) : Type 0 where
 
 -- the cluster and the processor of a worker, as contracts see them
 pub record Placed : Type 0 where
-  pub cluster : Shared
+  pub cluster : SharedCluster
   pub processor : Local
 
-abbrev pub placed : Shared → Local → Placed
+abbrev pub placed : SharedCluster → Local → Placed
 placed c m = record { cluster = c; processor = m }
 
 -- it works at the same cluster, with the same number

@@ -1,4 +1,4 @@
-//! `embed`: the memory under a program of one's own, told in docs/EMBEDDING.md.
+//! `example_jacobi`: the memory under a program of one's own, told in docs/EMBEDDING.md.
 //!
 //! Four processors, a thread each, cool a plate that is hot at its upper border (Jacobi's method): a sweep makes each
 //! word of one grid from the four words round it in the other. At the end each adds its rows to a total under a lock.

@@ -1,6 +1,6 @@
 //! The cluster's life: made, shared by threads, finished.
 ghost use Rattle.std.specs.Prelude.{◌≡◌, ◌<◌, IfOk, Ok, map};
-ghost use Rattle.cluster.specs.Prelude.{AreNew};
+ghost use Rattle.cluster.specs.Prelude.{IsNewCluster};
 ghost use Rattle.example_jacobi.specs.Prelude.{AreAtWork, IsAtWork, IsRun, Works, plate};
 
 use crate::jacobi::{COLUMNS, PROCESSORS, ROWS, TOTAL, work};
@@ -56,7 +56,7 @@ fn work_all<R: Threads + Wait + Sync>(
     cluster: &Cluster<BookLock>,
     processors: Vec<Processor<BookLock>>,
 ) -> Result<Vec<Processor<BookLock>>, Fault>
-    requires new { AreNew cluster.now processors.items }
+    requires new { IsNewCluster cluster.now processors.items }
     requires four { cluster.now.sizes.processors ≡ 4 }
     ensures { IfOk result (λ ms. AreAtWork cluster.now ms.items) }
 {

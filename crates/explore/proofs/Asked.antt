@@ -3,18 +3,18 @@ use Rattle.std.proofs.Common.{◌≡◌, ◌≢◌, ℕ, ◌<◌, ◌↔◌, inl
 use Rattle.std.specs.Prelude.{None}
 use Rattle.std.proofs.lemmas.Bool.{cases_eq, cases_order}
 use Rattle.std.proofs.lemmas.Option.{same_Some, none-some, slice_get-get_or}
-use Rattle.base.specs.Places.{Has}
-use Rattle.base.proofs.Places.{push_cases}
+use Rattle.base.specs.InOrderOnce.{Has}
+use Rattle.base.proofs.SlicesAndCounts.{push_cases}
 use Rattle.journal.specs.declared.event.Event.{Event}
 use Rattle.journal.specs.declared.event.Kind.{Kind}
 use Rattle.journal.specs.declared.event.Kind.TheVariants.{Ask, Acquire, Arrive, Watch}
-use Rattle.journal.specs.Did.{did, event}
+use Rattle.journal.specs.DidEvent.{did, event}
 use Rattle.journal.specs.Sizes.{Sizes}
 use Rattle.journal.specs.Events.{At}
 use Rattle.journal.specs.Waits.{awaited}
-use Rattle.journal.specs.WellFormed.{Answers, Holds, LastIs, MayBeGranted, MayFollow}
-use Rattle.journal.proofs.Order.Places.{at_within}
-use Rattle.journal.proofs.Journals.WellFormed.{last_unique, last_now, last_longer, last_shorter}
+use Rattle.journal.specs.WellFormed.{AnswersCall, Holds, LastIs, MayBeGranted, MayFollow}
+use Rattle.journal.proofs.Order.CountedAndNumbered.{at_within}
+use Rattle.journal.proofs.Journals.WellFormedLast.{last_unique, last_now, last_longer, last_shorter}
 use Rattle.judge.specs.Why.{WaitsFor}
 use Rattle.explore.specs.Waiting.{AsksAt, AwaitsLock, IsFirstOf, TellsWaiting}
 use Rattle.explore.specs.Waits.{AwaitedAreKept, ending, seated}
@@ -155,7 +155,7 @@ waits_next j p k waits w within ends old q b = elim (cases_eq q p) [
 ]
 
 -- what answers an ask
-answers_ask : (l : ℕ) (k : Kind) → Answers (Ask l) k → k ≡ Acquire l
+answers_ask : (l : ℕ) (k : Kind) → AnswersCall (Ask l) k → k ≡ Acquire l
 answers_ask l k is = is
 
 module _ (s : Sizes) (j : List Event) (p : ℕ) (k : Kind) (may : MayFollow s j (event p k)) where

@@ -8,7 +8,7 @@ use Rattle.std.specs.List.{list_any}
 use Rattle.std.proofs.lemmas.Bool.{and_from, and_parts, false≢true}
 use Rattle.std.proofs.lemmas.Cmp.{nat_list_eq_equiv}
 use Rattle.std.proofs.lemmas.List.{map-append}
-use Rattle.base.specs.Places.{Has}
+use Rattle.base.specs.InOrderOnce.{Has}
 use Rattle.base.proofs.Joined.{has-cons, has-nil}
 use mathlib.Core.Bool.{beq}
 use Rattle.explore.specs.declared.wait.WaitCode.{WaitCode}

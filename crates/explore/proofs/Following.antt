@@ -6,13 +6,13 @@ use Rattle.std.proofs.lemmas.Option.{none-some, same_Some}
 use Rattle.journal.specs.declared.event.Event.{Event}
 use Rattle.journal.specs.declared.event.Kind.{Kind}
 use Rattle.journal.specs.declared.event.Kind.TheVariants.{Ask, Acquire, Release, Arrive, Depart, Watch, Await}
-use Rattle.journal.specs.Did.{event}
+use Rattle.journal.specs.DidEvent.{event}
 use Rattle.journal.specs.Sizes.{Sizes}
 use Rattle.journal.specs.Events.{count_of, is_arrive, is_depart, is_taking}
 use Rattle.journal.specs.Waits.{awaited}
-use Rattle.journal.specs.WellFormed.{Allowed, Answers, KindInRange, LastIs, MayBeGranted, MayFollow}
-use Rattle.journal.proofs.Journals.WellFormed.{last_unique}
-use Rattle.journal.proofs.Journals.Ready.{awaited_answers, idle_answers, waits_for}
+use Rattle.journal.specs.WellFormed.{Allowed, AnswersCall, KindInRange, LastIs, MayBeGranted, MayFollow}
+use Rattle.journal.proofs.Journals.WellFormedLast.{last_unique}
+use Rattle.journal.proofs.Journals.ReadyIdleWaits.{awaited_answers, idle_answers, waits_for}
 use Rattle.judge.specs.Tells.{IsSet}
 use Rattle.judge.specs.Why.{WaitsFor}
 use Rattle.judge.proofs.Verdicts.{quiet_kind, waits_takes}
@@ -82,7 +82,7 @@ quiet_allowed s j p (Await f) asks releases quiet = absurd (false≢true (sym qu
 quiet_allowed s j p _ asks releases quiet = tt
 
 -- what answers a call is what its processor waits for
-answers_awaited : (a k b : Kind) → awaited a ≡ Some k → Answers a b → k ≡ b
+answers_awaited : (a k b : Kind) → awaited a ≡ Some k → AnswersCall a b → k ≡ b
 answers_awaited (Ask l) k b waits is = sym (is ∙ same_Some (Acquire l) k waits)
 answers_awaited Arrive k b waits is = sym (is ∙ same_Some Depart k waits)
 answers_awaited (Watch f) k b waits is = sym (is ∙ same_Some (Await f) k waits)
@@ -99,7 +99,7 @@ waiting_follows s j p k within range waits = (
   λ allowed. record {
     processor = within;
     in_range = range;
-    answers = λ i a last. subst (λ x. Answers x k) (last_unique j p waits.place i waits.kind a waits.last last).1
+    answers = λ i a last. subst (λ x. AnswersCall x k) (last_unique j p waits.place i waits.kind a waits.last last).1
         (awaited_answers waits.kind k waits.awaits);
     allowed = allowed;
   },

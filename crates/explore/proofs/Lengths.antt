@@ -6,18 +6,18 @@ use Rattle.std.proofs.lemmas.Bool.{cases_eq}
 use Rattle.std.proofs.lemmas.Option.{slice_get-get_or}
 use Rattle.std.proofs.lemmas.List.Elements.{All-get_or}
 use Rattle.base.specs.Limits.{most_held}
-use Rattle.base.proofs.Places.{push_induction}
+use Rattle.base.proofs.SlicesAndCounts.{push_induction}
 use Rattle.journal.specs.declared.event.Event.{Event}
 use Rattle.journal.specs.declared.event.Kind.{Kind}
 use Rattle.journal.specs.InRange.{ProcessorsInRange}
-use Rattle.journal.proofs.Order.Places.{at_last, at_longer}
+use Rattle.journal.proofs.Order.CountedAndNumbered.{at_last, at_longer}
 use Rattle.lrc_script.specs.declared.script.Instruction.{Instruction}
 use Rattle.lrc_script.specs.declared.script.Instruction.TheVariants.{Load, Store, Add, Acquire, Release, Barrier, Set, Await, Cut}
 use Rattle.lrc_script.specs.Plan.{Plan}
-use Rattle.lrc_script.specs.Lawful.{IsLawful, IsSection}
+use Rattle.lrc_script.specs.Lawful.{IsLawful, IsLawfulSection}
 use Rattle.conformance.specs.Begins.{BeginsSection}
 use Rattle.conformance.specs.Follows.{calls_of, FollowsSection}
-use Rattle.conformance.specs.Recomputed.{HasNoFetch}
+use Rattle.conformance.specs.FlatRuns.{HasNoFetch}
 use Rattle.conformance.proofs.Calls.{calls_of-own, calls_of-other}
 use Rattle.explore.specs.Prefixes.Beginnings.{IsFlatBeginning}
 use Rattle.explore.specs.Prefixes.Calling.{load_steps, section_steps, shown_by, steps_of, steps_of_all}
@@ -138,7 +138,7 @@ calls_few s g p lawful begins lt =
     let long = lawful.but_uneven.one_each in
     let within : p < length s.sections = omega arith in
     let section = slice_index_or s.sections p [] in
-    let is = All-get_or (IsSection s) s.sections p [] within lawful.but_uneven.sections in
+    let is = All-get_or (IsLawfulSection s) s.sections p [] within lawful.but_uneven.sections in
     let begun = begun_few section (shown_by s p) (calls_of g p) (begins.begins p section (slice_get-get_or s.sections p [] within)) in
     let few = section_few section (shown_by s p) is.most (shown_few s p lawful) in
     omega arith

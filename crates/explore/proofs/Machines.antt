@@ -6,23 +6,23 @@ use Rattle.std.proofs.lemmas.Bool.{cases_eq}
 use Rattle.std.proofs.lemmas.Option.{same_Some, slice_get-get_or, slice_get_within}
 use Rattle.std.proofs.lemmas.List.{length-replicate}
 use Rattle.std.proofs.lemmas.List.Elements.{All-get_or}
-use Rattle.base.specs.Writes.{wrote}
-use Rattle.base.proofs.LastWrites.{length-written, written-append}
+use Rattle.base.specs.LastWritten.{wrote}
+use Rattle.base.proofs.LastWritten.{length-written, written-append}
 use Rattle.journal.specs.declared.event.Event.{Event}
 use Rattle.journal.specs.declared.event.Kind.{Kind}
 use Rattle.journal.specs.declared.event.Kind.TheVariants as kind
-use Rattle.journal.specs.Did.{did, event}
-use Rattle.journal.specs.Flat.{AnswersWord, flat_write, memory_after}
+use Rattle.journal.specs.DidEvent.{did, event}
+use Rattle.journal.specs.FlatMemory.{AnswersWord, flat_write, memory_after}
 use Rattle.journal.specs.InRange.{AddressInRange}
 use Rattle.journal.specs.Sizes.{Sizes}
 use Rattle.journal.specs.WellFormed.{KindInRange, MayFollow}
 use Rattle.lrc_script.specs.declared.script.Instruction.{Instruction}
 use Rattle.lrc_script.specs.Plan.{Plan}
-use Rattle.lrc_script.specs.Lawful.{addresses, IsLawful, IsSection}
+use Rattle.lrc_script.specs.Lawful.{plan_addresses, IsLawful, IsLawfulSection}
 use Rattle.conformance.specs.Follows.{calls_of, is_fetch, plan_sizes}
 use Rattle.conformance.proofs.Calls.{calls_of-own, calls_of-other}
 use Rattle.judge.specs.Sizes.{AreSmall}
-use Rattle.conformance.proofs.Script.Sections.{told, told_load, is_load}
+use Rattle.conformance.proofs.Script.SectionSteps.{told, told_load, is_load}
 use Rattle.explore.specs.declared.prefixes.script_call.ScriptCall.{ScriptCall}
 use Rattle.explore.specs.declared.prefixes.script_call.ScriptCall.TheVariants.{Call, Adds}
 use Rattle.explore.specs.declared.flat_state.FlatState.{FlatState}
@@ -89,16 +89,16 @@ step_call s reply (Call c) k proper is =
 step_call s reply (Adds a v) k proper is = ap is_fetch is
 
 -- and its address has a word
-pub step_word : (s : Plan) (x : ScriptCall) (size : ℕ) → size ≡ addresses s → IsProper s x → StepReads size x
+pub step_word : (s : Plan) (x : ScriptCall) (size : ℕ) → size ≡ plan_addresses s → IsProper s x → StepReads size x
 step_word s (Call (kind.Load a v)) size is proper = subst (λ n. a < n) (sym is) proper.0
 step_word s _ size is proper = tt
 
 -- the memory keeps its length
-pub memory_long : (s : Plan) (g : List Event) (m : FlatState) → Knows s g m → length m.memory.items ≡ addresses s
+pub memory_long : (s : Plan) (g : List Event) (m : FlatState) → Knows s g m → length m.memory.items ≡ plan_addresses s
 memory_long s g m knows =
     ap (λ (xs : List ℕ). length xs) knows.memory
-    ∙ length-written (λ (e : Event). flat_write e.kind) (replicate (addresses s) 0) g
-    ∙ length-replicate (addresses s) 0
+    ∙ length-written (λ (e : Event). flat_write e.kind) (replicate (plan_addresses s) 0) g
+    ∙ length-replicate (plan_addresses s) 0
 
 -- the section that a row of steps is of
 pub record IsRowOf (s : Plan) (p : ℕ) (row : Vec ScriptCall) : Type 0 where
@@ -119,10 +119,10 @@ row_steps s steps p row are at =
       are = are.each p (slice_index_or s.sections p []) row here at;
     }
 
-shown_small : (s : Plan) (p : ℕ) → IsLawful s → All (λ a. a < addresses s) (shown_by s p)
+shown_small : (s : Plan) (p : ℕ) → IsLawful s → All (λ a. a < plan_addresses s) (shown_by s p)
 shown_small s p lawful = go (p == 0)
   where
-    go : (b : Bool) → All (λ a. a < addresses s) (cond b s.shown [])
+    go : (b : Bool) → All (λ a. a < plan_addresses s) (cond b s.shown [])
     go true = lawful.but_uneven.shown
     go false = λ k d lt. absurd (omega arith)
 
@@ -130,10 +130,10 @@ shown_small s p lawful = go (p == 0)
 pub row_proper : (s : Plan) (p : ℕ) (row : Vec ScriptCall) (n : ℕ) (x : ScriptCall) → IsLawful s → IsRowOf s p row
     → slice_get row.items n ≡ Some x → IsProper s x
 row_proper s p row n x lawful of at =
-    let section_lawful = subst (IsSection s)
+    let section_lawful = subst (IsLawfulSection s)
     (same_Some (slice_index_or s.sections p []) of.section
     (sym (slice_get-get_or s.sections p [] (slice_get_within s.sections p of.section of.at)) ∙ of.at))
-    (All-get_or (IsSection s) s.sections p [] (slice_get_within s.sections p of.section of.at)
+    (All-get_or (IsLawfulSection s) s.sections p [] (slice_get_within s.sections p of.section of.at)
     lawful.but_uneven.sections) in
     proper_section s of.section (shown_by s p) section_lawful.in_range (shown_small s p lawful) x
     (n, subst (λ xs. slice_get xs n ≡ Some x) of.are at)
@@ -230,7 +230,7 @@ pub read_at : {A : Type 0} (xs : List A) (k : ℕ) (x : A) → k < length xs →
 read_at xs k x lt is = slice_get-get_or xs k x lt ∙ ap Some (sym is)
 
 -- an address in range is one of the memory
-pub kind_address : (s : Plan) (k : Kind) (size : ℕ) → size ≡ addresses s → KindInRange (plan_sizes s) k → AddressInRange size k
+pub kind_address : (s : Plan) (k : Kind) (size : ℕ) → size ≡ plan_addresses s → KindInRange (plan_sizes s) k → AddressInRange size k
 kind_address s (kind.Load a v) size is range = subst (λ n. a < n) (sym is) range
 kind_address s (kind.Store a v) size is range = subst (λ n. a < n) (sym is) range
 kind_address s _ size is range = tt
@@ -263,11 +263,11 @@ module _ (s : Plan) (g : List Event) (p : ℕ) (k : Kind) (next : IsFlatBeginnin
   ]
 
   -- and the memory
-  pub memory_next : (old : List ℕ) → old ≡ memory_after (replicate (addresses s) 0) g
-      → wrote old (flat_write k) ≡ memory_after (replicate (addresses s) 0) (did g p k)
+  pub memory_next : (old : List ℕ) → old ≡ memory_after (replicate (plan_addresses s) 0) g
+      → wrote old (flat_write k) ≡ memory_after (replicate (plan_addresses s) 0) (did g p k)
   memory_next old is =
       ap (λ words. wrote words (flat_write k)) is
-      ∙ sym (written-append (λ (e : Event). flat_write e.kind) (replicate (addresses s) 0) g (event p k ∷ []))
+      ∙ sym (written-append (λ (e : Event). flat_write e.kind) (replicate (plan_addresses s) 0) g (event p k ∷ []))
 
 -- what is no Some is None
 pub none_of : {A : Type 0} (o : Option A) → ((x : A) → o ≢ Some x) → o ≡ None

@@ -1,13 +1,13 @@
 -- Steps of lawful scripts: their numbers are in range, and none is a fetch.
 use Rattle.std.proofs.Common.{ℕ, ◌<◌, inl, inr, List, [], ◌∷◌, ◌++◌, All, refl, subst}
 use Rattle.std.proofs.lemmas.List.Elements.{All-head, All-tail}
-use Rattle.base.specs.Places.{Has}
+use Rattle.base.specs.InOrderOnce.{Has}
 use Rattle.base.proofs.Joined.{has-nil, has-cons, has-append}
 use Rattle.journal.specs.declared.event.Kind.TheVariants as kind
 use Rattle.lrc_script.specs.declared.script.Instruction.{Instruction}
 use Rattle.lrc_script.specs.declared.script.Instruction.TheVariants.{Load, Store, Add, Acquire, Release, Barrier, Set, Await, Cut}
 use Rattle.lrc_script.specs.Plan.{Plan}
-use Rattle.lrc_script.specs.Lawful.{addresses, IsInRange}
+use Rattle.lrc_script.specs.Lawful.{plan_addresses, IsInstructionInRange}
 use Rattle.explore.specs.declared.prefixes.script_call.ScriptCall.{ScriptCall}
 use Rattle.explore.specs.declared.prefixes.script_call.ScriptCall.TheVariants.{Call, Adds}
 use Rattle.explore.specs.Prefixes.Calling.{load_steps, section_steps, steps_of, steps_of_all}
@@ -34,7 +34,7 @@ one s x is = more_proper s x [] is (none_proper s)
 two : (s : Plan) (x y : ScriptCall) → IsProper s x → IsProper s y → AreProper s (x ∷ y ∷ [])
 two s x y first second = more_proper s x (y ∷ []) first (one s y second)
 
-proper_of : (s : Plan) (i : Instruction) → IsInRange s i → AreProper s (steps_of i)
+proper_of : (s : Plan) (i : Instruction) → IsInstructionInRange s i → AreProper s (steps_of i)
 proper_of s (Load a) range = one s (Call (kind.Load a 0)) (range, refl)
 proper_of s (Store a v) range = one s (Call (kind.Store a v)) (range.0, refl)
 proper_of s (Add a v) range = two s (Call (kind.Load a 0)) (Adds a v) (range.0, refl) range.0
@@ -45,21 +45,21 @@ proper_of s (Set f) range = one s (Call (kind.Set f)) (range, refl)
 proper_of s (Await f) range = two s (Call (kind.Watch f)) (Call (kind.Await f)) (range, refl) (range, refl)
 proper_of s Cut range = none_proper s
 
-proper_of_all : (s : Plan) (is : List Instruction) → All (IsInRange s) is → AreProper s (steps_of_all is)
+proper_of_all : (s : Plan) (is : List Instruction) → All (IsInstructionInRange s) is → AreProper s (steps_of_all is)
 proper_of_all s [] range = none_proper s
 proper_of_all s (i ∷ is) range =
-    append_proper s (steps_of i) (steps_of_all is) (proper_of s i (All-head (IsInRange s) i is range))
-    (proper_of_all s is (All-tail (IsInRange s) i is range))
+    append_proper s (steps_of i) (steps_of_all is) (proper_of s i (All-head (IsInstructionInRange s) i is range))
+    (proper_of_all s is (All-tail (IsInstructionInRange s) i is range))
 
-proper_loads : (s : Plan) (shown : List ℕ) → All (λ a. a < addresses s) shown → AreProper s (load_steps shown)
+proper_loads : (s : Plan) (shown : List ℕ) → All (λ a. a < plan_addresses s) shown → AreProper s (load_steps shown)
 proper_loads s [] range = none_proper s
 proper_loads s (a ∷ shown) range =
-    more_proper s (Call (kind.Load a 0)) (load_steps shown) (All-head (λ b. b < addresses s) a shown range, refl)
-    (proper_loads s shown (All-tail (λ b. b < addresses s) a shown range))
+    more_proper s (Call (kind.Load a 0)) (load_steps shown) (All-head (λ b. b < plan_addresses s) a shown range, refl)
+    (proper_loads s shown (All-tail (λ b. b < plan_addresses s) a shown range))
 
 -- so are those of a section, whatever it shows of the addresses
-pub proper_section : (s : Plan) (section : List Instruction) (shown : List ℕ) → All (IsInRange s) section
-    → All (λ a. a < addresses s) shown → AreProper s (section_steps section shown)
+pub proper_section : (s : Plan) (section : List Instruction) (shown : List ℕ) → All (IsInstructionInRange s) section
+    → All (λ a. a < plan_addresses s) shown → AreProper s (section_steps section shown)
 proper_section s section shown range words =
     append_proper s (steps_of_all section) (Call kind.Arrive ∷ Call kind.Depart ∷ load_steps shown)
     (proper_of_all s section range)

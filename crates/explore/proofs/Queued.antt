@@ -1,16 +1,16 @@
 -- Who waits for a lock after one more event.
 use Rattle.std.proofs.Common.{◌≡◌, ◌≢◌, ℕ, ◌<◌, inl, inr, List, [], ◌∷◌, ◌++◌, length, not, ◌==◌, subst, sym, refl, ap, ◌∙◌, arith}
 use Rattle.std.proofs.lemmas.Bool.{cases_eq, eq-eqb, ne_eqb, false≢true}
-use Rattle.base.specs.Places.{Has, InOrder}
+use Rattle.base.specs.InOrderOnce.{Has, InOrder}
 use Rattle.base.proofs.Joined.{has-nil, has-cons, has-append, in_order-append, in_order_single}
-use Rattle.base.proofs.Picked.{has-filter, in_order-filter}
+use Rattle.base.proofs.FilteredInOrder.{has-filter, in_order-filter}
 use Rattle.journal.specs.declared.event.Event.{Event}
 use Rattle.journal.specs.declared.event.Kind.{Kind}
 use Rattle.journal.specs.declared.event.Kind.TheVariants.{Ask, Acquire}
-use Rattle.journal.specs.Did.{did, event}
+use Rattle.journal.specs.DidEvent.{did, event}
 use Rattle.journal.specs.Sizes.{Sizes}
 use Rattle.journal.specs.WellFormed.{LastIs, MayFollow}
-use Rattle.journal.proofs.Journals.WellFormed.{last_now}
+use Rattle.journal.proofs.Journals.WellFormedLast.{last_now}
 use Rattle.explore.specs.Waiting.{AreAsked, AreAskedAfter, AsksAt, unqueued}
 use Rattle.explore.proofs.Asked.{asks_acquires, asks_fresh, asks_old, asks_other, asks_own}
 

@@ -6,11 +6,11 @@ use Rattle.std.specs.Prelude.{None}
 use Rattle.std.specs.Global.{Vec}
 use Rattle.std.proofs.lemmas.Bool.{cases_eq}
 use Rattle.std.proofs.lemmas.Option.{none-some, same_Some, slice_get-map, slice_get_within}
-use Rattle.base.proofs.Sets.{slice_get-set_other, slice_get-set_same}
+use Rattle.base.proofs.SliceSets.{slice_get-set_other, slice_get-set_same}
 use Rattle.journal.specs.declared.event.Event.{Event}
 use Rattle.journal.specs.declared.event.Kind.{Kind}
 use Rattle.journal.specs.declared.event.Kind.TheVariants as kind
-use Rattle.journal.specs.Did.{did}
+use Rattle.journal.specs.DidEvent.{did}
 use Rattle.lrc_script.specs.Plan.{Plan}
 use Rattle.conformance.specs.Follows.{calls_of, is_fetch}
 use Rattle.conformance.proofs.Calls.{calls_of-own, calls_of-other}

@@ -7,13 +7,13 @@ use Rattle.std.specs.Global.{Vec}
 use Rattle.std.proofs.lemmas.Bool.{cases_eq, cases_lt}
 use Rattle.std.proofs.lemmas.List.{get_or_past}
 use Rattle.std.proofs.lemmas.Option.{none-some, same_Some, slice_get_within}
-use Rattle.base.specs.Places.{Has, IsOnce}
+use Rattle.base.specs.InOrderOnce.{Has, IsOnce}
 use Rattle.base.proofs.Joined.{has-append, has-cons, has-nil, in_order-append, in_order-nil, in_order_single}
-use Rattle.base.proofs.Places.{push_induction}
-use Rattle.base.proofs.Sets.{same_places}
+use Rattle.base.proofs.SlicesAndCounts.{push_induction}
+use Rattle.base.proofs.SliceSets.{same_places}
 use Rattle.journal.specs.declared.event.Event.{Event}
 use Rattle.journal.specs.declared.event.Kind.{Kind}
-use Rattle.journal.specs.Did.{did}
+use Rattle.journal.specs.DidEvent.{did}
 use Rattle.lrc_script.specs.Plan.{Plan}
 use Rattle.conformance.specs.Follows.{calls_of, Follows}
 use Rattle.explore.specs.declared.prefixes.script_call.ScriptCall.{ScriptCall}

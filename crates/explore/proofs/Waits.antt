@@ -6,10 +6,10 @@ use Rattle.std.proofs.lemmas.Option.{none-some, same_Some}
 use Rattle.journal.specs.declared.event.Event.{Event}
 use Rattle.journal.specs.declared.event.Kind.{Kind}
 use Rattle.journal.specs.declared.event.Kind.TheVariants as kind
-use Rattle.journal.specs.Did.{did, event}
+use Rattle.journal.specs.DidEvent.{did, event}
 use Rattle.journal.specs.Events.{count_of, is_arrive, is_depart}
 use Rattle.journal.specs.Waits.{awaited}
-use Rattle.journal.proofs.Order.Places.{count_of-append}
+use Rattle.journal.proofs.Order.CountedAndNumbered.{count_of-append}
 use Rattle.judge.specs.Why.{WaitsFor}
 use Rattle.explore.specs.declared.wait.WaitCode.{WaitCode}
 use Rattle.explore.specs.declared.wait.WaitCode.TheVariants.{Lock, Barrier, Flag}

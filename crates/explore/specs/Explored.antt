@@ -1,7 +1,7 @@
 -- What an answer says of all runs of a script on one flat memory.
 use Rattle.std.specs.Prelude.{ℕ, ◌≡◌, ◌+◌, ◌<◌, ◌≤◌, ◌↔◌, MatchOption, Option, List, map, length}
 use Rattle.std.specs.Global.{Vec}
-use Rattle.base.specs.Places.{Has, IsOnce}
+use Rattle.base.specs.InOrderOnce.{Has, IsOnce}
 use Rattle.journal.specs.declared.event.Event.{Event}
 use Rattle.journal.specs.Races.{IsFirstRace}
 use Rattle.lrc_script.specs.Plan.{Plan}

@@ -4,11 +4,11 @@ use Rattle.std.specs.Global.{Vec}
 use Rattle.journal.specs.declared.event.Event.{Event}
 use Rattle.journal.specs.declared.event.Kind.{Kind}
 use Rattle.journal.specs.declared.event.Kind.TheVariants.{Load}
-use Rattle.journal.specs.Did.{did}
-use Rattle.journal.specs.Flat.{memory_after}
+use Rattle.journal.specs.DidEvent.{did}
+use Rattle.journal.specs.FlatMemory.{memory_after}
 use Rattle.journal.specs.WellFormed.{KindInRange}
 use Rattle.lrc_script.specs.Plan.{Plan}
-use Rattle.lrc_script.specs.Lawful.{addresses, IsLawful}
+use Rattle.lrc_script.specs.Lawful.{plan_addresses, IsLawful}
 use Rattle.conformance.specs.Follows.{calls_of, is_fetch, plan_sizes}
 use Rattle.explore.specs.declared.prefixes.script_call.ScriptCall.{ScriptCall}
 use Rattle.explore.specs.declared.prefixes.script_call.ScriptCall.TheVariants.{Call, Adds}
@@ -33,7 +33,7 @@ pub record Knows (s : Plan) (g : List Event) (m : FlatState) : Type 0 where
   pub long : length m.done ≡ 16
   pub done : (p : ℕ) → p < 16 → slice_index m.done p ≡ length (calls_of g p)
   pub replies : AreReplies s g (items_of m.replies.items)
-  pub memory : m.memory.items ≡ memory_after (replicate (addresses s) 0) g
+  pub memory : m.memory.items ≡ memory_after (replicate (plan_addresses s) 0) g
   pub waiting : TellsWaiting g m.waiting
 
 -- two machines are in the same state
@@ -46,7 +46,7 @@ pub record SameState (m n : FlatState) : Type 0 where
 -- the numbers of the step are the script's, and it is no fetch
 abbrev pub IsProper : Plan → ScriptCall → Type 0
 IsProper s (Call k) = KindInRange (plan_sizes s) k × (is_fetch k ≡ false)
-IsProper s (Adds a v) = a < addresses s
+IsProper s (Adds a v) = a < plan_addresses s
 
 -- of the step the memory has the word, where it loads one
 abbrev pub StepReads : ℕ → ScriptCall → Type 0

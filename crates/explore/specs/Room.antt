@@ -3,7 +3,7 @@ use Rattle.std.specs.Prelude.{ℕ, ◌+◌, ◌/◌, ◌^◌, Bool, true, false,
 use Rattle.lrc_script.specs.declared.script.Instruction.{Instruction}
 use Rattle.lrc_script.specs.declared.script.Instruction.TheVariants.{Load, Add}
 use Rattle.lrc_script.specs.Plan.{Plan}
-use Rattle.lrc_script.specs.Lawful.{addresses}
+use Rattle.lrc_script.specs.Lawful.{plan_addresses}
 
 -- whether an instruction loads
 abbrev pub is_loading : Instruction → Bool
@@ -17,7 +17,7 @@ loads_in section = count_by is_loading section
 
 -- a state has no more words: those of the memory, and a reply to each load of the sections and of what is shown
 abbrev pub words_of_state : Plan → ℕ
-words_of_state s = addresses s + length s.shown + sum_by loads_in s.sections
+words_of_state s = plan_addresses s + length s.shown + sum_by loads_in s.sections
 
 -- so many states have 2^27 words at most
 abbrev pub states_that_fit : Plan → ℕ

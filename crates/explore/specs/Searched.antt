@@ -1,10 +1,10 @@
 -- What a search knows after it has looked at some of the states that it has found.
 use Rattle.std.specs.Prelude.{ℕ, ◌≡◌, ◌≢◌, ◌<◌, ◌≤◌, ◌↔◌, ◌⊎◌, MatchOption, Option, Some, List, [], ◌∷◌, ◌++◌, length, map, slice_get}
 use Rattle.std.specs.Global.{Vec}
-use Rattle.base.specs.Places.{Has, IsOnce}
+use Rattle.base.specs.InOrderOnce.{Has, IsOnce}
 use Rattle.journal.specs.declared.event.Event.{Event}
 use Rattle.journal.specs.declared.event.Kind.{Kind}
-use Rattle.journal.specs.Did.{did, event}
+use Rattle.journal.specs.DidEvent.{did, event}
 use Rattle.journal.specs.Races.{Conflict}
 use Rattle.lrc_script.specs.Plan.{Plan}
 use Rattle.conformance.specs.Follows.{Follows}

@@ -3,4 +3,4 @@
 -- (InClosingOrder). An interval that nobody concerned performs, or has performed, changes nothing (Unchanged).
 pub mod Gathered
 pub mod InClosingOrder
-pub mod Unchanged
+pub mod BetweenUnchanged

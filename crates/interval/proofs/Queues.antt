@@ -3,6 +3,6 @@
 -- (Trimmed), and an interval is found by owner and number where the merged list has it (Found).
 pub mod Merged
 pub mod Empty
-pub mod Pushed
+pub mod LastPushed
 pub mod Trimmed
-pub mod Found
+pub mod FirstFound

@@ -1,4 +1,4 @@
 -- Loops over the records of one interval, item by item.
 -- What a loop has gathered from the first records is a fact of their list; one record more adds its own part.
 -- At the end it is the fact of the whole list. (Steps)
-pub mod Steps
+pub mod FindAndPush

@@ -2,10 +2,10 @@
 use Rattle.std.specs.Prelude.{ℕ, ◌≡◌, ◌≤◌, ◌+◌, ◌==◌, ◌&&◌, nat_lt, nat_le, not, min, max, Bool, Option, List, [], ◌∷◌, ◌++◌, map, filter, find, length, slice_index, slice_set}
 use Rattle.std.specs.List.{flat_map}
 use Rattle.std.specs.Option.{option_and_then}
-use Rattle.page.specs.Changes.{Changes}
+use Rattle.page.specs.RisingChanges.{Changes}
 use Rattle.interval.specs.declared.notice.Notice.{Notice}
 use Rattle.interval.specs.declared.kept_interval.KeptInterval.{KeptInterval}
-use Rattle.interval.specs.Intervals.{ClosedInterval, SentRecord}
+use Rattle.interval.specs.SentIntervals.{ClosedInterval, SentRecord}
 
 -- `kept` is in closing order. For each owner, `first` is the number of its first interval that is kept, or
 -- of its next one where none is, and `next` the number of its next one. `pushed` counts all ever closed
@@ -56,12 +56,12 @@ abbrev pub sent_interval : KeptInterval → List SentRecord
 sent_interval k = map (sent_record k) k.interval.records
 
 -- the kept intervals that `new` covers and `old` doesn't, in closing order
-abbrev pub between : Closings → List ℕ → List ℕ → List SentRecord
-between c old new = flat_map sent_interval (filter (is_news old new) c.kept)
+abbrev pub closings_between : Closings → List ℕ → List ℕ → List SentRecord
+closings_between c old new = flat_map sent_interval (filter (is_news old new) c.kept)
 
 -- all that lies between these timestamps is kept: each has an entry for each owner, and none is dropped that `old`
 -- doesn't cover
-pub record KeepsBetween (c : Closings) (old new : List ℕ) : Type 0 where
+pub record KeepsClosingsBetween (c : Closings) (old new : List ℕ) : Type 0 where
   pub old_long : length old ≡ length c.first
   pub new_long : length new ≡ length c.first
   pub none_trimmed : (q : ℕ) → slice_index c.first q ≤ slice_index old q

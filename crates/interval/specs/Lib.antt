@@ -1,5 +1,5 @@
-pub mod Intervals
+pub mod SentIntervals
 pub mod Closings
 pub mod Queues
-pub mod Counts
+pub mod PageCounts
 pub mod Prelude

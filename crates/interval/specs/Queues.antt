@@ -1,9 +1,9 @@
 -- How the kept intervals lie: one queue for each owner.
 use Rattle.std.specs.Prelude.{ℕ, ◌≡◌, ◌≢◌, ◌↔◌, ◌+◌, ◌-◌, ◌^◌, ◌<◌, min, max, drop, take, nat_lt, cond, Some, List, [], ◌∷◌, map, length, slice_get}
 use Rattle.std.specs.List.{flat_map}
-use Rattle.base.specs.Places.{Has, InOrder}
+use Rattle.base.specs.InOrderOnce.{Has, InOrder}
 use Rattle.interval.specs.declared.kept_interval.KeptInterval.{KeptInterval}
-use Rattle.interval.specs.Intervals.{HasRisingPages}
+use Rattle.interval.specs.SentIntervals.{HasRisingPages}
 use Rattle.interval.specs.Closings.{Closings}
 
 -- the kept intervals of one owner by rising number, from `first` on
@@ -24,13 +24,13 @@ by_place [] = []
 by_place (x ∷ xs) = placed x (by_place xs)
 
 -- all queues as one list in closing order
-abbrev pub merged : List Queue → List KeptInterval
-merged queues = by_place (flat_map (λ (q : Queue). q.kept) queues)
+abbrev pub merged_queues : List Queue → List KeptInterval
+merged_queues queues = by_place (flat_map (λ (q : Queue). q.kept) queues)
 
 -- what the queues hold, in the words of contracts
-abbrev pub closings : List Queue → ℕ → Closings
-closings queues count = record {
-  kept = merged queues;
+abbrev pub queue_closings : List Queue → ℕ → Closings
+queue_closings queues count = record {
+  kept = merged_queues queues;
   first = map (λ (q : Queue). q.first) queues;
   next = map (λ (q : Queue). q.first + length q.kept) queues;
   pushed = count;
@@ -61,12 +61,12 @@ pub record SameIntervals (ks list : List KeptInterval) : Type 0 where
   pub apart : InOrder (λ (j k : KeptInterval). j.place ≢ k.place) list
 
 -- the queue without the intervals with numbers below `to`
-abbrev pub dropped_below : Queue → ℕ → Queue
-dropped_below queue to = record {
+abbrev pub queue_dropped_below : Queue → ℕ → Queue
+queue_dropped_below queue to = record {
   first = max queue.first (min to (queue.first + length queue.kept));
   kept = drop (to - queue.first) queue.kept;
 }
 
 -- the queue's intervals with numbers within from..to
-abbrev pub within : Queue → ℕ → ℕ → List KeptInterval
-within queue from to = drop (from - queue.first) (take (to - queue.first) queue.kept)
+abbrev pub queue_within : Queue → ℕ → ℕ → List KeptInterval
+queue_within queue from to = drop (from - queue.first) (take (to - queue.first) queue.kept)

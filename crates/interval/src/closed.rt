@@ -4,8 +4,8 @@ ghost use Rattle.std.specs.Prelude.{replicate, [], ◌∷◌, length, find, filt
 ghost use Rattle.std.specs.Prelude.{EachIndex, map};
 ghost use Rattle.std.specs.Option.{option_copied};
 ghost use Rattle.vtime.specs.Times.{tick};
-ghost use Rattle.interval.specs.Prelude.{HasRisingPages, IsInClosingOrder, KeepsBetween, pushed, trimmed, is_news};
-ghost use Rattle.interval.specs.Prelude.{between, is_of_page, record_of, SameIntervals};
+ghost use Rattle.interval.specs.Prelude.{HasRisingPages, IsInClosingOrder, KeepsClosingsBetween, pushed, trimmed, is_news};
+ghost use Rattle.interval.specs.Prelude.{closings_between, is_of_page, record_of, SameIntervals};
 
 use crate::kept_interval::{Interval, KeptInterval};
 use crate::notice::{Notice, Sent};
@@ -27,9 +27,9 @@ impl Model for Closed {
 
     ghost Value = { Closings };
 
-    ghost use Rattle.interval.specs.Queues.{closings, AreQueues};
+    ghost use Rattle.interval.specs.Queues.{queue_closings, AreQueues};
 
-    ghost view = { λ c. closings c.queues.items c.pushed };
+    ghost view = { λ c. queue_closings c.queues.items c.pushed };
 
     ghost invariant = { λ c. AreQueues c.queues.items c.pushed };
 }
@@ -59,7 +59,7 @@ impl Closed {
 
         // Who is not to perform the interval is sent what was sent before.
         ensures same_news { OnOk result ((old new : List ℕ) → slice_index new interval.owner ≤ interval.number
-            → between self.new old new ≡ between self.old old new) }
+            → closings_between self.new old new ≡ closings_between self.old old new) }
         ensures err { OnErr result (self.new ≡ self.old) }
     {
         let owner = interval.owner;
@@ -77,8 +77,8 @@ impl Closed {
     /// each record; what else is kept costs nothing. It takes memory for those intervals and for what it
     /// answers.
     pub fn between(&self, old: &VTime, new: &VTime) -> Result<Vec<Sent>, AllocError>
-        requires { KeepsBetween self.now old.now new.now }
-        ensures value { IfOk result (λ sent. sent.items ≡ between self.now old.now new.now) }
+        requires { KeepsClosingsBetween self.now old.now new.now }
+        ensures value { IfOk result (λ sent. sent.items ≡ closings_between self.now old.now new.now) }
         ensures in_order { IfOk result (λ sent. IsInClosingOrder sent.items) }
     {
         let mut news = self.news(old, new)?;
@@ -94,10 +94,10 @@ impl Closed {
     /// the number for page n. Pages past the slice's end are not counted. It takes no memory, and costs in
     /// the order of the owners, the slice, and the intervals between the timestamps with their records.
     pub fn count_news(&self, old: &VTime, new: &VTime, counts: &mut [usize])
-        requires { KeepsBetween self.now old.now new.now }
+        requires { KeepsClosingsBetween self.now old.now new.now }
         ensures each { EachIndex counts.new
             (λ n. slice_index counts.new n ≡ count_by (is_of_page n)
-            (between self.now old.now new.now)) }
+            (closings_between self.now old.now new.now)) }
         ensures same_length { length counts.new ≡ length counts.old }
     {
         self.count_pages(0, old, new, counts);
@@ -105,8 +105,8 @@ impl Closed {
 
     /// How many notices of the page `between` answers. It takes no memory, and costs as `count_news` does.
     pub fn news_of(&self, page: usize, old: &VTime, new: &VTime) -> usize
-        requires { KeepsBetween self.now old.now new.now }
-        ensures { result ≡ count_by (is_of_page page) (between self.now old.now new.now) }
+        requires { KeepsClosingsBetween self.now old.now new.now }
+        ensures { result ≡ count_by (is_of_page page) (closings_between self.now old.now new.now) }
     {
         let mut count = [0];
         self.count_pages(page, old, new, &mut count);
@@ -116,10 +116,10 @@ impl Closed {
     /// As `count_news`, with the number for page `base + i` in entry i: one walk over each owner's intervals
     /// between the timestamps, in no order.
     fn count_pages(&self, base: usize, old: &VTime, new: &VTime, counts: &mut [usize])
-        requires { KeepsBetween self.now old.now new.now }
+        requires { KeepsClosingsBetween self.now old.now new.now }
         ensures each { EachIndex counts.new
             (λ i. slice_index counts.new i ≡ count_by (is_of_page (base + i))
-            (between self.now old.now new.now)) }
+            (closings_between self.now old.now new.now)) }
         ensures same_length { length counts.new ≡ length counts.old }
     {
         counts.fill(0);
@@ -138,9 +138,9 @@ impl Closed {
     ) -> Result<Vec<Sent>, AllocError>
         requires owner { interval.now.owner < length self.now.next }
         requires pages { HasRisingPages interval.now.records }
-        requires kept { KeepsBetween self.now old.now new.now }
+        requires kept { KeepsClosingsBetween self.now old.now new.now }
         ensures value { IfOk result (λ sent. sent.items
-            ≡ between (pushed self.now interval.now) old.now new.now) }
+            ≡ closings_between (pushed self.now interval.now) old.now new.now) }
         ensures in_order { IfOk result (λ sent. IsInClosingOrder sent.items) }
     {
         let mut sent = self.between(old, new)?;
@@ -153,7 +153,7 @@ impl Closed {
 
     /// The intervals that `new` covers and `old` doesn't, owner by owner.
     fn news(&self, old: &VTime, new: &VTime) -> Result<Vec<&KeptInterval>, AllocError>
-        requires { KeepsBetween self.now old.now new.now }
+        requires { KeepsClosingsBetween self.now old.now new.now }
         ensures { IfOk result (λ news. SameIntervals (filter (is_news old.now new.now) self.now.kept)
             (map (λ k. k.now) news.items)) }
     {
@@ -192,7 +192,7 @@ impl Closed {
 
         // Who has performed the intervals that are dropped is sent what was sent before.
         ensures same_news { (old new : List ℕ) → to ≤ slice_index old owner
-            → between self.new old new ≡ between self.old old new }
+            → closings_between self.new old new ≡ closings_between self.old old new }
     {
         self.queues[owner].trim(to);
     }

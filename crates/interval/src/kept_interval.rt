@@ -2,7 +2,7 @@
 ghost use Rattle.std.specs.Prelude.{◌≡◌, ◌==◌, ◌++◌, IfOk, OnOk, find, map};
 ghost use Rattle.std.specs.Arc.{arc_value};
 ghost use Rattle.std.specs.Option.{option_copied};
-ghost use Rattle.interval.specs.Prelude.{sent_interval, sent_record, pages_of_records, CountsGrew, HasRoom};
+ghost use Rattle.interval.specs.Prelude.{sent_interval, sent_record, pages_of_records, CountsGrew, CountsHaveRoom};
 
 use crate::notice::{Notice, Sent};
 use page::Record;
@@ -25,7 +25,7 @@ pub struct Interval {
 impl Model for Interval {
     ghost use Rattle.std.specs.Prelude.{map};
     ghost use Rattle.std.specs.Arc.{arc_value};
-    ghost use Rattle.interval.specs.Intervals.{ClosedInterval};
+    ghost use Rattle.interval.specs.SentIntervals.{ClosedInterval};
 
     ghost Value = { ClosedInterval };
 
@@ -48,7 +48,7 @@ impl Interval {
     /// Counts its records, by pages: entry i of the counts grows by one where there is a record of page
     /// `base + i`. Other pages are not counted.
     pub(crate) fn count_pages(&self, base: usize, counts: &mut [usize])
-        requires { HasRoom base (pages_of_records self.now.records) counts.old }
+        requires { CountsHaveRoom base (pages_of_records self.now.records) counts.old }
         ensures { CountsGrew base (pages_of_records self.now.records) counts.old counts.new }
     {
         for record in self.shared_records() {

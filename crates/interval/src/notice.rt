@@ -28,7 +28,7 @@ pub struct Sent {
 }
 
 impl Model for Sent {
-    ghost use Rattle.interval.specs.Intervals.{SentRecord};
+    ghost use Rattle.interval.specs.SentIntervals.{SentRecord};
 
     ghost Value = { SentRecord };
 

@@ -1,7 +1,7 @@
 //! The kept intervals of one owner.
 ghost use Rattle.std.specs.Prelude.{◌≡◌, ◌-◌, ◌≤◌, [], ◌∷◌, ◌++◌, map, slice_get, OnOk, OnErr};
 ghost use Rattle.std.specs.Option.{option_copied};
-ghost use Rattle.interval.specs.Prelude.{within, dropped_below, pages_of, CountsGrew, HasRoom};
+ghost use Rattle.interval.specs.Prelude.{queue_within, queue_dropped_below, pages_of, CountsGrew, CountsHaveRoom};
 
 use crate::kept_interval::KeptInterval;
 use std::alloc::{AllocError, Global};
@@ -69,7 +69,7 @@ impl Queue {
     ) -> Result<(), AllocError>
         requires { self.now.first ≤ from }
         ensures { OnOk result (map (λ k. k.now) news.new.items
-            ≡ map (λ k. k.now) news.old.items ++ within self.now from to) }
+            ≡ map (λ k. k.now) news.old.items ++ queue_within self.now from to) }
     {
         let start = (from - self.first) as usize;
         let end = to.saturating_sub(self.first).min(self.kept.len() as u64) as usize;
@@ -83,8 +83,8 @@ impl Queue {
     /// `Interval::count_pages` does.
     pub(crate) fn count_pages(&self, from: u64, to: u64, base: usize, counts: &mut [usize])
         requires kept { self.now.first ≤ from }
-        requires room { HasRoom base (pages_of (within self.now from to)) counts.old }
-        ensures { CountsGrew base (pages_of (within self.now from to)) counts.old counts.new }
+        requires room { CountsHaveRoom base (pages_of (queue_within self.now from to)) counts.old }
+        ensures { CountsGrew base (pages_of (queue_within self.now from to)) counts.old counts.new }
     {
         let start = (from - self.first) as usize;
         let end = to.saturating_sub(self.first).min(self.kept.len() as u64) as usize;
@@ -95,7 +95,7 @@ impl Queue {
 
     /// Drops the intervals with numbers below `to`.
     pub(crate) fn trim(&mut self, to: u64)
-        ensures { self.new ≡ dropped_below self.old to }
+        ensures { self.new ≡ queue_dropped_below self.old to }
     {
         let count = to.saturating_sub(self.first).min(self.kept.len() as u64);
         for _ in 0..count {

@@ -1,9 +1,9 @@
 pub mod Order
 pub mod Journals
 pub mod Times
-pub mod Copies
+pub mod CopyOfPage
 pub mod Missing
 pub mod Intervals
 pub mod Flat
 pub mod Passes
-pub mod Bases
+pub mod FromBase

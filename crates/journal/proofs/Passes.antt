@@ -2,8 +2,8 @@
 -- The race checker's clocks are timestamps of the events so far (FirstClocks, ClockSteps), its accesses the last ones
 -- of each word (RaceSteps); replay and traffic go on by one event (Replaying, Spending).
 pub mod Replaying
-pub mod Spending
-pub mod Entries
+pub mod SpentTraffic
+pub mod ClockEntry
 pub mod FirstClocks
-pub mod ClockSteps
-pub mod RaceSteps
+pub mod NextClocks
+pub mod ReachedNextRaces

@@ -2,10 +2,10 @@
 -- A path to another processor leaves by a closing event (Leaving), so a past has a closed interval whole or not at all
 -- (Closing), and entries tell happens-before (Uses). Each event changes one processor's timestamp (Pushes).
 pub mod Times
-pub mod Pushes
-pub mod Leaving
+pub mod PushesCovered
+pub mod LeavingCloses
 pub mod Closing
 pub mod IntervalNumbers
-pub mod Kept
+pub mod KeptArrives
 pub mod Uses
 pub mod Blocks

@@ -3,23 +3,23 @@
 use Rattle.std.specs.Prelude.{ℕ, ◌+◌, ◌<◌, ◌↔◌, List, [], ◌++◌, length, take, replicate}
 use Rattle.journal.specs.declared.event.Event.{Event}
 use Rattle.journal.specs.Sizes.{Sizes, addresses}
-use Rattle.journal.specs.Order.{HappensBefore}
+use Rattle.journal.specs.HappensBeforeEdges.{HappensBefore}
 use Rattle.journal.specs.WellFormed.{WellFormed}
 use Rattle.journal.specs.Pasts.{InPast}
-use Rattle.journal.specs.Loads.{Explained}
+use Rattle.journal.specs.ExplainedAnswers.{Explained}
 use Rattle.journal.specs.Races.{Race, IsFirstRace, RaceFree}
-use Rattle.journal.specs.Flat.{Replays}
-use Rattle.journal.specs.Copies.{Lawful}
+use Rattle.journal.specs.FlatMemory.{Replays}
+use Rattle.journal.specs.PageImages.{Lawful}
 use Rattle.journal.specs.Base.{Base, no_base}
-use Rattle.journal.specs.OrderFrom.{HappensBeforeFrom, InPastFrom}
+use Rattle.journal.specs.HappensBeforeFrom.{HappensBeforeFrom, InPastFrom}
 use Rattle.journal.specs.WellFormedFrom.{IsAway, WellFormedFrom}
-use Rattle.journal.specs.LoadsFrom.{ExplainedFrom}
+use Rattle.journal.specs.ExplainedAnswersFrom.{ExplainedFrom}
 use Rattle.journal.specs.RacesFrom.{RaceFrom, IsFirstRaceFrom, RaceFreeFrom}
-use Rattle.journal.specs.CopiesFrom.{LawfulFrom}
-use Rattle.journal.specs.Cuts.{EndsEpisode, IsBaseAfter, IsBaseOf}
+use Rattle.journal.specs.PageImagesFrom.{LawfulFrom}
+use Rattle.journal.specs.EpisodeBases.{EndsEpisode, IsBaseAfter, IsBaseOf}
 
 -- all that was cut off, c, happens before all that is left, j; and j says the same of itself as the history does
-pub record SaysTheSame (s : Sizes) (b : Base) (c j : List Event) : Type 0 where
+pub record BaseSaysTheSame (s : Sizes) (b : Base) (c j : List Event) : Type 0 where
   pub cut_before : (i k : ℕ) → i < length c → k < length j → HappensBefore (c ++ j) i (length c + k)
   pub order : (i k : ℕ) → HappensBefore (c ++ j) (length c + i) (length c + k) ↔ HappensBeforeFrom b j i k
   pub pasts : (p i : ℕ) → InPast (c ++ j) p (length c + i) ↔ InPastFrom b j p i
@@ -33,7 +33,7 @@ pub record SaysTheSame (s : Sizes) (b : Base) (c j : List Event) : Type 0 where
 -- the same, for a history that is well formed
 abbrev pub SameLaw : Type 0
 SameLaw = (s : Sizes) (b : Base) (c j : List Event)
-    → WellFormed s (c ++ j) → IsBaseOf s.processors (addresses s) c b → SaysTheSame s b c j
+    → WellFormed s (c ++ j) → IsBaseOf s.processors (addresses s) c b → BaseSaysTheSame s b c j
 
 -- a history is well formed exactly where what was cut off is, and what is left from the base
 abbrev pub WellFormedLaw : Type 0
@@ -42,14 +42,14 @@ WellFormedLaw = (s : Sizes) (b : Base) (c j : List Event)
 
 -- what was cut off of an explained history replays, and what is left replays from the base up to its first race, or
 -- whole where it has none
-pub record ReplaysFrom (s : Sizes) (b : Base) (c j : List Event) : Type 0 where
+pub record ReplaysFromBase (s : Sizes) (b : Base) (c j : List Event) : Type 0 where
   pub cut : Replays (replicate (addresses s) 0) c
   pub left : RaceFreeFrom b j → Replays b.memory j
   pub up_to : (i k : ℕ) → IsFirstRaceFrom b j i k → Replays b.memory (take k j)
 
 abbrev pub FlatLaw : Type 0
 FlatLaw = (s : Sizes) (b : Base) (c j : List Event)
-    → WellFormed s (c ++ j) → Explained (c ++ j) → IsBaseOf s.processors (addresses s) c b → ReplaysFrom s b c j
+    → WellFormed s (c ++ j) → Explained (c ++ j) → IsBaseOf s.processors (addresses s) c b → ReplaysFromBase s b c j
 
 -- a copy of one who has done something since is the base's page after the stores to it in the past within what is left
 abbrev pub CopyLaw : Type 0
@@ -65,7 +65,7 @@ CutTwiceLaw = (s : Sizes) (b after : Base) (c d : List Event)
     → IsBaseOf s.processors (addresses s) (c ++ d) after
 
 -- nothing cut off leaves no base, and from that a journal says what it says without one
-pub record SaysItself (s : Sizes) (b : Base) (j : List Event) : Type 0 where
+pub record BaseSaysItself (s : Sizes) (b : Base) (j : List Event) : Type 0 where
   pub base : IsBaseOf s.processors (addresses s) [] b
   pub order : (i k : ℕ) → HappensBefore j i k ↔ HappensBeforeFrom b j i k
   pub pasts : (p i : ℕ) → InPast j p i ↔ InPastFrom b j p i
@@ -75,4 +75,4 @@ pub record SaysItself (s : Sizes) (b : Base) (j : List Event) : Type 0 where
   pub copies : (p n : ℕ) (page : List ℕ) → n < s.pages → Lawful s j p n page ↔ LawfulFrom s b j p n page
 
 abbrev pub UncutLaw : Type 0
-UncutLaw = (s : Sizes) (j : List Event) → SaysItself s (no_base (addresses s)) j
+UncutLaw = (s : Sizes) (j : List Event) → BaseSaysItself s (no_base (addresses s)) j

@@ -6,24 +6,24 @@ use Rattle.journal.specs.declared.event.Kind.TheVariants.{Load, Store}
 use Rattle.journal.specs.Sizes.{Sizes}
 use Rattle.journal.specs.Events.{At, is_taking}
 use Rattle.journal.specs.WellFormed.{Does}
-use Rattle.base.specs.Writes.{written}
-use Rattle.journal.specs.Copies.{Lawful}
+use Rattle.base.specs.LastWritten.{written}
+use Rattle.journal.specs.PageImages.{Lawful}
 
 -- what an event stores in page n
-abbrev pub write_in : Sizes → ℕ → Kind → Option (ℕ × ℕ)
-write_in s n (Store a v) = cond (a / s.words == n) (Some (a % s.words, v)) None
-write_in s n _ = None
+abbrev pub block_write : Sizes → ℕ → Kind → Option (ℕ × ℕ)
+block_write s n (Store a v) = cond (a / s.words == n) (Some (a % s.words, v)) None
+block_write s n _ = None
 
 -- page n after the block's stores
 abbrev pub block_done : Sizes → ℕ → List ℕ → List Event → List ℕ
-block_done s n page block = written (λ (e : Event). write_in s n e.kind) page block
+block_done s n page block = written (λ (e : Event). block_write s n e.kind) page block
 
 -- events of p that take nothing
 abbrev pub IsBlock : ℕ → List Event → Type 0
 IsBlock p block = (k : ℕ) (e : Event) → At block k e → (e.processor ≡ p) × (is_taking e.kind ≡ false)
 
 -- the copy is what the block's stores make of a copy that is lawful before the block
-pub record OpenLawful (s : Sizes) (j block : List Event) (p n : ℕ) (page : List ℕ) : Type 0 where
+pub record LawfulOpenBlock (s : Sizes) (j block : List Event) (p n : ℕ) (page : List ℕ) : Type 0 where
   pub base : List ℕ
   pub lawful : Lawful s j p n base
   pub gives : page ≡ block_done s n base block

@@ -21,12 +21,12 @@ abbrev pub SomeArrives : List Event → ℕ → ℕ → Type 0
 SomeArrives j n i = (q : ℕ) × ArrivesAt j n q i
 
 -- the event at place i lets p do this next, if it does
-abbrev pub Sources : List Event → ℕ → Kind → ℕ → Type 0
-Sources j p (Acquire l) i = SomeDoes j (Release l) i
-Sources j p (Await f) i = SomeDoes j (Set f) i
-Sources j p Depart i = SomeArrives j (count_of is_depart j p) i
-Sources j p _ i = ⊥
+abbrev pub BringsFrom : List Event → ℕ → Kind → ℕ → Type 0
+BringsFrom j p (Acquire l) i = SomeDoes j (Release l) i
+BringsFrom j p (Await f) i = SomeDoes j (Set f) i
+BringsFrom j p Depart i = SomeArrives j (count_of is_depart j p) i
+BringsFrom j p _ i = ⊥
 
 -- place i is what p gets to know by doing this next
 abbrev pub Brings : List Event → ℕ → Kind → ℕ → Type 0
-Brings j p k = UpToSome j (Sources j p k)
+Brings j p k = UpToSome j (BringsFrom j p k)

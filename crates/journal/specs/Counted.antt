@@ -4,7 +4,7 @@ use Rattle.journal.specs.declared.event.Event.{Event}
 use Rattle.journal.specs.declared.event.Kind.TheVariants.{Fetch}
 use Rattle.journal.specs.Sizes.{Sizes}
 use Rattle.journal.specs.WellFormed.{Does}
-use Rattle.journal.specs.Copies.{GapCounts}
+use Rattle.journal.specs.PageImages.{GapCounts}
 
 -- each fetch counts its gap
 abbrev pub AreCounted : Sizes → List Event → Type 0

@@ -9,8 +9,8 @@ abbrev pub At : List Event → ℕ → Event → Type 0
 At j i e = slice_get j i ≡ Some e
 
 -- the events of processor p, in order
-abbrev pub part : List Event → ℕ → List Event
-part j p = filter (λ e. e.processor == p) j
+abbrev pub events_of : List Event → ℕ → List Event
+events_of j p = filter (λ e. e.processor == p) j
 
 abbrev pub is_arrive : Kind → Bool
 is_arrive Arrive = true

@@ -2,13 +2,13 @@
 use Rattle.std.specs.Prelude.{ℕ, ◌≡◌, ◌+◌, ◌*◌, ◌^◌, ◌≤◌, ◌==◌, ◌&&◌, not, cond, filter, List, [], ◌∷◌, ◌++◌, length}
 use Rattle.std.specs.List.{list_any}
 use Rattle.base.specs.Limits.{most_cut}
-use Rattle.base.specs.Writes.{wrote}
+use Rattle.base.specs.LastWritten.{wrote}
 use Rattle.journal.specs.declared.event.Event.{Event}
 use Rattle.journal.specs.declared.event.Kind.{Kind}
 use Rattle.journal.specs.declared.event.Kind.TheVariants.{Acquire, Release, Set}
 use Rattle.journal.specs.declared.traffic.Traffic.{Traffic}
 use Rattle.journal.specs.declared.base_state.Kept.{Kept}
-use Rattle.journal.specs.Flat.{flat_write}
+use Rattle.journal.specs.FlatMemory.{flat_write}
 use Rattle.journal.specs.Traffic.{messages_of, records_of, words_fetched}
 use Rattle.journal.specs.Base.{Base}
 

@@ -3,7 +3,7 @@ use Rattle.std.specs.Prelude.{ℕ, ◌≡◌, ◌≤◌, List, [], ◌++◌}
 use Rattle.base.specs.Limits.{most_cut}
 use Rattle.journal.specs.declared.event.Event.{Event}
 use Rattle.journal.specs.Base.{Base, no_base}
-use Rattle.journal.specs.Cuts.{IsBaseOf}
+use Rattle.journal.specs.EpisodeBases.{IsBaseOf}
 
 -- the sizes, the events in order, for how many more events memory is reserved, and what is kept of the events cut off
 pub record Log : Type 0 where
@@ -24,7 +24,7 @@ pub record HoldsHistory (log : Log) (h : List Event) : Type 0 where
   pub history : log.events ≡ h
 
 -- the journal holds what is left of this history after c was cut off: few enough events, which leave its base
-pub record HoldsRest (log : Log) (c h : List Event) : Type 0 where
+pub record HoldsRestOfHistory (log : Log) (c h : List Event) : Type 0 where
   pub history : h ≡ c ++ log.events
   pub base : IsBaseOf log.processors log.addresses c log.base
   pub few : log.base.cut ≤ most_cut

@@ -1,12 +1,12 @@
 -- The timestamps of locks or flags by their numbers.
 use Rattle.std.specs.Prelude.{ℕ, cond, nat_lt}
 use Rattle.journal.specs.declared.numbered.Numbered.{Numbered}
-use Rattle.journal.specs.Entries.{entry, map_entry}
+use Rattle.journal.specs.ClockEntry.{entry, map_entry}
 
 -- the numbers below this are low
 abbrev pub first_high : ℕ
 first_high = 1024
 
 -- entry q of the timestamp of number n: a low number's stands in the table
-abbrev pub kept_entry : Numbered → ℕ → ℕ → ℕ
-kept_entry c n q = cond (nat_lt n first_high) (entry c.low.items n q) (map_entry c.high n q)
+abbrev pub numbered_entry : Numbered → ℕ → ℕ → ℕ
+numbered_entry c n q = cond (nat_lt n first_high) (entry c.low.items n q) (map_entry c.high n q)

@@ -2,7 +2,7 @@
 use Rattle.std.specs.Prelude.{ℕ, ◌≡◌, ◌⊎◌, List}
 use Rattle.journal.specs.declared.event.Event.{Event}
 use Rattle.journal.specs.Events.{At}
-use Rattle.journal.specs.Order.{HappensBefore}
+use Rattle.journal.specs.HappensBeforeEdges.{HappensBefore}
 
 -- place i is k, or happens before it
 abbrev pub UpTo : List Event → ℕ → ℕ → Type 0

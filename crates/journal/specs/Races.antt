@@ -2,7 +2,7 @@
 use Rattle.std.specs.Prelude.{ℕ, ◌≡◌, ◌≢◌, ◌<◌, ◌≤◌, ◌⊎◌, List, Some, IsTrue}
 use Rattle.journal.specs.declared.event.Event.{Event}
 use Rattle.journal.specs.Events.{At, address_of, is_store}
-use Rattle.journal.specs.Order.{HappensBefore}
+use Rattle.journal.specs.HappensBeforeEdges.{HappensBefore}
 
 -- one address, and a store at least on one side
 pub record Conflict (e f : Event) : Type 0 where

@@ -4,7 +4,7 @@ use Rattle.journal.specs.declared.event.Event.{Event}
 use Rattle.journal.specs.Events.{At}
 use Rattle.journal.specs.Races.{Conflict}
 use Rattle.journal.specs.Base.{Base}
-use Rattle.journal.specs.OrderFrom.{HappensBeforeFrom}
+use Rattle.journal.specs.HappensBeforeFrom.{HappensBeforeFrom}
 
 -- two accesses that conflict, by two processors, the first of which does not happen before the second
 pub record RaceFrom (b : Base) (j : List Event) (i k : ℕ) : Type 0 where

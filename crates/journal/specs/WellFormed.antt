@@ -3,7 +3,7 @@ use Rattle.std.specs.Prelude.{ℕ, ◌≡◌, ◌≢◌, ◌+◌, ◌<◌, ◌�
 use Rattle.journal.specs.declared.event.Event.{Event}
 use Rattle.journal.specs.declared.event.Kind.{Kind}
 use Rattle.journal.specs.declared.event.Kind.TheVariants.{Load, Store, Fetch, Ask, Acquire, Release, Arrive, Depart, Set, Watch, Await}
-use Rattle.journal.specs.Did.{event}
+use Rattle.journal.specs.DidEvent.{event}
 use Rattle.journal.specs.Sizes.{Sizes, addresses}
 use Rattle.journal.specs.Events.{At, count_of, is_arrive, is_depart, is_taking}
 
@@ -46,11 +46,11 @@ abbrev pub AllArrived : Sizes → List Event → ℕ → Type 0
 AllArrived s j n = (q : ℕ) → q < s.processors → n ≤ count_of is_arrive j q
 
 -- after a call that waits comes what it waits for
-abbrev pub Answers : Kind → Kind → Type 0
-Answers (Ask l) k = k ≡ Acquire l
-Answers Arrive k = k ≡ Depart
-Answers (Watch f) k = k ≡ Await f
-Answers _ k = Unit {0}
+abbrev pub AnswersCall : Kind → Kind → Type 0
+AnswersCall (Ask l) k = k ≡ Acquire l
+AnswersCall Arrive k = k ≡ Depart
+AnswersCall (Watch f) k = k ≡ Await f
+AnswersCall _ k = Unit {0}
 
 -- what has to hold for p to do this next
 abbrev pub Allowed : Sizes → List Event → ℕ → Kind → Type 0
@@ -65,7 +65,7 @@ Allowed s j p _ = Unit {0}
 pub record MayFollow (s : Sizes) (j : List Event) (e : Event) : Type 0 where
   pub processor : e.processor < s.processors
   pub in_range : KindInRange s e.kind
-  pub answers : (i : ℕ) (k : Kind) → LastIs j e.processor i k → Answers k e.kind
+  pub answers : (i : ℕ) (k : Kind) → LastIs j e.processor i k → AnswersCall k e.kind
   pub allowed : Allowed s j e.processor e.kind
 
 -- each event may follow what stands before it

@@ -4,10 +4,10 @@ use Rattle.std.specs.Prelude.{ℕ, ◌≡◌, ◌≢◌, ◌+◌, ◌<◌, ◌�
 use Rattle.journal.specs.declared.event.Event.{Event}
 use Rattle.journal.specs.declared.event.Kind.{Kind}
 use Rattle.journal.specs.declared.event.Kind.TheVariants.{Ask, Acquire, Release, Arrive, Depart, Set, Watch, Await}
-use Rattle.base.specs.Places.{Has}
+use Rattle.base.specs.InOrderOnce.{Has}
 use Rattle.journal.specs.Sizes.{Sizes}
 use Rattle.journal.specs.Events.{At, count_of, is_arrive, is_depart}
-use Rattle.journal.specs.WellFormed.{KindInRange, Does, LastIs, Holds, Answers}
+use Rattle.journal.specs.WellFormed.{KindInRange, Does, LastIs, Holds, AnswersCall}
 use Rattle.journal.specs.Base.{Base, arrivals_cut}
 
 -- p has done nothing here
@@ -15,13 +15,13 @@ abbrev pub IsAway : List Event → ℕ → Type 0
 IsAway j p = (m : ℕ) (e : Event) → At j m e → e.processor ≢ p
 
 -- p held l at the base, and has not released it since
-pub record StillHolds (b : Base) (j : List Event) (p l : ℕ) : Type 0 where
+pub record StillHoldsFrom (b : Base) (j : List Event) (p l : ℕ) : Type 0 where
   pub held : Has b.holders (p, l)
   pub keeps : (k : ℕ) → ¬ Does j k p (Release l)
 
 -- p holds l, by an acquire of its own here or from the base
 abbrev pub HoldsFrom : Base → List Event → ℕ → ℕ → Type 0
-HoldsFrom b j p l = Holds j p l ⊎ StillHolds b j p l
+HoldsFrom b j p l = Holds j p l ⊎ StillHoldsFrom b j p l
 
 -- f is set, here or at the base
 abbrev pub IsSetFrom : Base → List Event → ℕ → Type 0
@@ -53,7 +53,7 @@ AllowedFrom s b j p _ = Unit {0}
 pub record MayFollowFrom (s : Sizes) (b : Base) (j : List Event) (e : Event) : Type 0 where
   pub processor : e.processor < s.processors
   pub in_range : KindInRange s e.kind
-  pub answers : (k : Kind) → LastFrom b j e.processor k → Answers k e.kind
+  pub answers : (k : Kind) → LastFrom b j e.processor k → AnswersCall k e.kind
   pub allowed : AllowedFrom s b j e.processor e.kind
 
 -- each event may follow what stands before it

@@ -6,7 +6,7 @@ ghost use Rattle.journal.specs.Prelude.{words_fetched, no_base, IsBaseAfter, bas
 ghost use Rattle.journal.specs.Prelude.{holders_after, flags_after, IsKeptAfter};
 
 use crate::event::{Event, Kind};
-use crate::traffic::{Traffic, cost_of};
+use crate::traffic::{Traffic, event_traffic};
 use std::alloc::{AllocError, Global};
 
 /// What is kept of the events that were cut off: how many there were, the memory after them, who holds
@@ -106,7 +106,7 @@ impl Kept {
         hold(&mut self.holders, event)?;
         set(&mut self.flags, event.kind)?;
         store(&mut self.memory, event.kind);
-        let cost = cost_of(event.kind);
+        let cost = event_traffic(event.kind);
         self.spent.messages += cost.messages;
         self.spent.records += cost.records;
         self.spent.words += cost.words;

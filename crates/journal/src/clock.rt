@@ -2,7 +2,7 @@
 ghost use Rattle.std.specs.Prelude.{◌≡◌, ℕ, ◌+◌, ◌<◌, ◌≤◌, ◌^◌, ◌≢◌, ◌↔◌, ◌==◌, IsTrue, IfOk, OnOk, cond, max};
 ghost use Rattle.std.specs.Prelude.{length, slice_index, slice_index_or, vec_len};
 ghost use Rattle.std.specs.VecDeque.{deque_len};
-ghost use Rattle.journal.specs.Prelude.{entry, map_entry, IsJoinedAt};
+ghost use Rattle.journal.specs.Prelude.{entry, map_entry, EntryJoinedAt};
 
 use std::alloc::{AllocError, Global};
 use std::collections::{BTreeMap, VecDeque};
@@ -42,7 +42,7 @@ pub(crate) fn tick(clock: &mut Clock, processor: usize)
 }
 
 /// Whether each entry but the processor's own is at most the other timestamp's.
-pub(crate) fn others_are_within(clock: &Clock, other: &Clock, processor: usize) -> bool
+pub(crate) fn others_are_within_clock(clock: &Clock, other: &Clock, processor: usize) -> bool
     ensures { IsTrue result ↔ ((q : ℕ) → q ≢ processor
         → slice_index clock.now q ≤ slice_index other.now q) }
 {
@@ -66,7 +66,7 @@ pub(crate) fn join_at(
     number: usize,
     clock: &Clock,
 ) -> Result<(), AllocError>
-    ensures { OnOk result (IsJoinedAt (map_entry clocks.old) (map_entry clocks.new) number
+    ensures { OnOk result (EntryJoinedAt (map_entry clocks.old) (map_entry clocks.new) number
         (slice_index clock.now)) }
 {
     let mut kept = clock_at(clocks, number);
@@ -89,7 +89,7 @@ pub(crate) fn join_from(clock: &mut Clock, clocks: &VecDeque<Clock>, place: usiz
 /// Makes the queue long enough for this place, with zeros.
 #[cold]
 #[inline(never)]
-fn grow_in(clocks: &mut VecDeque<Clock>, place: usize) -> Result<(), AllocError>
+fn grow_clock_in(clocks: &mut VecDeque<Clock>, place: usize) -> Result<(), AllocError>
     ensures within { OnOk result (place < deque_len clocks.new) }
     ensures same { OnOk result ((n q : ℕ) → entry clocks.new.items n q ≡ entry clocks.old.items n q) }
 {
@@ -106,11 +106,11 @@ pub(crate) fn join_in(
     place: usize,
     clock: &Clock,
 ) -> Result<(), AllocError>
-    ensures { OnOk result (IsJoinedAt (entry clocks.old.items) (entry clocks.new.items) place
+    ensures { OnOk result (EntryJoinedAt (entry clocks.old.items) (entry clocks.new.items) place
         (slice_index clock.now)) }
 {
     if clocks.len() <= place {
-        grow_in(clocks, place)?;
+        grow_clock_in(clocks, place)?;
     }
     join(&mut clocks[place], clock);
     Ok(())

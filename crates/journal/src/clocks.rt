@@ -2,8 +2,8 @@
 ghost use Rattle.std.specs.Prelude.{◌≡◌, ◌↔◌, ℕ, ◌+◌, ◌-◌, ◌<◌, ◌≤◌, ◌^◌, ◌==◌, ◌&&◌, [], IsTrue, EachIndex, IfOk};
 ghost use Rattle.std.specs.Prelude.{OnOk, cond, max, length, take, slice_get, slice_index, vec_len, true};
 ghost use Rattle.base.specs.Prelude.{most_held, most_processors};
-ghost use Rattle.journal.specs.Prelude.{ProcessorsInRange, entry, kept_entry, IsClosedAt, IsJoinedAt, AreClocks};
-ghost use Rattle.journal.specs.Prelude.{IsArrived};
+ghost use Rattle.journal.specs.Prelude.{ProcessorsInRange, entry, numbered_entry, EntryClosedAt, EntryJoinedAt, AreClocks};
+ghost use Rattle.journal.specs.Prelude.{ClocksArrived};
 
 use crate::clock::{Clock, join_from, join_in, tick, zeros};
 use crate::event::{Event, Kind};
@@ -40,7 +40,7 @@ fn close(processors: &mut Vec<Clock>, processor: usize)
     requires long { vec_len processors.old ≡ 16 }
     requires room { entry processors.old.items processor processor < 2 ^ 22 }
     ensures long { vec_len processors.new ≡ vec_len processors.old }
-    ensures closed { IsClosedAt (entry processors.old.items) (entry processors.new.items) processor }
+    ensures closed { EntryClosedAt (entry processors.old.items) (entry processors.new.items) processor }
 {
     tick(&mut processors[processor], processor);
 }
@@ -50,8 +50,8 @@ fn close(processors: &mut Vec<Clock>, processor: usize)
 fn take(processors: &mut Vec<Clock>, processor: usize, kept: &Numbered, number: usize)
     requires { processor < vec_len processors.old }
     ensures long { vec_len processors.new ≡ vec_len processors.old }
-    ensures joined { IsJoinedAt (entry processors.old.items) (entry processors.new.items) processor
-        (kept_entry kept.now number) }
+    ensures joined { EntryJoinedAt (entry processors.old.items) (entry processors.new.items) processor
+        (numbered_entry kept.now number) }
 {
     kept.join_into(number, &mut processors[processor]);
 }
@@ -69,8 +69,8 @@ fn hand_over(
     requires long { vec_len processors.old ≡ 16 }
     requires room { entry processors.old.items processor processor < 2 ^ 22 }
     ensures long { vec_len processors.new ≡ vec_len processors.old }
-    ensures closed { IsClosedAt (entry processors.old.items) (entry processors.new.items) processor }
-    ensures joined { OnOk result (IsJoinedAt (kept_entry kept.old) (kept_entry kept.new) number
+    ensures closed { EntryClosedAt (entry processors.old.items) (entry processors.new.items) processor }
+    ensures joined { OnOk result (EntryJoinedAt (numbered_entry kept.old) (numbered_entry kept.new) number
         (entry processors.new.items processor)) }
 {
     close(processors, processor);
@@ -117,9 +117,9 @@ impl Clocks {
           arrivals = self.new.arrivals;
         } }
         ensures long { vec_len self.new.processors ≡ vec_len self.old.processors }
-        ensures closed { IsClosedAt (entry self.old.processors.items)
+        ensures closed { EntryClosedAt (entry self.old.processors.items)
             (entry self.new.processors.items) processor }
-        ensures arrived { OnOk result (IsArrived self.old self.new processor) }
+        ensures arrived { OnOk result (ClocksArrived self.old self.new processor) }
     {
         close(&mut self.processors, processor);
         let episode = self.arrivals[processor] as usize;
@@ -142,7 +142,7 @@ impl Clocks {
           departures = self.new.departures;
         } }
         ensures long { vec_len self.new.processors ≡ vec_len self.old.processors }
-        ensures joined { IsJoinedAt (entry self.old.processors.items)
+        ensures joined { EntryJoinedAt (entry self.old.processors.items)
             (entry self.new.processors.items) processor (entry self.old.episodes.items
             (slice_index self.old.departures processor - self.old.gone)) }
         ensures departures { (q : ℕ) → slice_index self.new.departures q

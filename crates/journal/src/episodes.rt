@@ -18,7 +18,7 @@ pub(crate) struct Episodes {
 }
 
 /// Whether each of the counts reaches this number.
-fn all_reach(counts: &[u32], number: u32) -> bool
+fn all_reach_episode(counts: &[u32], number: u32) -> bool
     ensures { IsTrue result ↔ EachIndex counts.now (λ k. number ≤ slice_index counts.now k) }
 {
     counts.iter().all(|count| *count >= number)
@@ -42,7 +42,7 @@ fn ends_episode(arrivals: &mut [u32; 16], processors: usize, event: Event) -> bo
     }
     arrivals[event.processor] += 1;
     let mine = arrivals[event.processor];
-    all_reach(&arrivals[..processors], mine)
+    all_reach_episode(&arrivals[..processors], mine)
 }
 
 impl Episodes {

@@ -5,7 +5,7 @@ ghost use Rattle.std.specs.Prelude.{max, option_copied, slice_get, take};
 ghost use Rattle.base.specs.Prelude.{most_held, most_processors, most_cut};
 ghost use Rattle.journal.specs.Prelude.{AddressInRange, AddressesInRange, new_log, ExplainedFrom, Replays};
 ghost use Rattle.journal.specs.Prelude.{memory_after, RaceFreeFrom, IsFirstRaceFrom, WasCut, IsCutFault, messages};
-ghost use Rattle.journal.specs.Prelude.{records, words, IsOpening, IsCut, NoCut, IsBaseState, base_of};
+ghost use Rattle.journal.specs.Prelude.{records, words, IsOpening, IsEpisodeCut, NoEpisodeCut, IsBaseState, base_of};
 
 use crate::base_state::Kept;
 use crate::cut::CutFault;
@@ -41,7 +41,7 @@ impl Model for Journal {
 
     ghost Value = { Log };
 
-    ghost use Rattle.journal.specs.Holding.{log_of, JournalInvariant};
+    ghost use Rattle.journal.specs.JournalInvariant.{log_of, JournalInvariant};
 
     ghost view = { log_of };
 
@@ -271,8 +271,8 @@ impl Journal {
 
     /// How many events a cut takes: None where no episode is complete. It takes no memory.
     fn part(&self) -> Option<usize>
-        ensures place { MatchOption result (NoCut self.now.processors self.now.events)
-            (λ n. IsCut self.now.processors self.now.events n) }
+        ensures place { MatchOption result (NoEpisodeCut self.now.processors self.now.events)
+            (λ n. IsEpisodeCut self.now.processors self.now.events n) }
         ensures few { IfSome result (λ n. n ≤ most_held) }
     {
         self.episodes.last
@@ -280,7 +280,7 @@ impl Journal {
 
     /// The first race of the part that a cut takes, which is remembered.
     fn race_of_part(&mut self, count: usize) -> Result<Option<(usize, usize)>, AllocError>
-        requires { IsCut self.old.processors self.old.events count }
+        requires { IsEpisodeCut self.old.processors self.old.events count }
         ensures same { self.new ≡ self.old }
         ensures race { IfOk result (λ o. MatchOption o
             (RaceFreeFrom self.new.base (take count self.new.events))

@@ -2,11 +2,11 @@
 //! said of them alone.
 //!
 //! **What contracts see.** A `Journal` is a `Log` (specs/Log): sizes, events, room. What an event may be
-//! is in specs/Events and WellFormed; order, pasts and timestamps in Order, Pasts and Times; what copies
-//! of pages have and lack in Copies, Pages and Missing.
+//! is in specs/Events and WellFormed; order, pasts and timestamps in HappensBeforeEdges, Pasts and Times; what
+//! copies of pages have and lack in PageImages, ValidAndStaleCopy and MissingWords.
 //!
-//! **What is proved.** `replay`, `first_race` and `traffic` answer exactly what Flat, Races and Traffic
-//! define, and up to its first race an explained journal replays. Lemmas for the crates above lie in
+//! **What is proved.** `replay`, `first_race` and `traffic` answer exactly what FlatMemory, RaceConflicts
+//! and MessagesRecordsWords define, and up to its first race an explained journal replays. Lemmas for the crates above lie in
 //! proofs/, a folder a topic. `Clocks` has the timestamps of a journal that is taken an event at a time (`AreClocks`).
 //!
 //! **What is only tested** (in `test_memory`): that memory isn't refused needlessly, and that a journal of 2^20 events is

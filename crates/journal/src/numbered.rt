@@ -1,6 +1,6 @@
 //! The timestamps of locks or flags, by their numbers.
 ghost use Rattle.std.specs.Prelude.{◌≡◌, ℕ, IfOk, OnOk, max, slice_index};
-ghost use Rattle.journal.specs.Prelude.{kept_entry, IsJoinedAt};
+ghost use Rattle.journal.specs.Prelude.{numbered_entry, EntryJoinedAt};
 
 use crate::clock::{Clock, clock_at, join, join_at, join_from, join_in};
 use std::alloc::{AllocError, Global};
@@ -22,7 +22,7 @@ pub(crate) struct Numbered {
 impl Numbered {
     /// Zeros for each number.
     pub(crate) fn new(alloc: Global) -> Numbered
-        ensures { (n q : ℕ) → kept_entry result n q ≡ 0 }
+        ensures { (n q : ℕ) → numbered_entry result n q ≡ 0 }
     {
         Numbered {
             low: VecDeque::new(alloc),
@@ -34,7 +34,7 @@ impl Numbered {
     #[inline(always)]
     pub(crate) fn join_into(&self, number: usize, clock: &mut Clock)
         ensures { (q : ℕ) → slice_index clock.new q
-            ≡ max (slice_index clock.old q) (kept_entry self.now number q) }
+            ≡ max (slice_index clock.old q) (numbered_entry self.now number q) }
     {
         if number < FIRST_HIGH {
             join_from(clock, &self.low, number);
@@ -46,7 +46,7 @@ impl Numbered {
     /// Joins the timestamp into that of this number. The only error is running out of memory.
     #[inline(always)]
     pub(crate) fn join(&mut self, number: usize, clock: &Clock) -> Result<(), AllocError>
-        ensures { OnOk result (IsJoinedAt (kept_entry self.old) (kept_entry self.new) number
+        ensures { OnOk result (EntryJoinedAt (numbered_entry self.old) (numbered_entry self.new) number
             (slice_index clock.now)) }
     {
         if number < FIRST_HIGH {

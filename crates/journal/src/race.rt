@@ -5,10 +5,10 @@ ghost use Rattle.std.specs.Prelude.{cond, Some, length, take, slice_get, slice_i
 ghost use Rattle.base.specs.Prelude.{most_held, most_processors};
 ghost use Rattle.journal.specs.Prelude.{address_of, is_closing, IsTimeOf, Conflict, Race, IsFirstRace, RaceFree};
 ghost use Rattle.journal.specs.Prelude.{AddressInRange, AddressesInRange, ProcessorsInRange, entry, epoch_entry};
-ghost use Rattle.journal.specs.Prelude.{loads_entry, AreWithin, AreLoadsAfter, AreAccesses, ConflictsAreCounted};
+ghost use Rattle.journal.specs.Prelude.{loads_entry, AreWithin, AreLoadsAfter, AreAccessEntries, ConflictsAreCounted};
 ghost use Rattle.journal.specs.Prelude.{AccessNoted};
 
-use crate::clock::{Clock, others_are_within, tick, zeros};
+use crate::clock::{Clock, others_are_within_clock, tick, zeros};
 use crate::clocks::Clocks;
 use crate::event::{Event, Kind};
 use crate::kinds::{closes, is_access};
@@ -69,7 +69,7 @@ impl Access {
     {
         match self.loads {
             Loads::Last(load) => load.is_within(time, processor),
-            Loads::Several => others_are_within(several, time, processor),
+            Loads::Several => others_are_within_clock(several, time, processor),
         }
     }
 
@@ -127,7 +127,7 @@ struct Accesses {
 impl Accesses {
     /// Before the first event. The only error is running out of memory.
     fn new(alloc: Global, addresses: usize) -> Result<Accesses, AllocError>
-        ensures { IfOk result (λ x. AreAccesses [] addresses x) }
+        ensures { IfOk result (λ x. AreAccessEntries [] addresses x) }
     {
         let none = Access {
             store: NONE,
@@ -223,7 +223,7 @@ impl Accesses {
         requires last { AddressInRange (vec_len self.now.last) event.kind }
         requires loads { AddressInRange (vec_len self.now.loads) event.kind }
         requires time { IsTimeOf (take place events.now) event.processor (slice_index time.now) }
-        requires kept { AreAccesses (take place events.now) (vec_len self.now.last) self.now }
+        requires kept { AreAccessEntries (take place events.now) (vec_len self.now.last) self.now }
         ensures { MatchOption result ((i : ℕ) → ¬ Race events.now i place)
             (λ i. Race events.now i place × ((m : ℕ) → Race events.now m place → i ≤ m)) }
     {

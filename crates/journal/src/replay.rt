@@ -24,7 +24,7 @@ fn do_event(memory: &mut [u32], kind: Kind) -> bool
 }
 
 /// Does the events to the memory in their order, up to one whose reply isn't its word.
-fn do_events(memory: &mut [u32], events: &[Event]) -> bool
+fn replay_events(memory: &mut [u32], events: &[Event]) -> bool
     requires { AddressesInRange (length memory.old) events.now }
     ensures replays { IsTrue result ↔ Replays memory.old events.now }
     ensures memory { IsTrue result → memory.new ≡ memory_after memory.old events.now }
@@ -49,7 +49,7 @@ pub(crate) fn replay_of(
     ensures memory { IfOk result (λ o. IfSome o (λ v. v.items ≡ memory_after base.now events.now)) }
 {
     let mut memory = Vec::from_slice(alloc, base)?;
-    if do_events(&mut memory, events) {
+    if replay_events(&mut memory, events) {
         Ok(Some(memory))
     } else {
         Ok(None)

@@ -17,7 +17,7 @@ pub struct Traffic {
 }
 
 /// What one event costs.
-pub(crate) fn cost_of(kind: Kind) -> Traffic
+pub(crate) fn event_traffic(kind: Kind) -> Traffic
     ensures messages { result.messages ≡ messages_of kind }
     ensures records { result.records ≡ records_of kind }
     ensures words { result.words ≡ words_fetched kind }
@@ -70,7 +70,7 @@ pub fn traffic_of(events: &[Event]) -> Traffic
 {
     let mut traffic = Traffic::default();
     for event in events {
-        let cost = cost_of(event.kind);
+        let cost = event_traffic(event.kind);
         traffic.messages += cost.messages;
         traffic.records += cost.records;
         traffic.words += cost.words;

@@ -2,9 +2,9 @@
 use Rattle.std.proofs.Common.{ℕ, ◌≡◌, ◌≢◌, ◌+◌, ◌<◌, ◌≤◌, ◌⊎◌, ◌↔◌, inl, inr, List, [], ◌∷◌, ◌++◌, Some, length, map, refl, sym, ap, ◌∙◌, subst, arith, length-append}
 use Rattle.std.proofs.lemmas.List.{length-map}
 use Rattle.std.proofs.lemmas.Option.{slice_get_within}
-use Rattle.journal.specs.Copies.{HasCount}
-use Rattle.base.specs.Places.{Has}
-use Rattle.base.proofs.Once.{once_le, once-append}
+use Rattle.journal.specs.PageImages.{HasCount}
+use Rattle.base.specs.InOrderOnce.{Has}
+use Rattle.base.proofs.OnceWithout.{once_le, once-append}
 use Rattle.base.proofs.Joined.{has-nil, has-cons, has-append, in_order_single, has-map, in_order-map, in_order_weaker, in_order-nil}
 
 count_le : {A : Type 0} (P : A → Type 0) (a b : ℕ) → HasCount P a → HasCount P b → a ≤ b

@@ -2,11 +2,11 @@
 use Rattle.std.proofs.Common.{ℕ, ◌+◌, ◌<◌, ◌≤◌, inl, inr, List, Bool, true, false, length, take, subst, sym, take-take, arith}
 use Rattle.std.proofs.lemmas.Bool.{cases_eq}
 use Rattle.std.proofs.lemmas.Option.{slice_get_within}
-use Rattle.base.proofs.Places.{slice_get-take_within, slice_get-from_take}
+use Rattle.base.proofs.SlicesAndCounts.{slice_get-take_within, slice_get-from_take}
 use Rattle.journal.specs.declared.event.Event.{Event}
 use Rattle.journal.specs.Sizes.{Sizes}
 use Rattle.journal.specs.Events.{At}
-use Rattle.journal.proofs.Order.Places.{at_same}
+use Rattle.journal.proofs.Order.CountedAndNumbered.{at_same}
 use Rattle.judge.specs.Lax.{MayFollowIn, MayFollowLax, WellFormedIn}
 use Rattle.judge.proofs.Refusing.{may_lax}
 

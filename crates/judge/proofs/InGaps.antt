@@ -3,26 +3,26 @@ use Rattle.std.proofs.Common.{ℕ, ◌≡◌, ◌≢◌, ◌<◌, ◌≤◌, ◌
 use Rattle.std.proofs.lemmas.Bool.{cases_lt}
 use Rattle.std.proofs.lemmas.Option.{none-some}
 use Rattle.std.proofs.Math.Seq.{take-append_seam}
-use Rattle.base.proofs.Places.{push_cases}
+use Rattle.base.proofs.SlicesAndCounts.{push_cases}
 use Rattle.journal.specs.declared.event.Event.{Event}
 use Rattle.journal.specs.declared.event.Kind.TheVariants.{Store, Fetch}
-use Rattle.journal.specs.Did.{did, event}
+use Rattle.journal.specs.DidEvent.{did, event}
 use Rattle.journal.specs.Sizes.{Sizes}
 use Rattle.journal.specs.Events.{count_of, interval_at, is_closing}
-use Rattle.journal.specs.Order.{HappensBefore}
+use Rattle.journal.specs.HappensBeforeEdges.{HappensBefore}
 use Rattle.journal.specs.Pasts.{InPast}
 use Rattle.journal.specs.Times.{IsTimeOf}
 use Rattle.journal.specs.WellFormed.{Does}
-use Rattle.journal.specs.Copies.{StoredInGap}
-use Rattle.journal.specs.Brought.{Brought}
-use Rattle.journal.proofs.Order.Places.{at_within, at_longer, at_last, count_of-append, count_of-front, count_of-take-le}
-use Rattle.journal.proofs.Order.HappensBefore.{shorter}
-use Rattle.journal.proofs.Order.Pasts.{past_back, past_within, own_in_past, reaches_new}
+use Rattle.journal.specs.PageImages.{StoredInGap}
+use Rattle.journal.specs.BroughtCopy.{Brought}
+use Rattle.journal.proofs.Order.CountedAndNumbered.{at_within, at_longer, at_last, count_of-append, count_of-front, count_of-take-le}
+use Rattle.journal.proofs.Order.HappensBefore.{before_shorter}
+use Rattle.journal.proofs.Order.EdgesIntoPast.{past_back, past_within, own_in_past, reaches_new}
 use Rattle.journal.proofs.Times.Times.{interval_behind}
-use Rattle.journal.proofs.Times.Pushes.{covered}
-use Rattle.journal.proofs.Copies.Stores.{store_same, stores_to}
-use Rattle.journal.proofs.Copies.Brought.{brought_longer, brought_past, brought_push, gap_is}
-use Rattle.journal.proofs.Missing.Gaps.{gap_apart, not_mine}
+use Rattle.journal.proofs.Times.PushesCovered.{covered}
+use Rattle.journal.proofs.CopyOfPage.Stores.{store_same, stores_to}
+use Rattle.journal.proofs.CopyOfPage.Brought.{brought_longer, brought_past, brought_push, gap_is}
+use Rattle.journal.proofs.Missing.GapsTaken.{gaps_apart, not_mine}
 use Rattle.judge.specs.Gaps.{StoresAt, StoresInPage, StoresWord, FetchedUpTo}
 use Rattle.judge.proofs.Rows.{IsMore}
 
@@ -183,7 +183,7 @@ fetched_now s j p n w r d t time = record { brought = brought; within = within }
         let f = x.1 in
         let fetch : Event = event p (Fetch f.0 n f.1 f.2) in
         elim (push_cases j e x.0 fetch f.3) [
-          | inl old ↦ past_back j p i x.0 (shorter j (e ∷ []) old.0 x.2) (own_in_past j p x.0 fetch old.1 refl)
+          | inl old ↦ past_back j p i x.0 (before_shorter j (e ∷ []) old.0 x.2) (own_in_past j p x.0 fetch old.1 refl)
           | inr new ↦ (reaches_new j e i refl).0 (subst (HappensBefore (j ++ e ∷ []) i) new.0 x.2)
         ]
 
@@ -246,4 +246,4 @@ stored_is s j p n q k a m t fetched time apart = (there, back)
 
 -- one's own stores are in no gap of one's
 pub own_none : (s : Sizes) (j : List Event) (p n k a : ℕ) → ¬ StoredInGap s j p n (p, k, a)
-own_none s j p n k a g = gap_apart s j p n p g.0 a g.1 g.3 g.2 refl
+own_none s j p n k a g = gaps_apart s j p n p g.0 a g.1 g.3 g.2 refl

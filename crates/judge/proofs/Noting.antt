@@ -7,13 +7,13 @@ use Rattle.std.proofs.lemmas.Option.{same_Some, none-some}
 use Rattle.journal.specs.declared.event.Event.{Event}
 use Rattle.journal.specs.declared.event.Kind.{Kind}
 use Rattle.journal.specs.declared.event.Kind.TheVariants.{Acquire, Release, Set}
-use Rattle.journal.specs.Did.{event}
+use Rattle.journal.specs.DidEvent.{event}
 use Rattle.journal.specs.Sizes.{Sizes}
 use Rattle.journal.specs.Events.{At, count_of}
 use Rattle.journal.specs.WellFormed.{Holds, LastIs}
-use Rattle.base.proofs.Places.{push_cases}
-use Rattle.journal.proofs.Order.Places.{at_last, at_longer, count_of-append}
-use Rattle.journal.proofs.Journals.WellFormed.{last_now, last_longer, holds_now, holds_longer, holds_cases}
+use Rattle.base.proofs.SlicesAndCounts.{push_cases}
+use Rattle.journal.proofs.Order.CountedAndNumbered.{at_last, at_longer, count_of-append}
+use Rattle.journal.proofs.Journals.WellFormedLast.{last_now, last_longer, holds_now, holds_longer, holds_cases}
 use Rattle.judge.specs.declared.front.LastEvent.{LastEvent}
 use Rattle.judge.specs.Lax.{AllowedLax}
 use Rattle.judge.specs.Tells.{IsLastOf, IsSet, holder_after, is_set_after}

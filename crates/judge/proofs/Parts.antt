@@ -5,9 +5,9 @@ use Rattle.journal.specs.declared.event.Event.{Event}
 use Rattle.journal.specs.Sizes.{Sizes}
 use Rattle.journal.specs.InRange.{ProcessorsInRange}
 use Rattle.journal.specs.Times.{IsTimeOf}
-use Rattle.journal.specs.Copies.{HasCount, StoredInGap, GapCounts}
+use Rattle.journal.specs.PageImages.{HasCount, StoredInGap, GapCounts}
 use Rattle.journal.specs.declared.event.Kind.TheVariants.{Store}
-use Rattle.journal.specs.Did.{event}
+use Rattle.journal.specs.DidEvent.{event}
 use Rattle.journal.proofs.Missing.Counted.{count_of_same}
 use Rattle.judge.specs.Gaps.{StoresInPage, StoresWord, FetchedUpTo, CountsAmong}
 use Rattle.judge.specs.Tallies.{IsTallyRow, is_between}

@@ -7,9 +7,9 @@ use Rattle.journal.specs.declared.event.Kind.{Kind}
 use Rattle.journal.specs.declared.event.Kind.TheVariants.{Ask, Acquire, Arrive, Depart, Watch, Await}
 use Rattle.journal.specs.Sizes.{Sizes}
 use Rattle.journal.specs.Events.{is_taking}
-use Rattle.journal.specs.WellFormed.{Allowed, Answers, MayFollow}
+use Rattle.journal.specs.WellFormed.{Allowed, AnswersCall, MayFollow}
 use Rattle.journal.specs.Waits.{awaited}
-use Rattle.journal.proofs.Journals.WellFormed.{last_unique}
+use Rattle.journal.proofs.Journals.WellFormedLast.{last_unique}
 use Rattle.judge.specs.declared.why.Why.{Why}
 use Rattle.judge.specs.declared.why.Why.TheVariants.{NoSuchProcessor, OutOfRange, Waits, AsksWhatItHolds, NotAsked}
 use Rattle.judge.specs.declared.why.Why.TheVariants.{HeldBy, AskedEarlier, NotHeld, NotArrived, NotSet}
@@ -33,7 +33,7 @@ pub lax_law : LaxLaw
 lax_law s j well k e at = may_lax s (take k j) e (well k e at)
 
 -- what answers a call is what it waits for
-answers_kind : (a k b : Kind) → awaited a ≡ Some k → Answers a b → b ≡ k
+answers_kind : (a k b : Kind) → awaited a ≡ Some k → AnswersCall a b → b ≡ k
 answers_kind (Ask l) k b waits is = is ∙ same_Some (Acquire l) k waits
 answers_kind Arrive k b waits is = is ∙ same_Some Depart k waits
 answers_kind (Watch f) k b waits is = is ∙ same_Some (Await f) k waits

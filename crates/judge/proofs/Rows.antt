@@ -3,11 +3,11 @@ use Rattle.std.proofs.Common.{ℕ, suc, zero, ◌≡◌, ◌≢◌, ◌+◌, ◌
 use Rattle.std.proofs.lemmas.Bool.{cases_eq, cases_lt, ltb-true, lt-ltb, le-ltb, and_parts, and_from}
 use Rattle.std.proofs.lemmas.Option.{none-some}
 use Rattle.std.proofs.lemmas.List.Sums.{sum_by-cons, length-filter}
-use Rattle.journal.specs.Copies.{HasCount}
-use Rattle.base.specs.Places.{Has}
+use Rattle.journal.specs.PageImages.{HasCount}
+use Rattle.base.specs.InOrderOnce.{Has}
 use Rattle.base.proofs.Joined.{has-nil, has-cons, has-append, has-map, in_order-append, in_order_single}
-use Rattle.base.proofs.Once.{once-append}
-use Rattle.base.proofs.Picked.{has-filter, in_order-filter}
+use Rattle.base.proofs.OnceWithout.{once-append}
+use Rattle.base.proofs.FilteredInOrder.{has-filter, in_order-filter}
 use Rattle.judge.specs.declared.tally.Tally.{Tally}
 use Rattle.judge.specs.Tallies.{row_index, numbers, mark, is_between, TallyAdded, Adds, IsTallyRow, IsMark, IsTallyOf}
 

@@ -5,13 +5,13 @@ use Rattle.std.proofs.lemmas.Option.{same_Some, none-some}
 use Rattle.journal.specs.declared.event.Event.{Event}
 use Rattle.journal.specs.declared.event.Kind.{Kind}
 use Rattle.journal.specs.declared.event.Kind.TheVariants.{Ask, Acquire, Release, Arrive, Depart, Watch, Await}
-use Rattle.journal.specs.Did.{event}
+use Rattle.journal.specs.DidEvent.{event}
 use Rattle.journal.specs.Sizes.{Sizes}
 use Rattle.journal.specs.Events.{count_of, is_arrive, is_depart, is_taking}
-use Rattle.journal.specs.WellFormed.{Allowed, Answers, Does, Holds, KindInRange, LastIs}
+use Rattle.journal.specs.WellFormed.{Allowed, AnswersCall, Does, Holds, KindInRange, LastIs}
 use Rattle.journal.specs.Waits.{awaited}
-use Rattle.journal.proofs.Order.Places.{does_same}
-use Rattle.journal.proofs.Journals.WellFormed.{last_unique}
+use Rattle.journal.proofs.Order.CountedAndNumbered.{does_same}
+use Rattle.journal.proofs.Journals.WellFormedLast.{last_unique}
 use Rattle.judge.specs.declared.why.Why.{Why}
 use Rattle.judge.specs.declared.why.Why.TheVariants.{NoSuchProcessor, OutOfRange, Waits, AsksWhatItHolds, NotAsked}
 use Rattle.judge.specs.declared.why.Why.TheVariants.{HeldBy, AskedEarlier, NotHeld, NotArrived, NotSet}
@@ -26,14 +26,14 @@ AllowedIn true = AllowedLax
 AllowedIn false = Allowed
 
 -- what a processor waits for answers its call
-answers_of : (a b : Kind) → ((k : Kind) → awaited a ≡ Some k → b ≡ k) → Answers a b
+answers_of : (a b : Kind) → ((k : Kind) → awaited a ≡ Some k → b ≡ k) → AnswersCall a b
 answers_of (Ask l) b f = f (Acquire l) refl
 answers_of Arrive b f = f Depart refl
 answers_of (Watch g) b f = f (Await g) refl
 answers_of _ b f = tt
 
 answers_all : (s : Sizes) (j : List Event) (e : Event) → IsInTurn s j e → (i : ℕ) (a : Kind)
-    → LastIs j e.processor i a → Answers a e.kind
+    → LastIs j e.processor i a → AnswersCall a e.kind
 answers_all s j e turn i a last =
     answers_of a e.kind
     (λ k waits. turn.answers k (record { place = i; kind = a; last = last; awaits = waits }))

@@ -7,9 +7,9 @@ use Rattle.journal.specs.Events.{count_of, interval_at, is_closing}
 use Rattle.journal.specs.WellFormed.{Does}
 use Rattle.journal.specs.InRange.{ProcessorsInRange}
 use Rattle.journal.specs.Clocks.{AreClocks}
-use Rattle.journal.specs.Entries.{entry}
-use Rattle.journal.specs.Brought.{Brought}
-use Rattle.journal.specs.Copies.{HasCount, StoredInGap}
+use Rattle.journal.specs.ClockEntry.{entry}
+use Rattle.journal.specs.BroughtCopy.{Brought}
+use Rattle.journal.specs.PageImages.{HasCount, StoredInGap}
 use Rattle.judge.specs.declared.gaps.CountedGap.{CountedGap}
 use Rattle.judge.specs.declared.gaps.Gaps.{Gaps}
 use Rattle.judge.specs.Sizes.{AreSmall, sizes_of}

@@ -5,7 +5,7 @@ use Rattle.journal.specs.declared.event.Kind.{Kind}
 use Rattle.journal.specs.declared.event.Kind.TheVariants.{Ask, Acquire}
 use Rattle.journal.specs.Sizes.{Sizes}
 use Rattle.journal.specs.Events.{At}
-use Rattle.journal.specs.WellFormed.{Allowed, Answers, Holds, KindInRange, LastIs, MayFollow, WellFormed}
+use Rattle.journal.specs.WellFormed.{Allowed, AnswersCall, Holds, KindInRange, LastIs, MayFollow, WellFormed}
 
 -- what has to hold for p to do this next: of an acquire, that its ask is open, and that nobody holds the lock
 abbrev pub AllowedLax : Sizes → List Event → ℕ → Kind → Type 0
@@ -16,7 +16,7 @@ AllowedLax s j p k = Allowed s j p k
 pub record MayFollowLax (s : Sizes) (j : List Event) (e : Event) : Type 0 where
   pub processor : e.processor < s.processors
   pub in_range : KindInRange s e.kind
-  pub answers : (i : ℕ) (k : Kind) → LastIs j e.processor i k → Answers k e.kind
+  pub answers : (i : ℕ) (k : Kind) → LastIs j e.processor i k → AnswersCall k e.kind
   pub allowed : AllowedLax s j e.processor e.kind
 
 -- each event may follow what stands before it

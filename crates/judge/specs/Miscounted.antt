@@ -4,7 +4,7 @@ use Rattle.journal.specs.declared.event.Event.{Event}
 use Rattle.journal.specs.declared.event.Kind.TheVariants.{Fetch}
 use Rattle.journal.specs.Sizes.{Sizes}
 use Rattle.journal.specs.WellFormed.{KindInRange}
-use Rattle.journal.specs.Copies.{GapCounts}
+use Rattle.journal.specs.PageImages.{GapCounts}
 use Rattle.journal.specs.Events.{At}
 use Rattle.judge.specs.declared.miscounted.Miscounted.{Miscounted}
 

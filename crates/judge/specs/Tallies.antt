@@ -1,7 +1,7 @@
 -- Numbers of intervals in rows, and what they say.
 use Rattle.std.specs.Prelude.{ℕ, ◌≡◌, ◌≢◌, ◌+◌, ◌*◌, ◌-◌, ◌<◌, ◌≤◌, ◌⊎◌, ◌↔◌, ◌&&◌, not, nat_lt, Bool, Option, Some, None, List, [], ◌∷◌, ◌++◌, length, map, slice_get, slice_index}
 use Rattle.std.specs.Global.{Vec}
-use Rattle.base.specs.Places.{Has, InOrder, IsOnce}
+use Rattle.base.specs.InOrderOnce.{Has, InOrder, IsOnce}
 use Rattle.judge.specs.declared.tally.Tally.{Tally}
 
 -- where the row of page or address n and processor q stands

@@ -3,7 +3,7 @@ ghost use Rattle.std.specs.Prelude.{◌≡◌, ℕ, ◌+◌, ◌*◌, ◌<◌, �
 ghost use Rattle.std.specs.Prelude.{cond, nat_lt, slice_get, slice_index, take};
 ghost use Rattle.base.specs.Prelude.{most_held};
 ghost use Rattle.journal.specs.declared.event.Event.{Event};
-ghost use Rattle.journal.specs.Copies.{GapCounts};
+ghost use Rattle.journal.specs.PageImages.{GapCounts};
 ghost use Rattle.journal.specs.declared.event.Kind.TheVariants.{Fetch, Store};
 ghost use Rattle.journal.specs.Prelude.{HasCount, IsTimeOf, did};
 ghost use Rattle.judge.specs.Prelude.{AreFew, AreGapsOf, AreLong, AreSmall, CountsAmong, IsWithin, TellsGaps, sizes_of};

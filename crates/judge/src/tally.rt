@@ -1,6 +1,6 @@
 //! Tallies of what was stored, by intervals.
 ghost use Rattle.std.specs.Prelude.{◌≡◌, ℕ, ◌<◌, ◌≤◌, ◌^◌, [], count_by, IfOk, OnOk, nat_lt, vec_len};
-ghost use Rattle.base.specs.Places.{InOrder};
+ghost use Rattle.base.specs.InOrderOnce.{InOrder};
 ghost use Rattle.judge.specs.Prelude.{Adds, is_between, mark, numbers};
 
 use std::alloc::{AllocError, Global};

@@ -1,1 +1,1 @@
-pub mod Orderly
+pub mod OrderlyQueues

@@ -1,1 +1,1 @@
-pub mod Lock
+pub mod LockQueues

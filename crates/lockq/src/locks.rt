@@ -1,7 +1,7 @@
 //! The lines of processors at distributed locks.
 ghost use Rattle.std.specs.Prelude.{◌≡◌, ◌≤◌, ◌<◌, ◌↔◌, IsTrue, IfOk, None, Some, [], length, replicate, slice_get};
 ghost use Rattle.base.specs.Prelude.{most_processors, Has};
-ghost use Rattle.lockq.specs.Lock.{unheld, lock_at, with_lock, line, asked, released, IsOrderly};
+ghost use Rattle.lockq.specs.LockQueues.{unheld_lock, lock_at, with_lock, lock_line, asked_lock, released_lock, IsOrderlyLock};
 
 use std::alloc::{AllocError, Global};
 use std::collections::VecDeque;
@@ -19,7 +19,7 @@ struct Lock {
 impl Model for Lock {
     ghost use Rattle.std.specs.Prelude.{◌≤◌, length};
     ghost use Rattle.std.specs.VecDeque.{deque_capacity};
-    ghost use Rattle.lockq.specs.Lock.{Lock as State, IsOrderly};
+    ghost use Rattle.lockq.specs.LockQueues.{Lock as State, IsOrderlyLock};
 
     ghost Value = { State };
 
@@ -27,14 +27,14 @@ impl Model for Lock {
 
     ghost invariant = { λ k.
         let state : State = record { holder = k.holder; queue = k.queue.items; time = k.time } in
-        IsOrderly (length k.time) state × (length k.time ≤ deque_capacity k.queue) };
+        IsOrderlyLock (length k.time) state × (length k.time ≤ deque_capacity k.queue) };
 }
 
 impl Lock {
     fn new(alloc: Global, processors: usize) -> Result<Self, AllocError>
         requires some { 1 ≤ processors }
         requires most { processors ≤ most_processors }
-        ensures { IfOk result (λ k. k ≡ unheld processors) }
+        ensures { IfOk result (λ k. k ≡ unheld_lock processors) }
     {
         Ok(Lock {
             holder: None,
@@ -45,10 +45,10 @@ impl Lock {
 
     fn ask(&mut self, processor: usize) -> bool
         requires processor { processor < length self.old.time }
-        requires apart { ¬ Has (line self.old) processor }
-        ensures lock { self.new ≡ asked self.old processor }
+        requires apart { ¬ Has (lock_line self.old) processor }
+        ensures lock { self.new ≡ asked_lock self.old processor }
         ensures due { IsTrue result ↔ (self.old.holder ≡ None) }
-        ensures orderly { IsOrderly (length self.new.time) self.new }
+        ensures orderly { IsOrderlyLock (length self.new.time) self.new }
     {
         if self.holder.is_none() {
             self.holder = Some(processor);
@@ -60,9 +60,9 @@ impl Lock {
 
     fn release(&mut self, time: VTime) -> Option<usize>
         requires long { length time ≡ length self.old.time }
-        ensures lock { self.new ≡ released self.old time }
+        ensures lock { self.new ≡ released_lock self.old time }
         ensures granted { result ≡ self.new.holder }
-        ensures orderly { IsOrderly (length self.new.time) self.new }
+        ensures orderly { IsOrderlyLock (length self.new.time) self.new }
     {
         self.time = time;
         self.holder = self.queue.pop_front();
@@ -71,7 +71,7 @@ impl Lock {
 
     fn holder(&self) -> Option<usize>
         ensures value { result ≡ self.now.holder }
-        ensures orderly { IsOrderly (length self.now.time) self.now }
+        ensures orderly { IsOrderlyLock (length self.now.time) self.now }
     {
         self.holder
     }
@@ -91,7 +91,7 @@ pub struct Locks {
 
 impl Model for Locks {
     ghost use Rattle.std.specs.Prelude.{◌≡◌, ℕ, Some, slice_get, length};
-    ghost use Rattle.lockq.specs.Lock.{Lock as State, Locks as States};
+    ghost use Rattle.lockq.specs.LockQueues.{Lock as State, Locks as States};
 
     ghost Value = { States };
 
@@ -108,7 +108,7 @@ impl Locks {
         requires some { 1 ≤ processors }
         requires most { processors ≤ most_processors }
         ensures processors { IfOk result (λ s. s.processors ≡ processors) }
-        ensures locks { IfOk result (λ s. s.locks ≡ replicate locks (unheld processors)) }
+        ensures locks { IfOk result (λ s. s.locks ≡ replicate locks (unheld_lock processors)) }
     {
         let mut all = Vec::with_capacity(alloc, locks)?;
         for _ in 0..locks {
@@ -125,10 +125,10 @@ impl Locks {
     pub fn ask(&mut self, lock: usize, processor: usize) -> bool
         requires lock { lock < length self.old.locks }
         requires processor { processor < self.old.processors }
-        requires apart { ¬ Has (line (lock_at self.old lock)) processor }
-        ensures locks { self.new ≡ with_lock self.old lock (asked (lock_at self.old lock) processor) }
+        requires apart { ¬ Has (lock_line (lock_at self.old lock)) processor }
+        ensures locks { self.new ≡ with_lock self.old lock (asked_lock (lock_at self.old lock) processor) }
         ensures due { IsTrue result ↔ ((lock_at self.old lock).holder ≡ None) }
-        ensures orderly { IsOrderly self.new.processors (lock_at self.new lock) }
+        ensures orderly { IsOrderlyLock self.new.processors (lock_at self.new lock) }
     {
         let lock = &mut self.locks[lock];
         lock.ask(processor)
@@ -140,9 +140,9 @@ impl Locks {
         requires lock { lock < length self.old.locks }
         requires holder { (lock_at self.old lock).holder ≡ Some processor }
         requires long { length time ≡ self.old.processors }
-        ensures locks { self.new ≡ with_lock self.old lock (released (lock_at self.old lock) time) }
+        ensures locks { self.new ≡ with_lock self.old lock (released_lock (lock_at self.old lock) time) }
         ensures granted { result ≡ slice_get (lock_at self.old lock).queue 0 }
-        ensures orderly { IsOrderly self.new.processors (lock_at self.new lock) }
+        ensures orderly { IsOrderlyLock self.new.processors (lock_at self.new lock) }
     {
         let lock = &mut self.locks[lock];
         lock.release(time)
@@ -152,7 +152,7 @@ impl Locks {
     pub fn holder(&self, lock: usize) -> Option<usize>
         requires { lock < length self.now.locks }
         ensures value { result ≡ (lock_at self.now lock).holder }
-        ensures orderly { IsOrderly self.now.processors (lock_at self.now lock) }
+        ensures orderly { IsOrderlyLock self.now.processors (lock_at self.now lock) }
     {
         let lock = &self.locks[lock];
         lock.holder()

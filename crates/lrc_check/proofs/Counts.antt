@@ -1,15 +1,15 @@
 -- The first fetch that does not count its gap, in a history and in its fronts.
 use Rattle.std.proofs.Common.{◌≡◌, ℕ, ◌<◌, ◌≤◌, suc, List, ◌++◌, length, take, subst, sym, refl, ◌∙◌, take-take, arith}
 use Rattle.std.proofs.lemmas.List.{take-append-le, length-take-le}
-use Rattle.base.proofs.Places.{slice_get-take, slice_get-take_within, slice_get-from_take}
+use Rattle.base.proofs.SlicesAndCounts.{slice_get-take, slice_get-take_within, slice_get-from_take}
 use Rattle.journal.specs.declared.event.Event.{Event}
 use Rattle.journal.specs.declared.event.Kind.TheVariants.{Fetch}
-use Rattle.journal.specs.Did.{event}
+use Rattle.journal.specs.DidEvent.{event}
 use Rattle.journal.specs.Sizes.{Sizes}
 use Rattle.journal.specs.Events.{At}
-use Rattle.journal.specs.Copies.{GapCounts}
+use Rattle.journal.specs.PageImages.{GapCounts}
 use Rattle.journal.specs.Counted.{AreCounted}
-use Rattle.journal.proofs.Order.Places.{at_longer, at_within}
+use Rattle.journal.proofs.Order.CountedAndNumbered.{at_longer, at_within}
 use Rattle.judge.specs.declared.miscounted.Miscounted.{Miscounted}
 use Rattle.judge.specs.Miscounted.{CountsGap, IsFirstMiscounted, Miscounts}
 

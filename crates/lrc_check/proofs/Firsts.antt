@@ -4,11 +4,11 @@ use Rattle.std.specs.Prelude.{MatchOption}
 use Rattle.std.proofs.lemmas.List.{take_all, length-take-le}
 use Rattle.journal.specs.declared.event.Event.{Event}
 use Rattle.journal.specs.declared.event.Kind.TheVariants.{Load}
-use Rattle.journal.specs.Did.{event}
+use Rattle.journal.specs.DidEvent.{event}
 use Rattle.journal.specs.Sizes.{Sizes}
 use Rattle.journal.specs.Counted.{AreCounted}
-use Rattle.journal.specs.Loads.{Explained}
-use Rattle.journal.proofs.Order.Places.{at_within}
+use Rattle.journal.specs.ExplainedAnswers.{Explained}
+use Rattle.journal.proofs.Order.CountedAndNumbered.{at_within}
 use Rattle.judge.specs.declared.judge.IllFormed.{IllFormed}
 use Rattle.judge.specs.declared.miscounted.Miscounted.{Miscounted}
 use Rattle.judge.specs.Lax.{WellFormedIn}

@@ -1,15 +1,15 @@
 -- A history and its fronts: what holds of a front where it holds of the history, and the other way round.
 use Rattle.std.proofs.Common.{◌≡◌, ℕ, ◌<◌, ◌≤◌, suc, ◌↔◌, Bool, true, false, List, [], ◌∷◌, ◌++◌, Option, Some, slice_get, length, take, drop, subst, sym, ap, ◌∙◌, take-take, take-append-drop, arith}
 use Rattle.std.proofs.lemmas.List.{take-append-le, length-take-le}
-use Rattle.base.proofs.Places.{slice_get-take, slice_get-take_within, slice_get-from_take, take-suc_at}
+use Rattle.base.proofs.SlicesAndCounts.{slice_get-take, slice_get-take_within, slice_get-from_take, take-suc_at}
 use Rattle.journal.specs.declared.event.Event.{Event}
 use Rattle.journal.specs.declared.event.Kind.TheVariants.{Load}
-use Rattle.journal.specs.Did.{did, event}
+use Rattle.journal.specs.DidEvent.{did, event}
 use Rattle.journal.specs.Sizes.{Sizes}
 use Rattle.journal.specs.Events.{At}
 use Rattle.journal.specs.WellFormed.{Does}
-use Rattle.journal.specs.Loads.{Explained, IsAnswer}
-use Rattle.journal.proofs.Order.Places.{at_last, at_longer, at_within, does_same}
+use Rattle.journal.specs.ExplainedAnswers.{Explained, IsAnswer}
+use Rattle.journal.proofs.Order.CountedAndNumbered.{at_last, at_longer, at_within, does_same}
 use Rattle.judge.specs.Lax.{MayFollowIn, WellFormedIn}
 use Rattle.judge.specs.Sources.Answers.{IsFirstUnexplained}
 use Rattle.judge.specs.Sources.Latest.{IsLatest}

@@ -3,7 +3,7 @@ use Rattle.std.specs.Prelude.{ℕ, ◌≡◌, ◌<◌, suc, Bool, false, List, �
 use Rattle.journal.specs.declared.event.Event.{Event}
 use Rattle.journal.specs.Sizes.{Sizes}
 use Rattle.journal.specs.Counted.{AreCounted}
-use Rattle.journal.specs.Loads.{Explained}
+use Rattle.journal.specs.ExplainedAnswers.{Explained}
 use Rattle.judge.specs.Lax.{WellFormedIn}
 
 -- each event may follow what stands before it, lax or not, each load answers a latest store of its past, and, unless

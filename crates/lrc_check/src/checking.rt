@@ -5,7 +5,7 @@ ghost use Rattle.lrc_check.specs.Traces.Prelude.{IsNoTrace};
 ghost use Rattle.judge.specs.Prelude.{AreSmall};
 ghost use Rattle.judge.specs.Prelude.{sizes_of as judged_sizes};
 ghost use Rattle.lrc_check.specs.Traces.Prelude.{IsTrace, head, sizes_of};
-ghost use Rattle.lrc_script.specs.Prelude.{AreSizes};
+ghost use Rattle.lrc_script.specs.Prelude.{AreLawfulSizes};
 ghost use Rattle.lrc_check.specs.Prelude.{IsBeforeOutput, IsChecked, IsFoundOf, IsTraces};
 
 use crate::checked::Checked;
@@ -19,7 +19,7 @@ use std::io::Write;
 
 /// The trace's sizes, as they are judged by.
 fn sizes_for(sizes: crate::traces::trace::Sizes) -> judge::Sizes
-    requires { AreSizes (head (sizes_of sizes)) }
+    requires { AreLawfulSizes (head (sizes_of sizes)) }
     ensures same { judged_sizes result ≡ sizes_of sizes }
     ensures small { AreSmall (judged_sizes result) }
 {

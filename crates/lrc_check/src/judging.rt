@@ -3,7 +3,7 @@ ghost use Rattle.std.specs.Prelude.{◌≡◌, ◌<◌, ◌≤◌, IfOk, IfSome,
 ghost use Rattle.base.specs.Prelude.{most_held};
 ghost use Rattle.journal.specs.Sizes.{addresses};
 ghost use Rattle.journal.specs.Counted.{AreCounted};
-ghost use Rattle.journal.specs.Loads.{Explained};
+ghost use Rattle.journal.specs.ExplainedAnswers.{Explained};
 ghost use Rattle.journal.specs.Prelude.{AddressesInRange, IsFirstRace, ProcessorsInRange, RaceFree};
 ghost use Rattle.judge.specs.Prelude.{AreSmall, IsFirstIllFormed, IsFirstMiscounted, WellFormedIn, sizes_of};
 ghost use Rattle.judge.specs.Sources.Prelude.{IsFirstUnexplained};

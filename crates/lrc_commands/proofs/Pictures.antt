@@ -5,26 +5,26 @@ use Rattle.std.specs.Prelude.{All, MatchOption}
 use Rattle.std.specs.Global.{Vec}
 use Rattle.std.proofs.lemmas.Option.{slice_get-get_or}
 use Rattle.base.specs.Limits.{most_held, most_processors}
-use Rattle.base.specs.Places.{Has}
-use Rattle.base.proofs.Places.{slice_get-append_right}
+use Rattle.base.specs.InOrderOnce.{Has}
+use Rattle.base.proofs.SlicesAndCounts.{slice_get-append_right}
 use Rattle.journal.specs.declared.event.Event.{Event}
 use Rattle.journal.specs.Base.{Base}
 use Rattle.journal.specs.InRange.{ProcessorsInRange}
 use Rattle.journal.specs.RacesFrom.{IsFirstRaceFrom, RaceFreeFrom}
-use Rattle.journal.proofs.Order.Places.{at_within}
+use Rattle.journal.proofs.Order.CountedAndNumbered.{at_within}
 use Rattle.lrc_picture.specs.Arrows.{ArePlaces}
 use Rattle.lrc_picture.specs.Layout.{CanBeDrawn, ArrowInside}
 use Rattle.causes.specs.News.{AreIncoming}
-use Rattle.lrc_commands.specs.Explained.{IsBehind}
+use Rattle.lrc_commands.specs.Explained.{IsExplainedBehind}
 
 -- all items have it where each does
 all_of : {A : Type 0} (P : A → Type 0) (xs : List A) → ((x : A) → Has xs x → P x) → All P xs
 all_of P xs each = λ k d within. each (slice_index_or xs k d) (k, slice_get-get_or xs k d within)
 
 -- the news of a history's events stand within it
-pub news_within : (j : List Event) (rows : List (Vec ℕ)) → length rows ≡ length j → AreIncoming j rows
+pub picture_news_within : (j : List Event) (rows : List (Vec ℕ)) → length rows ≡ length j → AreIncoming j rows
     → ArePlaces (length rows) rows
-news_within j rows long news = record {
+picture_news_within j rows long news = record {
   long = refl;
   within = λ k row at. all_of (λ i. i < length rows) row.items (λ i has.
       let edge = (((news k row at).has i).0 has).leads.edge in
@@ -36,7 +36,7 @@ abbrev pub AreBelow : ℕ → List (Vec ℕ) → Type 0
 AreBelow n rows = (k : ℕ) (places : Vec ℕ) → slice_get rows k ≡ Some places → All (λ i. i < n) places.items
 
 -- the events can be drawn
-pub drawn : (n opening : ℕ) (events history : List Event) (rows : List (Vec ℕ)) → IsBehind opening events history
+pub drawn : (n opening : ℕ) (events history : List Event) (rows : List (Vec ℕ)) → IsExplainedBehind opening events history
     → length history ≤ most_held → n ≤ most_processors → ProcessorsInRange n history
     → ArePlaces (length history - opening) rows → CanBeDrawn n events rows
 drawn n opening events history rows behind few few_processors within places = record {
@@ -54,10 +54,10 @@ drawn n opening events history rows behind few few_processors within places = re
     same = omega (arith, long)
 
 -- the places of the first race are of events
-pub race_within : (b : Base) (j : List Event) (race : Option (ℕ × ℕ))
+pub picture_race_within : (b : Base) (j : List Event) (race : Option (ℕ × ℕ))
     → MatchOption race (RaceFreeFrom b j) (λ r. IsFirstRaceFrom b j r.0 r.1) → ArrowInside (length j) race
-race_within b j None free = tt
-race_within b j (Some r) first = (
+picture_race_within b j None free = tt
+picture_race_within b j (Some r) first = (
   at_within j r.0 first.race.first first.race.first_at,
   at_within j r.1 first.race.second first.race.second_at,
 )

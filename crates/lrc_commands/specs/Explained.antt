@@ -4,11 +4,11 @@ use Rattle.journal.specs.declared.event.Event.{Event}
 use Rattle.lrc_script.specs.Plan.{Plan}
 use Rattle.conformance.specs.declared.ended.Ended.{Ended}
 use Rattle.conformance.specs.declared.ended.Ended.TheVariants.{Halted, Whole}
-use Rattle.conformance.specs.ByTurns.{IsEndBy, orders_of}
+use Rattle.conformance.specs.ByTurns.{IsEndByTurns, turn_orders}
 use Rattle.conformance.specs.Schedules.{IsScheduleText, scheduled}
 use Rattle.lrc_options.specs.declared.options.ExplainOptions.{ExplainOptions}
 use Rattle.lrc_explain.specs.Texts.{ExplainWritten}
-use Rattle.lrc_program.specs.Served.{IsRead}
+use Rattle.lrc_program.specs.Served.{IsScriptRead}
 
 -- whether it is a run that can't go on
 abbrev pub is_halted : Ended → Bool
@@ -16,32 +16,32 @@ is_halted (Whole report) = false
 is_halted (Halted halt) = true
 
 -- what is told of a run was written; of its picture nothing is said
-abbrev pub ExplanationWritten : Bool → Option (List ℕ) → Option (List ℕ) → Ended → Type 0
-ExplanationWritten true old new ended = ⊤
-ExplanationWritten false old new ended = ExplainWritten old new ended
+abbrev pub ExplainedWritten : Bool → Option (List ℕ) → Option (List ℕ) → Ended → Type 0
+ExplainedWritten true old new ended = ⊤
+ExplainedWritten false old new ended = ExplainWritten old new ended
 
 -- the script's run by turns ended so: by those of the schedule if one is given, else in the orders of the seed
 pub record IsEndAsked (o : ExplainOptions) (script : Plan) (ended : Ended) : Type 0 where
-  pub by_seed : is_some o.schedule ≡ false → IsEndBy script (orders_of script o.seed) ended
+  pub by_seed : is_some o.schedule ≡ false → IsEndByTurns script (turn_orders script o.seed) ended
   pub by_schedule : IfSome o.schedule (λ text. (turns : List ℕ) × IsScheduleText (string_bytes text) turns
-      × IsEndBy script (scheduled script turns) ended)
+      × IsEndByTurns script (scheduled script turns) ended)
 
 -- the script was run by turns as it was asked, as far as it goes, and the run was told or drawn
-pub record IsRunTold (picture halted : Bool) (o : ExplainOptions) (script : Plan) (old new : Option (List ℕ))
+pub record IsRunExplained (picture halted : Bool) (o : ExplainOptions) (script : Plan) (old new : Option (List ℕ))
     : Type 0 where
   pub ended : Ended
   pub end : IsEndAsked o script ended
   pub halted_is : is_halted ended ≡ halted
-  pub told : ExplanationWritten picture old new ended
+  pub told : ExplainedWritten picture old new ended
 
 -- so was the script that the source had
 pub record IsExplained (picture halted : Bool) (o : ExplainOptions) (source old new : Option (List ℕ)) : Type 0 where
   pub script : Plan
-  pub read : IsRead source script
-  pub run : IsRunTold picture halted o script old new
+  pub read : IsScriptRead source script
+  pub run : IsRunExplained picture halted o script old new
 
 -- a history is these events behind so many others
-pub record IsBehind (opening : ℕ) (events history : List Event) : Type 0 where
+pub record IsExplainedBehind (opening : ℕ) (events history : List Event) : Type 0 where
   pub front : List Event
   pub long : length front ≡ opening
   pub whole : history ≡ front ++ events

@@ -1,5 +1,5 @@
 pub mod Statuses
-pub mod Judged
+pub mod JudgedTraces
 pub mod Sampled
 pub mod Explained
 pub mod Searched

@@ -2,7 +2,7 @@
 use Rattle.std.specs.Prelude.{ℕ, List, Option}
 use Rattle.std.specs.Io.KnownBytes.{Appends}
 use Rattle.lrc_script.specs.Plan.{Plan}
-use Rattle.lrc_program.specs.Served.{IsRead}
+use Rattle.lrc_program.specs.Served.{IsScriptRead}
 use Rattle.lrc_sample.specs.declared.sampling.Sampled.{Sampled}
 use Rattle.lrc_sample.specs.Samples.{IsSampleOf}
 use Rattle.lrc_sample.specs.Texts.{sample_text}
@@ -16,5 +16,5 @@ pub record IsSampleWritten (runs : ℕ) (script : Plan) (old new : Option (List 
 -- so was the script that the source had
 pub record IsSampled (runs : ℕ) (source old new : Option (List ℕ)) : Type 0 where
   pub script : Plan
-  pub read : IsRead source script
+  pub read : IsScriptRead source script
   pub sample : IsSampleWritten runs script old new

@@ -6,22 +6,22 @@ use Rattle.explore.specs.declared.explored.Explored.{Explored}
 use Rattle.explore.specs.declared.explored.Verdict.{Verdict}
 use Rattle.explore.specs.declared.explored.Verdict.TheVariants.{Undecided}
 use Rattle.lrc_explore.specs.Texts.{ExploreWritten}
-use Rattle.lrc_program.specs.Served.{IsRead}
+use Rattle.lrc_program.specs.Served.{IsScriptRead}
 
 -- whether the search came to its end
-abbrev pub is_decided : Verdict → Bool
-is_decided Undecided = false
-is_decided _ = true
+abbrev pub is_search_decided : Verdict → Bool
+is_search_decided Undecided = false
+is_search_decided _ = true
 
 -- the script's schedules were looked at, that many states at most, and what was found was written
 pub record IsSearchWritten (most : ℕ) (decided : Bool) (script : Plan) (old new : Option (List ℕ)) : Type 0 where
   pub explored : Explored
   pub is : IsExplored script most explored
-  pub decided_is : is_decided explored.verdict ≡ decided
+  pub decided_is : is_search_decided explored.verdict ≡ decided
   pub written : ExploreWritten old new explored
 
 -- so were those of the script that the source had
 pub record SearchWritten (most : ℕ) (decided : Bool) (source old new : Option (List ℕ)) : Type 0 where
   pub script : Plan
-  pub read : IsRead source script
+  pub read : IsScriptRead source script
   pub search : IsSearchWritten most decided script old new

@@ -1,6 +1,6 @@
 -- The exit statuses of the commands that study a script or a trace.
 use Rattle.std.specs.Prelude.{ℕ, ◌≡◌, ◌⊎◌, ⊤}
-use Rattle.lrc_program.specs.Statuses.{IsBeforeOutput, IsScripts, status_of}
+use Rattle.lrc_program.specs.Statuses.{IsStatusBeforeOutput, IsScriptsStatus, status_of}
 use Rattle.lrc_commands.specs.declared.fault.StudyFault.{StudyFault}
 use Rattle.lrc_commands.specs.declared.fault.StudyFault.TheVariants.{Program, Trace, Long, Untold}
 
@@ -16,13 +16,13 @@ abbrev pub IsStudyStatusOf : StudyFault → ℕ → Type 0
 IsStudyStatusOf fault status = (status ≡ study_status_of fault) ⊎ (status ≡ 4)
 
 -- the fault is the script's, or the trace's
-abbrev pub IsInputs : StudyFault → Type 0
-IsInputs (Program fault) = IsScripts fault
-IsInputs (Trace line fault) = ⊤
-IsInputs Long = ⊥
-IsInputs Untold = ⊥
+abbrev pub IsInputsStatus : StudyFault → Type 0
+IsInputsStatus (Program fault) = IsScriptsStatus fault
+IsInputsStatus (Trace line fault) = ⊤
+IsInputsStatus Long = ⊥
+IsInputsStatus Untold = ⊥
 
 -- the fault came before anything was written
-abbrev pub IsBeforeAnswer : StudyFault → Type 0
-IsBeforeAnswer (Program fault) = IsBeforeOutput fault
-IsBeforeAnswer _ = ⊤
+abbrev pub IsStatusBeforeAnswer : StudyFault → Type 0
+IsStatusBeforeAnswer (Program fault) = IsStatusBeforeOutput fault
+IsStatusBeforeAnswer _ = ⊤

@@ -3,8 +3,8 @@ ghost use Rattle.std.specs.Prelude.{◌≡◌, ◌≢◌, ◌⊎◌, ℕ, ◌<�
 ghost use Rattle.std.specs.Io.KnownBytes.{Consumes, IsAtEnd, Keeps};
 ghost use Rattle.lrc_check.specs.Traces.Prelude.{IsTrace, sizes_of};
 ghost use Rattle.lrc_check.specs.Prelude.{IsTraces};
-ghost use Rattle.lrc_commands.specs.Prelude.{HasText, IsBeforeAnswer, IsFaithfulTrace, IsInputs, IsJudgedAs, IsNoTraceOf};
-ghost use Rattle.lrc_commands.specs.Prelude.{IsReadSoFar, IsUnfaithfulTrace, is_faithful_of};
+ghost use Rattle.lrc_commands.specs.Prelude.{HasTraceText, IsStatusBeforeAnswer, IsFaithfulTrace, IsInputsStatus, IsJudgedAs, IsNoTraceOf};
+ghost use Rattle.lrc_commands.specs.Prelude.{IsTraceReadSoFar, IsUnfaithfulTrace, is_judged_faithful};
 
 use crate::fault::StudyFault;
 use lrc_check::traces::fault::TraceFault;
@@ -50,8 +50,8 @@ fn read_some<S: Read>(source: &mut S, piece: &mut [u8]) -> io::Result<usize>
 
 /// Takes the next piece of a trace. What comes behind a line with a fault changes nothing.
 fn feed(alloc: Global, reading: Reading, piece: &[u8]) -> Reading
-    ensures { (source left after : Option (List ℕ)) → IsReadSoFar source left reading
-        → Consumes left after piece.now → IsReadSoFar source after result }
+    ensures { (source left after : Option (List ℕ)) → IsTraceReadSoFar source left reading
+        → Consumes left after piece.now → IsTraceReadSoFar source after result }
 {
     reading?.feed(alloc, piece)
 }
@@ -59,10 +59,10 @@ fn feed(alloc: Global, reading: Reading, piece: &[u8]) -> Reading
 /// What was read after the last piece.
 fn finish(reading: Reading) -> Result<Trace, CheckFault>
     ensures trace { IfOk result (λ t. IsTrace (sizes_of t.sizes) t.events.items) }
-    ensures text { IfOk result (λ t. (source left : Option (List ℕ)) → IsReadSoFar source left reading
-        → IsAtEnd left → HasText source (sizes_of t.sizes) t.events.items) }
+    ensures text { IfOk result (λ t. (source left : Option (List ℕ)) → IsTraceReadSoFar source left reading
+        → IsAtEnd left → HasTraceText source (sizes_of t.sizes) t.events.items) }
     ensures refused { IfErr result (λ fault. IsTraces fault → (source left : Option (List ℕ))
-        → IsReadSoFar source left reading → IsAtEnd left → IsNoTraceOf source) }
+        → IsTraceReadSoFar source left reading → IsAtEnd left → IsNoTraceOf source) }
 {
     let trace = reading?.finish()?;
     Ok(trace)
@@ -76,8 +76,8 @@ fn read_pieces<S: Read>(
 ) -> Result<Trace, StudyFault>
     requires { 0 < length piece.old }
     ensures trace { IfOk result (λ t. IsTrace (sizes_of t.sizes) t.events.items) }
-    ensures text { IfOk result (λ t. HasText (S.remaining source.old) (sizes_of t.sizes) t.events.items) }
-    ensures refused { IfErr result (λ fault. IsInputs fault → IsNoTraceOf (S.remaining source.old)) }
+    ensures text { IfOk result (λ t. HasTraceText (S.remaining source.old) (sizes_of t.sizes) t.events.items) }
+    ensures refused { IfErr result (λ fault. IsInputsStatus fault → IsNoTraceOf (S.remaining source.old)) }
 {
     let mut reading = Ok(Reader::new(alloc));
     let mut total = 0;
@@ -102,8 +102,8 @@ fn room(alloc: Global, size: usize) -> Result<Vec<u8>, AllocError>
 /// Reads a trace, so that its text is never there as a whole.
 fn read_trace<S: Read>(alloc: Global, source: &mut S) -> Result<Trace, StudyFault>
     ensures trace { IfOk result (λ t. IsTrace (sizes_of t.sizes) t.events.items) }
-    ensures text { IfOk result (λ t. HasText (S.remaining source.old) (sizes_of t.sizes) t.events.items) }
-    ensures refused { IfErr result (λ fault. IsInputs fault → IsNoTraceOf (S.remaining source.old)) }
+    ensures text { IfOk result (λ t. HasTraceText (S.remaining source.old) (sizes_of t.sizes) t.events.items) }
+    ensures refused { IfErr result (λ fault. IsInputsStatus fault → IsNoTraceOf (S.remaining source.old)) }
 {
     let mut piece = room(alloc, PIECE)?;
     read_pieces(alloc, source, &mut piece)
@@ -111,7 +111,7 @@ fn read_trace<S: Read>(alloc: Global, source: &mut S) -> Result<Trace, StudyFaul
 
 /// Whether what was found is that the trace is faithful.
 fn is_faithful(found: &Checked) -> bool
-    ensures { result ≡ is_faithful_of found.now }
+    ensures { result ≡ is_judged_faithful found.now }
 {
     match found {
         Checked::Faithful { .. } => true,
@@ -127,9 +127,9 @@ fn check_source<S: Read, W: Write>(
     out: &mut W,
 ) -> Result<bool, StudyFault>
     ensures judged { IfOk result (IsJudgedAs lax (S.remaining source.old)) }
-    ensures refused { IfErr result (λ fault. IsInputs fault → IsNoTraceOf (S.remaining source.old)) }
+    ensures refused { IfErr result (λ fault. IsInputsStatus fault → IsNoTraceOf (S.remaining source.old)) }
     ensures early { IfErr result
-        (λ fault. IsBeforeAnswer fault → Keeps (W.contents out.old) (W.contents out.new)) }
+        (λ fault. IsStatusBeforeAnswer fault → Keeps (W.contents out.old) (W.contents out.new)) }
 {
     let trace = read_trace(alloc, source)?;
     let found = check_trace(alloc, &trace, lax, out)?;

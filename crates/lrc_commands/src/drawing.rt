@@ -4,7 +4,7 @@ ghost use Rattle.std.specs.Io.KnownBytes.{Keeps};
 ghost use Rattle.base.specs.Prelude.{most_held, most_processors};
 ghost use Rattle.journal.specs.Prelude.{ProcessorsInRange};
 ghost use Rattle.lrc_picture.specs.Prelude.{ArePlaces};
-ghost use Rattle.lrc_commands.specs.Prelude.{IsBeforeAnswer, IsBehind, IsInputs};
+ghost use Rattle.lrc_commands.specs.Prelude.{IsStatusBeforeAnswer, IsExplainedBehind, IsInputsStatus};
 
 use crate::fault::StudyFault;
 use causes::incoming;
@@ -27,7 +27,7 @@ fn opening_of(processors: usize, journal: &Journal) -> usize {
 
 /// The events of the journal behind so many arrivals, one of each processor.
 fn history_of(alloc: Global, opening: usize, journal: &Journal) -> Result<Vec<Event>, AllocError>
-    ensures { IfOk result (λ v. IsBehind opening journal.now.events v.items) }
+    ensures { IfOk result (λ v. IsExplainedBehind opening journal.now.events v.items) }
 {
     let mut history = Vec::new(alloc);
     for processor in 0..opening {
@@ -120,9 +120,9 @@ fn draw_journal<W: Write>(
     halted: bool,
     out: &mut W,
 ) -> Result<(), StudyFault>
-    ensures runs { IfErr result (λ fault. IsInputs fault → ⊥) }
+    ensures runs { IfErr result (λ fault. IsInputsStatus fault → ⊥) }
     ensures early { IfErr result
-        (λ fault. IsBeforeAnswer fault → Keeps (W.contents out.old) (W.contents out.new)) }
+        (λ fault. IsStatusBeforeAnswer fault → Keeps (W.contents out.old) (W.contents out.new)) }
 {
     let opening = opening_of(processors, journal);
     let history = history_of(alloc, opening, journal)?;
@@ -150,9 +150,9 @@ pub(crate) fn draw<W: Write>(
     ended: &Ended,
     out: &mut W,
 ) -> Result<(), StudyFault>
-    ensures runs { IfErr result (λ fault. IsInputs fault → ⊥) }
+    ensures runs { IfErr result (λ fault. IsInputsStatus fault → ⊥) }
     ensures early { IfErr result
-        (λ fault. IsBeforeAnswer fault → Keeps (W.contents out.old) (W.contents out.new)) }
+        (λ fault. IsStatusBeforeAnswer fault → Keeps (W.contents out.old) (W.contents out.new)) }
 {
     match ended {
         Ended::Whole(report) => draw_journal(alloc, processors, &report.journal, false, out),

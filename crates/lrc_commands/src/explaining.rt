@@ -3,7 +3,7 @@ ghost use Rattle.std.specs.Prelude.{◌≡◌, ◌≢◌, IfErr, IfOk, OnOk, is_
 ghost use Rattle.std.specs.Io.KnownBytes.{Keeps};
 ghost use Rattle.lrc_script.specs.Prelude.{IsLawful, plan_of};
 ghost use Rattle.lrc_program.specs.Prelude.{IsNoScript};
-ghost use Rattle.lrc_commands.specs.Prelude.{IsBeforeAnswer, IsEndAsked, IsExplained, IsInputs, IsRunTold, ExplanationWritten};
+ghost use Rattle.lrc_commands.specs.Prelude.{IsStatusBeforeAnswer, IsEndAsked, IsExplained, IsInputsStatus, IsRunExplained, ExplainedWritten};
 ghost use Rattle.lrc_commands.specs.Prelude.{is_halted};
 
 use crate::drawing::draw;
@@ -43,10 +43,10 @@ fn print_end<W: Write>(
     ended: &Ended,
     out: &mut W,
 ) -> Result<(), StudyFault>
-    ensures told { OnOk result (ExplanationWritten picture (W.contents out.old) (W.contents out.new) ended.now) }
-    ensures runs { IfErr result (λ fault. IsInputs fault → ⊥) }
+    ensures told { OnOk result (ExplainedWritten picture (W.contents out.old) (W.contents out.new) ended.now) }
+    ensures runs { IfErr result (λ fault. IsInputsStatus fault → ⊥) }
     ensures early { IfErr result
-        (λ fault. IsBeforeAnswer fault → Keeps (W.contents out.old) (W.contents out.new)) }
+        (λ fault. IsStatusBeforeAnswer fault → Keeps (W.contents out.old) (W.contents out.new)) }
 {
     if picture {
         return draw(alloc, script.processors, ended, out);
@@ -65,7 +65,7 @@ fn end_of<T: Runs, R: Wait>(
 ) -> Result<Ended, StudyFault>
     requires { IsLawful (plan_of script.now) }
     ensures end { IfOk result (IsEndAsked options.now (plan_of script.now)) }
-    ensures runs { IfErr result (λ fault. IsInputs fault → ⊥) }
+    ensures runs { IfErr result (λ fault. IsInputsStatus fault → ⊥) }
 {
     let lock = lock_of(options.ticket);
     match options.schedule.as_deref() {
@@ -88,11 +88,11 @@ fn print_run<T: Runs, R: Wait, W: Write>(
     out: &mut W,
 ) -> Result<Option<String>, StudyFault>
     requires { IsLawful (plan_of script.now) }
-    ensures told { IfOk result (λ line. IsRunTold options.now.picture (is_some line)
+    ensures told { IfOk result (λ line. IsRunExplained options.now.picture (is_some line)
         options.now (plan_of script.now) (W.contents out.old) (W.contents out.new)) }
-    ensures runs { IfErr result (λ fault. IsInputs fault → ⊥) }
+    ensures runs { IfErr result (λ fault. IsInputsStatus fault → ⊥) }
     ensures early { IfErr result
-        (λ fault. IsBeforeAnswer fault → Keeps (W.contents out.old) (W.contents out.new)) }
+        (λ fault. IsStatusBeforeAnswer fault → Keeps (W.contents out.old) (W.contents out.new)) }
 {
     let ended = end_of(runs, rt, alloc, options, script)?;
     let line = halt_line(alloc, options.file.as_deref(), &ended)?;
@@ -111,9 +111,9 @@ fn explain_script<T: Runs, R: Wait, S: Read, W: Write>(
 ) -> Result<Option<String>, StudyFault>
     ensures explained { IfOk result (λ line. IsExplained options.now.picture (is_some line)
         options.now (S.remaining source.old) (W.contents out.old) (W.contents out.new)) }
-    ensures refused { IfErr result (λ fault. IsInputs fault → IsNoScript (S.remaining source.old)) }
+    ensures refused { IfErr result (λ fault. IsInputsStatus fault → IsNoScript (S.remaining source.old)) }
     ensures early { IfErr result
-        (λ fault. IsBeforeAnswer fault → Keeps (W.contents out.old) (W.contents out.new)) }
+        (λ fault. IsStatusBeforeAnswer fault → Keeps (W.contents out.old) (W.contents out.new)) }
 {
     let script = read_script(alloc, source)?;
     print_run(runs, rt, alloc, options, &script, out)

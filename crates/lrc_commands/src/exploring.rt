@@ -3,7 +3,7 @@ ghost use Rattle.std.specs.Prelude.{◌≡◌, ◌≢◌, IfErr, IfOk, false, tr
 ghost use Rattle.std.specs.Io.KnownBytes.{Keeps};
 ghost use Rattle.lrc_script.specs.Prelude.{IsLawful, plan_of};
 ghost use Rattle.lrc_program.specs.Prelude.{IsNoScript};
-ghost use Rattle.lrc_commands.specs.Prelude.{IsBeforeAnswer, IsInputs, IsSearchWritten, SearchWritten, is_decided};
+ghost use Rattle.lrc_commands.specs.Prelude.{IsStatusBeforeAnswer, IsInputsStatus, IsSearchWritten, SearchWritten, is_search_decided};
 
 use crate::fault::StudyFault;
 use explore::{Progress, Verdict, explore};
@@ -19,7 +19,7 @@ const UNDECIDED: u8 = 7;
 
 /// Whether the search came to its end.
 fn is_decided(verdict: &Verdict) -> bool
-    ensures { result ≡ is_decided verdict.now }
+    ensures { result ≡ is_search_decided verdict.now }
 {
     match verdict {
         Verdict::Undecided => false,
@@ -38,9 +38,9 @@ fn print_search<W: Write, P: Progress>(
     requires { IsLawful (plan_of script.now) }
     ensures written { IfOk result (λ decided. IsSearchWritten options.now.most decided
         (plan_of script.now) (W.contents out.old) (W.contents out.new)) }
-    ensures runs { IfErr result (λ fault. IsInputs fault → ⊥) }
+    ensures runs { IfErr result (λ fault. IsInputsStatus fault → ⊥) }
     ensures early { IfErr result
-        (λ fault. IsBeforeAnswer fault → Keeps (W.contents out.old) (W.contents out.new)) }
+        (λ fault. IsStatusBeforeAnswer fault → Keeps (W.contents out.old) (W.contents out.new)) }
 {
     let explored = explore(alloc, script, options.most as usize, progress)?;
     render(alloc, script, &explored, out)?;
@@ -57,9 +57,9 @@ fn explore_script<S: Read, W: Write, P: Progress>(
 ) -> Result<bool, StudyFault>
     ensures searched { IfOk result (λ decided. SearchWritten options.now.most decided
         (S.remaining source.old) (W.contents out.old) (W.contents out.new)) }
-    ensures refused { IfErr result (λ fault. IsInputs fault → IsNoScript (S.remaining source.old)) }
+    ensures refused { IfErr result (λ fault. IsInputsStatus fault → IsNoScript (S.remaining source.old)) }
     ensures early { IfErr result
-        (λ fault. IsBeforeAnswer fault → Keeps (W.contents out.old) (W.contents out.new)) }
+        (λ fault. IsStatusBeforeAnswer fault → Keeps (W.contents out.old) (W.contents out.new)) }
 {
     let script = read_script(alloc, source)?;
     print_search(alloc, options, &script, out, progress)

@@ -8,7 +8,7 @@ ghost use Rattle.lrc_picture.specs.declared.picture.PictureFault.TheVariants as 
 ghost use Rattle.lrc_sample.specs.declared.text.TextFault.TheVariants as sample;
 ghost use Rattle.lrc_commands.specs.declared.fault.StudyFault.TheVariants as study;
 ghost use Rattle.lrc_program.specs.declared.fault.ProgramFault.TheVariants as program;
-ghost use Rattle.lrc_commands.specs.Prelude.{IsBeforeAnswer, IsInputs, IsStudyStatusOf, study_status_of};
+ghost use Rattle.lrc_commands.specs.Prelude.{IsStatusBeforeAnswer, IsInputsStatus, IsStudyStatusOf, study_status_of};
 
 use conformance::{RunFault, ScheduleFault};
 use lrc_check::CheckFault;
@@ -67,8 +67,8 @@ impl StudyFault {
     /// missing.
     pub(crate) fn of_told(self) -> StudyFault
         ensures status { study_status_of result ≢ 3 }
-        ensures inputs { IsInputs result → IsInputs self }
-        ensures early { IsBeforeAnswer result → IsBeforeAnswer self }
+        ensures inputs { IsInputsStatus result → IsInputsStatus self }
+        ensures early { IsStatusBeforeAnswer result → IsStatusBeforeAnswer self }
     {
         if self.status() == HALTED {
             StudyFault::Untold
@@ -87,7 +87,7 @@ impl StudyFault {
 }
 
 impl From<io::Error> for StudyFault {
-    ghost from_gives = { λ _ fault. IsInputs fault → ⊥ };
+    ghost from_gives = { λ _ fault. IsInputsStatus fault → ⊥ };
 
     fn from(error: io::Error) -> StudyFault {
         StudyFault::Program(ProgramFault::from(error))
@@ -111,7 +111,7 @@ impl From<ProgramFault> for StudyFault {
 }
 
 impl From<RunFault> for StudyFault {
-    ghost from_gives = { λ _ fault. IsInputs fault → ⊥ };
+    ghost from_gives = { λ _ fault. IsInputsStatus fault → ⊥ };
 
     fn from(fault: RunFault) -> StudyFault {
         StudyFault::Program(ProgramFault::from(fault))
@@ -119,7 +119,7 @@ impl From<RunFault> for StudyFault {
 }
 
 impl From<ScheduleFault> for StudyFault {
-    ghost from_gives = { λ _ fault. IsInputs fault → ⊥ };
+    ghost from_gives = { λ _ fault. IsInputsStatus fault → ⊥ };
 
     fn from(fault: ScheduleFault) -> StudyFault {
         StudyFault::Program(ProgramFault::from(fault))
@@ -127,8 +127,8 @@ impl From<ScheduleFault> for StudyFault {
 }
 
 impl From<TextFault> for StudyFault {
-    ghost from_gives = { λ given fault. (IsInputs fault → ⊥)
-        × (IsBeforeAnswer fault → given ≡ sample.NoMemory) };
+    ghost from_gives = { λ given fault. (IsInputsStatus fault → ⊥)
+        × (IsStatusBeforeAnswer fault → given ≡ sample.NoMemory) };
 
     fn from(fault: TextFault) -> StudyFault {
         match fault {
@@ -139,8 +139,8 @@ impl From<TextFault> for StudyFault {
 }
 
 impl From<ExplainFault> for StudyFault {
-    ghost from_gives = { λ given fault. (IsInputs fault → ⊥)
-        × (IsBeforeAnswer fault → given ≢ explain.Output) };
+    ghost from_gives = { λ given fault. (IsInputsStatus fault → ⊥)
+        × (IsStatusBeforeAnswer fault → given ≢ explain.Output) };
 
     fn from(fault: ExplainFault) -> StudyFault {
         match fault {
@@ -152,8 +152,8 @@ impl From<ExplainFault> for StudyFault {
 }
 
 impl From<ExploreFault> for StudyFault {
-    ghost from_gives = { λ given fault. (IsInputs fault → ⊥)
-        × (IsBeforeAnswer fault → given ≡ explore.NoMemory) };
+    ghost from_gives = { λ given fault. (IsInputsStatus fault → ⊥)
+        × (IsStatusBeforeAnswer fault → given ≡ explore.NoMemory) };
 
     fn from(fault: ExploreFault) -> StudyFault {
         match fault {
@@ -164,8 +164,8 @@ impl From<ExploreFault> for StudyFault {
 }
 
 impl From<PictureFault> for StudyFault {
-    ghost from_gives = { λ given fault. (IsInputs fault → ⊥)
-        × (IsBeforeAnswer fault → given ≡ picture.NoMemory) };
+    ghost from_gives = { λ given fault. (IsInputsStatus fault → ⊥)
+        × (IsStatusBeforeAnswer fault → given ≡ picture.NoMemory) };
 
     fn from(fault: PictureFault) -> StudyFault {
         match fault {
@@ -176,8 +176,8 @@ impl From<PictureFault> for StudyFault {
 }
 
 impl From<CheckFault> for StudyFault {
-    ghost from_gives = { λ given fault. (IsInputs fault → IsTraces given)
-        × (IsBeforeAnswer fault → IsBeforeText given) };
+    ghost from_gives = { λ given fault. (IsInputsStatus fault → IsTraces given)
+        × (IsStatusBeforeAnswer fault → IsBeforeText given) };
 
     fn from(fault: CheckFault) -> StudyFault {
         match fault {

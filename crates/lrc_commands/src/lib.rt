@@ -13,7 +13,7 @@
 //! nothing else (`IsSampled`). `explain_program` answers 0 only where a run of the source's script came to its end and was
 //! told, 3 only where one that can't go on was told so far (`IsExplained`). `explore_program` answers 0 only where all
 //! schedules of the source's script were looked at, 7 only where that was given up, and what was found was written
-//! (`IsSearched`). These answer 2 only where the source had no script's text. Each fault has its status (`study_status_of`).
+//! (`SearchWritten`). These answer 2 only where the source had no script's text. Each fault has its status (`study_status_of`).
 //!
 //! **What is only tested**, by whole runs of the program. The texts of faults, which fault is met, that the lock and the
 //! seed that the words ask for are used, the picture, and that no call allocates without need. No contract sees what a file

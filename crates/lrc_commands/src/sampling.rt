@@ -3,7 +3,7 @@ ghost use Rattle.std.specs.Prelude.{◌≡◌, ◌≢◌, ◌+◌, IfErr, OnOk};
 ghost use Rattle.std.specs.Io.KnownBytes.{Keeps};
 ghost use Rattle.lrc_script.specs.Prelude.{IsLawful, plan_of};
 ghost use Rattle.lrc_program.specs.Prelude.{IsNoScript};
-ghost use Rattle.lrc_commands.specs.Prelude.{IsBeforeAnswer, IsInputs, IsSampleWritten, IsSampled};
+ghost use Rattle.lrc_commands.specs.Prelude.{IsStatusBeforeAnswer, IsInputsStatus, IsSampleWritten, IsSampled};
 
 use crate::fault::StudyFault;
 use crate::locks::lock_of;
@@ -29,9 +29,9 @@ fn print_sample<T: Runs, R: Wait, W: Write>(
     requires { IsLawful (plan_of script.now) }
     ensures written { OnOk result (IsSampleWritten (options.now.seeds + 1) (plan_of script.now)
         (W.contents out.old) (W.contents out.new)) }
-    ensures runs { IfErr result (λ fault. IsInputs fault → ⊥) }
+    ensures runs { IfErr result (λ fault. IsInputsStatus fault → ⊥) }
     ensures early { IfErr result
-        (λ fault. IsBeforeAnswer fault → Keeps (W.contents out.old) (W.contents out.new)) }
+        (λ fault. IsStatusBeforeAnswer fault → Keeps (W.contents out.old) (W.contents out.new)) }
 {
     let lock = lock_of(options.ticket);
     let sampled = sample(runs, rt, alloc, script, lock, options.seeds)?;
@@ -50,9 +50,9 @@ fn sample_script<T: Runs, R: Wait, S: Read, W: Write>(
 ) -> Result<(), StudyFault>
     ensures sampled { OnOk result (IsSampled (options.now.seeds + 1) (S.remaining source.old)
         (W.contents out.old) (W.contents out.new)) }
-    ensures refused { IfErr result (λ fault. IsInputs fault → IsNoScript (S.remaining source.old)) }
+    ensures refused { IfErr result (λ fault. IsInputsStatus fault → IsNoScript (S.remaining source.old)) }
     ensures early { IfErr result
-        (λ fault. IsBeforeAnswer fault → Keeps (W.contents out.old) (W.contents out.new)) }
+        (λ fault. IsStatusBeforeAnswer fault → Keeps (W.contents out.old) (W.contents out.new)) }
 {
     let script = read_script(alloc, source)?;
     print_sample(runs, rt, alloc, options, &script, out)

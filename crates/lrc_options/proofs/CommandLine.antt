@@ -14,41 +14,41 @@ use Rattle.clap.specs.Values.{kind_of}
 use Rattle.clap.specs.declared.builder.value_parser.ValueParser.{ValueParser}
 use Rattle.clap.specs.declared.error.kind.ErrorKind.TheVariants.{OutOfMemory}
 use Rattle.lrc_options.specs.declared.options.Asked.{Asked}
-use Rattle.lrc_options.specs.CommandLine.{IsCommand, IsNumberRead, IsNumberGiven, IsSeedGiven, IsFlagGiven, IsRefusedBy, IsUnanswered, TakesNames, AreAskedOf, AreGiven, flagged_app, has_both, lrc_app, number_of, most_seed}
+use Rattle.lrc_options.specs.CommandLine.{IsCommand, IsOptionNumberRead, IsNumberOption, IsSeedOption, IsFlagOption, IsRefusedCommandLine, IsUnanswered, TakesNames, AreAskedOptionsOf, AreGivenOptions, flagged_rules, has_both, lrc_rules, option_number, most_seed}
 
 -- a text that is a number is read as that
-number_reads : {E : Type 0} (t : Text) (G : List ℕ → Result ℕ E → Type 0) (r : Option ℕ) → ReadsOne G t r
+option_number_reads : {E : Type 0} (t : Text) (G : List ℕ → Result ℕ E → Type 0) (r : Option ℕ) → ReadsOne G t r
     → ((u : List ℕ) (x : Result ℕ E) → G u x → ParsesUnsigned 64 10 u x) → IsNumeral 10 (without_leading_plus t)
-    → number_of t < 2 ^ 64 → r ≡ Some (number_of t)
-number_reads t G (Some n) reads parses numeral small = ap Some (parses t (Ok n) reads).1
-number_reads t G None reads parses numeral small = absurd (parses t (Err reads.0) reads.1 (numeral, small))
+    → option_number t < 2 ^ 64 → r ≡ Some (option_number t)
+option_number_reads t G (Some n) reads parses numeral small = ap Some (parses t (Ok n) reads).1
+option_number_reads t G None reads parses numeral small = absurd (parses t (Err reads.0) reads.1 (numeral, small))
 
 -- `get_one` of a number
-pub number_read : {E : Type 0} (G : List ℕ → Result ℕ E → Type 0) (f : Found) (id : Text) (r : Option ℕ)
+pub option_number_read : {E : Type 0} (G : List ℕ → Result ℕ E → Type 0) (f : Found) (id : Text) (r : Option ℕ)
     → (one_text f id ≡ None → r ≡ None)
     → ((t : List ℕ) → one_text f id ≡ Some t → ReadsOne G t r)
-    → ((u : List ℕ) (x : Result ℕ E) → G u x → ParsesUnsigned 64 10 u x) → IsNumberRead (one_of id (rows_of f)) r
-number_read G f id r none value parses = record {
-  read = λ t is. number_reads t G r (value t (one_text-rows f id ∙ is)) parses;
+    → ((u : List ℕ) (x : Result ℕ E) → G u x → ParsesUnsigned 64 10 u x) → IsOptionNumberRead (one_of id (rows_of f)) r
+option_number_read G f id r none value parses = record {
+  read = λ t is. option_number_reads t G r (value t (one_text-rows f id ∙ is)) parses;
   none = λ is. none (one_text-rows f id ∙ is);
 }
 
 -- a number in range
-pub number_in : (least most default : ℕ) (given : Option Text) (n : ℕ) → IsNumberRead given (Some n) → least ≤ n
-    → n ≤ most → IsNumberGiven least most default given n
-number_in least most default given n r above below = record {
-  read = λ t is within. same_Some n (number_of t) (r.read t is within.0 within.1);
+pub option_number_in : (least most default : ℕ) (given : Option Text) (n : ℕ) → IsOptionNumberRead given (Some n) → least ≤ n
+    → n ≤ most → IsNumberOption least most default given n
+option_number_in least most default given n r above below = record {
+  read = λ t is within. same_Some n (option_number t) (r.read t is within.0 within.1);
   default_is = λ is. absurd (cc (r.none is));
   least_is = above;
   most_is = below;
 }
 
 -- a number out of range
-pub number_out : (least most default : ℕ) (given : Option Text) (n : ℕ) → IsNumberRead given (Some n)
-    → (least ≤ n → n ≤ most → ⊥) → least ≤ default → default ≤ most → IsNumberGiven least most default given default
-number_out least most default given n r out above below = record {
+pub option_number_out : (least most default : ℕ) (given : Option Text) (n : ℕ) → IsOptionNumberRead given (Some n)
+    → (least ≤ n → n ≤ most → ⊥) → least ≤ default → default ≤ most → IsNumberOption least most default given default
+option_number_out least most default given n r out above below = record {
   read = λ t is within.
-      let same = same_Some n (number_of t) (r.read t is within.0 within.1) in
+      let same = same_Some n (option_number t) (r.read t is within.0 within.1) in
       absurd (out (rw same within.2) (rw same within.3));
   default_is = λ is. refl;
   least_is = above;
@@ -56,9 +56,9 @@ number_out least most default given n r out above below = record {
 }
 
 -- no number
-pub number_none : (least most default : ℕ) (given : Option Text) → IsNumberRead given None → least ≤ default
-    → default ≤ most → IsNumberGiven least most default given default
-number_none least most default given r above below = record {
+pub option_number_none : (least most default : ℕ) (given : Option Text) → IsOptionNumberRead given None → least ≤ default
+    → default ≤ most → IsNumberOption least most default given default
+option_number_none least most default given r above below = record {
   read = λ t is within. absurd (cc (r.read t is within.0 within.1));
   default_is = λ is. refl;
   least_is = above;
@@ -66,49 +66,49 @@ number_none least most default given r above below = record {
 }
 
 -- a seed in range
-pub seed_in : (given : Option Text) (n : ℕ) → IsNumberRead given (Some n) → n ≤ most_seed → IsSeedGiven given (Some n)
-seed_in given n r most = record {
+pub seed_option_in : (given : Option Text) (n : ℕ) → IsOptionNumberRead given (Some n) → n ≤ most_seed → IsSeedOption given (Some n)
+seed_option_in given n r most = record {
   read = λ t is within. r.read t is within.0 within.1;
   none = r.none;
   most_is = most;
 }
 
 -- a number out of range
-pub seed_out : (given : Option Text) (n : ℕ) → IsNumberRead given (Some n) → (n ≤ most_seed → ⊥)
-    → IsSeedGiven given None
-seed_out given n r out = record {
-  read = λ t is within. absurd (out (rw (same_Some n (number_of t) (r.read t is within.0 within.1)) within.3));
+pub seed_option_out : (given : Option Text) (n : ℕ) → IsOptionNumberRead given (Some n) → (n ≤ most_seed → ⊥)
+    → IsSeedOption given None
+seed_option_out given n r out = record {
+  read = λ t is within. absurd (out (rw (same_Some n (option_number t) (r.read t is within.0 within.1)) within.3));
   none = λ is. refl;
   most_is = tt;
 }
 
 -- no number
-pub seed_none : (given : Option Text) → IsNumberRead given None → IsSeedGiven given None
-seed_none given r = record {
+pub seed_option_none : (given : Option Text) → IsOptionNumberRead given None → IsSeedOption given None
+seed_option_none given r = record {
   read = λ t is within. r.read t is within.0 within.1;
   none = λ is. refl;
   most_is = tt;
 }
 
 -- `get_flag`
-pub flag_read : (f : Found) (id : Text) (b : Bool) → (one_text f id ≡ None → b ≡ false)
+pub flag_option_read : (f : Found) (id : Text) (b : Bool) → (one_text f id ≡ None → b ≡ false)
     → (one_text f id ≡ Some (codes "true") → b ≡ true)
-    → (one_text f id ≡ Some (codes "false") → b ≡ false) → IsFlagGiven (one_of id (rows_of f)) b
-flag_read f id b none value other = record {
+    → (one_text f id ≡ Some (codes "false") → b ≡ false) → IsFlagOption (one_of id (rows_of f)) b
+flag_option_read f id b none value other = record {
   set = λ is. value (one_text-rows f id ∙ is);
   unset = λ is. other (one_text-rows f id ∙ is);
   none = λ is. none (one_text-rows f id ∙ is);
 }
 
 -- `get_str`, compared with a word
-pub word_read : (f : Found) (id word lock : Text) (b : Bool) → Some lock ≡ first_value f id → b ≡ bytes_eq lock word
+pub word_option_read : (f : Found) (id word lock : Text) (b : Bool) → Some lock ≡ first_value f id → b ≡ bytes_eq lock word
     → b ≡ option_map_or (λ t. bytes_eq t word) (first_of id (rows_of f)) false
-word_read f id word lock b is same = same
+word_option_read f id word lock b is same = same
     ∙ ap (λ o. option_map_or (λ t. bytes_eq t word) o false) (is ∙ first_value-rows f id)
 
-pub no_word : (f : Found) (id word : Text) → None ≡ first_value f id
+pub no_word_option : (f : Found) (id word : Text) → None ≡ first_value f id
     → false ≡ option_map_or (λ t. bytes_eq t word) (first_of id (rows_of f)) false
-no_word f id word is = ap (λ o. option_map_or (λ t. bytes_eq t word) o false) (is ∙ first_value-rows f id)
+no_word_option f id word is = ap (λ o. option_map_or (λ t. bytes_eq t word) o false) (is ∙ first_value-rows f id)
 
 -- what holds of a value, where there is one, makes what follows from it hold
 pub if_ok_map : {T E : Type 0} {P Q : T → Type 0} (r : Result T E) → ((x : T) → P x → Q x) → IfOk r P → IfOk r Q
@@ -124,16 +124,16 @@ pub still_local : (a b r : Bool) → r ≡ (a || b) → a ≡ false → b ≡ fa
 still_local a b r is first second = is ∙ ap₂ (λ x y. x || y) first second
 
 -- a command with a rule is one with the same rule
-pub with_rule_is : {E : Type 0} (r : Result Command E) (a : App) (given rule : Rule) → given ≡ rule
+pub with_option_rule : {E : Type 0} (r : Result Command E) (a : App) (given rule : Rule) → given ≡ rule
     → IfOk r (IsCommand (with_rule a given)) → IfOk r (IsCommand (with_rule a rule))
-with_rule_is r a given rule is = subst (λ (x : Rule). IfOk r (IsCommand (with_rule a x))) is
+with_option_rule r a given rule is = subst (λ (x : Rule). IfOk r (IsCommand (with_rule a x))) is
 
 -- and so of one with a rule of its own
 pub own_rule_is : {E : Type 0} (r : Result Command E) (name : Text) (given rule : Rule) (locks : ValueParser) (flag : Rule)
-    → given ≡ rule → IfOk r (IsCommand (flagged_app name given locks flag))
-    → IfOk r (IsCommand (flagged_app name rule locks flag))
+    → given ≡ rule → IfOk r (IsCommand (flagged_rules name given locks flag))
+    → IfOk r (IsCommand (flagged_rules name rule locks flag))
 own_rule_is r name given rule locks flag is =
-    subst (λ (x : Rule). IfOk r (IsCommand (flagged_app name x locks flag))) is
+    subst (λ (x : Rule). IfOk r (IsCommand (flagged_rules name x locks flag))) is
 
 -- what is there stays there, as something else
 pub is_some_map : {A B : Type 0} (f : A → B) (o : Option A) → is_some (option_map f o) ≡ is_some o
@@ -150,12 +150,12 @@ abbrev pub both_of : {A : Type 0} → (A → Text) → (A → List Row) → A �
 both_of f g b = (f b, g b)
 
 -- the name and the rows of what was entered
-pub named_rows : {A : Type 0} (f : A → Text) (g : A → List Row) (o : Option A) (name : Text) (rows : List Row)
+pub named_option_rows : {A : Type 0} (f : A → Text) (g : A → List Row) (o : Option A) (name : Text) (rows : List Row)
     → Some name ≡ option_map f o
     → Some rows ≡ option_map (λ (p : Text × List Row). p.1) (option_map (both_of f g) o)
     → option_map (both_of f g) o ≡ Some (name, rows)
-named_rows f g None name rows named found = absurd (cc)
-named_rows f g (Some b) name rows named found =
+named_option_rows f g None name rows named found = absurd (cc)
+named_option_rows f g (Some b) name rows named found =
     ap₂ (λ x y. Some (x, y)) (sym (same_Some name (f b) named)) (sym (same_Some rows (g b) found))
 
 -- where the words were taken there is no fault
@@ -173,13 +173,13 @@ same_kind kinds a b is has = subst (λ k. (k ≡ OutOfMemory) ⊎ IsAmong k kind
 
 -- running out of memory refuses any words
 pub out_of_memory : (locks : ValueParser) (words : List Text) (e : Error)
-    → TakesNames (codes "array" ∷ codes "ticket" ∷ []) locks → kind_of e ≡ OutOfMemory → IsRefusedBy words e
+    → TakesNames (codes "array" ∷ codes "ticket" ∷ []) locks → kind_of e ≡ OutOfMemory → IsRefusedCommandLine words e
 out_of_memory locks words e are is = record { locks = locks; locks_are = are; kind = inl (inl is) }
 
 -- and so does a seed beside a schedule
 pub refused_by : (locks : ValueParser) (words : List Text) (name : Text) (rows : List Row) (e : Error)
-    → TakesNames (codes "array" ∷ codes "ticket" ∷ []) locks → subcommand_of (lrc_app locks) words ≡ Some (name, rows)
-    → IsUnanswered rows e → IsRefusedBy words e
+    → TakesNames (codes "array" ∷ codes "ticket" ∷ []) locks → subcommand_of (lrc_rules locks) words ≡ Some (name, rows)
+    → IsUnanswered rows e → IsRefusedCommandLine words e
 refused_by locks words name rows e are command (inl memory) = out_of_memory locks words e are memory
 refused_by locks words name rows e are command (inr both) = record {
   locks = locks;
@@ -189,9 +189,9 @@ refused_by locks words name rows e are command (inr both) = record {
 
 -- what is answered is what the words ask for
 pub given_by : (locks : ValueParser) (words : List Text) (name : Text) (rows : List Row) (result : Result Asked Error)
-    → TakesNames (codes "array" ∷ codes "ticket" ∷ []) locks → fault_of (lrc_app locks) words ≡ []
-    → subcommand_of (lrc_app locks) words ≡ Some (name, rows) → OnOk result (has_both rows ≡ false)
-    → IfOk result (AreAskedOf name rows) → IfOk result (AreGiven words)
+    → TakesNames (codes "array" ∷ codes "ticket" ∷ []) locks → fault_of (lrc_rules locks) words ≡ []
+    → subcommand_of (lrc_rules locks) words ≡ Some (name, rows) → OnOk result (has_both rows ≡ false)
+    → IfOk result (AreAskedOptionsOf name rows) → IfOk result (AreGivenOptions words)
 given_by locks words name rows (Ok asked) are none command one told = record {
   locks = locks;
   locks_are = are;

@@ -79,52 +79,52 @@ pub record IsCommand (a : App) (c : Command) : Type 0 where
   pub local : (out-Command c).has_globals ≡ false
 
 -- a command on a file
-abbrev pub file_app : Text → App
-file_app name = with_rule (new_app name) (new_rule (codes "FILE"))
+abbrev pub file_rules : Text → App
+file_rules name = with_rule (new_app name) (new_rule (codes "FILE"))
 
 -- the same with an option of its own and `--lock`, which takes what this parser lets through
-abbrev pub script_app : Text → Rule → ValueParser → App
-script_app name own locks = with_rule (with_rule (file_app name) own) (lock_rule locks)
+abbrev pub script_rules : Text → Rule → ValueParser → App
+script_rules name own locks = with_rule (with_rule (file_rules name) own) (lock_rule locks)
 
 -- the same with a flag
-abbrev pub flagged_app : Text → Rule → ValueParser → Rule → App
-flagged_app name own locks flag = with_rule (script_app name own locks) flag
+abbrev pub flagged_rules : Text → Rule → ValueParser → Rule → App
+flagged_rules name own locks flag = with_rule (script_rules name own locks) flag
 
 -- `lrc run` and `lrc step`
-abbrev pub run_app : ValueParser → App
-run_app locks = flagged_app (codes "run") tries_rule locks journal_rule
+abbrev pub run_rules : ValueParser → App
+run_rules locks = flagged_rules (codes "run") tries_rule locks journal_rule
 
-abbrev pub step_app : ValueParser → App
-step_app locks = with_rule (flagged_app (codes "step") seed_rule locks journal_rule) schedule_rule
+abbrev pub step_rules : ValueParser → App
+step_rules locks = with_rule (flagged_rules (codes "step") seed_rule locks journal_rule) schedule_rule
 
 -- `lrc explain`
-abbrev pub explain_app : ValueParser → App
-explain_app locks = with_rule (flagged_app (codes "explain") seed_rule locks svg_rule) schedule_rule
+abbrev pub explain_rules : ValueParser → App
+explain_rules locks = with_rule (flagged_rules (codes "explain") seed_rule locks svg_rule) schedule_rule
 
 -- `lrc sample`
-abbrev pub sample_app : ValueParser → App
-sample_app locks = script_app (codes "sample") seeds_rule locks
+abbrev pub sample_rules : ValueParser → App
+sample_rules locks = script_rules (codes "sample") seeds_rule locks
 
 -- `lrc explore`
-abbrev pub explore_app : App
-explore_app = with_rule (file_app (codes "explore")) most_rule
+abbrev pub explore_rules : App
+explore_rules = with_rule (file_rules (codes "explore")) most_rule
 
 -- `lrc check`
 abbrev pub lax_rule : Rule
 lax_rule = flag_rule (codes "lax")
 
-abbrev pub check_app : App
-check_app = with_rule (file_app (codes "check")) lax_rule
+abbrev pub check_rules : App
+check_rules = with_rule (file_rules (codes "check")) lax_rule
 
 -- `lrc` without its commands: it wants one, and has a version
-abbrev pub bare_app : App
-bare_app = on_top (λ s. record s { subcommand_required = true; has_version = true }) (new_app (codes "lrc"))
+abbrev pub bare_rules : App
+bare_rules = on_top (λ s. record s { subcommand_required = true; has_version = true }) (new_app (codes "lrc"))
 
 -- `lrc` with all its commands
-abbrev pub lrc_app : ValueParser → App
-lrc_app locks = with_subcommand (with_subcommand (with_subcommand (with_subcommand (with_subcommand (with_subcommand bare_app
-    (run_app locks).top) (step_app locks).top) (explain_app locks).top) (sample_app locks).top) explore_app.top)
-    check_app.top
+abbrev pub lrc_rules : ValueParser → App
+lrc_rules locks = with_subcommand (with_subcommand (with_subcommand (with_subcommand (with_subcommand (with_subcommand bare_rules
+    (run_rules locks).top) (step_rules locks).top) (explain_rules locks).top) (sample_rules locks).top) explore_rules.top)
+    check_rules.top
 
 -- the parser takes these names and no others
 abbrev pub TakesNames : List Text → ValueParser → Type 0
@@ -132,30 +132,30 @@ TakesNames names (vp.Names given) = map (λ s. s.now) given.now ≡ names
 TakesNames names _ = ⊥
 
 -- the number that a text gives
-abbrev pub number_of : Text → ℕ
-number_of t = digits_value 10 (without_leading_plus t)
+abbrev pub option_number : Text → ℕ
+option_number t = digits_value 10 (without_leading_plus t)
 
 -- the number that is given, where the text is one of 64 bits
-pub record IsNumberRead (given : Option Text) (n : Option ℕ) : Type 0 where
-  pub read : (t : Text) → given ≡ Some t → IsNumeral 10 (without_leading_plus t) → number_of t < 2 ^ 64
-      → n ≡ Some (number_of t)
+pub record IsOptionNumberRead (given : Option Text) (n : Option ℕ) : Type 0 where
+  pub read : (t : Text) → given ≡ Some t → IsNumeral 10 (without_leading_plus t) → option_number t < 2 ^ 64
+      → n ≡ Some (option_number t)
   pub none : given ≡ None → n ≡ None
 
 -- the number that is given, or the default; it is in range
-pub record IsNumberGiven (least most default : ℕ) (given : Option Text) (n : ℕ) : Type 0 where
-  pub read : (t : Text) → given ≡ Some t → IsUnsignedIn least most t → n ≡ number_of t
+pub record IsNumberOption (least most default : ℕ) (given : Option Text) (n : ℕ) : Type 0 where
+  pub read : (t : Text) → given ≡ Some t → IsUnsignedIn least most t → n ≡ option_number t
   pub default_is : given ≡ None → n ≡ default
   pub least_is : least ≤ n
   pub most_is : n ≤ most
 
 -- the seed that is given, or none; it is in range
-pub record IsSeedGiven (given : Option Text) (seed : Option ℕ) : Type 0 where
-  pub read : (t : Text) → given ≡ Some t → IsUnsignedIn 0 most_seed t → seed ≡ Some (number_of t)
+pub record IsSeedOption (given : Option Text) (seed : Option ℕ) : Type 0 where
+  pub read : (t : Text) → given ≡ Some t → IsUnsignedIn 0 most_seed t → seed ≡ Some (option_number t)
   pub none : given ≡ None → seed ≡ None
   pub most_is : IfSome seed (λ n. n ≤ most_seed)
 
 -- whether a flag is set
-pub record IsFlagGiven (given : Option Text) (flag : Bool) : Type 0 where
+pub record IsFlagOption (given : Option Text) (flag : Bool) : Type 0 where
   pub set : given ≡ Some (codes "true") → flag ≡ true
   pub unset : given ≡ Some (codes "false") → flag ≡ false
   pub none : given ≡ None → flag ≡ false
@@ -164,47 +164,47 @@ pub record IsFlagGiven (given : Option Text) (flag : Bool) : Type 0 where
 pub record AreOptionsOf (name : Text) (rows : List Row) (o : Options) : Type 0 where
   pub step : o.step ≡ bytes_eq name (codes "step")
   pub file : option_map (λ f. string_bytes f) o.file ≡ first_of (codes "FILE") rows
-  pub tries : IsNumberGiven 1 most_tries default_tries (one_of (codes "tries") rows) o.tries
-  pub seed : IsSeedGiven (one_of (codes "seed") rows) o.seed
+  pub tries : IsNumberOption 1 most_tries default_tries (one_of (codes "tries") rows) o.tries
+  pub seed : IsSeedOption (one_of (codes "seed") rows) o.seed
   pub schedule : option_map (λ t. string_bytes t) o.schedule ≡ first_of (codes "schedule") rows
   pub ticket : o.ticket ≡ option_map_or (λ t. bytes_eq t (codes "ticket")) (first_of (codes "lock") rows) false
-  pub journal : IsFlagGiven (one_of (codes "journal") rows) o.journal
+  pub journal : IsFlagOption (one_of (codes "journal") rows) o.journal
 
 -- the options that the rows of `check` give
 pub record AreTraceOptionsOf (rows : List Row) (o : TraceOptions) : Type 0 where
   pub file : option_map (λ f. string_bytes f) o.file ≡ first_of (codes "FILE") rows
-  pub lax : IsFlagGiven (one_of (codes "lax") rows) o.lax
+  pub lax : IsFlagOption (one_of (codes "lax") rows) o.lax
 
 -- whether the ticket lock is asked for
-abbrev pub ticket_of : List Row → Bool
-ticket_of rows = option_map_or (λ t. bytes_eq t (codes "ticket")) (first_of (codes "lock") rows) false
+abbrev pub ticket_option : List Row → Bool
+ticket_option rows = option_map_or (λ t. bytes_eq t (codes "ticket")) (first_of (codes "lock") rows) false
 
 -- the options that the rows of `sample` give
 pub record AreSampleOptionsOf (rows : List Row) (o : SampleOptions) : Type 0 where
   pub file : option_map (λ f. string_bytes f) o.file ≡ first_of (codes "FILE") rows
-  pub seeds : IsNumberGiven 1 most_seed default_seeds (one_of (codes "seeds") rows) o.seeds
-  pub ticket : o.ticket ≡ ticket_of rows
+  pub seeds : IsNumberOption 1 most_seed default_seeds (one_of (codes "seeds") rows) o.seeds
+  pub ticket : o.ticket ≡ ticket_option rows
 
 -- the options that the rows of `explore` give
 pub record AreExploreOptionsOf (rows : List Row) (o : ExploreOptions) : Type 0 where
   pub file : option_map (λ f. string_bytes f) o.file ≡ first_of (codes "FILE") rows
-  pub most : IsNumberGiven 0 most_seed default_most (one_of (codes "most") rows) o.most
+  pub most : IsNumberOption 0 most_seed default_most (one_of (codes "most") rows) o.most
 
 -- the options that the rows of `explain` give
 pub record AreExplainOptionsOf (rows : List Row) (o : ExplainOptions) : Type 0 where
   pub file : option_map (λ f. string_bytes f) o.file ≡ first_of (codes "FILE") rows
-  pub seed : IsSeedGiven (one_of (codes "seed") rows) o.seed
+  pub seed : IsSeedOption (one_of (codes "seed") rows) o.seed
   pub schedule : option_map (λ t. string_bytes t) o.schedule ≡ first_of (codes "schedule") rows
-  pub ticket : o.ticket ≡ ticket_of rows
-  pub picture : IsFlagGiven (one_of (codes "svg") rows) o.picture
+  pub ticket : o.ticket ≡ ticket_option rows
+  pub picture : IsFlagOption (one_of (codes "svg") rows) o.picture
 
 -- what a command's name and its rows ask for
-abbrev pub AreAskedOf : Text → List Row → Asked → Type 0
-AreAskedOf name rows (Explain o) = (bytes_eq name (codes "explain") ≡ true) × AreExplainOptionsOf rows o
-AreAskedOf name rows (Sample o) = (bytes_eq name (codes "sample") ≡ true) × AreSampleOptionsOf rows o
-AreAskedOf name rows (Explore o) = (bytes_eq name (codes "explore") ≡ true) × AreExploreOptionsOf rows o
-AreAskedOf name rows (Trace o) = (bytes_eq name (codes "check") ≡ true) × AreTraceOptionsOf rows o
-AreAskedOf name rows (Script o) = (bytes_eq name (codes "explain") ≡ false)
+abbrev pub AreAskedOptionsOf : Text → List Row → Asked → Type 0
+AreAskedOptionsOf name rows (Explain o) = (bytes_eq name (codes "explain") ≡ true) × AreExplainOptionsOf rows o
+AreAskedOptionsOf name rows (Sample o) = (bytes_eq name (codes "sample") ≡ true) × AreSampleOptionsOf rows o
+AreAskedOptionsOf name rows (Explore o) = (bytes_eq name (codes "explore") ≡ true) × AreExploreOptionsOf rows o
+AreAskedOptionsOf name rows (Trace o) = (bytes_eq name (codes "check") ≡ true) × AreTraceOptionsOf rows o
+AreAskedOptionsOf name rows (Script o) = (bytes_eq name (codes "explain") ≡ false)
     × (bytes_eq name (codes "sample") ≡ false)
     × (bytes_eq name (codes "explore") ≡ false)
     × (bytes_eq name (codes "check") ≡ false)
@@ -215,21 +215,21 @@ abbrev pub has_both : List Row → Bool
 has_both rows = is_some (first_of (codes "seed") rows) && is_some (first_of (codes "schedule") rows)
 
 -- what the words ask for, by the matches of a simple command, which find no fault in them, and no seed beside a schedule
-pub record AreGiven (words : List Text) (o : Asked) : Type 0 where
+pub record AreGivenOptions (words : List Text) (o : Asked) : Type 0 where
   pub locks : ValueParser
   pub locks_are : TakesNames (codes "array" ∷ codes "ticket" ∷ []) locks
-  pub faultless : fault_of (lrc_app locks) words ≡ []
+  pub faultless : fault_of (lrc_rules locks) words ≡ []
   pub name : Text
   pub rows : List Row
-  pub command : subcommand_of (lrc_app locks) words ≡ Some (name, rows)
+  pub command : subcommand_of (lrc_rules locks) words ≡ Some (name, rows)
   pub one : has_both rows ≡ false
-  pub asked : AreAskedOf name rows o
+  pub asked : AreAskedOptionsOf name rows o
 
 -- the words give a seed and a schedule, and the fault says so
 pub record IsConflict (locks : ValueParser) (words : List Text) (e : Error) : Type 0 where
   pub name : Text
   pub rows : List Row
-  pub command : subcommand_of (lrc_app locks) words ≡ Some (name, rows)
+  pub command : subcommand_of (lrc_rules locks) words ≡ Some (name, rows)
   pub both : has_both rows ≡ true
   pub kind : kind_of e ≡ ArgumentConflict
 
@@ -238,7 +238,7 @@ abbrev pub IsUnanswered : List Row → Error → Type 0
 IsUnanswered rows e = (kind_of e ≡ OutOfMemory) ⊎ ((has_both rows ≡ true) × (kind_of e ≡ ArgumentConflict))
 
 -- memory ran out, or the matches of that command find a fault of this kind in the words, or a seed beside a schedule
-pub record IsRefusedBy (words : List Text) (e : Error) : Type 0 where
+pub record IsRefusedCommandLine (words : List Text) (e : Error) : Type 0 where
   pub locks : ValueParser
   pub locks_are : TakesNames (codes "array" ∷ codes "ticket" ∷ []) locks
-  pub kind : HasKind (fault_of (lrc_app locks) words) e ⊎ IsConflict locks words e
+  pub kind : HasKind (fault_of (lrc_rules locks) words) e ⊎ IsConflict locks words e

@@ -4,8 +4,8 @@ ghost use Rattle.clap.specs.Words.{App, app_of, rule_of, with_rule, with_subcomm
 ghost use Rattle.clap.specs.declared.builder.command.Command.TheViews.{out-Command};
 ghost use Rattle.clap.specs.declared.builder.value_parser.ValueParser.TheVariants as vp;
 ghost use Rattle.lrc_options.specs.CommandLine.{flag_rule, lock_rule, most_rule, number_rule, schedule_rule, seed_rule, seeds_rule};
-ghost use Rattle.lrc_options.specs.CommandLine.{IsCommand, bare_app, check_app, explain_app, explore_app, file_app};
-ghost use Rattle.lrc_options.specs.CommandLine.{flagged_app, lrc_app, run_app, sample_app, script_app, step_app};
+ghost use Rattle.lrc_options.specs.CommandLine.{IsCommand, bare_rules, check_rules, explain_rules, explore_rules, file_rules};
+ghost use Rattle.lrc_options.specs.CommandLine.{flagged_rules, lrc_rules, run_rules, sample_rules, script_rules, step_rules};
 ghost use Rattle.lrc_options.specs.CommandLine.{tries_rule};
 
 use crate::help::{
@@ -136,7 +136,7 @@ fn file_command<'a>(
     after: &'a str,
     file: &'a str,
 ) -> Result<Command<'a>, AllocError>
-    ensures { IfOk result (IsCommand (file_app name.entry.now)) }
+    ensures { IfOk result (IsCommand (file_rules name.entry.now)) }
 {
     let file = Arg::new(alloc, "FILE").help(file);
     Command::new(alloc, name)
@@ -156,7 +156,7 @@ fn script_command<'a>(
 ) -> Result<Command<'a>, AllocError>
     requires { own.global ≡ false }
     ensures { IfOk result (IsCommand
-        (script_app name.entry.now (rule_of own.entry) (vp.Names locks.entry))) }
+        (script_rules name.entry.now (rule_of own.entry) (vp.Names locks.entry))) }
 {
     let command = file_command(alloc, name, about, after, SCRIPT_FILE);
     let command = with_option(command, own);
@@ -176,7 +176,7 @@ fn flagged_command<'a>(
 ) -> Result<Command<'a>, AllocError>
     requires { own.global ≡ false }
     ensures { IfOk result (IsCommand
-        (flagged_app name.entry.now (rule_of own.entry) (vp.Names locks.entry) (flag_rule flag.entry.now))) }
+        (flagged_rules name.entry.now (rule_of own.entry) (vp.Names locks.entry) (flag_rule flag.entry.now))) }
 {
     let command = script_command(alloc, name, about, after, own, locks);
     with_option(command, flag_arg(alloc, flag, help))
@@ -184,7 +184,7 @@ fn flagged_command<'a>(
 
 /// `lrc run`.
 fn run_command<'a>(alloc: Global, locks: &'a [&'a str]) -> Result<Command<'a>, AllocError>
-    ensures { IfOk result (IsCommand (run_app (vp.Names locks.entry))) }
+    ensures { IfOk result (IsCommand (run_rules (vp.Names locks.entry))) }
 {
     let about = "Runs each processor on a thread of its own";
     let own = tries_arg(alloc);
@@ -193,7 +193,7 @@ fn run_command<'a>(alloc: Global, locks: &'a [&'a str]) -> Result<Command<'a>, A
 
 /// `lrc step`.
 fn step_command<'a>(alloc: Global, locks: &'a [&'a str]) -> Result<Command<'a>, AllocError>
-    ensures { IfOk result (IsCommand (step_app (vp.Names locks.entry))) }
+    ensures { IfOk result (IsCommand (step_rules (vp.Names locks.entry))) }
 {
     let about = "Runs the processors by turns on one thread: the same words give the same report";
     let own = seed_arg(alloc);
@@ -203,7 +203,7 @@ fn step_command<'a>(alloc: Global, locks: &'a [&'a str]) -> Result<Command<'a>, 
 
 /// `lrc explain`.
 fn explain_command<'a>(alloc: Global, locks: &'a [&'a str]) -> Result<Command<'a>, AllocError>
-    ensures { IfOk result (IsCommand (explain_app (vp.Names locks.entry))) }
+    ensures { IfOk result (IsCommand (explain_rules (vp.Names locks.entry))) }
 {
     let about = "Runs the processors as step does, and tells the run event by event";
     let own = seed_arg(alloc);
@@ -213,7 +213,7 @@ fn explain_command<'a>(alloc: Global, locks: &'a [&'a str]) -> Result<Command<'a
 
 /// `lrc sample`.
 fn sample_command<'a>(alloc: Global, locks: &'a [&'a str]) -> Result<Command<'a>, AllocError>
-    ensures { IfOk result (IsCommand (sample_app (vp.Names locks.entry))) }
+    ensures { IfOk result (IsCommand (sample_rules (vp.Names locks.entry))) }
 {
     let about = "Runs the script by many drawn schedules, and tells each kind of result once";
     script_command(alloc, "sample", about, SAMPLE, seeds_arg(alloc), locks)
@@ -221,7 +221,7 @@ fn sample_command<'a>(alloc: Global, locks: &'a [&'a str]) -> Result<Command<'a>
 
 /// `lrc explore`.
 fn explore_command<'a>(alloc: Global) -> Result<Command<'a>, AllocError>
-    ensures { IfOk result (IsCommand explore_app) }
+    ensures { IfOk result (IsCommand explore_rules) }
 {
     let about =
         "Looks at all schedules of a script: whether it can race or hang, and what it can show";
@@ -231,7 +231,7 @@ fn explore_command<'a>(alloc: Global) -> Result<Command<'a>, AllocError>
 
 /// `lrc check`.
 fn check_command<'a>(alloc: Global) -> Result<Command<'a>, AllocError>
-    ensures { IfOk result (IsCommand check_app) }
+    ensures { IfOk result (IsCommand check_rules) }
 {
     let about = "Judges a trace, of anyone's making: whether such a memory could have made it";
     let command = file_command(alloc, "check", about, TRACE, TRACE_FILE);
@@ -250,7 +250,7 @@ fn shown_if<'a>(
 
 /// `lrc` without its commands, with this text at the end of its help.
 fn bare_command<'a>(alloc: Global, after: &'a str) -> Command<'a>
-    ensures { IsCommand bare_app result }
+    ensures { IsCommand bare_rules result }
 {
     Command::new(alloc, "lrc")
         .about(ABOUT)
@@ -266,7 +266,7 @@ pub(crate) fn lrc_command<'a>(
     locks: &'a [&'a str],
     commands: Commands,
 ) -> Result<Command<'a>, AllocError>
-    ensures command { IfOk result (IsCommand (lrc_app (vp.Names locks.entry))) }
+    ensures command { IfOk result (IsCommand (lrc_rules (vp.Names locks.entry))) }
     ensures wants { IfOk result (λ c. (out-Command c).subcommand_required ≡ true) }
 {
     let (shown, after) = match commands {

@@ -3,10 +3,10 @@ ghost use Rattle.std.specs.Prelude.{◌≡◌, IfOk, IfErr, OnOk, false, is_some
 ghost use Rattle.std.specs.Option.{option_map_or};
 ghost use Rattle.std.specs.Str.{bytes_eq};
 ghost use Rattle.clap.specs.Words.{first_of, one_of, rows_of, found_of};
-ghost use Rattle.lrc_options.specs.CommandLine.{IsNumberRead, IsNumberGiven, IsSeedGiven, IsFlagGiven, AreAskedOf, AreOptionsOf};
+ghost use Rattle.lrc_options.specs.CommandLine.{IsOptionNumberRead, IsNumberOption, IsSeedOption, IsFlagOption, AreAskedOptionsOf, AreOptionsOf};
 ghost use Rattle.lrc_options.specs.CommandLine.{AreExplainOptionsOf, AreExploreOptionsOf, AreSampleOptionsOf};
-ghost use Rattle.lrc_options.specs.CommandLine.{AreTraceOptionsOf, default_most, has_both, ticket_of};
-ghost use Rattle.lrc_options.specs.CommandLine.{AreGiven, IsRefusedBy, IsUnanswered, most_tries, most_seed, default_tries, default_seeds};
+ghost use Rattle.lrc_options.specs.CommandLine.{AreTraceOptionsOf, default_most, has_both, ticket_option};
+ghost use Rattle.lrc_options.specs.CommandLine.{AreGivenOptions, IsRefusedCommandLine, IsUnanswered, most_tries, most_seed, default_tries, default_seeds};
 
 use crate::command::{LOCKS, MOST_SEED, MOST_TRIES, lrc_command};
 use crate::options::{
@@ -19,14 +19,14 @@ use std::alloc::{AllocError, Global};
 
 /// The number that an option gives.
 fn number_of(matches: &ArgMatches<'_>, id: &str) -> Option<u64>
-    ensures { IsNumberRead (one_of id.now (rows_of (found_of matches.now))) result }
+    ensures { IsOptionNumberRead (one_of id.now (rows_of (found_of matches.now))) result }
 {
     matches.get_one::<u64>(id)
 }
 
 /// The number given for `--tries`, or the default.
 fn tries_of(matches: &ArgMatches<'_>) -> u64
-    ensures { IsNumberGiven 1 most_tries default_tries
+    ensures { IsNumberOption 1 most_tries default_tries
         (one_of (codes "tries") (rows_of (found_of matches.now))) result }
 {
     match number_of(matches, "tries") {
@@ -37,7 +37,7 @@ fn tries_of(matches: &ArgMatches<'_>) -> u64
 
 /// The number given for `--seed`.
 fn seed_of(matches: &ArgMatches<'_>) -> Option<u64>
-    ensures { IsSeedGiven (one_of (codes "seed") (rows_of (found_of matches.now))) result }
+    ensures { IsSeedOption (one_of (codes "seed") (rows_of (found_of matches.now))) result }
 {
     match number_of(matches, "seed") {
         Some(seed) if seed <= MOST_SEED => Some(seed),
@@ -47,7 +47,7 @@ fn seed_of(matches: &ArgMatches<'_>) -> Option<u64>
 
 /// The number given for `--seeds`, or the default.
 fn seeds_of(matches: &ArgMatches<'_>) -> u32
-    ensures { IsNumberGiven 1 most_seed default_seeds
+    ensures { IsNumberOption 1 most_seed default_seeds
         (one_of (codes "seeds") (rows_of (found_of matches.now))) result }
 {
     match number_of(matches, "seeds") {
@@ -58,7 +58,7 @@ fn seeds_of(matches: &ArgMatches<'_>) -> u32
 
 /// The number given for `--most`, or the default.
 fn most_of(matches: &ArgMatches<'_>) -> u32
-    ensures { IsNumberGiven 0 most_seed default_most
+    ensures { IsNumberOption 0 most_seed default_most
         (one_of (codes "most") (rows_of (found_of matches.now))) result }
 {
     match number_of(matches, "most") {
@@ -69,7 +69,7 @@ fn most_of(matches: &ArgMatches<'_>) -> u32
 
 /// Whether the ticket lock is asked for.
 fn is_ticket(matches: &ArgMatches<'_>) -> bool
-    ensures { result ≡ ticket_of (rows_of (found_of matches.now)) }
+    ensures { result ≡ ticket_option (rows_of (found_of matches.now)) }
 {
     match matches.get_str("lock") {
         Some(lock) => lock == "ticket",
@@ -79,21 +79,21 @@ fn is_ticket(matches: &ArgMatches<'_>) -> bool
 
 /// Whether the journal is asked for.
 fn wants_journal(matches: &ArgMatches<'_>) -> bool
-    ensures { IsFlagGiven (one_of (codes "journal") (rows_of (found_of matches.now))) result }
+    ensures { IsFlagOption (one_of (codes "journal") (rows_of (found_of matches.now))) result }
 {
     matches.get_flag("journal")
 }
 
 /// Whether a picture is asked for.
 fn wants_picture(matches: &ArgMatches<'_>) -> bool
-    ensures { IsFlagGiven (one_of (codes "svg") (rows_of (found_of matches.now))) result }
+    ensures { IsFlagOption (one_of (codes "svg") (rows_of (found_of matches.now))) result }
 {
     matches.get_flag("svg")
 }
 
 /// Whether what only this memory asks is to be left out.
 fn is_lax(matches: &ArgMatches<'_>) -> bool
-    ensures { IsFlagGiven (one_of (codes "lax") (rows_of (found_of matches.now))) result }
+    ensures { IsFlagOption (one_of (codes "lax") (rows_of (found_of matches.now))) result }
 {
     matches.get_flag("lax")
 }
@@ -191,7 +191,7 @@ fn trace_options_of(alloc: Global, matches: &ArgMatches<'_>) -> Result<TraceOpti
 
 /// What a command's name and its matches ask for.
 fn asked_of(alloc: Global, name: &str, matches: &ArgMatches<'_>) -> Result<Asked, AllocError>
-    ensures { IfOk result (AreAskedOf name.now (rows_of (found_of matches.now))) }
+    ensures { IfOk result (AreAskedOptionsOf name.now (rows_of (found_of matches.now))) }
 {
     if name == "explain" {
         explain_options_of(alloc, matches).map(Asked::Explain)
@@ -209,7 +209,7 @@ fn asked_of(alloc: Global, name: &str, matches: &ArgMatches<'_>) -> Result<Asked
 /// The same, or that a seed and a schedule are given.
 fn answer_of(alloc: Global, name: &str, matches: &ArgMatches<'_>) -> Result<Asked, Error>
     ensures one { OnOk result (has_both (rows_of (found_of matches.now)) ≡ false) }
-    ensures asked { IfOk result (AreAskedOf name.now (rows_of (found_of matches.now))) }
+    ensures asked { IfOk result (AreAskedOptionsOf name.now (rows_of (found_of matches.now))) }
     ensures unanswered { IfErr result (IsUnanswered (rows_of (found_of matches.now))) }
 {
     if has_both(matches) {
@@ -228,8 +228,8 @@ fn answer_of(alloc: Global, name: &str, matches: &ArgMatches<'_>) -> Result<Aske
 /// clap's, of just the kind that its own function of the command finds in the words: words that give no such command,
 /// a question for help; a conflict, if they give a seed and a schedule; or running out of memory.
 pub fn options<'a>(alloc: Global, words: &'a [String], commands: Commands) -> Result<Asked, Error>
-    ensures given { IfOk result (AreGiven (map (λ w. string_bytes w) words.entry.now)) }
-    ensures refused { IfErr result (IsRefusedBy (map (λ w. string_bytes w) words.entry.now)) }
+    ensures given { IfOk result (AreGivenOptions (map (λ w. string_bytes w) words.entry.now)) }
+    ensures refused { IfErr result (IsRefusedCommandLine (map (λ w. string_bytes w) words.entry.now)) }
 {
     match lrc_command(alloc, LOCKS.as_slice(), commands)?.try_get_matches_from(words) {
         Ok(matches) => match matches.subcommand() {

@@ -1,6 +1,6 @@
 //! The options of the program `lrc`, by the words of its command line: which script is to be run, and how.
 //!
-//! **What contracts see.** `Options` as they are; `AreGiven` says what options the words give, by the matches that
+//! **What contracts see.** `Options` as they are; `AreGivenOptions` says what options the words give, by the matches that
 //! clap states for a simple command.
 //!
 //! **What is proved.** Where `options` answers options, the words give them; where it answers a fault, they have one

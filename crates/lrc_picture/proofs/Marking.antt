@@ -1,6 +1,6 @@
 -- Marks, one after the other.
 use Rattle.std.proofs.Common.{◌≡◌, ℕ, inl, inr, List, [], ◌∷◌, ◌++◌, length, subst, arith}
-use Rattle.base.proofs.Places.{push_cases}
+use Rattle.base.proofs.SlicesAndCounts.{push_cases}
 use Rattle.journal.specs.declared.event.Event.{Event}
 use Rattle.lrc_picture.specs.declared.grid.Grid.{Grid}
 use Rattle.lrc_picture.specs.declared.marks.Mark.{Mark}

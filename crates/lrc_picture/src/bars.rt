@@ -14,7 +14,7 @@ pub struct Bar {
 }
 
 /// The bar across all lanes in this row.
-fn bar(grid: Grid, row: usize) -> Bar
+fn bar_across(grid: Grid, row: usize) -> Bar
     requires { row ≤ grid.rows }
     ensures { result ≡ bar_for grid row }
 {
@@ -43,7 +43,7 @@ pub fn bars(alloc: Global, grid: Grid, events: &[Event]) -> Result<Vec<Bar>, All
         if arrives(events[row].kind) {
             missing = missing.saturating_sub(1);
             if missing == 0 {
-                bars.push(bar(grid, row))?;
+                bars.push(bar_across(grid, row))?;
                 missing = grid.lanes;
             }
         }

@@ -31,7 +31,7 @@ pub record IsByTurns (stepped : Plan → LockChoice → Option ℕ → Result Re
 
 -- it came by the command that the options ask for, with their lock, and their tries, their seed or the turns of a schedule;
 -- `ran` is what comes on threads
-pub record IsAsAsked (ran : Plan → LockChoice → ℕ → Result Report RunFault → Type 0)
+pub record IsServedAsAsked (ran : Plan → LockChoice → ℕ → Result Report RunFault → Type 0)
     (stepped : Plan → LockChoice → Option ℕ → Result Report RunFault → Type 0)
     (followed : Plan → LockChoice → List ℕ → Result Ended ScheduleFault → Type 0) (o : Options) (s : Plan)
     (report : Report) : Type 0 where
@@ -39,12 +39,12 @@ pub record IsAsAsked (ran : Plan → LockChoice → ℕ → Result Report RunFau
   pub by_turns : o.step ≡ true → IsByTurns stepped followed o s report
 
 -- the script that was read is lawful, and its text is all that the source had
-pub record IsRead (source : Option (List ℕ)) (s : Plan) : Type 0 where
+pub record IsScriptRead (source : Option (List ℕ)) (s : Plan) : Type 0 where
   pub lawful : IsLawful s
   pub text_is : IfSome source (λ xs. xs ≡ text s)
 
 -- the script was run as it was asked, and the text of the report of it was written
-pub record IsPrinted (asked : Plan → Report → Type 0) (journal : Bool) (script : Plan)
+pub record IsScriptPrinted (asked : Plan → Report → Type 0) (journal : Bool) (script : Plan)
     (old new : Option (List ℕ)) : Type 0 where
   pub report : Report
   pub came : asked script report
@@ -55,7 +55,7 @@ pub record IsPrinted (asked : Plan → Report → Type 0) (journal : Bool) (scri
 pub record IsServed (asked : Plan → Report → Type 0) (journal : Bool)
     (source old new : Option (List ℕ)) : Type 0 where
   pub script : Plan
-  pub read : IsRead source script
+  pub read : IsScriptRead source script
   pub report : Report
   pub came : asked script report
   pub tells : IsReportOf script report

@@ -24,11 +24,11 @@ abbrev pub IsStatusOf : ProgramFault → ℕ → Type 0
 IsStatusOf fault status = (status ≡ status_of fault) ⊎ (status ≡ status_of NoMemory)
 
 -- the fault is the script's
-abbrev pub IsScripts : ProgramFault → Type 0
-IsScripts (Script line fault) = ⊤
-IsScripts _ = ⊥
+abbrev pub IsScriptsStatus : ProgramFault → Type 0
+IsScriptsStatus (Script line fault) = ⊤
+IsScriptsStatus _ = ⊥
 
 -- the fault came before anything was written
-abbrev pub IsBeforeOutput : ProgramFault → Type 0
-IsBeforeOutput Output = ⊥
-IsBeforeOutput _ = ⊤
+abbrev pub IsStatusBeforeOutput : ProgramFault → Type 0
+IsStatusBeforeOutput Output = ⊥
+IsStatusBeforeOutput _ = ⊤

@@ -1,7 +1,7 @@
 //! Why the program ends without a report.
 ghost use Rattle.std.specs.Prelude.{◌≡◌, ◌≢◌};
 ghost use Rattle.lrc_script.specs.declared.fault.ScriptFault.TheVariants.{NoMemory};
-ghost use Rattle.lrc_program.specs.Prelude.{IsScripts, status_of};
+ghost use Rattle.lrc_program.specs.Prelude.{IsScriptsStatus, status_of};
 ghost use Rattle.lrc_program.specs.declared.fault.ProgramFault.TheVariants as program;
 
 use book::Refused;
@@ -76,7 +76,7 @@ impl ProgramFault {
 }
 
 impl From<io::Error> for ProgramFault {
-    ghost from_gives = { λ _ fault. IsScripts fault → ⊥ };
+    ghost from_gives = { λ _ fault. IsScriptsStatus fault → ⊥ };
 
     fn from(error: io::Error) -> ProgramFault {
         if error.kind() == ErrorKind::OutOfMemory {
@@ -96,7 +96,7 @@ impl From<AllocError> for ProgramFault {
 }
 
 impl From<(usize, ScriptFault)> for ProgramFault {
-    ghost from_gives = { λ given fault. IsScripts fault → given.1 ≢ NoMemory };
+    ghost from_gives = { λ given fault. IsScriptsStatus fault → given.1 ≢ NoMemory };
 
     fn from((line, fault): (usize, ScriptFault)) -> ProgramFault {
         match fault {
@@ -107,7 +107,7 @@ impl From<(usize, ScriptFault)> for ProgramFault {
 }
 
 impl From<RunFault> for ProgramFault {
-    ghost from_gives = { λ _ fault. IsScripts fault → ⊥ };
+    ghost from_gives = { λ _ fault. IsScriptsStatus fault → ⊥ };
 
     fn from(fault: RunFault) -> ProgramFault {
         match fault.cause {
@@ -118,7 +118,7 @@ impl From<RunFault> for ProgramFault {
 }
 
 impl From<ScheduleFault> for ProgramFault {
-    ghost from_gives = { λ _ fault. IsScripts fault → ⊥ };
+    ghost from_gives = { λ _ fault. IsScriptsStatus fault → ⊥ };
 
     fn from(fault: ScheduleFault) -> ProgramFault {
         match fault {

@@ -6,7 +6,7 @@
 //! proved beside `lrc_run`, which the program's own main hands in.
 //!
 //! **What is proved.** `program` answers 0 only where all that it could read is a script's text, that script was run
-//! as the options ask (`IsAsAsked`) and the text of its report was written, and nothing else (`IsServed`); 2 only where it is
+//! as the options ask (`IsServedAsAsked`) and the text of its report was written, and nothing else (`IsServed`); 2 only where it is
 //! no script's text (`IsNoScript`); and but for 4 a report is written whole or not at all. Each fault has its status
 //! (`status_of`).
 //!

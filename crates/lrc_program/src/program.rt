@@ -4,8 +4,8 @@ ghost use Rattle.std.specs.Io.KnownBytes.{Keeps};
 ghost use Rattle.lrc_script.specs.Prelude.{IsLawful, plan_of};
 ghost use Rattle.conformance.specs.Prelude.{IsReportOf, IsScheduleText};
 ghost use Rattle.conformance.specs.declared.ended.Ended.TheVariants.{Whole};
-ghost use Rattle.lrc_program.specs.Prelude.{IsAsAsked, IsByTurns, IsNoScript, IsPrinted, IsRead, IsServed, IsBeforeOutput};
-ghost use Rattle.lrc_program.specs.Prelude.{IsScripts, IsStatusOf, lock_chosen};
+ghost use Rattle.lrc_program.specs.Prelude.{IsServedAsAsked, IsByTurns, IsNoScript, IsScriptPrinted, IsScriptRead, IsServed, IsStatusBeforeOutput};
+ghost use Rattle.lrc_program.specs.Prelude.{IsScriptsStatus, IsStatusOf, lock_chosen};
 
 use crate::fault::ProgramFault;
 use conformance::{Cause, Ended, LockChoice, RunFault, Runs, Schedule};
@@ -45,7 +45,7 @@ fn scheduled_report<T: Runs, R: Wait>(
     ensures report { IfOk result (IsReportOf (plan_of script.now)) }
     ensures followed { IfOk result (λ report. (turns : List ℕ) × IsScheduleText text.now turns
         × T.followed (plan_of script.now) lock turns (Ok (Whole report))) }
-    ensures runs { IfErr result (λ fault. IsScripts fault → ⊥) }
+    ensures runs { IfErr result (λ fault. IsScriptsStatus fault → ⊥) }
 {
     let schedule = Schedule::parse(alloc, text)?;
     match runs.step_by(rt, alloc, script, lock, &schedule)? {
@@ -68,7 +68,7 @@ fn stepped_report<T: Runs, R: Wait>(
     requires { IsLawful (plan_of script.now) }
     ensures report { IfOk result (IsReportOf (plan_of script.now)) }
     ensures asked { IfOk result (IsByTurns T.stepped T.followed options.now (plan_of script.now)) }
-    ensures runs { IfErr result (λ fault. IsScripts fault → ⊥) }
+    ensures runs { IfErr result (λ fault. IsScriptsStatus fault → ⊥) }
 {
     let lock = lock_of(options);
     match options.schedule.as_deref() {
@@ -88,8 +88,8 @@ fn report_of<T: Runs, R: Threads + Wait + Sync>(
     requires tries { 0 < options.now.tries }
     requires lawful { IsLawful (plan_of script.now) }
     ensures report { IfOk result (IsReportOf (plan_of script.now)) }
-    ensures asked { IfOk result (IsAsAsked T.ran T.stepped T.followed options.now (plan_of script.now)) }
-    ensures runs { IfErr result (λ fault. IsScripts fault → ⊥) }
+    ensures asked { IfOk result (IsServedAsAsked T.ran T.stepped T.followed options.now (plan_of script.now)) }
+    ensures runs { IfErr result (λ fault. IsScriptsStatus fault → ⊥) }
 {
     if options.step {
         return stepped_report(runs, rt, alloc, options, script);
@@ -99,8 +99,8 @@ fn report_of<T: Runs, R: Threads + Wait + Sync>(
 
 /// Reads a script: all that the source has.
 pub fn read_script<S: Read>(alloc: Global, source: &mut S) -> Result<Script, ProgramFault>
-    ensures read { IfOk result (λ s. IsRead (S.remaining source.old) (plan_of s)) }
-    ensures refused { IfErr result (λ fault. IsScripts fault → IsNoScript (S.remaining source.old)) }
+    ensures read { IfOk result (λ s. IsScriptRead (S.remaining source.old) (plan_of s)) }
+    ensures refused { IfErr result (λ fault. IsScriptsStatus fault → IsNoScript (S.remaining source.old)) }
 {
     let mut bytes = Vec::new(alloc);
     source.take(MOST_READ).read_to_end(&mut bytes)?;
@@ -119,11 +119,11 @@ fn print_report<T: Runs, R: Threads + Wait + Sync, W: Write>(
 ) -> Result<(), ProgramFault>
     requires tries { 0 < options.now.tries }
     requires lawful { IsLawful (plan_of script.now) }
-    ensures printed { OnOk result (IsPrinted (IsAsAsked T.ran T.stepped T.followed options.now) options.now.journal (plan_of script.now)
+    ensures printed { OnOk result (IsScriptPrinted (IsServedAsAsked T.ran T.stepped T.followed options.now) options.now.journal (plan_of script.now)
         (W.contents out.old) (W.contents out.new)) }
     ensures early { IfErr result
-        (λ fault. IsBeforeOutput fault → Keeps (W.contents out.old) (W.contents out.new)) }
-    ensures runs { IfErr result (λ fault. IsScripts fault → ⊥) }
+        (λ fault. IsStatusBeforeOutput fault → Keeps (W.contents out.old) (W.contents out.new)) }
+    ensures runs { IfErr result (λ fault. IsScriptsStatus fault → ⊥) }
 {
     let report = report_of(runs, rt, alloc, options, script)?;
     render(&report, options.journal, out)?;
@@ -140,11 +140,11 @@ fn run_script<T: Runs, R: Threads + Wait + Sync, S: Read, W: Write>(
     out: &mut W,
 ) -> Result<(), ProgramFault>
     requires { 0 < options.now.tries }
-    ensures served { OnOk result (IsServed (IsAsAsked T.ran T.stepped T.followed options.now) options.now.journal
+    ensures served { OnOk result (IsServed (IsServedAsAsked T.ran T.stepped T.followed options.now) options.now.journal
         (S.remaining source.old) (W.contents out.old) (W.contents out.new)) }
-    ensures refused { IfErr result (λ fault. IsScripts fault → IsNoScript (S.remaining source.old)) }
+    ensures refused { IfErr result (λ fault. IsScriptsStatus fault → IsNoScript (S.remaining source.old)) }
     ensures early { IfErr result
-        (λ fault. IsBeforeOutput fault → Keeps (W.contents out.old) (W.contents out.new)) }
+        (λ fault. IsStatusBeforeOutput fault → Keeps (W.contents out.old) (W.contents out.new)) }
 {
     let script = read_script(alloc, source)?;
     print_report(runs, rt, alloc, options, &script, out)
@@ -189,7 +189,7 @@ pub fn program<T: Runs, R: Threads + Wait + Sync, S: Read, W: Write, E: Write>(
 ) -> u8
     requires { 0 < options.now.tries }
     // The script that was read was run as the options ask, and the report of that run was written, whole.
-    ensures served { result ≡ 0 → IsServed (IsAsAsked T.ran T.stepped T.followed options.now) options.now.journal
+    ensures served { result ≡ 0 → IsServed (IsServedAsAsked T.ran T.stepped T.followed options.now) options.now.journal
         (S.remaining source.old) (W.contents out.old) (W.contents out.new) }
     // What is refused as a script is none.
     ensures refused { result ≡ 2 → IsNoScript (S.remaining source.old) }

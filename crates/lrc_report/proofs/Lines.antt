@@ -1,11 +1,11 @@
 -- The lines of a journal's events, one after another.
 use Rattle.std.proofs.Common.{◌≡◌, ◌∙◌, ◌+◌, ℕ, zero, suc, List, [], ◌∷◌, ◌++◌, add-one, length, take, drop, refl, sym, ap, append_assoc, append-nil, take-append-drop, arith}
 use Rattle.std.specs.Prelude.{Option, Some, slice_get}
-use Rattle.base.proofs.Places.{take-suc_at}
+use Rattle.base.proofs.SlicesAndCounts.{take-suc_at}
 use Rattle.journal.specs.declared.event.Event.{Event}
 use Rattle.lrc_report.specs.ReportText.{event_line, event_lines}
-use Rattle.lrc_report.specs.Writing.{AppendsFront, Passes}
-use Rattle.lrc_report.proofs.Writing.{passes_then, passes_front, pending_longer}
+use Rattle.lrc_report.specs.WritesThrough.{AppendsFront, PassesThrough}
+use Rattle.lrc_report.proofs.AppendsThrough.{passes_through_then, passes_through_front, appends_pending_longer}
 
 -- the lines of two lists
 pub lines_append : (j : ℕ) (xs ys : List Event)
@@ -33,22 +33,22 @@ lines_next j xs i x at =
     (append-nil (event_line (j + length (take i xs)) x) ∙ ap (λ n. event_line n x) place)
 
 -- the lines of the events so far, and of one more
-pub events_next : (j : ℕ) (xs : List Event) (i : ℕ) (x : Event) (a b c : Option (List ℕ)) (k l m : List ℕ)
+pub event_lines_next : (j : ℕ) (xs : List Event) (i : ℕ) (x : Event) (a b c : Option (List ℕ)) (k l m : List ℕ)
     → slice_get xs i ≡ Some x
-    → Passes a b k l (event_lines j (take i xs)) → Passes b c l m (event_line (j + i) x)
-    → Passes a c k m (event_lines j (take (i + 1) xs))
-events_next j xs i x a b c k l m at before this = rw (lines_next j xs i x at) (passes_then a b c k l m _ _ before this)
+    → PassesThrough a b k l (event_lines j (take i xs)) → PassesThrough b c l m (event_line (j + i) x)
+    → PassesThrough a c k m (event_lines j (take (i + 1) xs))
+event_lines_next j xs i x a b c k l m at before this = rw (lines_next j xs i x at) (passes_through_then a b c k l m _ _ before this)
 
 -- a beginning of one more is one of the whole
-pub events_front : (j : ℕ) (xs : List Event) (i : ℕ) (x : Event) (a b c : Option (List ℕ)) (k l : List ℕ)
+pub event_lines_front : (j : ℕ) (xs : List Event) (i : ℕ) (x : Event) (a b c : Option (List ℕ)) (k l : List ℕ)
     → slice_get xs i ≡ Some x
-    → Passes a b k l (event_lines j (take i xs)) → AppendsFront b c (l ++ event_line (j + i) x)
+    → PassesThrough a b k l (event_lines j (take i xs)) → AppendsFront b c (l ++ event_line (j + i) x)
     → AppendsFront a c (k ++ event_lines j xs)
-events_front j xs i x a b c k l at before this =
+event_lines_front j xs i x a b c k l at before this =
     let rest = event_lines (j + length (take (i + 1) xs)) (drop (i + 1) xs) in
     let whole : event_lines j xs ≡ event_lines j (take i xs) ++ (event_line (j + i) x ++ rest) =
     ap (event_lines j) (sym (take-append-drop (i + 1) xs)) ∙ lines_append j (take (i + 1) xs) (drop (i + 1) xs)
     ∙ ap (λ t. t ++ rest) (lines_next j xs i x at)
     ∙ append_assoc (event_lines j (take i xs)) (event_line (j + i) x) rest in
-    rw whole (passes_front a b c k l (event_lines j (take i xs)) _ before
-    (pending_longer b c l (event_line (j + i) x) rest this))
+    rw whole (passes_through_front a b c k l (event_lines j (take i xs)) _ before
+    (appends_pending_longer b c l (event_line (j + i) x) rest this))

@@ -1,3 +1,3 @@
-pub mod Writing
+pub mod WritesThrough
 pub mod ReportText
 pub mod Prelude

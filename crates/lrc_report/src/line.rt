@@ -19,7 +19,7 @@ pub struct Line {
 
 impl Model for Line {
     ghost use Rattle.std.specs.Prelude.{ℕ, ◌≡◌, ◌≤◌, List, drop, length};
-    ghost use Rattle.lrc_report.specs.Writing.{most_line};
+    ghost use Rattle.lrc_report.specs.WritesThrough.{most_line};
 
     ghost Value = { List ℕ };
 

@@ -18,7 +18,7 @@ pub struct Pending {
 
 impl Model for Pending {
     ghost use Rattle.std.specs.Prelude.{ℕ, ◌≡◌, ◌≤◌, List, length, take};
-    ghost use Rattle.lrc_report.specs.Writing.{most_pending};
+    ghost use Rattle.lrc_report.specs.WritesThrough.{most_pending};
 
     ghost Value = { List ℕ };
 

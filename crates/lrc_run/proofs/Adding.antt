@@ -5,23 +5,23 @@ use Rattle.std.specs.Result.{result_err}
 use Rattle.std.proofs.lemmas.List.{map-append}
 use Rattle.journal.specs.declared.event.Kind.{Kind}
 use Rattle.journal.specs.declared.event.Kind.TheVariants.{Load, Store, Fetch}
-use Rattle.journal.specs.Did.{event}
-use Rattle.journal.specs.Events.{part}
-use Rattle.conformance.specs.Follows.{is_fetch, kinds_of}
-use Rattle.conformance.proofs.Calls.{kinds_of-append, kinds_of-one}
+use Rattle.journal.specs.DidEvent.{event}
+use Rattle.journal.specs.Events.{events_of}
+use Rattle.conformance.specs.Follows.{is_fetch, call_kinds}
+use Rattle.conformance.proofs.Calls.{call_kinds-append, call_kinds-one}
 use Rattle.book.specs.declared.refused.Refused.{Refused}
 use Rattle.book.specs.declared.refused.Refused.TheVariants.{OutOfRange, Invalid, Waiting, BlockFull}
 use Rattle.cluster.specs.Copies.Local.{Local, calls, noted}
 use Rattle.cluster.specs.Accesses.{StoreDone, FetchDone}
 use Rattle.cluster.specs.Calls.{IsSameProcessor, IsHandingCall}
-use Rattle.cluster.specs.Refusals.{access_refusal, first_due, has_valid, block_full, is_waiting}
-use Rattle.conformance.specs.Fetches.{IsAccessTo}
-use Rattle.conformance.proofs.Fetches.{wanted_access}
-use Rattle.lrc_run.specs.Walks.{Adds, AddsBy, FetchesBy, made, MakesNone, Tries}
-use Rattle.lrc_run.proofs.Making.{makes_one, same_then, sees_call, sees_handed, sees_same, sees_then, wanted_more}
+use Rattle.cluster.specs.Refusals.{access_refusal, first_refusal_due, has_valid, block_full, is_waiting}
+use Rattle.conformance.specs.WantedFetches.{IsWantedAccess}
+use Rattle.conformance.proofs.WantedFetches.{wanted_access}
+use Rattle.lrc_run.specs.MakesCalls.{AddsCalls, AddsCallsBy, AddsFetchBy, calls_made, MakesNone, TriesCalls}
+use Rattle.lrc_run.proofs.SeesAndMakes.{makes_one, sees_same_processor, sees_call, sees_handed, sees_same, sees_then, makes_more_wanted}
 
 -- a processor that is as it was has no call more
-pub adds_none : (m n : Local) → n ≡ m → Adds m n []
+pub adds_none : (m n : Local) → n ≡ m → AddsCalls m n []
 adds_none m n e = record {
   same = record {
     lock = ap (λ (x : Local). x.lock) e;
@@ -34,9 +34,9 @@ adds_none m n e = record {
 }
 
 -- what it has first, and then
-pub adds_then : (l m n : Local) (xs ys : List Kind) → Adds l m xs → Adds m n ys → Adds l n (xs ++ ys)
+pub adds_then : (l m n : Local) (xs ys : List Kind) → AddsCalls l m xs → AddsCalls m n ys → AddsCalls l n (xs ++ ys)
 adds_then l m n xs ys first next = record {
-  same = same_then l m n first.same next.same;
+  same = sees_same_processor l m n first.same next.same;
   sees = sees_then l m n first.sees next.sees;
   calls_are = next.calls_are ∙ ap (λ es. es ++ map (event m.number) ys) first.calls_are
       ∙ append_assoc (calls l) (map (event l.number) xs) (map (event m.number) ys)
@@ -47,10 +47,10 @@ adds_then l m n xs ys first next = record {
 
 -- a call that was refused, and then a flush, whatever that answers
 pub adds_flush : {A : Type 0} (l m n : Local) (r : Result A Refused) → m ≡ l → IsHandingCall m n (result_err r)
-    → Adds l n []
+    → AddsCalls l n []
 adds_flush l m n r same call = adds_then l m n [] [] (adds_none l m same) (flushed r call)
   where
-    flushed : {A : Type 0} (r : Result A Refused) → IsHandingCall m n (result_err r) → Adds m n []
+    flushed : {A : Type 0} (r : Result A Refused) → IsHandingCall m n (result_err r) → AddsCalls m n []
     flushed (Ok x) call = record {
       same = call.same;
       sees = sees_call (λ a b handed. sees_handed a b handed) call;
@@ -65,17 +65,17 @@ adds_flush l m n r same call = adds_then l m n [] [] (adds_none l m same) (flush
     }
 
 -- a call after others that added nothing
-pub adds_after : {A : Type 0} (l m n : Local) (r : Result A Refused) (kinds : A → List Kind) → Adds l m []
-    → AddsBy m n r kinds → AddsBy l n r kinds
+pub adds_after : {A : Type 0} (l m n : Local) (r : Result A Refused) (kinds : A → List Kind) → AddsCalls l m []
+    → AddsCallsBy m n r kinds → AddsCallsBy l n r kinds
 adds_after l m n (Ok x) kinds first next = adds_then l m n [] (kinds x) first next
 adds_after l m n (Err e) kinds first next = adds_then l m n [] [] first next
 
 -- and a fetch
-pub fetches_after : {A : Type 0} (l m n : Local) (r : Result A Refused) (page : ℕ) → Adds l m []
-    → FetchesBy m n r page → FetchesBy l n r page
-fetches_after l m n (Ok x) page first next =
+pub adds_fetch_after : {A : Type 0} (l m n : Local) (r : Result A Refused) (page : ℕ) → AddsCalls l m []
+    → AddsFetchBy m n r page → AddsFetchBy l n r page
+adds_fetch_after l m n (Ok x) page first next =
     (next.0, next.1, next.2, adds_then l m n [] (Fetch next.0 page next.1 next.2 ∷ []) first next.3)
-fetches_after l m n (Err e) page first next = adds_then l m n [] [] first next
+adds_fetch_after l m n (Err e) page first next = adds_then l m n [] [] first next
 
 -- a processor whose block or copies alone changed is the same
 same_but : (m n l : Local) → n ≡ l → IsSameProcessor m l → IsSameProcessor m n
@@ -84,7 +84,7 @@ same_but m n l e same = subst (IsSameProcessor m) (sym e) same
 -- a load
 pub adds_load : (m n : Local) (a : ℕ) (r : Result ℕ Refused) → OnErr r (n ≡ m)
     → IfOk r (λ v. n ≡ noted m (Load a v)) → IfOk r (λ v. calls n ≡ calls m ++ event m.number (Load a v) ∷ [])
-    → AddsBy m n r (λ v. Load a v ∷ [])
+    → AddsCallsBy m n r (λ v. Load a v ∷ [])
 adds_load m n a (Ok v) err ok more = record {
   same = same_but m n _ ok (record { lock = refl; number = refl; sizes = refl });
   sees = sees_same m n (ap (λ (x : Local). x.seen) ok);
@@ -96,7 +96,7 @@ adds_load m n a (Err e) err ok more = adds_none m n err
 -- a store
 pub adds_store : {A : Type 0} (m n : Local) (a v : ℕ) (r : Result A Refused) → OnErr r (n ≡ m)
     → OnOk r (StoreDone m a v n) → OnOk r (calls n ≡ calls m ++ event m.number (Store a v) ∷ [])
-    → AddsBy m n r (λ _. Store a v ∷ [])
+    → AddsCallsBy m n r (λ _. Store a v ∷ [])
 adds_store m n a v (Ok x) err ok more = record {
   same = same_but m n _ ok.after (record { lock = refl; number = refl; sizes = refl });
   sees = sees_same m n (ap (λ (x : Local). x.seen) ok.after);
@@ -106,26 +106,26 @@ adds_store m n a v (Ok x) err ok more = record {
 adds_store m n a v (Err e) err ok more = adds_none m n err
 
 -- a fetch
-pub fetches_by : {A : Type 0} (m n : Local) (page : ℕ) (r : Result A Refused) → OnErr r (n ≡ m)
-    → OnOk r (FetchDone m page n) → FetchesBy m n r page
-fetches_by m n page (Ok x) err ok = (
+pub adds_fetch_by : {A : Type 0} (m n : Local) (page : ℕ) (r : Result A Refused) → OnErr r (n ≡ m)
+    → OnOk r (FetchDone m page n) → AddsFetchBy m n r page
+adds_fetch_by m n page (Ok x) err ok = (
   ok.counts.writers,
   ok.counts.records,
   ok.counts.words,
   record {
     same = same_but m n _ ok.after (record { lock = refl; number = refl; sizes = refl });
     sees = sees_same m n (ap (λ (x : Local). x.seen) ok.after);
-    calls_are = ap calls ok.after ∙ sym (append_assoc (part m.seen m.number) m.block _);
+    calls_are = ap calls ok.after ∙ sym (append_assoc (events_of m.seen m.number) m.block _);
     uncut = ap (λ (x : Local). x.own_cut) ok.after;
   },
 )
-fetches_by m n page (Err e) err ok = adds_none m n err
+adds_fetch_by m n page (Err e) err ok = adds_none m n err
 
 -- why an access is refused as Invalid is a copy of its page
-pub access_page : (m : Local) (a page : ℕ) → access_refusal m a ≡ Some (Invalid page) → page ≡ a / m.sizes.words
-access_page m a page is = by _ (has_valid m (a / m.sizes.words)) (is_waiting m) (block_full m) is
+pub adds_access_page : (m : Local) (a page : ℕ) → access_refusal m a ≡ Some (Invalid page) → page ≡ a / m.sizes.words
+adds_access_page m a page is = by _ (has_valid m (a / m.sizes.words)) (is_waiting m) (block_full m) is
   where
-    by : (past valid waits full : Bool) → first_due ((past, OutOfRange) ∷ (not valid, Invalid (a / m.sizes.words))
+    by : (past valid waits full : Bool) → first_refusal_due ((past, OutOfRange) ∷ (not valid, Invalid (a / m.sizes.words))
         ∷ (waits, Waiting) ∷ (full, BlockFull) ∷ []) ≡ Some (Invalid page) → page ≡ a / m.sizes.words
     by true valid waits full e = absurd (cc)
     by false false waits full e = cc
@@ -134,34 +134,34 @@ access_page m a page is = by _ (has_valid m (a / m.sizes.words)) (is_waiting m) 
     by false true false false e = absurd (cc)
 
 -- no call more is made
-pub none_adds : (m n : Local) → Adds m n [] → MakesNone m n
+pub none_adds : (m n : Local) → AddsCalls m n [] → MakesNone m n
 none_adds m n adds = record {
   same = adds.same;
-  none = ap kinds_of (adds.calls_are ∙ append-nil (calls m));
+  none = ap call_kinds (adds.calls_are ∙ append-nil (calls m));
   uncut = adds.uncut;
 }
 
 -- one call that is no fetch
 pub tries_adds : {A : Type 0} (m n : Local) (r : Result A Refused) (k : A → Kind) → ((x : A) → is_fetch (k x) ≡ false)
-    → AddsBy m n r (λ x. k x ∷ []) → Tries m n r (λ x. k x ∷ [])
+    → AddsCallsBy m n r (λ x. k x ∷ []) → TriesCalls m n r (λ x. k x ∷ [])
 tries_adds m n (Ok x) k plain adds = makes_one m n (k x) (plain x) adds.same adds.sees adds.calls_are adds.uncut
 tries_adds m n (Err e) k plain adds = none_adds m n adds
 
 -- a fetch that was refused
-pub none_fetched : {A : Type 0} (l m n : Local) (r : Result A Refused) (page : ℕ) (e : Refused) → Adds l m []
-    → r ≡ Err e → FetchesBy m n r page → MakesNone l n
-none_fetched {A} l m n r page e first is fetches =
-    none_adds l n (adds_then l m n [] [] first (subst (λ (x : Result A Refused). FetchesBy m n x page) is fetches))
+pub none_adds_fetch : {A : Type 0} (l m n : Local) (r : Result A Refused) (page : ℕ) (e : Refused) → AddsCalls l m []
+    → r ≡ Err e → AddsFetchBy m n r page → MakesNone l n
+none_adds_fetch {A} l m n r page e first is fetches =
+    none_adds l n (adds_then l m n [] [] first (subst (λ (x : Result A Refused). AddsFetchBy m n x page) is fetches))
 
 -- a fetch, and the access that wants it
-pub tries_fetched : {A B : Type 0} (l m n : Local) (page : ℕ) (f : Result B Refused) {b : B} (r : Result A Refused)
-    (k : A → Kind) → f ≡ Ok b → FetchesBy l m f page → ((x : A) → is_fetch (k x) ≡ false)
-    → ((x : A) → IsAccessTo l.sizes.words page (k x)) → AddsBy m n r (λ x. k x ∷ []) → Tries l n r (λ x. k x ∷ [])
-tries_fetched {A} {B} l m n page f r k is fetches plain wants adds =
-    by r (subst (λ (x : Result B Refused). FetchesBy l m x page) is fetches) adds
+pub tries_adds_fetch : {A B : Type 0} (l m n : Local) (page : ℕ) (f : Result B Refused) {b : B} (r : Result A Refused)
+    (k : A → Kind) → f ≡ Ok b → AddsFetchBy l m f page → ((x : A) → is_fetch (k x) ≡ false)
+    → ((x : A) → IsWantedAccess l.sizes.words page (k x)) → AddsCallsBy m n r (λ x. k x ∷ []) → TriesCalls l n r (λ x. k x ∷ [])
+tries_adds_fetch {A} {B} l m n page f r k is fetches plain wants adds =
+    by r (subst (λ (x : Result B Refused). AddsFetchBy l m x page) is fetches) adds
   where
-    by : (r : Result A Refused) → (writers records words : ℕ) × Adds l m (Fetch writers page records words ∷ [])
-        → AddsBy m n r (λ x. k x ∷ []) → Tries l n r (λ x. k x ∷ [])
+    by : (r : Result A Refused) → (writers records words : ℕ) × AddsCalls l m (Fetch writers page records words ∷ [])
+        → AddsCallsBy m n r (λ x. k x ∷ []) → TriesCalls l n r (λ x. k x ∷ [])
     by (Ok x) (writers, records, words, first) next =
         let both = adds_then l m n (Fetch writers page records words ∷ []) (k x ∷ []) first next in
         let one = event l.number (Fetch writers page records words) in
@@ -169,9 +169,9 @@ tries_fetched {A} {B} l m n page f r k is fetches plain wants adds =
         record {
           same = both.same;
           sees = both.sees;
-          more = ap kinds_of both.calls_are ∙ kinds_of-append (calls l) (one ∷ two ∷ [])
-              ∙ ap (λ ks. made l ++ ks) (kinds_of-one two (plain x));
-          wanted = wanted_more l n (one ∷ two ∷ []) both.same both.calls_are
+          more = ap call_kinds both.calls_are ∙ call_kinds-append (calls l) (one ∷ two ∷ [])
+              ∙ ap (λ ks. calls_made l ++ ks) (call_kinds-one two (plain x));
+          wanted = makes_more_wanted l n (one ∷ two ∷ []) both.same both.calls_are
               (wanted_access l.sizes.words page writers records words one two refl (wants x));
           uncut = both.uncut;
         }
@@ -180,6 +180,6 @@ tries_fetched {A} {B} l m n page f r k is fetches plain wants adds =
         let one = event l.number (Fetch writers page records words) in
         record {
           same = both.same;
-          none = ap kinds_of both.calls_are ∙ kinds_of-append (calls l) (one ∷ []) ∙ append-nil (made l);
+          none = ap call_kinds both.calls_are ∙ call_kinds-append (calls l) (one ∷ []) ∙ append-nil (calls_made l);
           uncut = both.uncut;
         }

@@ -4,29 +4,29 @@ use Rattle.std.specs.List.{range_with_len, swap}
 use Rattle.std.proofs.lemmas.List.FromFn.{get_or-range_with_len, length-range_with_len}
 use Rattle.rand_pcg.specs.Lcg.{Lcg}
 use Rattle.rand_pcg.specs.Pcg.{pcg32}
-use Rattle.conformance.specs.Orders.{exchanged}
-use Rattle.lrc_run.specs.Orders.{AreProcessors}
+use Rattle.conformance.specs.Orders.{order_exchanged}
+use Rattle.lrc_run.specs.Orders.{AreOrderedProcessors}
 
 -- one exchange
 pub exchanged-step : (i : ℕ) (g : Lcg) (xs : List ℕ) → 0 < i
-    → exchanged i g xs ≡ exchanged (i - 1) (pcg32 g).1 (swap xs i ((pcg32 g).0 % (i + 1)))
-unfolding exchanged
+    → order_exchanged i g xs ≡ order_exchanged (i - 1) (pcg32 g).1 (swap xs i ((pcg32 g).0 % (i + 1)))
+unfolding order_exchanged
 exchanged-step zero g xs h = absurd (omega arith)
 exchanged-step (suc i) g xs h =
     let less : suc i - 1 ≡ i = omega arith in
-    ap (λ k. exchanged k (pcg32 g).1 (swap xs (suc i) ((pcg32 g).0 % (suc i + 1)))) (sym less)
+    ap (λ k. order_exchanged k (pcg32 g).1 (swap xs (suc i) ((pcg32 g).0 % (suc i + 1)))) (sym less)
 
 -- and none is left
-pub exchanged-none : (i : ℕ) (g : Lcg) (xs : List ℕ) → i ≡ 0 → exchanged i g xs ≡ (xs, g)
-unfolding exchanged
-exchanged-none i g xs e = ap (λ k. exchanged k g xs) e
+pub exchanged-none : (i : ℕ) (g : Lcg) (xs : List ℕ) → i ≡ 0 → order_exchanged i g xs ≡ (xs, g)
+unfolding order_exchanged
+exchanged-none i g xs e = ap (λ k. order_exchanged k g xs) e
 
 -- rising numbers are below their count
-pub rising_below : (n : ℕ) (xs : List ℕ) → xs ≡ range_with_len 0 n → AreProcessors n xs × (length xs ≡ n)
-rising_below n xs is =
-    (subst (AreProcessors n) (sym is) (each n), ap length is ∙ length-range_with_len 0 n)
+pub exchanging_rising_below : (n : ℕ) (xs : List ℕ) → xs ≡ range_with_len 0 n → AreOrderedProcessors n xs × (length xs ≡ n)
+exchanging_rising_below n xs is =
+    (subst (AreOrderedProcessors n) (sym is) (each n), ap length is ∙ length-range_with_len 0 n)
   where
-    each : (n : ℕ) → AreProcessors n (range_with_len 0 n)
+    each : (n : ℕ) → AreOrderedProcessors n (range_with_len 0 n)
     each n k d less =
         let within : k < n = omega (arith, less, length-range_with_len 0 n) in
         omega (arith, within, get_or-range_with_len 0 n k d within)

@@ -5,13 +5,13 @@ use Rattle.std.proofs.Math.Seq.{take-append_seam, take-length}
 use Rattle.std.proofs.lemmas.Bool.{ltb-true, ltb-false}
 use Rattle.std.proofs.lemmas.List.{get_or_past}
 use Rattle.std.proofs.lemmas.Option.{slice_get-get_or, slice_get_within}
-use Rattle.base.proofs.Places.{slice_get-append_right, slice_get-from_take}
+use Rattle.base.proofs.SlicesAndCounts.{slice_get-append_right, slice_get-from_take}
 use Rattle.journal.specs.declared.event.Event.{Event}
 use Rattle.journal.specs.declared.event.Kind.TheVariants.{Arrive, Depart}
 use Rattle.journal.specs.declared.event.Kind.{Kind}
 use Rattle.journal.specs.Counted.{AreCounted}
 use Rattle.journal.specs.Deadlocks.{IsDeadlock}
-use Rattle.journal.specs.Events.{part}
+use Rattle.journal.specs.Events.{events_of}
 use Rattle.journal.specs.Log.{Log}
 use Rattle.journal.specs.Sizes.{Sizes, addresses}
 use Rattle.journal.specs.WellFormed.{MayFollow, WellFormed}
@@ -21,58 +21,58 @@ use Rattle.lrc_script.specs.declared.script.Instruction.TheVariants.{Barrier, Cu
 use Rattle.lrc_script.specs.Lawful.{IsLawful}
 use Rattle.lrc_script.specs.Plan.{Plan}
 use Rattle.conformance.specs.Begins.{BeginsScript, BeginsSection}
-use Rattle.conformance.specs.Follows.{calls_of, kinds_of, plan_sizes}
-use Rattle.conformance.specs.Instructions.{AreEventsOf, AreEventsOfAll}
-use Rattle.conformance.proofs.Beginnings.{begins_after, begins_front, begins_whole, begins_within}
+use Rattle.conformance.specs.Follows.{calls_of, call_kinds, plan_sizes}
+use Rattle.conformance.specs.Instructions.{AreEventsOfInstruction, AreEventsOfInstructions}
+use Rattle.conformance.proofs.Begins.{begins_after, begins_front, begins_whole, begins_within}
 use Rattle.cluster.specs.Copies.Local.{Local}
-use Rattle.cluster.specs.Clusters.{Shared}
-use Rattle.cluster.specs.Finishing.{AreAllOf, HasCallsOf, IsFinished, IsProcessorOf}
-use Rattle.conformance.specs.Cuts.{HasCut, HasNoCut}
+use Rattle.cluster.specs.Clusters.{SharedCluster}
+use Rattle.cluster.specs.Finishing.{AreAllToFinish, HasCallsOf, IsFinished, IsProcessorOf}
+use Rattle.conformance.specs.CutInstructions.{HasCutInstruction, HasNoCutInstruction}
 use Rattle.conformance.specs.Ends.{IsJournalSoFar}
 use Rattle.conformance.specs.declared.progress.TurnProgress.{TurnProgress}
 use Rattle.conformance.specs.declared.progress.TurnProgress.TheVariants.{Next, Passed, Waits}
-use Rattle.conformance.specs.Turns.{instruction_at}
-use Rattle.lrc_run.specs.Endings.{IsJournalWith}
-use Rattle.lrc_run.specs.Steps.{AreOnTheirWay, IsAt}
+use Rattle.conformance.specs.Turns.{instruction_at_turn}
+use Rattle.lrc_run.specs.FollowedReports.{IsHaltJournalWith}
+use Rattle.lrc_run.specs.Steps.{AreAtSteps, IsAtStep}
 use Rattle.lrc_run.specs.Turns.{SeesDeadlock}
-use Rattle.lrc_run.specs.Walks.{AreWanted, made, new_at}
-use Rattle.lrc_run.proofs.Concluding.{needed_all, no_sum, nothing_of}
-use Rattle.lrc_run.proofs.Stepping.{same_on_its_way}
+use Rattle.lrc_run.specs.MakesCalls.{AreCallsWanted, calls_made, new_at}
+use Rattle.lrc_run.proofs.FollowedReports.{followed_needed_all, no_sum, nothing_of}
+use Rattle.lrc_run.proofs.Stepping.{same_after_step}
 
 -- a cut among the first instructions is one of the section
-cut_of_front : (n : ℕ) (section : List Instruction) → HasCut (take n section) → HasCut section
+cut_of_front : (n : ℕ) (section : List Instruction) → HasCutInstruction (take n section) → HasCutInstruction section
 cut_of_front n section cut = (cut.0, slice_get-from_take section n cut.0 Cut cut.1)
 
 -- whoever is on its way cut nothing off but by a cut of its section
-at_uncut : (c : Shared) (p : ℕ) (m : Local) (section : List Instruction) (at : TurnProgress) → IsAt (new_at c p) m section at
-    → ¬ HasCut section → m.own_cut ≡ 0
-at_uncut c p m section (Next n) is none = is.0.makes.uncut (λ cut. none (cut_of_front n section cut))
-at_uncut c p m section (Waits n) is none =
+halt_uncut : (c : SharedCluster) (p : ℕ) (m : Local) (section : List Instruction) (at : TurnProgress) → IsAtStep (new_at c p) m section at
+    → ¬ HasCutInstruction section → m.own_cut ≡ 0
+halt_uncut c p m section (Next n) is none = is.0.makes.uncut (λ cut. none (cut_of_front n section cut))
+halt_uncut c p m section (Waits n) is none =
     is.0.begins.makes.uncut ∙ is.0.done.makes.uncut (λ cut. none (cut_of_front n section cut))
-at_uncut c p m section Passed is none = is.makes.uncut none
+halt_uncut c p m section Passed is none = is.makes.uncut none
 
 -- and its fetches are wanted
-at_wanted : (c : Shared) (p : ℕ) (m : Local) (section : List Instruction) (at : TurnProgress)
-    → IsAt (new_at c p) m section at → AreWanted m
-at_wanted c p m section (Next n) is = is.0.makes.wanted tt
-at_wanted c p m section (Waits n) is = is.0.begins.makes.wanted (is.0.done.makes.wanted tt)
-at_wanted c p m section Passed is = is.makes.wanted tt
+halt_wanted : (c : SharedCluster) (p : ℕ) (m : Local) (section : List Instruction) (at : TurnProgress)
+    → IsAtStep (new_at c p) m section at → AreCallsWanted m
+halt_wanted c p m section (Next n) is = is.0.makes.wanted tt
+halt_wanted c p m section (Waits n) is = is.0.begins.makes.wanted (is.0.done.makes.wanted tt)
+halt_wanted c p m section Passed is = is.makes.wanted tt
 
 -- the events of its first instructions and the first one of the next begin a section
-waits_begins : (section : List Instruction) (shown : List ℕ) (n : ℕ) (kinds : List Kind) (first last : Kind)
-    → n ≤ length section → AreEventsOfAll (take n section) kinds
-    → AreEventsOf (instruction_at section n) (first ∷ last ∷ []) → BeginsSection section shown (kinds ++ first ∷ [])
-waits_begins section shown n kinds first last within are two = cases (nat_lt n (length section)) refl
+halt_waits_begins : (section : List Instruction) (shown : List ℕ) (n : ℕ) (kinds : List Kind) (first last : Kind)
+    → n ≤ length section → AreEventsOfInstructions (take n section) kinds
+    → AreEventsOfInstruction (instruction_at_turn section n) (first ∷ last ∷ []) → BeginsSection section shown (kinds ++ first ∷ [])
+halt_waits_begins section shown n kinds first last within are two = cases (nat_lt n (length section)) refl
   where
     cases : (b : Bool) → nat_lt n (length section) ≡ b → BeginsSection section shown (kinds ++ first ∷ [])
-    cases true e = begins_within section shown n (instruction_at section n) kinds first last
+    cases true e = begins_within section shown n (instruction_at_turn section n) kinds first last
         (slice_get-get_or section n Barrier (ltb-true n (length section) e)) are two
     cases false e =
         let past : length section ≤ n = ltb-false n (length section) e in
         let same : n ≡ length section = omega arith in
-        let Q : List Instruction → Type 0 = λ is. AreEventsOfAll is kinds in
+        let Q : List Instruction → Type 0 = λ is. AreEventsOfInstructions is kinds in
         let whole = subst Q (ap (λ k. take k section) same ∙ take-length section) are in
-        let R : Instruction → Type 0 = λ i. AreEventsOf i (first ∷ last ∷ []) in
+        let R : Instruction → Type 0 = λ i. AreEventsOfInstruction i (first ∷ last ∷ []) in
         let closing : first ∷ last ∷ [] ≡ Arrive ∷ Depart ∷ [] = subst R (get_or_past section n Barrier past) two in
         let P : List Kind → Type 0 = BeginsSection section shown in
         begins_front section shown (kinds ++ first ∷ []) (last ∷ [])
@@ -80,27 +80,27 @@ waits_begins section shown n kinds first last within are two = cases (nat_lt n (
         (begins_whole section shown kinds whole))
 
 -- and what it made begins its section
-at_begins : (c : Shared) (p : ℕ) (m : Local) (section : List Instruction) (shown : List ℕ) (at : TurnProgress)
-    → IsAt (new_at c p) m section at → BeginsSection section shown (made m)
-at_begins c p m section shown (Next n) is =
+halt_begins : (c : SharedCluster) (p : ℕ) (m : Local) (section : List Instruction) (shown : List ℕ) (at : TurnProgress)
+    → IsAtStep (new_at c p) m section at → BeginsSection section shown (calls_made m)
+halt_begins c p m section shown (Next n) is =
     let P : List Kind → Type 0 = BeginsSection section shown in
     subst P (sym is.0.makes.more) (begins_after section shown n is.0.kinds is.0.are)
-at_begins c p m section shown (Passed) is =
+halt_begins c p m section shown (Passed) is =
     let P : List Kind → Type 0 = BeginsSection section shown in
     subst P (sym is.makes.more) (begins_whole section shown is.kinds is.are)
-at_begins c p m section shown (Waits n) is =
+halt_begins c p m section shown (Waits n) is =
     let begun = is.0 in
     let P : List Kind → Type 0 = BeginsSection section shown in
     subst P (sym (begun.begins.makes.more ∙ ap (λ ks. ks ++ begun.begins.first ∷ []) begun.done.makes.more))
-    (waits_begins section shown n begun.done.kinds begun.begins.first begun.begins.last is.1 begun.done.are
+    (halt_waits_begins section shown n begun.done.kinds begun.begins.first begun.begins.last is.1 begun.done.are
     begun.begins.are)
 
 -- each of the script's processors has a section, and is somewhere on its way through it
-at_of : (s : Plan) (c : Shared) (ms : List Local) (all : List TurnProgress) → IsLawful s → c.sizes ≡ plan_sizes s
-    → AreOnTheirWay c s.sections ms all → (p : ℕ) (m : Local) → slice_get ms p ≡ Some m
+halt_journal_at : (s : Plan) (c : SharedCluster) (ms : List Local) (all : List TurnProgress) → IsLawful s → c.sizes ≡ plan_sizes s
+    → AreAtSteps c s.sections ms all → (p : ℕ) (m : Local) → slice_get ms p ≡ Some m
     → (section : List Instruction) × (at : TurnProgress) × (slice_get s.sections p ≡ Some section)
-    × IsAt (new_at c p) m section at
-at_of s c ms all lawful sizes way p m here =
+    × IsAtStep (new_at c p) m section at
+halt_journal_at s c ms all lawful sizes way p m here =
     let within = slice_get_within ms p m here in
     let one_each = lawful.but_uneven.one_each in
     let same = ap (λ (x : Sizes). x.processors) sizes in
@@ -115,21 +115,21 @@ at_of s c ms all lawful sizes way p m here =
     (section, at, its, way.each p section m at its here there)
 
 -- they are all of the cluster
-pub halted_all : (s : Plan) (c : Shared) (ms : List Local) (all : List TurnProgress) → IsLawful s → c.sizes ≡ plan_sizes s
-    → AreOnTheirWay c s.sections ms all → AreAllOf c ms
+pub halted_all : (s : Plan) (c : SharedCluster) (ms : List Local) (all : List TurnProgress) → IsLawful s → c.sizes ≡ plan_sizes s
+    → AreAtSteps c s.sections ms all → AreAllToFinish c ms
 halted_all s c ms all lawful sizes way = record { all = way.many; each = each }
   where
     each : (p : ℕ) (m : Local) → slice_get ms p ≡ Some m → IsProcessorOf c p m
     each p m here =
-        let is = at_of s c ms all lawful sizes way p m here in
-        let same = same_on_its_way (new_at c p) m is.0 is.1 is.3 in
+        let is = halt_journal_at s c ms all lawful sizes way p m here in
+        let same = same_after_step (new_at c p) m is.0 is.1 is.3 in
         record { lock = same.lock; number = same.number; sizes = same.sizes }
 
 -- nothing comes after a deadlock
-deadlock_last : (s : Sizes) (h front : List Event) → WellFormed s h → (rest : List Event) × (h ≡ front ++ rest)
+halt_deadlock_last : (s : Sizes) (h front : List Event) → WellFormed s h → (rest : List Event) × (h ≡ front ++ rest)
     → IsDeadlock s front → IsDeadlock s h
-deadlock_last s h front well_formed ([], is) stuck = subst (IsDeadlock s) (sym (is ∙ append-nil front)) stuck
-deadlock_last s h front well_formed (e ∷ rest, is) stuck =
+halt_deadlock_last s h front well_formed ([], is) stuck = subst (IsDeadlock s) (sym (is ∙ append-nil front)) stuck
+halt_deadlock_last s h front well_formed (e ∷ rest, is) stuck =
     let none : length front + 0 ≡ length front = omega arith in
     let at : slice_get h (length front) ≡ Some e = ap (λ es. slice_get es (length front)) is
     ∙ ap (slice_get (front ++ e ∷ rest)) (sym none) ∙ slice_get-append_right front (e ∷ rest) 0 in
@@ -137,8 +137,8 @@ deadlock_last s h front well_formed (e ∷ rest, is) stuck =
     absurd (deadlock_law s front e stuck (subst (λ es. MayFollow s es e) before (well_formed (length front) e at)))
 
 -- the journal of a finished cluster whose processors are on their way
-pub halted_is : (s : Plan) (c : Shared) (ms : List Local) (all : List TurnProgress) (j : Log) → IsLawful s → c.sizes ≡ plan_sizes s
-    → AreOnTheirWay c s.sections ms all → SeesDeadlock ms → IsFinished c.sizes ms j → IsJournalWith s j ms
+pub halted_is : (s : Plan) (c : SharedCluster) (ms : List Local) (all : List TurnProgress) (j : Log) → IsLawful s → c.sizes ≡ plan_sizes s
+    → AreAtSteps c s.sections ms all → SeesDeadlock ms → IsFinished c.sizes ms j → IsHaltJournalWith s j ms
 halted_is s c ms all j lawful sizes way stuck finished = record {
   is = record {
     processors = finished.journal.processors ∙ ap (λ (x : Sizes). x.processors) sizes;
@@ -150,7 +150,7 @@ halted_is s c ms all j lawful sizes way stuck finished = record {
     well_formed = well_formed;
     explained = finished.faithful.explained;
     counted = subst (λ (x : Sizes). AreCounted x h) sizes finished.faithful.counted;
-    fetches = needed_all s c ms h sizes (halted_all s c ms all lawful sizes way) finished.each wanted;
+    fetches = followed_needed_all s c ms h sizes (halted_all s c ms all lawful sizes way) finished.each wanted;
     begins = begins;
     deadlock = deadlock;
   };
@@ -168,18 +168,18 @@ halted_is s c ms all j lawful sizes way stuck finished = record {
         let m = stuck.0 in
         let own = (halted_all s c ms all lawful sizes way).each 0 m stuck.1 in
         let P : Sizes → Type 0 = λ x. IsDeadlock x m.seen in
-        deadlock_last (plan_sizes s) h m.seen well_formed (finished.each 0 m stuck.1).begins
+        halt_deadlock_last (plan_sizes s) h m.seen well_formed (finished.each 0 m stuck.1).begins
         (subst P (own.sizes ∙ sizes) stuck.2)
 
-    own : HasNoCut s → (p : ℕ) (m : Local) → slice_get ms p ≡ Some m → m.own_cut ≡ 0
+    own : HasNoCutInstruction s → (p : ℕ) (m : Local) → slice_get ms p ≡ Some m → m.own_cut ≡ 0
     own none p m here =
-        let is = at_of s c ms all lawful sizes way p m here in
-        at_uncut c p m is.0 is.1 is.3 (none p is.0 is.2)
+        let is = halt_journal_at s c ms all lawful sizes way p m here in
+        halt_uncut c p m is.0 is.1 is.3 (none p is.0 is.2)
 
-    wanted : (p : ℕ) (m : Local) → slice_get ms p ≡ Some m → AreWanted m
+    wanted : (p : ℕ) (m : Local) → slice_get ms p ≡ Some m → AreCallsWanted m
     wanted p m here =
-        let is = at_of s c ms all lawful sizes way p m here in
-        at_wanted c p m is.0 is.1 is.3
+        let is = halt_journal_at s c ms all lawful sizes way p m here in
+        halt_wanted c p m is.0 is.1 is.3
 
     begins : BeginsScript s h
     begins p section its =
@@ -194,9 +194,9 @@ halted_is s c ms all j lawful sizes way stuck finished = record {
         let here = slice_get-get_or ms p (new_at c p) within in
         let there = slice_get-get_or all p Passed known in
         let shown = cond (p == 0) s.shown [] in
-        let is = at_begins c p m section shown (get_or all p Passed)
+        let is = halt_begins c p m section shown (get_or all p Passed)
         (way.each p section m (get_or all p Passed) its here there) in
         let number = ((halted_all s c ms all lawful sizes way).each p m here).number in
-        let made_is : calls_of h p ≡ made m =
-        ap kinds_of (ap (part h) (sym number) ∙ (finished.each p m here).calls_are) in
+        let made_is : calls_of h p ≡ calls_made m =
+        ap call_kinds (ap (events_of h) (sym number) ∙ (finished.each p m here).calls_are) in
         subst (BeginsSection section shown) (sym made_is) is

@@ -1,13 +1,13 @@
-pub mod Making
+pub mod SeesAndMakes
 pub mod Adding
 pub mod Calling
 pub mod Stepping
 pub mod Turning
 pub mod Waiting
 pub mod Exchanging
-pub mod Concluding
+pub mod FollowedReports
 pub mod Failing
-pub mod Joining
+pub mod JoinedThreads
 pub mod Halting
 pub mod ByTurns
 pub mod Scheduling

@@ -10,9 +10,9 @@ use Rattle.conformance.specs.declared.schedule.Misfit.TheVariants.{NoProcessor}
 use Rattle.conformance.specs.declared.schedule.ScheduleFault.{ScheduleFault}
 use Rattle.conformance.specs.declared.schedule.ScheduleFault.TheVariants as fault
 use Rattle.cluster.specs.Copies.Local.{Local}
-use Rattle.cluster.specs.Clusters.{Shared}
+use Rattle.cluster.specs.Clusters.{SharedCluster}
 use Rattle.lrc_run.specs.Scheduled.{IsTurnFault}
-use Rattle.lrc_run.specs.Steps.{AreOnTheirWay}
+use Rattle.lrc_run.specs.Steps.{AreAtSteps}
 
 -- a fault of a turn is one of the schedule
 turn_fault : (s : Plan) (turns : List ℕ) (n place p : ℕ) (e : ScheduleFault) → n ≡ s.processors
@@ -27,8 +27,8 @@ turn_fault s turns n place p (fault.Misfit turn misfit) many at told = record {
 }
 
 -- where there are so many processors
-pub fault_at : (s : Plan) (c : Shared) (turns : List ℕ) (ms : List Local) (all : List TurnProgress) (place p : ℕ)
-    (e : ScheduleFault) (n : ℕ) → n ≡ length ms → c.sizes ≡ plan_sizes s → AreOnTheirWay c s.sections ms all
+pub fault_at : (s : Plan) (c : SharedCluster) (turns : List ℕ) (ms : List Local) (all : List TurnProgress) (place p : ℕ)
+    (e : ScheduleFault) (n : ℕ) → n ≡ length ms → c.sizes ≡ plan_sizes s → AreAtSteps c s.sections ms all
     → slice_get turns place ≡ Some p → IsTurnFault n place p e → IsScheduleFault s turns e
 fault_at s c turns ms all place p e n long sizes way at told =
     turn_fault s turns n place p e (long ∙ way.many ∙ ap (λ (x : Sizes). x.processors) sizes) at told

@@ -3,58 +3,58 @@ use Rattle.std.proofs.Common.{ℕ, zero, suc, ◌≡◌, ◌<◌, Bool, true, fa
 use Rattle.std.proofs.lemmas.Bool.{cases_eq}
 use Rattle.std.proofs.lemmas.Option.{none-some, same_Some, slice_get-get_or, slice_get_within}
 use Rattle.std.proofs.lemmas.List.{length-set}
-use Rattle.base.proofs.Sets.{slice_get-set_found, slice_get-set_other, slice_get-set_same}
+use Rattle.base.proofs.SliceSets.{slice_get-set_found, slice_get-set_other, slice_get-set_same}
 use Rattle.journal.specs.declared.event.Event.{Event}
 use Rattle.journal.specs.declared.event.Kind.{Kind}
-use Rattle.journal.specs.Did.{event}
-use Rattle.journal.specs.Events.{part}
+use Rattle.journal.specs.DidEvent.{event}
+use Rattle.journal.specs.Events.{events_of}
 use Rattle.journal.specs.Sizes.{Sizes}
 use Rattle.journal.specs.WellFormed.{Ready}
 use Rattle.lrc_script.specs.declared.script.Instruction.{Instruction}
 use Rattle.lrc_script.specs.Lawful.{IsLawful}
 use Rattle.lrc_script.specs.Plan.{Plan}
-use Rattle.conformance.specs.Follows.{kinds_of, plan_sizes}
-use Rattle.conformance.proofs.Calls.{kinds_of-append, kinds_of-one}
+use Rattle.conformance.specs.Follows.{call_kinds, plan_sizes}
+use Rattle.conformance.proofs.Calls.{call_kinds-append, call_kinds-one}
 use Rattle.cluster.specs.Copies.Local.{Local, calls}
 use Rattle.cluster.specs.Calls.{IsSameProcessor}
-use Rattle.cluster.specs.Clusters.{AreNew, Shared}
-use Rattle.cluster.specs.Taking.{IsLate, awaited_event}
+use Rattle.cluster.specs.Clusters.{IsNewCluster, SharedCluster}
+use Rattle.cluster.specs.Taking.{IsTakeLate, awaited_event}
 use Rattle.conformance.specs.declared.progress.TurnProgress.{TurnProgress}
 use Rattle.conformance.specs.declared.progress.TurnProgress.TheVariants.{Next, Passed, Waits}
 use Rattle.rand_pcg.specs.Lcg.{Lcg}
-use Rattle.conformance.specs.ByTurns.{orders_of}
-use Rattle.conformance.specs.Orders.{drawn, generator_after, generator_of}
-use Rattle.conformance.specs.Turns.{AreTurns, IsTurn, LooksInVain, Stage, instruction_at, progress_after, stage, turns_of}
-use Rattle.lrc_run.specs.Endings.{IsBeginning}
-use Rattle.lrc_run.specs.Steps.{AreOnTheirWay, IsAt}
-use Rattle.lrc_run.specs.Turns.{AreRounds, AreSeenOn, AreTaken, AreTurned, HaveGoneRound, IsTurnOf, SeesOn, TakesTurn}
-use Rattle.lrc_run.specs.Walks.{IsOnItsWay, MakesBut, SeesMore, TriedTake, made, new_at}
-use Rattle.lrc_run.proofs.Concluding.{begins_less}
-use Rattle.lrc_run.proofs.Making.{last_is_no_fetch, same_then, sees_same, sees_then, wanted_same}
-use Rattle.lrc_run.proofs.Stepping.{after_instruction, after_look, all_turned, same_on_its_way}
+use Rattle.conformance.specs.ByTurns.{turn_orders}
+use Rattle.conformance.specs.Orders.{order_drawn, order_generator_after, order_generator}
+use Rattle.conformance.specs.Turns.{AreScriptTurns, IsScriptTurn, TurnLooksInVain, TurnStage, instruction_at_turn, progress_after_turn, turn_stage, turns_of}
+use Rattle.lrc_run.specs.FollowedReports.{IsBeginning}
+use Rattle.lrc_run.specs.Steps.{AreAtSteps, IsAtStep}
+use Rattle.lrc_run.specs.Turns.{AreTurnRounds, AreSeenAfterTurns, AreTaken, AreTurned, HaveGoneRound, IsTurnOfRun, SeesOnlyMore, TakesTurn}
+use Rattle.lrc_run.specs.MakesCalls.{IsOnItsWay, MakesBut, SeesMoreCalls, TriedTake, calls_made, new_at}
+use Rattle.lrc_run.proofs.FollowedReports.{begins_less}
+use Rattle.lrc_run.proofs.SeesAndMakes.{last_is_no_fetch, sees_same_processor, sees_same, sees_then, makes_same_wanted}
+use Rattle.lrc_run.proofs.Stepping.{step_after_instruction, step_after_look, steps_turned, same_after_step}
 
 -- one turn more
 pub turned_more : (sections : List (List Instruction)) (ps : List ℕ) (p : ℕ) (ms ns os : List Local)
-    (all to end : List TurnProgress) → AreTurned sections ps ms ns all to → IsTurnOf sections p ns os to end
+    (all to end : List TurnProgress) → AreTurned sections ps ms ns all to → IsTurnOfRun sections p ns os to end
     → AreTurned sections (ps ++ p ∷ []) ms os all end
 turned_more sections [] p ms ns os all to end first next =
-    let P : List Local → List TurnProgress → Type 0 = λ xs ys. IsTurnOf sections p xs os ys end in
+    let P : List Local → List TurnProgress → Type 0 = λ xs ys. IsTurnOfRun sections p xs os ys end in
     (os, end, subst₂ P first.0 first.1 next, (refl, refl))
 turned_more sections (q ∷ ps) p ms ns os all to end first next =
     (first.0, first.1, first.2, turned_more sections ps p first.0 ns os first.1 to end first.3 next)
 
 -- whoever goes on is the same processor
-way_same : (m x : Local) (i : Instruction) (done : Bool) → IsOnItsWay m x i done → IsSameProcessor m x
-way_same m x i true way = way.makes.same
-way_same m x i false way = way.makes.same
+turn_way_same : (m x : Local) (i : Instruction) (done : Bool) → IsOnItsWay m x i done → IsSameProcessor m x
+turn_way_same m x i true way = way.makes.same
+turn_way_same m x i false way = way.makes.same
 
-way_sees : (m x : Local) (i : Instruction) (done : Bool) → IsOnItsWay m x i done → SeesMore m x
-way_sees m x i true way = way.makes.sees
-way_sees m x i false way = way.makes.sees
+turn_way_sees : (m x : Local) (i : Instruction) (done : Bool) → IsOnItsWay m x i done → SeesMoreCalls m x
+turn_way_sees m x i true way = way.makes.sees
+turn_way_sees m x i false way = way.makes.sees
 
 turn_same : (section : List Instruction) (m x : Local) (at to : TurnProgress) → TakesTurn section m at x to
     → IsSameProcessor m x
-turn_same section m x (Next n) to turn = way_same m x (instruction_at section n) turn.done turn.way
+turn_same section m x (Next n) to turn = turn_way_same m x (instruction_at_turn section n) turn.done turn.way
 turn_same section m x (Waits n) to turn = turn.takes.same
 turn_same section m x Passed to turn = record {
   lock = ap (λ (l : Local). l.lock) turn.0;
@@ -63,178 +63,178 @@ turn_same section m x Passed to turn = record {
 }
 
 -- and has seen no less
-turn_sees : (section : List Instruction) (m x : Local) (at to : TurnProgress) → TakesTurn section m at x to → SeesMore m x
-turn_sees section m x (Next n) to turn = way_sees m x (instruction_at section n) turn.done turn.way
+turn_sees : (section : List Instruction) (m x : Local) (at to : TurnProgress) → TakesTurn section m at x to → SeesMoreCalls m x
+turn_sees section m x (Next n) to turn = turn_way_sees m x (instruction_at_turn section n) turn.done turn.way
 turn_sees section m x (Waits n) to turn = turn.takes.sees
 turn_sees section m x Passed to turn = ([], ap (λ (l : Local). l.seen) turn.0 ∙ sym (append-nil m.seen))
 
 -- where it is after its turn
-pub at_turned : (l m x : Local) (section : List Instruction) (at to : TurnProgress) → IsAt l m section at
-    → TakesTurn section m at x to → IsAt l x section to
-at_turned l m x section (Next n) to at turn = subst (λ (y : TurnProgress). IsAt l x section y) (sym turn.to_is)
-    (after_instruction l m x section n turn.done at.0 at.1 turn.way)
-at_turned l m x section (Waits n) to at turn = subst (λ (y : TurnProgress). IsAt l x section y) (sym turn.to_is)
-    (after_look l m x section n turn.taken at turn.takes)
+pub at_turned : (l m x : Local) (section : List Instruction) (at to : TurnProgress) → IsAtStep l m section at
+    → TakesTurn section m at x to → IsAtStep l x section to
+at_turned l m x section (Next n) to at turn = subst (λ (y : TurnProgress). IsAtStep l x section y) (sym turn.to_is)
+    (step_after_instruction l m x section n turn.done at.0 at.1 turn.way)
+at_turned l m x section (Waits n) to at turn = subst (λ (y : TurnProgress). IsAtStep l x section y) (sym turn.to_is)
+    (step_after_look l m x section n turn.taken at turn.takes)
 at_turned l m x section Passed to at turn =
-    let P : Local → TurnProgress → Type 0 = λ y z. IsAt l y section z in subst₂ P (sym turn.0) (sym turn.1) at
+    let P : Local → TurnProgress → Type 0 = λ y z. IsAtStep l y section z in subst₂ P (sym turn.0) (sym turn.1) at
 
 -- where all are after a turn
-pub way_turned : (c : Shared) (sections : List (List Instruction)) (p : ℕ) (ms ns : List Local) (all to : List TurnProgress)
-    → AreOnTheirWay c sections ms all → IsTurnOf sections p ms ns all to → AreOnTheirWay c sections ns to
+pub way_turned : (c : SharedCluster) (sections : List (List Instruction)) (p : ℕ) (ms ns : List Local) (all to : List TurnProgress)
+    → AreAtSteps c sections ms all → IsTurnOfRun sections p ms ns all to → AreAtSteps c sections ns to
 way_turned c sections p ms ns all to way turn =
-    let P : List Local → List TurnProgress → Type 0 = λ xs ys. AreOnTheirWay c sections xs ys in
+    let P : List Local → List TurnProgress → Type 0 = λ xs ys. AreAtSteps c sections xs ys in
     subst₂ P (sym turn.new_is) (sym turn.to_is)
-    (all_turned c sections ms all p turn.section turn.before turn.after turn.at turn.next way turn.section_is
+    (steps_turned c sections ms all p turn.section turn.before turn.after turn.at turn.next way turn.section_is
     turn.before_is turn.at_is
     (λ start at. at_turned start turn.before turn.after turn.section turn.at turn.next at turn.takes))
 
 -- and after more of them
-pub ways_turned : (c : Shared) (sections : List (List Instruction)) (ps : List ℕ) (ms ns : List Local)
-    (all to : List TurnProgress) → AreOnTheirWay c sections ms all → AreTurned sections ps ms ns all to
-    → AreOnTheirWay c sections ns to
+pub ways_turned : (c : SharedCluster) (sections : List (List Instruction)) (ps : List ℕ) (ms ns : List Local)
+    (all to : List TurnProgress) → AreAtSteps c sections ms all → AreTurned sections ps ms ns all to
+    → AreAtSteps c sections ns to
 ways_turned c sections [] ms ns all to way turned =
-    let P : List Local → List TurnProgress → Type 0 = λ xs ys. AreOnTheirWay c sections xs ys in
+    let P : List Local → List TurnProgress → Type 0 = λ xs ys. AreAtSteps c sections xs ys in
     subst₂ P (sym turned.0) (sym turned.1) way
 ways_turned c sections (p ∷ ps) ms ns all to way turned =
     ways_turned c sections ps turned.0 ns turned.1 to (way_turned c sections p ms turned.0 all turned.1 way turned.2)
     turned.3
 
 -- the processors' stages: where each is, and what it has made
-abbrev pub stages_of : List Local → List TurnProgress → List Stage
-stages_of [] all = []
-stages_of (m ∷ ms) [] = []
-stages_of (m ∷ ms) (at ∷ all) = stage at (made m) ∷ stages_of ms all
+abbrev pub turn_stages : List Local → List TurnProgress → List TurnStage
+turn_stages [] all = []
+turn_stages (m ∷ ms) [] = []
+turn_stages (m ∷ ms) (at ∷ all) = turn_stage at (calls_made m) ∷ turn_stages ms all
 
-pub stages_at : (ms : List Local) (all : List TurnProgress) (p : ℕ) (m : Local) (at : TurnProgress) → slice_get ms p ≡ Some m
-    → slice_get all p ≡ Some at → slice_get (stages_of ms all) p ≡ Some (stage at (made m))
-stages_at [] all p m at here there = absurd (none-some m here)
-stages_at (x ∷ ms) [] p m at here there = absurd (none-some at there)
-stages_at (x ∷ ms) (y ∷ all) zero m at here there =
-    let P : TurnProgress → Local → Type 0 = λ a b. Some (stage y (made x)) ≡ Some (stage a (made b)) in
+pub turn_stages_at : (ms : List Local) (all : List TurnProgress) (p : ℕ) (m : Local) (at : TurnProgress) → slice_get ms p ≡ Some m
+    → slice_get all p ≡ Some at → slice_get (turn_stages ms all) p ≡ Some (turn_stage at (calls_made m))
+turn_stages_at [] all p m at here there = absurd (none-some m here)
+turn_stages_at (x ∷ ms) [] p m at here there = absurd (none-some at there)
+turn_stages_at (x ∷ ms) (y ∷ all) zero m at here there =
+    let P : TurnProgress → Local → Type 0 = λ a b. Some (turn_stage y (calls_made x)) ≡ Some (turn_stage a (calls_made b)) in
     subst₂ P (same_Some y at there) (same_Some x m here) refl
-stages_at (x ∷ ms) (y ∷ all) (suc p) m at here there = stages_at ms all p m at here there
+turn_stages_at (x ∷ ms) (y ∷ all) (suc p) m at here there = turn_stages_at ms all p m at here there
 
 -- each stage is a processor's
-pub record IsStageOf (ms : List Local) (all : List TurnProgress) (p : ℕ) (x : Stage) : Type 0 where
+pub record IsTurnStageOf (ms : List Local) (all : List TurnProgress) (p : ℕ) (x : TurnStage) : Type 0 where
   pub processor : Local
   pub at : TurnProgress
   pub processor_is : slice_get ms p ≡ Some processor
   pub at_is : slice_get all p ≡ Some at
-  pub is : x ≡ stage at (made processor)
+  pub is : x ≡ turn_stage at (calls_made processor)
 
-pub stage_from : (ms : List Local) (all : List TurnProgress) (p : ℕ) (x : Stage)
-    → slice_get (stages_of ms all) p ≡ Some x → IsStageOf ms all p x
-stage_from [] all p x here = absurd (none-some x here)
-stage_from (m ∷ ms) [] p x here = absurd (none-some x here)
-stage_from (m ∷ ms) (at ∷ all) zero x here = record {
+pub turn_stage_from : (ms : List Local) (all : List TurnProgress) (p : ℕ) (x : TurnStage)
+    → slice_get (turn_stages ms all) p ≡ Some x → IsTurnStageOf ms all p x
+turn_stage_from [] all p x here = absurd (none-some x here)
+turn_stage_from (m ∷ ms) [] p x here = absurd (none-some x here)
+turn_stage_from (m ∷ ms) (at ∷ all) zero x here = record {
   processor = m;
   at = at;
   processor_is = refl;
   at_is = refl;
-  is = sym (same_Some (stage at (made m)) x here);
+  is = sym (same_Some (turn_stage at (calls_made m)) x here);
 }
-stage_from (m ∷ ms) (at ∷ all) (suc p) x here =
-    let is = stage_from ms all p x here in
+turn_stage_from (m ∷ ms) (at ∷ all) (suc p) x here =
+    let is = turn_stage_from ms all p x here in
     record { processor = is.processor; at = is.at; processor_is = is.processor_is; at_is = is.at_is; is = is.is }
 
-stages_set : (ms : List Local) (all : List TurnProgress) (p : ℕ) (m : Local) (to : TurnProgress)
-    → stages_of (slice_set ms p m) (slice_set all p to) ≡ slice_set (stages_of ms all) p (stage to (made m))
-stages_set [] all p m to = refl
-stages_set (x ∷ ms) [] zero m to = refl
-stages_set (x ∷ ms) [] (suc p) m to = refl
-stages_set (x ∷ ms) (y ∷ all) zero m to = refl
-stages_set (x ∷ ms) (y ∷ all) (suc p) m to = ap (λ xs. stage y (made x) ∷ xs) (stages_set ms all p m to)
+turn_stages_set : (ms : List Local) (all : List TurnProgress) (p : ℕ) (m : Local) (to : TurnProgress)
+    → turn_stages (slice_set ms p m) (slice_set all p to) ≡ slice_set (turn_stages ms all) p (turn_stage to (calls_made m))
+turn_stages_set [] all p m to = refl
+turn_stages_set (x ∷ ms) [] zero m to = refl
+turn_stages_set (x ∷ ms) [] (suc p) m to = refl
+turn_stages_set (x ∷ ms) (y ∷ all) zero m to = refl
+turn_stages_set (x ∷ ms) (y ∷ all) (suc p) m to = ap (λ xs. turn_stage y (calls_made x) ∷ xs) (turn_stages_set ms all p m to)
 
 -- at the start
-pub stages_start : (ms : List Local) (n : ℕ) → length ms ≡ n
-    → ((p : ℕ) (m : Local) → slice_get ms p ≡ Some m → made m ≡ [])
-    → stages_of ms (replicate n (Next 0)) ≡ replicate n (stage (Next 0) [])
-stages_start [] zero long each = refl
-stages_start [] (suc n) long each = absurd (omega arith)
-stages_start (m ∷ ms) zero long each = absurd (omega arith)
-stages_start (m ∷ ms) (suc n) long each =
-    let first = ap (λ calls. stage (Next 0) calls) (each 0 m refl) in
-    let rest = stages_start ms n (omega arith) (λ p x here. each (suc p) x here) in
-    ap (λ (x : Stage). x ∷ stages_of ms (replicate n (Next 0))) first ∙ ap (λ xs. stage (Next 0) [] ∷ xs) rest
+pub turn_stages_start : (ms : List Local) (n : ℕ) → length ms ≡ n
+    → ((p : ℕ) (m : Local) → slice_get ms p ≡ Some m → calls_made m ≡ [])
+    → turn_stages ms (replicate n (Next 0)) ≡ replicate n (turn_stage (Next 0) [])
+turn_stages_start [] zero long each = refl
+turn_stages_start [] (suc n) long each = absurd (omega arith)
+turn_stages_start (m ∷ ms) zero long each = absurd (omega arith)
+turn_stages_start (m ∷ ms) (suc n) long each =
+    let first = ap (λ calls. turn_stage (Next 0) calls) (each 0 m refl) in
+    let rest = turn_stages_start ms n (omega arith) (λ p x here. each (suc p) x here) in
+    ap (λ (x : TurnStage). x ∷ turn_stages ms (replicate n (Next 0))) first ∙ ap (λ xs. turn_stage (Next 0) [] ∷ xs) rest
 
 -- new processors have made nothing
-pub nothing_made : (c : Shared) (ms : List Local) → AreNew c ms → (p : ℕ) (m : Local) → slice_get ms p ≡ Some m
-    → made m ≡ []
-nothing_made c ms new p m here = ap made (new.each p m here)
+pub nothing_made : (c : SharedCluster) (ms : List Local) → IsNewCluster c ms → (p : ℕ) (m : Local) → slice_get ms p ≡ Some m
+    → calls_made m ≡ []
+nothing_made c ms new p m here = ap calls_made (new.each p m here)
 
 -- one with an empty block that isn't ready by what it has seen looked in vain
-in_vain : (s : Plan) (h : List Event) (p : ℕ) (x : Local) → x.number ≡ p → x.sizes ≡ plan_sizes s → x.block ≡ []
-    → IsLate x → IsBeginning x.seen h → LooksInVain s h p (made x)
-in_vain s h p x number sizes none late begins = record {
+turn_in_vain : (s : Plan) (h : List Event) (p : ℕ) (x : Local) → x.number ≡ p → x.sizes ≡ plan_sizes s → x.block ≡ []
+    → IsTakeLate x → IsBeginning x.seen h → TurnLooksInVain s h p (calls_made x)
+turn_in_vain s h p x number sizes none late begins = record {
   found = x.seen;
   rest = begins.0;
   begins = begins.1;
-  calls_are = ap kinds_of (ap (part x.seen) (sym number) ∙ sym (append-nil (part x.seen x.number))
-      ∙ ap (λ es. part x.seen x.number ++ es) (sym none));
+  calls_are = ap call_kinds (ap (events_of x.seen) (sym number) ∙ sym (append-nil (events_of x.seen x.number))
+      ∙ ap (λ es. events_of x.seen x.number ++ es) (sym none));
   late = let P : Sizes → ℕ → Type 0 = λ sizes q. ¬ Ready sizes x.seen q in subst₂ P sizes number late;
 }
 
 -- what a turn does is told of a history that goes on from what the processor has seen then
 turn_told : (s : Plan) (h : List Event) (p : ℕ) (l m x : Local) (section : List Instruction) (at to : TurnProgress)
-    → x.number ≡ p → x.sizes ≡ plan_sizes s → IsAt l m section at → TakesTurn section m at x to → IsBeginning x.seen h
-    → IsTurn s h p section at (made m) (stage to (made x))
+    → x.number ≡ p → x.sizes ≡ plan_sizes s → IsAtStep l m section at → TakesTurn section m at x to → IsBeginning x.seen h
+    → IsScriptTurn s h p section at (calls_made m) (turn_stage to (calls_made x))
 turn_told s h p l m x section (Next n) to number sizes is turn begins = by turn.done turn.way turn.late turn.to_is
   where
-    by : (done : Bool) → IsOnItsWay m x (instruction_at section n) done → (done ≡ false → IsLate x)
-        → to ≡ progress_after section n done → IsTurn s h p section (Next n) (made m) (stage to (made x))
+    by : (done : Bool) → IsOnItsWay m x (instruction_at_turn section n) done → (done ≡ false → IsTakeLate x)
+        → to ≡ progress_after_turn section n done → IsScriptTurn s h p section (Next n) (calls_made m) (turn_stage to (calls_made x))
     by true way late to_is = inl (record {
       kinds = way.kinds;
       are = way.are;
-      new_is = let P : TurnProgress → List Kind → Type 0 = λ a b. stage to (made x) ≡ stage a b in
+      new_is = let P : TurnProgress → List Kind → Type 0 = λ a b. turn_stage to (calls_made x) ≡ turn_stage a b in
           subst₂ P to_is way.makes.more refl;
     })
     by false way late to_is = inr (record {
       first = way.first;
       last = way.last;
       are = way.are;
-      new_is = let P : TurnProgress → List Kind → Type 0 = λ a b. stage to (made x) ≡ stage a b in
+      new_is = let P : TurnProgress → List Kind → Type 0 = λ a b. turn_stage to (calls_made x) ≡ turn_stage a b in
           subst₂ P to_is way.makes.more refl;
-      vain = in_vain s h p x number sizes way.handed (late refl) begins;
+      vain = turn_in_vain s h p x number sizes way.handed (late refl) begins;
     })
 turn_told s h p l m x section (Waits n) to number sizes is turn begins = by turn.taken turn.takes turn.to_is
   where
-    by : (taken : Bool) → TriedTake m x taken → to ≡ progress_after section n taken
-        → IsTurn s h p section (Waits n) (made m) (stage to (made x))
+    by : (taken : Bool) → TriedTake m x taken → to ≡ progress_after_turn section n taken
+        → IsScriptTurn s h p section (Waits n) (calls_made m) (turn_stage to (calls_made x))
     by true takes to_is = inl (record {
       first = is.0.begins.first;
       last = is.0.begins.last;
       are = is.0.begins.are;
-      new_is = let P : TurnProgress → List Kind → Type 0 = λ a b. stage to (made x) ≡ stage a b in
+      new_is = let P : TurnProgress → List Kind → Type 0 = λ a b. turn_stage to (calls_made x) ≡ turn_stage a b in
           let last = event m.number is.0.begins.last in
-          let more = ap kinds_of (takes.yes refl ∙ ap (λ k. calls m ++ awaited_event m.number k) is.0.begins.awaits)
-          ∙ kinds_of-append (calls m) (last ∷ []) ∙ ap (λ ks. made m ++ ks) (kinds_of-one last
-          (last_is_no_fetch (instruction_at section n) is.0.begins.first is.0.begins.last is.0.begins.are)) in
+          let more = ap call_kinds (takes.yes refl ∙ ap (λ k. calls m ++ awaited_event m.number k) is.0.begins.awaits)
+          ∙ call_kinds-append (calls m) (last ∷ []) ∙ ap (λ ks. calls_made m ++ ks) (call_kinds-one last
+          (last_is_no_fetch (instruction_at_turn section n) is.0.begins.first is.0.begins.last is.0.begins.are)) in
           subst₂ P to_is more refl;
     })
     by false takes to_is =
         let none = takes.no refl in
-        let same = ap kinds_of none.calls_are in
-        let P : List Kind → Type 0 = LooksInVain s h p in
+        let same = ap call_kinds none.calls_are in
+        let P : List Kind → Type 0 = TurnLooksInVain s h p in
         inr (record {
-          new_is = let P : TurnProgress → List Kind → Type 0 = λ a b. stage to (made x) ≡ stage a b in
+          new_is = let P : TurnProgress → List Kind → Type 0 = λ a b. turn_stage to (calls_made x) ≡ turn_stage a b in
               subst₂ P to_is same refl;
-          vain = subst P same (in_vain s h p x number sizes (none.block_is ∙ is.0.begins.handed) none.late begins);
+          vain = subst P same (turn_in_vain s h p x number sizes (none.block_is ∙ is.0.begins.handed) none.late begins);
         })
 turn_told s h p l m x section Passed to number sizes is turn begins =
-    let P : TurnProgress → List Kind → Type 0 = λ a b. stage to (made x) ≡ stage a b in
-    subst₂ P turn.1 (ap made turn.0) refl
+    let P : TurnProgress → List Kind → Type 0 = λ a b. turn_stage to (calls_made x) ≡ turn_stage a b in
+    subst₂ P turn.1 (ap calls_made turn.0) refl
 
 -- the history goes on from what each has seen
 abbrev pub AllBegin : List Local → List Event → Type 0
 AllBegin ms h = (p : ℕ) (m : Local) → slice_get ms p ≡ Some m → IsBeginning m.seen h
 
 -- turns are told of a history that goes on from what all have seen at their end
-pub turns_told : (s : Plan) (c : Shared) (h : List Event) (ps : List ℕ) (ms ns : List Local) (all to : List TurnProgress)
-    → c.sizes ≡ plan_sizes s → AreOnTheirWay c s.sections ms all → AreTurned s.sections ps ms ns all to → AllBegin ns h
-    → AllBegin ms h × AreTurns s h ps (stages_of ms all) (stages_of ns to)
+pub turns_told : (s : Plan) (c : SharedCluster) (h : List Event) (ps : List ℕ) (ms ns : List Local) (all to : List TurnProgress)
+    → c.sizes ≡ plan_sizes s → AreAtSteps c s.sections ms all → AreTurned s.sections ps ms ns all to → AllBegin ns h
+    → AllBegin ms h × AreScriptTurns s h ps (turn_stages ms all) (turn_stages ns to)
 turns_told s c h [] ms ns all to sizes way turned begin =
     let P : List Local → Type 0 = λ xs. AllBegin xs h in
-    let Q : List Local → List TurnProgress → Type 0 = λ xs ys. stages_of xs ys ≡ stages_of ms all in
+    let Q : List Local → List TurnProgress → Type 0 = λ xs ys. turn_stages xs ys ≡ turn_stages ms all in
     (subst P turned.0 begin, subst₂ Q (sym turned.0) (sym turned.1) refl)
 turns_told s c h (p ∷ ps) ms ns all to sizes way turned begin =
     let turn = turned.2 in
@@ -243,7 +243,7 @@ turns_told s c h (p ∷ ps) ms ns all to sizes way turned begin =
     let m = turn.before in
     let x = turn.after in
     let is = way.each p turn.section m turn.at turn.section_is turn.before_is turn.at_is in
-    let same = same_then (new_at c p) m x (same_on_its_way (new_at c p) m turn.section turn.at is)
+    let same = sees_same_processor (new_at c p) m x (same_after_step (new_at c p) m turn.section turn.at is)
     (turn_same turn.section m x turn.at turn.next turn.takes) in
     let within = slice_get_within ms p m turn.before_is in
     let here : slice_get turned.0 p ≡ Some x = ap (λ xs. slice_get xs p) turn.new_is ∙ slice_get-set_same ms p x within in
@@ -251,17 +251,17 @@ turns_told s c h (p ∷ ps) ms ns all to sizes way turned begin =
     let one : _ = turn_told s h p (new_at c p) m x turn.section turn.at turn.next same.number (same.sizes ∙ sizes) is
     turn.takes begins in
     let P : List Local → List TurnProgress → Type 0 =
-    λ xs ys. stages_of xs ys ≡ slice_set (stages_of ms all) p (stage turn.next (made x)) in
-    let others = subst₂ P (sym turn.new_is) (sym turn.to_is) (stages_set ms all p x turn.next) in (
+    λ xs ys. turn_stages xs ys ≡ slice_set (turn_stages ms all) p (turn_stage turn.next (calls_made x)) in
+    let others = subst₂ P (sym turn.new_is) (sym turn.to_is) (turn_stages_set ms all p x turn.next) in (
       first turn later.0 begins,
       (
-        stages_of turned.0 turned.1,
+        turn_stages turned.0 turned.1,
         record {
           section = turn.section;
-          before = stage turn.at (made m);
-          after = stage turn.next (made x);
+          before = turn_stage turn.at (calls_made m);
+          after = turn_stage turn.next (calls_made x);
           section_is = turn.section_is;
-          before_is = stages_at ms all p m turn.at turn.before_is turn.at_is;
+          before_is = turn_stages_at ms all p m turn.at turn.before_is turn.at_is;
           turn = one;
           others = others;
         },
@@ -269,7 +269,7 @@ turns_told s c h (p ∷ ps) ms ns all to sizes way turned begin =
       ),
     )
   where
-    first : (turn : IsTurnOf s.sections p ms turned.0 all turned.1) → AllBegin turned.0 h
+    first : (turn : IsTurnOfRun s.sections p ms turned.0 all turned.1) → AllBegin turned.0 h
         → IsBeginning turn.after.seen h → AllBegin ms h
     first turn others mine q y here = elim (cases_eq q p) [
       | inl is ↦ (let M : ℕ → Type 0 = λ k. slice_get ms k ≡ Some y in
@@ -282,14 +282,14 @@ turns_told s c h (p ∷ ps) ms ns all to sizes way turned begin =
     ]
 
 -- turns, and then more of them
-pub turns-append : (s : Plan) (h : List Event) (ps qs : List ℕ) (xs ys zs : List Stage) → AreTurns s h ps xs ys
-    → AreTurns s h qs ys zs → AreTurns s h (ps ++ qs) xs zs
-turns-append s h [] qs xs ys zs first next = let P : List Stage → Type 0 = λ x. AreTurns s h qs x zs in subst P first next
+pub turns-append : (s : Plan) (h : List Event) (ps qs : List ℕ) (xs ys zs : List TurnStage) → AreScriptTurns s h ps xs ys
+    → AreScriptTurns s h qs ys zs → AreScriptTurns s h (ps ++ qs) xs zs
+turns-append s h [] qs xs ys zs first next = let P : List TurnStage → Type 0 = λ x. AreScriptTurns s h qs x zs in subst P first next
 turns-append s h (p ∷ ps) qs xs ys zs first next =
     (first.0, first.1, turns-append s h ps qs first.0 ys zs first.2 next)
 
 -- who saw on was before
-pub before_at : (ms ns : List Local) (p : ℕ) (n : Local) → AreSeenOn ms ns → slice_get ns p ≡ Some n
+pub before_at : (ms ns : List Local) (p : ℕ) (n : Local) → AreSeenAfterTurns ms ns → slice_get ns p ≡ Some n
     → (m : Local) × (slice_get ms p ≡ Some m)
 before_at ms ns p n on here =
     let within = slice_get_within ns p n here in
@@ -297,21 +297,21 @@ before_at ms ns p n on here =
     (get_or ms p n, slice_get-get_or ms p n (omega arith))
 
 -- the stages of those who saw on stay
-stages_seen : (ms ns : List Local) (all : List TurnProgress) → AreSeenOn ms ns → stages_of ns all ≡ stages_of ms all
-stages_seen [] [] all on = refl
-stages_seen [] (n ∷ ns) all on = absurd (let long = on.all in omega (arith, long))
-stages_seen (m ∷ ms) [] all on = absurd (let long = on.all in omega (arith, long))
-stages_seen (m ∷ ms) (n ∷ ns) [] on = refl
-stages_seen (m ∷ ms) (n ∷ ns) (at ∷ all) on =
-    let rest : AreSeenOn ms ns = record {
+turn_stages_seen : (ms ns : List Local) (all : List TurnProgress) → AreSeenAfterTurns ms ns → turn_stages ns all ≡ turn_stages ms all
+turn_stages_seen [] [] all on = refl
+turn_stages_seen [] (n ∷ ns) all on = absurd (let long = on.all in omega (arith, long))
+turn_stages_seen (m ∷ ms) [] all on = absurd (let long = on.all in omega (arith, long))
+turn_stages_seen (m ∷ ms) (n ∷ ns) [] on = refl
+turn_stages_seen (m ∷ ms) (n ∷ ns) (at ∷ all) on =
+    let rest : AreSeenAfterTurns ms ns = record {
       all = let long = on.all in omega (arith, long);
       each = λ p x y here there. on.each (suc p) x y here there;
     } in
-    ap (λ ks. stage at ks ∷ stages_of ns all) (ap kinds_of (on.each 0 m n refl refl).calls_are)
-    ∙ ap (λ xs. stage at (made m) ∷ xs) (stages_seen ms ns all rest)
+    ap (λ ks. turn_stage at ks ∷ turn_stages ns all) (ap call_kinds (on.each 0 m n refl refl).calls_are)
+    ∙ ap (λ xs. turn_stage at (calls_made m) ∷ xs) (turn_stages_seen ms ns all rest)
 
 -- what goes on from what they saw then goes on from what they saw before
-begin_before : (ms ns : List Local) (h : List Event) → AreSeenOn ms ns → AllBegin ns h → AllBegin ms h
+begin_before : (ms ns : List Local) (h : List Event) → AreSeenAfterTurns ms ns → AllBegin ns h → AllBegin ms h
 begin_before ms ns h on begin p m here =
     let within = slice_get_within ms p m here in
     let same = on.all in
@@ -320,18 +320,18 @@ begin_before ms ns h on begin p m here =
     begins_less m n h (on.each p m n here there).sees (begin p n there)
 
 -- nothing else changed
-makes_seen : {C : Type 0} (l m n : Local) (kinds : List Kind) → MakesBut C l m kinds → SeesOn m n → MakesBut C l n kinds
+makes_seen : {C : Type 0} (l m n : Local) (kinds : List Kind) → MakesBut C l m kinds → SeesOnlyMore m n → MakesBut C l n kinds
 makes_seen l m n kinds makes on = record {
-  same = same_then l m n makes.same on.same;
+  same = sees_same_processor l m n makes.same on.same;
   sees = sees_then l m n makes.sees on.sees;
-  more = ap kinds_of on.calls_are ∙ makes.more;
-  wanted = λ was. wanted_same m n on.same on.calls_are (makes.wanted was);
+  more = ap call_kinds on.calls_are ∙ makes.more;
+  wanted = λ was. makes_same_wanted m n on.same on.calls_are (makes.wanted was);
   uncut = λ none. on.uncut ∙ makes.uncut none;
 }
 
-at_seen : (l m n : Local) (section : List Instruction) (at : TurnProgress) → IsAt l m section at → SeesOn m n
-    → IsAt l n section at
-at_seen l m n section (Next k) is on = (
+turn_seen_at : (l m n : Local) (section : List Instruction) (at : TurnProgress) → IsAtStep l m section at → SeesOnlyMore m n
+    → IsAtStep l n section at
+turn_seen_at l m n section (Next k) is on = (
   record {
     kinds = is.0.kinds;
     are = is.0.are;
@@ -339,7 +339,7 @@ at_seen l m n section (Next k) is on = (
   },
   is.1,
 )
-at_seen l m n section (Waits k) is on =
+turn_seen_at l m n section (Waits k) is on =
     let begun = is.0.begins in
     let between = is.0.between in (
       record {
@@ -350,10 +350,10 @@ at_seen l m n section (Waits k) is on =
           last = begun.last;
           are = begun.are;
           makes = record {
-            same = same_then between m n begun.makes.same on.same;
+            same = sees_same_processor between m n begun.makes.same on.same;
             sees = sees_then between m n begun.makes.sees on.sees;
-            more = ap kinds_of on.calls_are ∙ begun.makes.more;
-            wanted = λ was. wanted_same m n on.same on.calls_are (begun.makes.wanted was);
+            more = ap call_kinds on.calls_are ∙ begun.makes.more;
+            wanted = λ was. makes_same_wanted m n on.same on.calls_are (begun.makes.wanted was);
             uncut = on.uncut ∙ begun.makes.uncut;
           };
           handed = on.block_is ∙ begun.handed;
@@ -362,82 +362,82 @@ at_seen l m n section (Waits k) is on =
       },
       is.1,
     )
-at_seen l m n section Passed is on =
+turn_seen_at l m n section Passed is on =
     record { kinds = is.kinds; are = is.are; makes = makes_seen l m n _ is.makes on }
 
-way_seen : (c : Shared) (sections : List (List Instruction)) (ms ns : List Local) (all : List TurnProgress)
-    → AreOnTheirWay c sections ms all → AreSeenOn ms ns → AreOnTheirWay c sections ns all
-way_seen c sections ms ns all way on = record {
+turn_way_seen : (c : SharedCluster) (sections : List (List Instruction)) (ms ns : List Local) (all : List TurnProgress)
+    → AreAtSteps c sections ms all → AreSeenAfterTurns ms ns → AreAtSteps c sections ns all
+turn_way_seen c sections ms ns all way on = record {
   many = on.all ∙ way.many;
   long = way.long;
   each = λ p section n at its here there.
       let before = before_at ms ns p n on here in
-      at_seen (new_at c p) before.0 n section at (way.each p section before.0 at its before.1 there)
+      turn_seen_at (new_at c p) before.0 n section at (way.each p section before.0 at its before.1 there)
       (on.each p before.0 n before.1 here);
 }
 
 -- where all are after rounds
-way_rounds : (c : Shared) (s : Plan) (orders : ℕ → List ℕ) (k : ℕ) (ms ns : List Local) (start all : List TurnProgress)
-    → AreOnTheirWay c s.sections ms start → AreRounds s orders k ms start ns all → AreOnTheirWay c s.sections ns all
-way_rounds c s orders zero ms ns start all way rounds =
-    let P : List Local → List TurnProgress → Type 0 = λ xs ys. AreOnTheirWay c s.sections xs ys in
+turn_way_rounds : (c : SharedCluster) (s : Plan) (orders : ℕ → List ℕ) (k : ℕ) (ms ns : List Local) (start all : List TurnProgress)
+    → AreAtSteps c s.sections ms start → AreTurnRounds s orders k ms start ns all → AreAtSteps c s.sections ns all
+turn_way_rounds c s orders zero ms ns start all way rounds =
+    let P : List Local → List TurnProgress → Type 0 = λ xs ys. AreAtSteps c s.sections xs ys in
     subst₂ P (sym rounds.0) (sym rounds.1) way
-way_rounds c s orders (suc k) ms ns start all way rounds =
+turn_way_rounds c s orders (suc k) ms ns start all way rounds =
     let round = rounds.3 in
-    way_seen c s.sections round.turned ns all (ways_turned c s.sections (orders k) rounds.0 round.turned rounds.1 all
-    (way_rounds c s orders k ms rounds.0 start rounds.1 way rounds.2) round.turns) round.seen
+    turn_way_seen c s.sections round.turned ns all (ways_turned c s.sections (orders k) rounds.0 round.turned rounds.1 all
+    (turn_way_rounds c s orders k ms rounds.0 start rounds.1 way rounds.2) round.turns) round.seen
 
 -- rounds are told of a history that goes on from what all have seen at their end
-pub rounds_told : (s : Plan) (c : Shared) (h : List Event) (orders : ℕ → List ℕ) (k : ℕ) (ms ns : List Local)
-    (start all : List TurnProgress) → c.sizes ≡ plan_sizes s → AreOnTheirWay c s.sections ms start
-    → AreRounds s orders k ms start ns all → AllBegin ns h
-    → AllBegin ms h × AreTurns s h (turns_of orders k) (stages_of ms start) (stages_of ns all)
-rounds_told s c h orders zero ms ns start all sizes way rounds begin =
+pub turn_rounds_told : (s : Plan) (c : SharedCluster) (h : List Event) (orders : ℕ → List ℕ) (k : ℕ) (ms ns : List Local)
+    (start all : List TurnProgress) → c.sizes ≡ plan_sizes s → AreAtSteps c s.sections ms start
+    → AreTurnRounds s orders k ms start ns all → AllBegin ns h
+    → AllBegin ms h × AreScriptTurns s h (turns_of orders k) (turn_stages ms start) (turn_stages ns all)
+turn_rounds_told s c h orders zero ms ns start all sizes way rounds begin =
     let P : List Local → Type 0 = λ xs. AllBegin xs h in
-    let Q : List Local → List TurnProgress → Type 0 = λ xs ys. stages_of xs ys ≡ stages_of ms start in
+    let Q : List Local → List TurnProgress → Type 0 = λ xs ys. turn_stages xs ys ≡ turn_stages ms start in
     (subst P rounds.0 begin, subst₂ Q (sym rounds.0) (sym rounds.1) refl)
-rounds_told s c h orders (suc k) ms ns start all sizes way rounds begin =
+turn_rounds_told s c h orders (suc k) ms ns start all sizes way rounds begin =
     let round = rounds.3 in
-    let between = way_rounds c s orders k ms rounds.0 start rounds.1 way rounds.2 in
+    let between = turn_way_rounds c s orders k ms rounds.0 start rounds.1 way rounds.2 in
     let told = turns_told s c h (orders k) rounds.0 round.turned rounds.1 all sizes between round.turns
     (begin_before round.turned ns h round.seen begin) in
-    let before = rounds_told s c h orders k ms rounds.0 start rounds.1 sizes way rounds.2 told.0 in
-    let P : List Stage → Type 0 = λ xs. AreTurns s h (turns_of orders k ++ orders k) (stages_of ms start) xs in (
+    let before = turn_rounds_told s c h orders k ms rounds.0 start rounds.1 sizes way rounds.2 told.0 in
+    let P : List TurnStage → Type 0 = λ xs. AreScriptTurns s h (turns_of orders k ++ orders k) (turn_stages ms start) xs in (
       before.0,
-      subst P (sym (stages_seen round.turned ns all round.seen))
-          (turns-append s h (turns_of orders k) (orders k) (stages_of ms start) (stages_of rounds.0 rounds.1)
-          (stages_of round.turned all) before.1 told.1),
+      subst P (sym (turn_stages_seen round.turned ns all round.seen))
+          (turns-append s h (turns_of orders k) (orders k) (turn_stages ms start) (turn_stages rounds.0 rounds.1)
+          (turn_stages round.turned all) before.1 told.1),
     )
 
 -- where all are between two rounds, and the generator then
-pub record IsBetweenRounds (c : Shared) (s : Plan) (seed : Option ℕ) (old new : List Local) (start all : List TurnProgress)
+pub record IsBetweenTurns (c : SharedCluster) (s : Plan) (seed : Option ℕ) (old new : List Local) (start all : List TurnProgress)
     (generator : Option Lcg) : Type 0 where
   pub gone : HaveGoneRound c s seed old new start all
-  pub drawn_is : generator ≡ generator_after seed s.processors gone.count
+  pub drawn_is : generator ≡ order_generator_after seed s.processors gone.count
 
 -- before the first one
-pub before_rounds : (c : Shared) (s : Plan) (seed : Option ℕ) (ms : List Local) (all : List TurnProgress)
-    (generator : Option Lcg) → AreOnTheirWay c s.sections ms all → generator ≡ generator_of seed
-    → IsBetweenRounds c s seed ms ms all all generator
-before_rounds c s seed ms all generator way is =
+pub before_turn_rounds : (c : SharedCluster) (s : Plan) (seed : Option ℕ) (ms : List Local) (all : List TurnProgress)
+    (generator : Option Lcg) → AreAtSteps c s.sections ms all → generator ≡ order_generator seed
+    → IsBetweenTurns c s seed ms ms all all generator
+before_turn_rounds c s seed ms all generator way is =
     record { gone = record { way = way; count = 0; rounds = (refl, refl) }; drawn_is = is }
 
 -- and after one more
-pub next_round : (c : Shared) (s : Plan) (seed : Option ℕ) (ms ns turned os : List Local) (start all to : List TurnProgress)
+pub next_turn_round : (c : SharedCluster) (s : Plan) (seed : Option ℕ) (ms ns turned os : List Local) (start all to : List TurnProgress)
     (old new : Option Lcg) (n : ℕ) (list : List ℕ) → c.sizes ≡ plan_sizes s → n ≡ c.sizes.processors
-    → IsBetweenRounds c s seed ms ns start all old → list ≡ (drawn old n).0 → new ≡ (drawn old n).1
-    → AreTurned s.sections list ns turned all to → AreSeenOn turned os → IsBetweenRounds c s seed ms os start to new
-next_round c s seed ms ns turned os start all to old new n list sizes many was order state turns seen =
+    → IsBetweenTurns c s seed ms ns start all old → list ≡ (order_drawn old n).0 → new ≡ (order_drawn old n).1
+    → AreTurned s.sections list ns turned all to → AreSeenAfterTurns turned os → IsBetweenTurns c s seed ms os start to new
+next_turn_round c s seed ms ns turned os start all to old new n list sizes many was order state turns seen =
     let count = many ∙ ap (λ (x : Sizes). x.processors) sizes in
     let gone = was.gone in
     let k = gone.count in
-    let P : Option Lcg → ℕ → Type 0 = λ g m. list ≡ (drawn g m).0 in
-    let Q : Option Lcg → ℕ → Type 0 = λ g m. new ≡ (drawn g m).1 in
-    let order_is : list ≡ orders_of s seed k = subst₂ P was.drawn_is count order in
+    let P : Option Lcg → ℕ → Type 0 = λ g m. list ≡ (order_drawn g m).0 in
+    let Q : Option Lcg → ℕ → Type 0 = λ g m. new ≡ (order_drawn g m).1 in
+    let order_is : list ≡ turn_orders s seed k = subst₂ P was.drawn_is count order in
     let R : List ℕ → Type 0 = λ ps. AreTurned s.sections ps ns turned all to in
     record {
       gone = record {
-        way = way_seen c s.sections turned os to (ways_turned c s.sections list ns turned all to gone.way turns) seen;
+        way = turn_way_seen c s.sections turned os to (ways_turned c s.sections list ns turned all to gone.way turns) seen;
         count = suc k;
         rounds = (ns, all, gone.rounds, record { turned = turned; turns = subst R order_is turns; seen = seen });
       };
@@ -445,7 +445,7 @@ next_round c s seed ms ns turned os start all to old new n list sizes many was o
     }
 
 -- who did nothing saw on
-pub sees_on : (m n : Local) → m ≡ n → SeesOn m n
+pub sees_on : (m n : Local) → m ≡ n → SeesOnlyMore m n
 sees_on m n e = record {
   same = record {
     lock = ap (λ (x : Local). x.lock) (sym e);
@@ -460,9 +460,9 @@ sees_on m n e = record {
 }
 
 -- and who saw on twice saw on
-sees_on_then : (l m n : Local) → SeesOn l m → SeesOn m n → SeesOn l n
+sees_on_then : (l m n : Local) → SeesOnlyMore l m → SeesOnlyMore m n → SeesOnlyMore l n
 sees_on_then l m n first next = record {
-  same = same_then l m n first.same next.same;
+  same = sees_same_processor l m n first.same next.same;
   sees = sees_then l m n first.sees next.sees;
   calls_are = next.calls_are ∙ first.calls_are;
   block_is = next.block_is ∙ first.block_is;
@@ -470,13 +470,13 @@ sees_on_then l m n first next = record {
   uncut = next.uncut ∙ first.uncut;
 }
 
-pub seen_same : (ms : List Local) → AreSeenOn ms ms
+pub seen_same : (ms : List Local) → AreSeenAfterTurns ms ms
 seen_same ms = record {
   all = refl;
   each = λ p m n here there. sees_on m n (same_Some m n (sym here ∙ there));
 }
 
-pub seen_then : (ms ns os : List Local) → AreSeenOn ms ns → AreSeenOn ns os → AreSeenOn ms os
+pub seen_then : (ms ns os : List Local) → AreSeenAfterTurns ms ns → AreSeenAfterTurns ns os → AreSeenAfterTurns ms os
 seen_then ms ns os first next = record {
   all = next.all ∙ first.all;
   each = λ p m o here there.
@@ -486,12 +486,12 @@ seen_then ms ns os first next = record {
 
 -- a turn, told as one of those that are taken
 pub one_taken : (sections : List (List Instruction)) (p : ℕ) (ms ns os : List Local) (all to : List TurnProgress)
-    → AreSeenOn ms ns → IsTurnOf sections p ns os all to → AreTaken sections (p ∷ []) ms os all to
+    → AreSeenAfterTurns ms ns → IsTurnOfRun sections p ns os all to → AreTaken sections (p ∷ []) ms os all to
 one_taken sections p ms ns os all to on turn = (ns, os, to, on, turn, (seen_same os, refl))
 
 -- those who saw on first take the same turns
 taken_after : (sections : List (List Instruction)) (ps : List ℕ) (ms ns os : List Local) (all to : List TurnProgress)
-    → AreSeenOn ms ns → AreTaken sections ps ns os all to → AreTaken sections ps ms os all to
+    → AreSeenAfterTurns ms ns → AreTaken sections ps ns os all to → AreTaken sections ps ms os all to
 taken_after sections [] ms ns os all to on taken = (seen_then ms ns os on taken.0, taken.1)
 taken_after sections (p ∷ ps) ms ns os all to on taken =
     (taken.0, taken.1, taken.2, seen_then ms ns taken.0 on taken.3, taken.4, taken.5)
@@ -512,38 +512,38 @@ taken-append sections (p ∷ ps) qs ms ns os all to end first next = (
 )
 
 -- where all are after turns that are taken
-pub way_taken : (c : Shared) (sections : List (List Instruction)) (ps : List ℕ) (ms ns : List Local)
-    (all to : List TurnProgress) → AreOnTheirWay c sections ms all → AreTaken sections ps ms ns all to
-    → AreOnTheirWay c sections ns to
+pub way_taken : (c : SharedCluster) (sections : List (List Instruction)) (ps : List ℕ) (ms ns : List Local)
+    (all to : List TurnProgress) → AreAtSteps c sections ms all → AreTaken sections ps ms ns all to
+    → AreAtSteps c sections ns to
 way_taken c sections [] ms ns all to way taken =
-    let P : List TurnProgress → Type 0 = λ xs. AreOnTheirWay c sections ns xs in
-    subst P (sym taken.1) (way_seen c sections ms ns all way taken.0)
+    let P : List TurnProgress → Type 0 = λ xs. AreAtSteps c sections ns xs in
+    subst P (sym taken.1) (turn_way_seen c sections ms ns all way taken.0)
 way_taken c sections (p ∷ ps) ms ns all to way taken =
     way_taken c sections ps taken.1 ns taken.2 to
-    (way_turned c sections p taken.0 taken.1 all taken.2 (way_seen c sections ms taken.0 all way taken.3) taken.4) taken.5
+    (way_turned c sections p taken.0 taken.1 all taken.2 (turn_way_seen c sections ms taken.0 all way taken.3) taken.4) taken.5
 
 -- they are told of a history that goes on from what all have seen at their end
-pub taken_told : (s : Plan) (c : Shared) (h : List Event) (ps : List ℕ) (ms ns : List Local) (all to : List TurnProgress)
-    → c.sizes ≡ plan_sizes s → AreOnTheirWay c s.sections ms all → AreTaken s.sections ps ms ns all to → AllBegin ns h
-    → AllBegin ms h × AreTurns s h ps (stages_of ms all) (stages_of ns to)
+pub taken_told : (s : Plan) (c : SharedCluster) (h : List Event) (ps : List ℕ) (ms ns : List Local) (all to : List TurnProgress)
+    → c.sizes ≡ plan_sizes s → AreAtSteps c s.sections ms all → AreTaken s.sections ps ms ns all to → AllBegin ns h
+    → AllBegin ms h × AreScriptTurns s h ps (turn_stages ms all) (turn_stages ns to)
 taken_told s c h [] ms ns all to sizes way taken begin =
-    (begin_before ms ns h taken.0 begin, ap (stages_of ns) taken.1 ∙ stages_seen ms ns all taken.0)
+    (begin_before ms ns h taken.0 begin, ap (turn_stages ns) taken.1 ∙ turn_stages_seen ms ns all taken.0)
 taken_told s c h (p ∷ ps) ms ns all to sizes way taken begin =
     let seen = taken.0 in
     let between = taken.1 in
     let half = taken.2 in
-    let on = way_seen c s.sections ms seen all way taken.3 in
+    let on = turn_way_seen c s.sections ms seen all way taken.3 in
     let later = taken_told s c h ps between ns half to sizes (way_turned c s.sections p seen between all half on taken.4)
     taken.5 begin in
     let one = turns_told s c h (p ∷ []) seen between all half sizes on (between, half, taken.4, (refl, refl)) later.0 in
-    let P : List Stage → Type 0 = λ xs. AreTurns s h (p ∷ ps) xs (stages_of ns to) in (
+    let P : List TurnStage → Type 0 = λ xs. AreScriptTurns s h (p ∷ ps) xs (turn_stages ns to) in (
       begin_before ms seen h taken.3 one.0,
-      subst P (stages_seen ms seen all taken.3)
-          (turns-append s h (p ∷ []) ps (stages_of seen all) (stages_of between half) (stages_of ns to) one.1 later.1),
+      subst P (turn_stages_seen ms seen all taken.3)
+          (turns-append s h (p ∷ []) ps (turn_stages seen all) (turn_stages between half) (turn_stages ns to) one.1 later.1),
     )
 
 -- who looked in vain saw on
-pub look_seen : (m n : Local) (taken : Bool) → TriedTake m n taken → taken ≡ false → SeesOn m n
+pub look_seen : (m n : Local) (taken : Bool) → TriedTake m n taken → taken ≡ false → SeesOnlyMore m n
 look_seen m n taken took no =
     let none = took.no no in
     record {
@@ -556,17 +556,17 @@ look_seen m n taken took no =
     }
 
 -- and so all did, if one of them
-pub one_seen : (ms : List Local) (p : ℕ) (m x : Local) → slice_get ms p ≡ Some m → SeesOn m x
-    → AreSeenOn ms (slice_set ms p x)
+pub one_seen : (ms : List Local) (p : ℕ) (m x : Local) → slice_get ms p ≡ Some m → SeesOnlyMore m x
+    → AreSeenAfterTurns ms (slice_set ms p x)
 one_seen ms p m x here on = record { all = length-set ms p x; each = each }
   where
-    each : (q : ℕ) (y z : Local) → slice_get ms q ≡ Some y → slice_get (slice_set ms p x) q ≡ Some z → SeesOn y z
+    each : (q : ℕ) (y z : Local) → slice_get ms q ≡ Some y → slice_get (slice_set ms p x) q ≡ Some z → SeesOnlyMore y z
     each q y z before after = elim (cases_eq q p) [
       | inl is ↦ (let M : ℕ → Type 0 = λ k. slice_get ms k ≡ Some y in
           let N : ℕ → Type 0 = λ k. slice_get (slice_set ms p x) k ≡ Some z in
           let one = same_Some m y (sym here ∙ subst M is before) in
           let two = slice_get-set_found ms p x z (subst N is after) in
-          let P : Local → Local → Type 0 = λ a b. SeesOn a b in
+          let P : Local → Local → Type 0 = λ a b. SeesOnlyMore a b in
           subst₂ P one two on)
       | inr isnt ↦ sees_on y z (same_Some y z (sym before ∙ sym (slice_get-set_other ms p q x isnt) ∙ after))
     ]
@@ -578,8 +578,8 @@ set_same (z ∷ xs) zero x y here is = ap (λ w. w ∷ xs) (is ∙ sym (same_Som
 set_same (z ∷ xs) (suc p) x y here is = ap (λ ws. z ∷ ws) (set_same xs p x y here is)
 
 -- a script has some processor
-pub some_of : (s : Plan) (c : Shared) (ms : List Local) (all : List TurnProgress) → IsLawful s → c.sizes ≡ plan_sizes s
-    → AreOnTheirWay c s.sections ms all → 0 < length ms
+pub some_of : (s : Plan) (c : SharedCluster) (ms : List Local) (all : List TurnProgress) → IsLawful s → c.sizes ≡ plan_sizes s
+    → AreAtSteps c s.sections ms all → 0 < length ms
 some_of s c ms all lawful sizes way =
     let some = lawful.but_uneven.sizes.some_processors in
     let same = ap (λ (x : Sizes). x.processors) sizes in

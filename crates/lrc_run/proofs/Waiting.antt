@@ -3,7 +3,7 @@ use Rattle.std.proofs.Common.{ℕ, ◌≡◌, ◌++◌, Bool, Option, Some, None
 use Rattle.std.proofs.lemmas.Bool.{cases_eq}
 use Rattle.std.proofs.lemmas.List.{length-set}
 use Rattle.std.proofs.lemmas.Option.{same_Some, slice_get_within}
-use Rattle.base.proofs.Sets.{slice_get-set_found, slice_get-set_other, slice_get-set_same}
+use Rattle.base.proofs.SliceSets.{slice_get-set_found, slice_get-set_other, slice_get-set_same}
 use Rattle.journal.specs.declared.event.Kind.{Kind}
 use Rattle.book.specs.declared.refused.Refused.{Refused}
 use Rattle.cluster.specs.Copies.Local.{Local, calls}
@@ -12,16 +12,16 @@ use Rattle.cluster.specs.declared.waited.Waited.TheVariants.{Stuck}
 use Rattle.cluster.specs.Refusals.{flush_refusal}
 use Rattle.cluster.specs.Waiting.{IsWaitingCall}
 use Rattle.cluster.specs.Taking.{awaited_event}
-use Rattle.lrc_run.specs.Turns.{AreSeenOn, SeesDeadlock, SeesOn}
-use Rattle.lrc_run.specs.Walks.{SeesMore, TriedTake}
-use Rattle.lrc_run.proofs.Making.{same_then, sees_same, sees_then}
+use Rattle.lrc_run.specs.Turns.{AreSeenAfterTurns, SeesDeadlock, SeesOnlyMore}
+use Rattle.lrc_run.specs.MakesCalls.{SeesMoreCalls, TriedTake}
+use Rattle.lrc_run.proofs.SeesAndMakes.{sees_same_processor, sees_same, sees_then}
 use Rattle.lrc_run.proofs.Turning.{seen_same}
 
 -- whoever waits has seen no less
-sees_waiting : (m n : Local) (r : Result Waited Refused) → IsWaitingCall m n r → SeesMore m n
+sees_waiting : (m n : Local) (r : Result Waited Refused) → IsWaitingCall m n r → SeesMoreCalls m n
 sees_waiting m n r call = by m.awaits (flush_refusal m) refl refl
   where
-    by : (k : Option Kind) (f : Option Refused) → m.awaits ≡ k → flush_refusal m ≡ f → SeesMore m n
+    by : (k : Option Kind) (f : Option Refused) → m.awaits ≡ k → flush_refusal m ≡ f → SeesMoreCalls m n
     by None f awaits refused = sees_same m n (ap (λ (l : Local). l.seen) (call.idle awaits).1)
     by (Some k) (Some e) awaits refused =
         sees_same m n (ap (λ (l : Local). l.seen) (call.outside (λ none. let some = sym awaits ∙ none in cc) e refused).1)
@@ -30,7 +30,7 @@ sees_waiting m n r call = by m.awaits (flush_refusal m) refl refl
         (entered.rest, ap (λ (l : Local). l.seen) entered.after)
 
 -- and is as it was otherwise
-pub waits_on : (m n : Local) (r : Result Waited Refused) → IsWaitingCall m n r → SeesOn m n
+pub waits_on : (m n : Local) (r : Result Waited Refused) → IsWaitingCall m n r → SeesOnlyMore m n
 waits_on m n r call = record {
   same = record {
     lock = ap (λ (l : Local). l.lock) call.kept;
@@ -45,9 +45,9 @@ waits_on m n r call = record {
 }
 
 -- a take after a wait is one after what came before
-pub takes_on : (l m n : Local) (taken : Bool) → SeesOn l m → TriedTake m n taken → TriedTake l n taken
-takes_on l m n taken on took = record {
-  same = same_then l m n on.same took.same;
+pub waiting_takes_on : (l m n : Local) (taken : Bool) → SeesOnlyMore l m → TriedTake m n taken → TriedTake l n taken
+waiting_takes_on l m n taken on took = record {
+  same = sees_same_processor l m n on.same took.same;
   sees = sees_then l m n on.sees took.sees;
   yes = λ yes. took.yes yes ∙ ap (λ es. es ++ awaited_event m.number m.awaits) on.calls_are
       ∙ ap (λ p. calls l ++ awaited_event p m.awaits) on.same.number
@@ -64,19 +64,19 @@ takes_on l m n taken on took = record {
 }
 
 -- one of all saw on
-pub seen_at : (ms : List Local) (m n : Local) → slice_get ms 0 ≡ Some m → SeesOn m n → AreSeenOn ms (slice_set ms 0 n)
-seen_at ms m n at on = record { all = length-set ms 0 n; each = each }
+pub waiting_seen_at : (ms : List Local) (m n : Local) → slice_get ms 0 ≡ Some m → SeesOnlyMore m n → AreSeenAfterTurns ms (slice_set ms 0 n)
+waiting_seen_at ms m n at on = record { all = length-set ms 0 n; each = each }
   where
-    each : (p : ℕ) (x y : Local) → slice_get ms p ≡ Some x → slice_get (slice_set ms 0 n) p ≡ Some y → SeesOn x y
+    each : (p : ℕ) (x y : Local) → slice_get ms p ≡ Some x → slice_get (slice_set ms 0 n) p ≡ Some y → SeesOnlyMore x y
     each p x y here there = elim (cases_eq p 0) [
       | inl is ↦ (let M : ℕ → Type 0 = λ k. slice_get ms k ≡ Some x in
           let N : ℕ → Type 0 = λ k. slice_get (slice_set ms 0 n) k ≡ Some y in
-          subst₂ SeesOn (same_Some m x (sym at ∙ subst M is here)) (slice_get-set_found ms 0 n y (subst N is there)) on)
+          subst₂ SeesOnlyMore (same_Some m x (sym at ∙ subst M is here)) (slice_get-set_found ms 0 n y (subst N is there)) on)
       | inr isnt ↦ (seen_same ms).each p x y here (sym (slice_get-set_other ms 0 p n isnt) ∙ there)
     ]
 
 -- it sees a deadlock where it says so
-pub sees_deadlock : (ms : List Local) (m n : Local) (r : Result Waited Refused) → slice_get ms 0 ≡ Some m
+pub waiting_sees_deadlock : (ms : List Local) (m n : Local) (r : Result Waited Refused) → slice_get ms 0 ≡ Some m
     → IsWaitingCall m n r → r ≡ Ok Stuck → SeesDeadlock (slice_set ms 0 n)
-sees_deadlock ms m n r at call is =
+waiting_sees_deadlock ms m n r at call is =
     (n, slice_get-set_same ms 0 n (slice_get_within ms 0 m at), call.stuck is)

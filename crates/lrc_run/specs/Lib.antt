@@ -1,11 +1,11 @@
-pub mod Walks
+pub mod MakesCalls
 pub mod Waiting
 pub mod Steps
 pub mod Turns
 pub mod Orders
-pub mod Endings
+pub mod FollowedReports
 pub mod Laws
-pub mod Faults
+pub mod FailedOutcomes
 pub mod Scheduled
 pub mod Threads
 pub mod Prelude

@@ -2,8 +2,8 @@
 use Rattle.std.specs.Prelude.{ℕ, ◌<◌, List, [], ◌∷◌, Option, Some, None, All, slice_index_or}
 
 -- all of these are numbers of processors, of which there are n
-abbrev pub AreProcessors : ℕ → List ℕ → Type 0
-AreProcessors n xs = All (λ p. p < n) xs
+abbrev pub AreOrderedProcessors : ℕ → List ℕ → Type 0
+AreOrderedProcessors n xs = All (λ p. p < n) xs
 
 -- whoever stands at this place, if there is one
 abbrev pub chosen : List ℕ → Option ℕ → List ℕ

@@ -2,7 +2,7 @@
 ghost use Rattle.std.specs.Prelude.{◌≡◌, IfOk, ℕ, List, slice_set, slice_get, Some};
 ghost use Rattle.lrc_script.specs.Prelude.{IsLawful, Plan, plan_of};
 ghost use Rattle.conformance.specs.Prelude.{plan_sizes};
-ghost use Rattle.cluster.specs.Prelude.{AreAllOf};
+ghost use Rattle.cluster.specs.Prelude.{AreAllToFinish};
 ghost use Rattle.lrc_run.specs.Prelude.{AreWalked, HaveFollowed, IsReportAfter, IsReportWith};
 
 use crate::shown::show;
@@ -37,7 +37,7 @@ fn report<T: BookTurn>(
     processors: Vec<Processor<T>>,
     shown: Vec<(usize, u32)>,
 ) -> Result<Report, AllocError>
-    requires { AreAllOf cluster processors.items }
+    requires { AreAllToFinish cluster processors.items }
     ensures { (s : Plan) → HaveFollowed s cluster processors.items shown.items
         → IfOk result (λ r. IsReportWith s r processors.items × (r.shown ≡ shown)) }
 {

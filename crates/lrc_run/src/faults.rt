@@ -1,21 +1,21 @@
 //! What came of all processors of a run.
 ghost use Rattle.std.specs.Prelude.{◌≡◌, ◌⊎◌, IfErr, IfNone, IfOk, IfSome, Ok, map};
-ghost use Rattle.lrc_run.specs.Prelude.{is_stuck, IsFaultOf, IsFirstSo, NoneFailed, NoneFailedSo};
+ghost use Rattle.lrc_run.specs.Prelude.{is_stuck_cause, IsFaultOfOutcome, IsFirstFailedOutcome, NoOutcomeFailed, NoOutcomeFailedSo};
 
 use conformance::{Cause, RunFault};
 use std::alloc::{AllocError, Global};
 
 /// Whether the processor only waited too long.
 fn is_stuck(cause: Cause) -> bool
-    ensures { result ≡ is_stuck cause }
+    ensures { result ≡ is_stuck_cause cause }
 {
     matches!(cause, Cause::Stuck)
 }
 
 /// The fault of the least processor of those that are stuck, or of those that failed and aren't.
 fn first_fault<X>(outcomes: &[Result<X, Cause>], stuck: bool) -> Option<RunFault>
-    ensures some { IfSome result (λ fault. IsFirstSo outcomes.now stuck fault) }
-    ensures none { IfNone result (NoneFailedSo outcomes.now stuck) }
+    ensures some { IfSome result (λ fault. IsFirstFailedOutcome outcomes.now stuck fault) }
+    ensures none { IfNone result (NoOutcomeFailedSo outcomes.now stuck) }
 {
     for processor in 0..outcomes.len() {
         if let Err(cause) = &outcomes[processor] {
@@ -31,8 +31,8 @@ fn first_fault<X>(outcomes: &[Result<X, Cause>], stuck: bool) -> Option<RunFault
 /// The fault of a run: that of the least processor whose cause isn't Stuck, and where there is none, that of
 /// the least with Stuck; None where none failed.
 fn fault_of<X>(outcomes: &[Result<X, Cause>]) -> Option<RunFault>
-    ensures some { IfSome result (λ fault. IsFaultOf outcomes.now fault) }
-    ensures none { IfNone result (NoneFailed outcomes.now) }
+    ensures some { IfSome result (λ fault. IsFaultOfOutcome outcomes.now fault) }
+    ensures none { IfNone result (NoOutcomeFailed outcomes.now) }
 {
     match first_fault(outcomes, false) {
         Some(fault) => Some(fault),
@@ -42,7 +42,7 @@ fn fault_of<X>(outcomes: &[Result<X, Cause>]) -> Option<RunFault>
 
 /// What they all came to, where none failed.
 fn all_of<X: Drop>(alloc: Global, outcomes: Vec<Result<X, Cause>>) -> Result<Vec<X>, AllocError>
-    requires { NoneFailed outcomes.items }
+    requires { NoOutcomeFailed outcomes.items }
     ensures { IfOk result (λ all. map Ok all.items ≡ outcomes.items) }
 {
     let mut all = Vec::with_capacity(alloc, outcomes.len())?;
@@ -63,7 +63,7 @@ pub(crate) fn gathered<X: Drop>(
     outcomes: Vec<Result<X, Cause>>,
 ) -> Result<Vec<X>, RunFault>
     ensures ok { IfOk result (λ all. map Ok all.items ≡ outcomes.items) }
-    ensures err { IfErr result (λ fault. IsFaultOf outcomes.items fault ⊎ NoneFailed outcomes.items) }
+    ensures err { IfErr result (λ fault. IsFaultOfOutcome outcomes.items fault ⊎ NoOutcomeFailed outcomes.items) }
 {
     if let Some(fault) = fault_of(outcomes.as_slice()) {
         return Err(fault);

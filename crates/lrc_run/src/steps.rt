@@ -4,12 +4,12 @@ ghost use Rattle.cluster.specs.Copies.Prelude.{Local};
 ghost use Rattle.std.specs.List.{range_with_len};
 ghost use Rattle.lrc_script.specs.Prelude.{IsLawful, plan_of};
 ghost use Rattle.conformance.specs.Prelude.{plan_sizes};
-ghost use Rattle.cluster.specs.Prelude.{AreNew};
+ghost use Rattle.cluster.specs.Prelude.{IsNewCluster};
 ghost use Rattle.conformance.specs.declared.cause.Cause.TheVariants as cause;
 ghost use Rattle.conformance.specs.declared.progress.TurnProgress.TheVariants as progress;
-ghost use Rattle.conformance.specs.Prelude.{IsEndBy, IsReportBy, IsStuckBy, drawn, generator_of, orders_of};
-ghost use Rattle.lrc_run.specs.Prelude.{AreProcessors, AreOnTheirWay, AreSeenOn, AreTurned, HaveGoneRound, IsEndAfter};
-ghost use Rattle.lrc_run.specs.Prelude.{IsTurnOf, SeesDeadlock};
+ghost use Rattle.conformance.specs.Prelude.{IsEndByTurns, IsReportByTurns, IsStuckByTurns, order_drawn, order_generator, turn_orders};
+ghost use Rattle.lrc_run.specs.Prelude.{AreOrderedProcessors, AreAtSteps, AreSeenAfterTurns, AreTurned, HaveGoneRound, IsEndAfter};
+ghost use Rattle.lrc_run.specs.Prelude.{IsTurnOfRun, SeesDeadlock};
 
 mod drawn;
 mod pace;
@@ -43,9 +43,9 @@ pub fn step<R: Wait>(
     seed: Option<u64>,
 ) -> Result<Report, RunFault>
     requires { IsLawful (plan_of script.now) }
-    ensures turns { IfOk result (IsReportBy (plan_of script.now) (orders_of (plan_of script.now) seed)) }
+    ensures turns { IfOk result (IsReportByTurns (plan_of script.now) (turn_orders (plan_of script.now) seed)) }
     ensures stuck { IfErr result (λ fault. fault.cause ≡ cause.Stuck
-        → IsStuckBy (plan_of script.now) (orders_of (plan_of script.now) seed) fault.processor) }
+        → IsStuckByTurns (plan_of script.now) (turn_orders (plan_of script.now) seed) fault.processor) }
 {
     step_with::<BookLock, R>(rt, alloc, script, seed)
 }
@@ -59,9 +59,9 @@ pub fn step_with<T: BookTurn + Drop, R: Wait>(
 ) -> Result<Report, RunFault>
     requires entries { T.ENTRIES ≤ 2 ^ 40 }
     requires lawful { IsLawful (plan_of script.now) }
-    ensures turns { IfOk result (IsReportBy (plan_of script.now) (orders_of (plan_of script.now) seed)) }
+    ensures turns { IfOk result (IsReportByTurns (plan_of script.now) (turn_orders (plan_of script.now) seed)) }
     ensures stuck { IfErr result (λ fault. fault.cause ≡ cause.Stuck
-        → IsStuckBy (plan_of script.now) (orders_of (plan_of script.now) seed) fault.processor) }
+        → IsStuckByTurns (plan_of script.now) (turn_orders (plan_of script.now) seed) fault.processor) }
 {
     match step_as_far_with::<T, R>(rt, alloc, script, seed)? {
         Ended::Whole(report) => Ok(report),
@@ -80,7 +80,7 @@ pub fn step_as_far<R: Wait>(
     seed: Option<u64>,
 ) -> Result<Ended, RunFault>
     requires { IsLawful (plan_of script.now) }
-    ensures end { IfOk result (IsEndBy (plan_of script.now) (orders_of (plan_of script.now) seed)) }
+    ensures end { IfOk result (IsEndByTurns (plan_of script.now) (turn_orders (plan_of script.now) seed)) }
     ensures err { IfErr result (λ fault. fault.cause ≢ cause.Stuck) }
 {
     step_as_far_with::<BookLock, R>(rt, alloc, script, seed)
@@ -95,7 +95,7 @@ pub fn step_as_far_with<T: BookTurn + Drop, R: Wait>(
 ) -> Result<Ended, RunFault>
     requires entries { T.ENTRIES ≤ 2 ^ 40 }
     requires lawful { IsLawful (plan_of script.now) }
-    ensures end { IfOk result (IsEndBy (plan_of script.now) (orders_of (plan_of script.now) seed)) }
+    ensures end { IfOk result (IsEndByTurns (plan_of script.now) (turn_orders (plan_of script.now) seed)) }
     ensures err { IfErr result (λ fault. fault.cause ≢ cause.Stuck) }
 {
     let (cluster, mut processors) = new_cluster::<T>(alloc, script)?;
@@ -116,7 +116,7 @@ fn end_run<T: BookTurn + Drop, R: Wait>(
 ) -> Result<Ended, RunFault>
     requires lawful { IsLawful (plan_of script.now) }
     requires sizes { cluster.sizes ≡ plan_sizes (plan_of script.now) }
-    requires way { AreOnTheirWay cluster (plan_of script.now).sections processors.items all.now }
+    requires way { AreAtSteps cluster (plan_of script.now).sections processors.items all.now }
     requires whole { passed ≡ true → All (λ x. x ≡ progress.Passed) all.now }
     requires stuck { passed ≡ false → SeesDeadlock processors.items }
     ensures end { IfOk result (IsEndAfter (plan_of script.now) processors.items all.now) }
@@ -153,7 +153,7 @@ fn new_cluster<T: BookTurn>(
 ) -> Result<(Cluster<T>, Vec<Processor<T>>), RunFault>
     requires { T.ENTRIES ≤ 2 ^ 40 }
     ensures sizes { IfOk result (λ r. r.0.sizes ≡ plan_sizes (plan_of script.now)) }
-    ensures new { IfOk result (λ r. AreNew r.0 r.1.items) }
+    ensures new { IfOk result (λ r. IsNewCluster r.0 r.1.items) }
     ensures err { IfErr result (λ fault. fault.cause ≢ cause.Stuck) }
 {
     match Cluster::new(
@@ -181,7 +181,7 @@ fn go_round<T: BookTurn, R: Wait>(
 ) -> Result<bool, RunFault>
     requires lawful { IsLawful (plan_of script.now) }
     requires sizes { cluster.now.sizes ≡ plan_sizes (plan_of script.now) }
-    requires way { AreOnTheirWay cluster.now (plan_of script.now).sections processors.old.items
+    requires way { AreAtSteps cluster.now (plan_of script.now).sections processors.old.items
         all.old.items }
     ensures gone { IfOk result (λ _. HaveGoneRound cluster.now (plan_of script.now) seed processors.old.items
         processors.new.items all.old.items all.new.items) }
@@ -227,7 +227,7 @@ fn new_list(alloc: Global, count: usize) -> Result<Vec<usize>, AllocError>
 
 /// The generator of this seed.
 fn generator_of(seed: Option<u64>) -> Option<Pcg32>
-    ensures { result ≡ generator_of seed }
+    ensures { result ≡ order_generator seed }
 {
     match seed {
         Some(seed) => Some(Pcg32::seed_from_u64(seed)),
@@ -251,7 +251,7 @@ fn is_stuck<T: BookTurn, R: Wait>(
 ) -> Result<bool, RunFault>
     requires some { 0 < vec_len processors.old }
     requires own { (m : Local) → slice_get processors.old.items 0 ≡ Some m → m.lock ≡ cluster.now.lock }
-    ensures seen { AreSeenOn processors.old.items processors.new.items }
+    ensures seen { AreSeenAfterTurns processors.old.items processors.new.items }
     ensures stuck { IfOk result (λ stuck. stuck ≡ true → SeesDeadlock processors.new.items) }
     ensures err { IfErr result (λ fault. fault.cause ≢ cause.Stuck) }
 {
@@ -267,9 +267,9 @@ fn is_stuck<T: BookTurn, R: Wait>(
 
 /// The order of the next round: rising numbers, exchanged as the generator draws.
 fn draw(generator: &mut Option<Pcg32>, list: &mut [usize])
-    ensures list { list.new ≡ (drawn generator.old (length list.old)).0 }
-    ensures state { generator.new ≡ (drawn generator.old (length list.old)).1 }
-    ensures below { AreProcessors (length list.old) list.new × (length list.new ≡ length list.old) }
+    ensures list { list.new ≡ (order_drawn generator.old (length list.old)).0 }
+    ensures state { generator.new ≡ (order_drawn generator.old (length list.old)).1 }
+    ensures below { AreOrderedProcessors (length list.old) list.new × (length list.new ≡ length list.old) }
 {
     rise(list);
     if let Some(generator) = generator {
@@ -297,8 +297,8 @@ fn round<T: BookTurn, R: Wait>(
 ) -> Result<bool, RunFault>
     requires lawful { IsLawful (plan_of script.now) }
     requires sizes { cluster.now.sizes ≡ plan_sizes (plan_of script.now) }
-    requires list { AreProcessors (vec_len processors.old) list.now }
-    requires way { AreOnTheirWay cluster.now (plan_of script.now).sections processors.old.items
+    requires list { AreOrderedProcessors (vec_len processors.old) list.now }
+    requires way { AreAtSteps cluster.now (plan_of script.now).sections processors.old.items
         all.old.items }
     ensures turns { IfOk result (λ _. AreTurned (plan_of script.now).sections list.now
         processors.old.items processors.new.items all.old.items all.new.items) }
@@ -325,12 +325,12 @@ fn turn_at<T: BookTurn, R: Wait>(
     requires lawful { IsLawful (plan_of script.now) }
     requires sizes { cluster.now.sizes ≡ plan_sizes (plan_of script.now) }
     requires within { p < vec_len processors.old }
-    requires way { AreOnTheirWay cluster.now (plan_of script.now).sections processors.old.items
+    requires way { AreAtSteps cluster.now (plan_of script.now).sections processors.old.items
         all.old.items }
     ensures long { vec_len processors.new ≡ vec_len processors.old }
-    ensures turn { IfOk result (λ _. IsTurnOf (plan_of script.now).sections p
+    ensures turn { IfOk result (λ _. IsTurnOfRun (plan_of script.now).sections p
         processors.old.items processors.new.items all.old.items all.new.items) }
-    ensures vain { IfOk result (λ moved. moved ≡ false → AreSeenOn processors.old.items processors.new.items
+    ensures vain { IfOk result (λ moved. moved ≡ false → AreSeenAfterTurns processors.old.items processors.new.items
         × (all.new.items ≡ all.old.items)) }
     ensures err { IfErr result (λ fault. fault.cause ≢ cause.Stuck) }
 {

@@ -2,8 +2,8 @@
 use Rattle.std.proofs.Common.{◌≡◌, ◌≢◌, ◌∙◌, ◌+◌, ◌<◌, ℕ, suc, zero, inl, inr, List, [], ◌∷◌, ◌++◌, Some, Option, length, slice_get, ap, sym, refl, arith}
 use Rattle.std.proofs.lemmas.Option.{same_Some, none-some, slice_get_within}
 use Rattle.std.proofs.lemmas.List.{length-append}
-use Rattle.base.specs.Places.{Has}
-use Rattle.base.proofs.Places.{push_cases, slice_get-append_left, slice_get-last}
+use Rattle.base.specs.InOrderOnce.{Has}
+use Rattle.base.proofs.SlicesAndCounts.{push_cases, slice_get-append_left, slice_get-last}
 use Rattle.base.proofs.Joined.{in_order-append, in_order_single}
 use Rattle.conformance.specs.declared.schedule.Schedule.{Schedule}
 use Rattle.lrc_sample.specs.declared.outcome.SampleOutcome.{SampleOutcome}

@@ -3,7 +3,7 @@ use Rattle.std.proofs.Common.{◌≡◌, ◌∙◌, ◌+◌, ◌^◌, ◌<◌, �
 use Rattle.std.specs.List.{sum_by}
 use Rattle.std.proofs.lemmas.List.{length-append}
 use Rattle.std.proofs.lemmas.Option.{none-some}
-use Rattle.base.proofs.Places.{push_cases}
+use Rattle.base.proofs.SlicesAndCounts.{push_cases}
 use Rattle.lrc_script.specs.Plan.{Plan}
 use Rattle.lrc_sample.specs.declared.outcome.SampleOutcome.{SampleOutcome}
 use Rattle.lrc_sample.specs.declared.tally.TallyLine.{TallyLine}

@@ -5,10 +5,10 @@ use Rattle.std.proofs.lemmas.Bool.{cases_eq}
 use Rattle.std.proofs.lemmas.Option.{none-some, same_Some, slice_get-get_or, slice_get_within}
 use Rattle.std.proofs.lemmas.List.{length-append}
 use Rattle.std.proofs.lemmas.List.Sums.{sum_by-set, sum_by_push, get_or-le-sum_by}
-use Rattle.base.specs.Places.{Has}
-use Rattle.base.proofs.Places.{push_cases, slice_get-last}
+use Rattle.base.specs.InOrderOnce.{Has}
+use Rattle.base.proofs.SlicesAndCounts.{push_cases, slice_get-last}
 use Rattle.base.proofs.Joined.{in_order-append, in_order_single}
-use Rattle.base.proofs.Sets.{slice_get-set_found, slice_get-set_other, slice_get-set_same}
+use Rattle.base.proofs.SliceSets.{slice_get-set_found, slice_get-set_other, slice_get-set_same}
 use Rattle.conformance.specs.declared.schedule.Schedule.{Schedule}
 use Rattle.lrc_sample.specs.declared.outcome.SampleOutcome.{SampleOutcome}
 use Rattle.lrc_sample.specs.declared.tally.TallyLine.{TallyLine}
@@ -214,7 +214,7 @@ shown_again shows lines o k d now read found shown a (j, has) = elim (cases_eq j
   | inl here ↦
       (let same : found.0 ≡ now = sym (item_at lines k found.0 d found.1.0) ∙ sym read in
       let is : counted now ≡ a = slice_get-set_found lines k (counted now) a
-          (subst (λ n. slice_get (slice_set lines k (counted now)) n ≡ Some a) here has) in
+      (subst (λ n. slice_get (slice_set lines k (counted now)) n ≡ Some a) here has) in
       let P : TallyLine → Type 0 = λ l. shows l.schedule.turns.items l.outcome in
       let was : P now = subst P same (shown found.0 (k, found.1.0)) in
       subst P is was)

@@ -1,8 +1,8 @@
 -- What is promised of samples.
 use Rattle.std.specs.Prelude.{ℕ, ◌≡◌, ◌≢◌, ◌<◌, false, List, Some, slice_get, length}
-use Rattle.base.specs.Places.{Has}
+use Rattle.base.specs.InOrderOnce.{Has}
 use Rattle.lrc_script.specs.Plan.{Plan}
-use Rattle.conformance.specs.Recomputed.{NeverRaces}
+use Rattle.conformance.specs.FlatRuns.{NeverRacesFlat}
 use Rattle.lrc_sample.specs.declared.outcome.SampleOutcome.{SampleOutcome}
 use Rattle.lrc_sample.specs.declared.outcome.SampleOutcome.TheVariants.{Ended}
 use Rattle.lrc_sample.specs.declared.tally.TallyLine.{TallyLine}
@@ -25,4 +25,4 @@ FirstLaw = (outcomes : List SampleOutcome) (lines : List TallyLine) (line : Tall
 -- a script that never races on one flat memory has no outcome with a race
 abbrev pub RaceFreeOutcomeLaw : Type 0
 RaceFreeOutcomeLaw = (s : Plan) (orders : ℕ → List ℕ) (answers : Answered) → IsSampleOutcomeOf s orders (Ended answers)
-    → NeverRaces s → answers.racy ≡ false
+    → NeverRacesFlat s → answers.racy ≡ false

@@ -1,6 +1,6 @@
 -- How lines stand.
 use Rattle.std.specs.Prelude.{◌≡◌, ◌<◌, ◌≤◌, ◌⊎◌, List}
-use Rattle.base.specs.Places.{InOrder}
+use Rattle.base.specs.InOrderOnce.{InOrder}
 use Rattle.lrc_sample.specs.declared.outcome.SampleOutcome.{SampleOutcome}
 use Rattle.lrc_sample.specs.declared.tally.TallyLine.{TallyLine}
 use Rattle.lrc_sample.specs.Tally.{CountsRuns, run_of}

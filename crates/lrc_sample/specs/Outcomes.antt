@@ -2,7 +2,7 @@
 use Rattle.std.specs.Prelude.{ℕ, ◌≡◌, List, length}
 use Rattle.lrc_script.specs.Plan.{Plan}
 use Rattle.lrc_report.specs.declared.report.Report.{Report}
-use Rattle.conformance.specs.ByTurns.{IsReportBy, IsStuckBy}
+use Rattle.conformance.specs.ByTurns.{IsReportByTurns, IsStuckByTurns}
 use Rattle.lrc_sample.specs.declared.outcome.SampleOutcome.{SampleOutcome}
 use Rattle.lrc_sample.specs.declared.outcome.SampleOutcome.TheVariants.{Ended, Stuck}
 use Rattle.lrc_sample.specs.Answered.{Answered}
@@ -19,5 +19,5 @@ answered processors r = record {
 -- the answers are those of a report of the script's run by turns in these orders; or that run gets into a deadlock, of
 -- which this is the least processor
 abbrev pub IsSampleOutcomeOf : Plan → (ℕ → List ℕ) → SampleOutcome → Type 0
-IsSampleOutcomeOf s orders (Ended answers) = (r : Report) × (IsReportBy s orders r × (answers ≡ answered s.processors r))
-IsSampleOutcomeOf s orders (Stuck processor) = IsStuckBy s orders processor
+IsSampleOutcomeOf s orders (Ended answers) = (r : Report) × (IsReportByTurns s orders r × (answers ≡ answered s.processors r))
+IsSampleOutcomeOf s orders (Stuck processor) = IsStuckByTurns s orders processor

@@ -1,7 +1,7 @@
 //! A script by many schedules.
 ghost use Rattle.std.specs.Prelude.{ℕ, ◌≤◌, ◌+◌, ◌^◌, IfOk, List, OnOk};
 ghost use Rattle.lrc_script.specs.Prelude.{IsLawful, plan_of};
-ghost use Rattle.conformance.specs.Prelude.{IsEndBy, scheduled};
+ghost use Rattle.conformance.specs.Prelude.{IsEndByTurns, scheduled};
 ghost use Rattle.lrc_sample.specs.Prelude.{IsMade, IsSampleOutcomeOf, IsSampleOf, run_of};
 
 use crate::outcome::{Answers, SampleOutcome};
@@ -28,7 +28,7 @@ fn no_memory(error: AllocError) -> RunFault {
 
 /// What a run came to: a run that can't go on is stuck.
 fn outcome_of(alloc: Global, script: &Script, ended: Ended) -> Result<SampleOutcome, RunFault>
-    ensures { (orders : ℕ → List ℕ) → IsEndBy (plan_of script.now) orders ended
+    ensures { (orders : ℕ → List ℕ) → IsEndByTurns (plan_of script.now) orders ended
         → IfOk result (IsSampleOutcomeOf (plan_of script.now) orders) }
 {
     match ended {
@@ -50,7 +50,7 @@ fn run_of<T: Runs, R: Wait>(
     seed: Option<u64>,
 ) -> Result<DrawnRun, RunFault>
     requires { IsLawful (plan_of script.now) }
-    ensures { IfOk result (λ run. IsEndBy (plan_of script.now)
+    ensures { IfOk result (λ run. IsEndByTurns (plan_of script.now)
         (scheduled (plan_of script.now) run.schedule.turns.items) run.ended) }
 {
     let Some(seed) = seed else {

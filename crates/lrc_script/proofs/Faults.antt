@@ -3,6 +3,6 @@
 -- The sizes' line has no lines before it (Sizes); Uneven looks at whole scripts only.
 pub mod Adds
 pub mod Says
-pub mod Places
-pub mod Uneven
+pub mod TextLines
+pub mod EvenSections
 pub mod Sizes

@@ -7,11 +7,11 @@ use Rattle.std.proofs.lemmas.List.{length-append}
 use Rattle.std.proofs.lemmas.List.Elements.{All-nil}
 use Rattle.lrc_script.specs.declared.script.Instruction.{Instruction}
 use Rattle.lrc_script.specs.Plan.{Plan}
-use Rattle.lrc_script.specs.Lawful.{addresses, AreSizes, IsInRange, IsSection}
-use Rattle.lrc_script.specs.Reading.{are_sizes}
+use Rattle.lrc_script.specs.Lawful.{plan_addresses, AreLawfulSizes, IsInstructionInRange, IsLawfulSection}
+use Rattle.lrc_script.specs.LineReading.{are_read_sizes}
 
 -- the test for sizes
-pub sizes_test : (s : Plan) → AreSizes s → are_sizes s ≡ true
+pub sizes_test : (s : Plan) → AreLawfulSizes s → are_read_sizes s ≡ true
 sizes_test s h =
     grind (
       arith,
@@ -26,7 +26,7 @@ sizes_test s h =
       h.flags,
     )
 
-pub sizes_from_test : (s : Plan) → are_sizes s ≡ true → AreSizes s
+pub sizes_from_test : (s : Plan) → are_read_sizes s ≡ true → AreLawfulSizes s
 sizes_from_test s e =
     let h =
     and_parts (leb 1 s.processors && leb s.processors 16 && leb 1 s.pages && leb s.pages 64 && leb 1 s.words &&
@@ -57,20 +57,20 @@ sizes_from_test s e =
     }
 
 -- how large sizes are
-pub record AreSmall (s : Plan) : Type 0 where
+pub record AreSmallSizes (s : Plan) : Type 0 where
   pub some : 0 < s.processors
   pub processors : s.processors ≤ 16
   pub pages : s.pages ≤ 64
   pub words : s.words ≤ 64
   pub locks : s.locks ≤ 32
   pub flags : s.flags ≤ 32
-  pub address : 0 < addresses s
-  pub addresses_fit : addresses s ≤ 4096
+  pub address : 0 < plan_addresses s
+  pub addresses_fit : plan_addresses s ≤ 4096
 
 product_small : (a b : ℕ) → 1 ≤ a → a ≤ 64 → 1 ≤ b → b ≤ 64 → (0 < a * b) × (a * b ≤ 4096)
 product_small a b some_a most_a some_b most_b = (grind (arith, mul-le-mul), grind (arith, mul-le-mul))
 
-pub sizes_small : (s : Plan) → AreSizes s → AreSmall s
+pub sizes_small : (s : Plan) → AreLawfulSizes s → AreSmallSizes s
 sizes_small s h =
     let product = product_small s.pages s.words h.some_pages h.most_pages h.some_words h.most_words in
     record {
@@ -85,8 +85,8 @@ sizes_small s h =
     }
 
 -- sections and shown addresses don't change what sizes and sections need
-pub sizes_over : (s : Plan) (sections : List (List Instruction)) (shown : List ℕ) → AreSizes s
-    → AreSizes (record s { sections = sections; shown = shown })
+pub sizes_over : (s : Plan) (sections : List (List Instruction)) (shown : List ℕ) → AreLawfulSizes s
+    → AreLawfulSizes (record s { sections = sections; shown = shown })
 sizes_over s sections shown h = record {
   some_processors = h.some_processors;
   most_processors = h.most_processors;
@@ -98,26 +98,26 @@ sizes_over s sections shown h = record {
   flags = h.flags;
 }
 
-pub section_over : (s : Plan) (sections : List (List Instruction)) (shown : List ℕ) (is : List Instruction)
-    → IsSection s is → IsSection (record s { sections = sections; shown = shown }) is
-section_over s sections shown is h = record { most = h.most; in_range = h.in_range; holding = h.holding }
+pub lawful_section_over : (s : Plan) (sections : List (List Instruction)) (shown : List ℕ) (is : List Instruction)
+    → IsLawfulSection s is → IsLawfulSection (record s { sections = sections; shown = shown }) is
+lawful_section_over s sections shown is h = record { most = h.most; in_range = h.in_range; holding = h.holding }
 
 -- the same sizes, with other sections
 abbrev pub with_sections : Plan → List (List Instruction) → Plan
 with_sections s sections = record s { sections = sections }
 
-pub section_with : (s : Plan) (sections : List (List Instruction)) (is : List Instruction) → IsSection s is
-    → IsSection (with_sections s sections) is
-section_with s sections is h = section_over s sections s.shown is h
+pub lawful_section_with : (s : Plan) (sections : List (List Instruction)) (is : List Instruction) → IsLawfulSection s is
+    → IsLawfulSection (with_sections s sections) is
+lawful_section_with s sections is h = lawful_section_over s sections s.shown is h
 
-pub sizes_with : (s : Plan) (sections : List (List Instruction)) → AreSizes s → AreSizes (with_sections s sections)
+pub sizes_with : (s : Plan) (sections : List (List Instruction)) → AreLawfulSizes s → AreLawfulSizes (with_sections s sections)
 sizes_with s sections h = sizes_over s sections s.shown h
 
 -- an empty section
-pub nothing_stands : (s : Plan) → IsSection s []
-nothing_stands s = record {
+pub lawful_section_none : (s : Plan) → IsLawfulSection s []
+lawful_section_none s = record {
   most = omega arith;
-  in_range = All-nil (IsInRange s);
+  in_range = All-nil (IsInstructionInRange s);
   holding =
       λ before i after e. absurd
       (omega (arith, ap (λ (is : List Instruction). length is) e, length-append before (i ∷ after)));

@@ -3,4 +3,4 @@ pub mod Lawful
 pub mod Text
 pub mod Front
 pub mod Faults
-pub mod Longest
+pub mod LineLengths

@@ -5,7 +5,7 @@ use Rattle.std.specs.Global.{Vec}
 use Rattle.std.proofs.lemmas.List.{append-nil, take_more, map_push, length-map, length-take}
 use Rattle.std.proofs.lemmas.List.Concat.{flat_map-append}
 use Rattle.lrc_script.specs.declared.script.Instruction.{Instruction}
-use Rattle.lrc_script.specs.Text.{Line, line_text, section_line, instruction_line, section_lines}
+use Rattle.lrc_script.specs.Text.{ScriptLine, line_text, section_line, instruction_line, section_lines}
 
 -- the lines of some sections and of those behind them
 pub section_lines-append : (k : ℕ) (xs ys : List (List Instruction))
@@ -13,7 +13,7 @@ pub section_lines-append : (k : ℕ) (xs ys : List (List Instruction))
 section_lines-append k [] ys = ap (λ (n : ℕ). section_lines n ys) (omega arith)
 section_lines-append k (x ∷ xs) ys =
     let next : suc k + length xs ≡ k + suc (length xs) = omega arith in
-    ap (λ (ls : List Line). section_line k ∷ map instruction_line x ++ ls)
+    ap (λ (ls : List ScriptLine). section_line k ∷ map instruction_line x ++ ls)
     (section_lines-append (suc k) xs ys ∙ ap (λ (n : ℕ). section_lines (suc k) xs ++ section_lines n ys) next)
     ∙ sym (append_assoc (section_line k ∷ map instruction_line x) (section_lines (suc k) xs)
     (section_lines (k + suc (length xs)) ys))
@@ -38,7 +38,7 @@ section_texts-more sections k section lt read =
     ≡ section_lines 0 front ++ (section_line k ∷ map instruction_line section.items) =
     ap (section_lines 0) more ∙ section_lines-append 0 front (section.items ∷ [])
     ∙ ap (λ (n : ℕ). section_lines 0 front ++ section_lines n (section.items ∷ [])) count
-    ∙ ap (λ (ls : List Line). section_lines 0 front ++ (section_line k ∷ ls))
+    ∙ ap (λ (ls : List ScriptLine). section_lines 0 front ++ (section_line k ∷ ls))
     (append-nil (map instruction_line section.items)) in
     sym (ap (flat_map line_text) lines
     ∙ flat_map-append line_text (section_lines 0 front) (section_line k ∷ map instruction_line section.items))

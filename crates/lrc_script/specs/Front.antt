@@ -3,8 +3,8 @@ use Rattle.std.specs.Prelude.{◌≡◌, ℕ, ◌<◌, List, [], ◌∷◌, ◌+
 use Rattle.std.specs.List.{flat_map}
 use Rattle.lrc_script.specs.declared.script.Instruction.{Instruction}
 use Rattle.lrc_script.specs.Plan.{Plan}
-use Rattle.lrc_script.specs.Lawful.{AreSizes, IsSection, IsLawfulButUneven}
-use Rattle.lrc_script.specs.Text.{Line, cluster_line, section_lines, lines_of, line_text}
+use Rattle.lrc_script.specs.Lawful.{AreLawfulSizes, IsLawfulSection, IsLawfulButUneven}
+use Rattle.lrc_script.specs.Text.{ScriptLine, cluster_line, section_lines, lines_of, line_text}
 
 -- the lines of a script that were read: none; the cluster line; that, the whole sections and the
 -- beginning of one more; or all lines
@@ -14,32 +14,32 @@ pub data Front : Type 0 where
   Within : Plan → List Instruction → Front
   Whole : Plan → Front
 
-abbrev pub lines_before : Front → List Line
-lines_before Nothing = []
-lines_before (Headed s) = cluster_line s ∷ []
-lines_before (Within s is) = cluster_line s ∷ section_lines 0 (s.sections ++ is ∷ [])
-lines_before (Whole s) = lines_of s
+abbrev pub front_lines : Front → List ScriptLine
+front_lines Nothing = []
+front_lines (Headed s) = cluster_line s ∷ []
+front_lines (Within s is) = cluster_line s ∷ section_lines 0 (s.sections ++ is ∷ [])
+front_lines (Whole s) = lines_of s
 
-abbrev pub text_before : Front → List ℕ
-text_before f = flat_map line_text (lines_before f)
+abbrev pub front_text : Front → List ℕ
+front_text f = flat_map line_text (front_lines f)
 
 -- the sizes are read, and no section yet
-pub record IsHeaded (s : Plan) : Type 0 where
-  pub sizes : AreSizes s
+pub record IsHeadedFront (s : Plan) : Type 0 where
+  pub sizes : AreLawfulSizes s
   pub no_sections : s.sections ≡ []
   pub none_shown : s.shown ≡ []
 
 -- the sections are lawful as far as they are read
 pub record LawfulSoFar (s : Plan) (is : List Instruction) : Type 0 where
-  pub sizes : AreSizes s
-  pub sections : All (IsSection s) s.sections
-  pub last : IsSection s is
+  pub sizes : AreLawfulSizes s
+  pub sections : All (IsLawfulSection s) s.sections
+  pub last : IsLawfulSection s is
   pub one_each : length s.sections < s.processors
   pub none_shown : s.shown ≡ []
 
 -- lines that begin the text of some script that is lawful but for evenness
-abbrev pub IsBegun : Front → Type 0
-IsBegun Nothing = Unit {0}
-IsBegun (Headed s) = IsHeaded s
-IsBegun (Within s is) = LawfulSoFar s is
-IsBegun (Whole s) = IsLawfulButUneven s
+abbrev pub IsLawfulFront : Front → Type 0
+IsLawfulFront Nothing = Unit {0}
+IsLawfulFront (Headed s) = IsHeadedFront s
+IsLawfulFront (Within s is) = LawfulSoFar s is
+IsLawfulFront (Whole s) = IsLawfulButUneven s

@@ -4,11 +4,11 @@ use Rattle.lrc_script.specs.declared.script.Instruction.TheVariants.{Load, Store
 use Rattle.lrc_script.specs.Plan.{Plan}
 
 -- how many words the pages have together: addresses are below it
-abbrev pub addresses : Plan → ℕ
-addresses s = s.pages * s.words
+abbrev pub plan_addresses : Plan → ℕ
+plan_addresses s = s.pages * s.words
 
 -- the sizes that a script may have
-pub record AreSizes (s : Plan) : Type 0 where
+pub record AreLawfulSizes (s : Plan) : Type 0 where
   pub some_processors : 1 ≤ s.processors
   pub most_processors : s.processors ≤ 16
   pub some_pages : 1 ≤ s.pages
@@ -26,28 +26,28 @@ instruction_address (Add a v) = Some a
 instruction_address _ = None
 
 -- the lock that it names
-abbrev pub lock_of : Instruction → Option ℕ
-lock_of (Acquire l) = Some l
-lock_of (Release l) = Some l
-lock_of _ = None
+abbrev pub instruction_lock : Instruction → Option ℕ
+instruction_lock (Acquire l) = Some l
+instruction_lock (Release l) = Some l
+instruction_lock _ = None
 
 -- the flag that it names
-abbrev pub flag_of : Instruction → Option ℕ
-flag_of (Set f) = Some f
-flag_of (Await f) = Some f
-flag_of _ = None
+abbrev pub instruction_flag : Instruction → Option ℕ
+instruction_flag (Set f) = Some f
+instruction_flag (Await f) = Some f
+instruction_flag _ = None
 
 -- an address, a lock and a flag are the cluster's, and a value is a word
-abbrev pub IsInRange : Plan → Instruction → Type 0
-IsInRange s (Load a) = a < addresses s
-IsInRange s (Store a v) = (a < addresses s) × (v < 2 ^ 32)
-IsInRange s (Add a v) = (a < addresses s) × (v < 2 ^ 32)
-IsInRange s (Acquire l) = l < s.locks
-IsInRange s (Release l) = l < s.locks
-IsInRange s Barrier = Unit {0}
-IsInRange s (Set f) = f < s.flags
-IsInRange s (Await f) = f < s.flags
-IsInRange s Cut = Unit {0}
+abbrev pub IsInstructionInRange : Plan → Instruction → Type 0
+IsInstructionInRange s (Load a) = a < plan_addresses s
+IsInstructionInRange s (Store a v) = (a < plan_addresses s) × (v < 2 ^ 32)
+IsInstructionInRange s (Add a v) = (a < plan_addresses s) × (v < 2 ^ 32)
+IsInstructionInRange s (Acquire l) = l < s.locks
+IsInstructionInRange s (Release l) = l < s.locks
+IsInstructionInRange s Barrier = Unit {0}
+IsInstructionInRange s (Set f) = f < s.flags
+IsInstructionInRange s (Await f) = f < s.flags
+IsInstructionInRange s Cut = Unit {0}
 
 -- whether a section holds the lock after an instruction, by whether it held it before
 abbrev pub still_holds : ℕ → Bool → Instruction → Bool
@@ -60,26 +60,26 @@ abbrev pub holds : List Instruction → ℕ → Bool
 holds is l = fold (still_holds l) false is
 
 -- after these instructions the section doesn't hold a lock that it acquires, and holds one that it releases
-abbrev pub MayStandAfter : List Instruction → Instruction → Type 0
-MayStandAfter before (Acquire l) = holds before l ≡ false
-MayStandAfter before (Release l) = holds before l ≡ true
-MayStandAfter before _ = Unit {0}
+abbrev pub IsLawfulAfter : List Instruction → Instruction → Type 0
+IsLawfulAfter before (Acquire l) = holds before l ≡ false
+IsLawfulAfter before (Release l) = holds before l ≡ true
+IsLawfulAfter before _ = Unit {0}
 
 -- the instructions that one processor may have
-pub record IsSection (s : Plan) (is : List Instruction) : Type 0 where
+pub record IsLawfulSection (s : Plan) (is : List Instruction) : Type 0 where
   pub most : length is ≤ 10000
-  pub in_range : All (IsInRange s) is
+  pub in_range : All (IsInstructionInRange s) is
   pub holding : (before : List Instruction) (i : Instruction) (after : List Instruction)
-      → is ≡ before ++ i ∷ after → MayStandAfter before i
+      → is ≡ before ++ i ∷ after → IsLawfulAfter before i
 
 -- all that the grammar asks of a script, except that each section has as many barriers
 pub record IsLawfulButUneven (s : Plan) : Type 0 where
-  pub sizes : AreSizes s
+  pub sizes : AreLawfulSizes s
   pub one_each : length s.sections ≡ s.processors
-  pub sections : All (IsSection s) s.sections
+  pub sections : All (IsLawfulSection s) s.sections
   pub some_shown : 1 ≤ length s.shown
   pub most_shown : length s.shown ≤ 64
-  pub shown : All (λ a. a < addresses s) s.shown
+  pub shown : All (λ a. a < plan_addresses s) s.shown
 
 -- whether an instruction is a barrier
 abbrev pub is_barrier : Instruction → Bool

@@ -2,7 +2,7 @@ pub mod Plan
 pub mod Lawful
 pub mod Text
 pub mod Front
-pub mod Faults
-pub mod Reading
+pub mod LineFaults
+pub mod LineReading
 pub mod Laws
 pub mod Prelude

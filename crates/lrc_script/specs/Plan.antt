@@ -18,8 +18,8 @@ abbrev pub head_plan : ℕ → ℕ → ℕ → ℕ → ℕ → Plan
 head_plan p n w l g = record { processors = p; pages = n; words = w; locks = l; flags = g; sections = []; shown = [] }
 
 -- the instructions of sections in memory
-abbrev pub items_of : List (Vec Instruction) → List (List Instruction)
-items_of sections = map (λ section. section.items) sections
+abbrev pub plan_sections : List (Vec Instruction) → List (List Instruction)
+plan_sections sections = map (λ section. section.items) sections
 
 -- what the script in memory says
 abbrev pub plan_of : Script → Plan
@@ -29,6 +29,6 @@ plan_of s = record {
   words = s.words;
   locks = s.locks;
   flags = s.flags;
-  sections = items_of s.sections.items;
+  sections = plan_sections s.sections.items;
   shown = s.shown.items;
 }

@@ -6,7 +6,7 @@ use Rattle.lrc_script.specs.declared.script.Instruction.TheVariants.{Load, Store
 use Rattle.lrc_script.specs.Plan.{Plan}
 
 -- a line of a script: its first word, and the numbers after it
-pub record Line : Type 0 where
+pub record ScriptLine : Type 0 where
   pub word : List ℕ
   pub numbers : List ℕ
 
@@ -15,25 +15,25 @@ abbrev pub spaced : ℕ → List ℕ
 spaced n = 32 ∷ decimal n
 
 -- the bytes of a line but its line feed
-abbrev pub line_bytes : Line → List ℕ
+abbrev pub line_bytes : ScriptLine → List ℕ
 line_bytes l = l.word ++ flat_map spaced l.numbers
 
 -- the bytes of a line, with the line feed at its end
-abbrev pub line_text : Line → List ℕ
+abbrev pub line_text : ScriptLine → List ℕ
 line_text l = line_bytes l ++ 10 ∷ []
 
 -- the sizes: no flags are written with four numbers
-abbrev pub cluster_line : Plan → Line
+abbrev pub cluster_line : Plan → ScriptLine
 cluster_line s = record {
   word = codes "cluster";
   numbers = s.processors ∷ s.pages ∷ s.words ∷ s.locks ∷ (if s.flags == 0 then [] else s.flags ∷ []);
 }
 
 -- the head of section k
-abbrev pub section_line : ℕ → Line
+abbrev pub section_line : ℕ → ScriptLine
 section_line k = record { word = codes "p"; numbers = k ∷ [] }
 
-abbrev pub instruction_line : Instruction → Line
+abbrev pub instruction_line : Instruction → ScriptLine
 instruction_line (Load a) = record { word = codes "load"; numbers = a ∷ [] }
 instruction_line (Store a v) = record { word = codes "store"; numbers = a ∷ v ∷ [] }
 instruction_line (Add a v) = record { word = codes "add"; numbers = a ∷ v ∷ [] }
@@ -44,16 +44,16 @@ instruction_line (Set f) = record { word = codes "set"; numbers = f ∷ [] }
 instruction_line (Await f) = record { word = codes "await"; numbers = f ∷ [] }
 instruction_line Cut = record { word = codes "cut"; numbers = [] }
 
-abbrev pub show_line : List ℕ → Line
+abbrev pub show_line : List ℕ → ScriptLine
 show_line shown = record { word = codes "show"; numbers = shown }
 
 -- the lines of the sections, of which the first is section k
-abbrev pub section_lines : ℕ → List (List Instruction) → List Line
+abbrev pub section_lines : ℕ → List (List Instruction) → List ScriptLine
 section_lines k [] = []
 section_lines k (is ∷ sections) = section_line k ∷ map instruction_line is ++ section_lines (suc k) sections
 
 -- the lines of a script
-abbrev pub lines_of : Plan → List Line
+abbrev pub lines_of : Plan → List ScriptLine
 lines_of s = cluster_line s ∷ section_lines 0 s.sections ++ show_line s.shown ∷ []
 
 -- the one text of a script

@@ -13,10 +13,10 @@
 #![tactic(auto)]
 
 mod display;
-mod evenness;
 pub mod fault;
 pub mod laws;
 pub mod line;
-mod progress;
+mod read_so_far;
 pub mod script;
 mod section;
+mod uneven_barriers;

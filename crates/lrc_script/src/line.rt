@@ -1,8 +1,8 @@
 //! One line of a script: a keyword, and numbers with one space before each.
 ghost use Rattle.std.specs.Prelude.{◌≡◌, ℕ, ◌<◌, List, ◌∷◌, [], length, IfSome, IfNone, MatchOption};
 ghost use Rattle.std.specs.List.{list_all};
-ghost use Rattle.lrc_script.specs.Prelude.{HasNoLineFeed, Gives, IsCut, parts_of, parts_left, has_bytes, keyword_of};
-ghost use Rattle.lrc_script.specs.Prelude.{sum_of_digits, number_of, few_items, numbers_after};
+ghost use Rattle.lrc_script.specs.Prelude.{HasNoLineFeed, ReadGives, IsLineCut, parts_of_line, parts_left_of_line, has_bytes, keyword_read};
+ghost use Rattle.lrc_script.specs.Prelude.{sum_of_digits, number_read, few_items, numbers_read_after};
 
 use crate::fault::ScriptFault;
 use memchr::memchr;
@@ -29,7 +29,7 @@ pub enum Keyword {
 impl Keyword {
     /// The keyword that is written so.
     pub fn of(word: &[u8]) -> Option<Keyword>
-        ensures { result ≡ keyword_of word.now }
+        ensures { result ≡ keyword_read word.now }
     {
         if word == b"cluster".as_slice() {
             Some(Keyword::Cluster)
@@ -66,7 +66,7 @@ pub type Numbers = SmallVec<u32, 5>;
 
 /// What stands before the first such byte, and what stands after it.
 pub fn split_at_byte(bytes: &[u8], separator: u8) -> (&[u8], Option<&[u8]>)
-    ensures parts { parts_of separator bytes.now ≡ result.0.now ∷ parts_left separator result.1 }
+    ensures parts { parts_of_line separator bytes.now ≡ result.0.now ∷ parts_left_of_line separator result.1 }
     ensures shorter { IfSome result.1 (λ rest. length rest.now < length bytes.now) }
 {
     match bytes.iter().position(|byte| *byte == separator) {
@@ -77,7 +77,7 @@ pub fn split_at_byte(bytes: &[u8], separator: u8) -> (&[u8], Option<&[u8]>)
 
 /// The first line without its line feed, and the bytes after it, if there is a line feed.
 pub fn split_line(bytes: &[u8]) -> Option<(&[u8], &[u8])>
-    ensures { MatchOption result (HasNoLineFeed bytes.now) (λ x. IsCut bytes.now x.0.now x.1.now) }
+    ensures { MatchOption result (HasNoLineFeed bytes.now) (λ x. IsLineCut bytes.now x.0.now x.1.now) }
 {
     let at = memchr(b'\n', bytes)?;
     Some((&bytes[..at], &bytes[at + 1..]))
@@ -85,7 +85,7 @@ pub fn split_line(bytes: &[u8]) -> Option<(&[u8], &[u8])>
 
 /// Whether exactly one space separates the words, with none at the beginning or end.
 pub fn is_separated(line: &[u8]) -> bool
-    ensures { result ≡ list_all has_bytes (parts_of 32 line.now) }
+    ensures { result ≡ list_all has_bytes (parts_of_line 32 line.now) }
 {
     line.split(|byte| *byte == b' ')
         .all(|word| !word.is_empty())
@@ -93,7 +93,7 @@ pub fn is_separated(line: &[u8]) -> bool
 
 /// How many words these are.
 pub fn number_count(words: Option<&[u8]>) -> usize
-    ensures { result ≡ length (parts_left 32 words.entry) }
+    ensures { result ≡ length (parts_left_of_line 32 words.entry) }
 {
     match words {
         Some(line) => line.split(|byte| *byte == b' ').count(),
@@ -117,7 +117,7 @@ fn sum_of_digits(word: &[u8]) -> Option<u32>
 
 /// The number that is written so: in decimal, with no leading zero, below 2^32.
 pub fn number(word: &[u8]) -> Option<u32>
-    ensures { result ≡ number_of word.now }
+    ensures { result ≡ number_read word.now }
 {
     match word {
         [] => None,
@@ -148,10 +148,10 @@ impl Few {
 
 /// The numbers that the words are, where they are numbers and two at most.
 pub fn few_numbers(words: Option<&[u8]>) -> Option<Few>
-    ensures numbers { IfSome result (λ few. numbers_after [] (parts_left 32 words.entry)
+    ensures numbers { IfSome result (λ few. numbers_read_after [] (parts_left_of_line 32 words.entry)
         ≡ Ok (few_items few)) }
     ensures others { IfNone result ((ns : List ℕ)
-        → numbers_after [] (parts_left 32 words.entry) ≡ Ok ns → 2 < length ns) }
+        → numbers_read_after [] (parts_left_of_line 32 words.entry) ≡ Ok ns → 2 < length ns) }
 {
     let Some(line) = words else {
         return Some(Few::Zero);
@@ -171,7 +171,7 @@ pub fn few_numbers(words: Option<&[u8]>) -> Option<Few>
 
 /// The numbers that the words are.
 pub fn read_numbers(alloc: Global, words: Option<&[u8]>) -> Result<Numbers, ScriptFault>
-    ensures { Gives (λ ns. ns.items) result (numbers_after [] (parts_left 32 words.entry)) }
+    ensures { ReadGives (λ ns. ns.items) result (numbers_read_after [] (parts_left_of_line 32 words.entry)) }
 {
     let mut numbers = SmallVec::new(alloc);
     let mut rest = words;

@@ -1,13 +1,13 @@
 //! A script: the sizes of a cluster, what each processor does, and the addresses to show.
 ghost use Rattle.std.specs.Prelude.{◌≡◌, ◌≢◌, IfOk, IfErr};
-ghost use Rattle.lrc_script.specs.Prelude.{Plan, plan_of, IsLawful, text, IsFault, instruction_address, lock_of, flag_of};
-ghost use Rattle.lrc_script.specs.Prelude.{AreSizes, IsHeaded, Nothing, Says, cluster_line, line_bytes};
+ghost use Rattle.lrc_script.specs.Prelude.{Plan, plan_of, IsLawful, text, IsFault, instruction_address, instruction_lock, instruction_flag};
+ghost use Rattle.lrc_script.specs.Prelude.{AreLawfulSizes, IsHeadedFront, Nothing, SaysOfLine, cluster_line, line_bytes};
 ghost use Rattle.lrc_script.specs.declared.fault.ScriptFault.TheVariants.{NoMemory};
 
-use crate::evenness::uneven_line;
 use crate::fault::ScriptFault;
 use crate::line::split_line;
-use crate::progress::ReadSoFar;
+use crate::read_so_far::ReadSoFar;
+use crate::uneven_barriers::uneven_line;
 use std::alloc::Global;
 
 /// The bytes of the longest text of a script.
@@ -51,7 +51,7 @@ impl Instruction {
 
     /// The lock that the instruction acquires or releases.
     pub fn lock(self) -> Option<usize>
-        ensures { result ≡ lock_of self }
+        ensures { result ≡ instruction_lock self }
     {
         match self {
             Instruction::Acquire(lock) | Instruction::Release(lock) => Some(lock),
@@ -61,7 +61,7 @@ impl Instruction {
 
     /// The flag that the instruction sets or awaits.
     pub fn flag(self) -> Option<usize>
-        ensures { result ≡ flag_of self }
+        ensures { result ≡ instruction_flag self }
     {
         match self {
             Instruction::Set(flag) | Instruction::Await(flag) => Some(flag),
@@ -92,13 +92,13 @@ pub struct Script {
 /// what is wrong with it. `NoMemory` comes where a growth was refused.
 pub fn read_sizes(alloc: Global, line: &[u8]) -> Result<Script, ScriptFault>
     // What is read are sizes that a script may have, and the line is theirs.
-    ensures found { IfOk result (λ s. IsHeaded (plan_of s)
+    ensures found { IfOk result (λ s. IsHeadedFront (plan_of s)
         × (line.now ≡ line_bytes (cluster_line (plan_of s)))) }
     // No such sizes are refused, unless memory runs out.
-    ensures only { IfErr result (λ e. e ≢ NoMemory → (s : Plan) → AreSizes s
+    ensures only { IfErr result (λ e. e ≢ NoMemory → (s : Plan) → AreLawfulSizes s
         → line.now ≢ line_bytes (cluster_line s)) }
     // The fault says why.
-    ensures fault { IfErr result (λ e. e ≢ NoMemory → Says e Nothing line.now) }
+    ensures fault { IfErr result (λ e. e ≢ NoMemory → SaysOfLine e Nothing line.now) }
 {
     let mut progress = ReadSoFar::Start;
     match progress.after(alloc, line) {

@@ -6,10 +6,10 @@ use Rattle.std.proofs.lemmas.Nat.Bits.{bit_at_lowest, bit_at-suc, bit_at-trailin
 use Rattle.std.proofs.lemmas.List.{length-drop, drop-drop, get_or-drop}
 use Rattle.std.proofs.lemmas.Bool.{cases_lt, eq-eqb}
 use Rattle.std.proofs.lemmas.Option.{slice_get_within}
-use Rattle.base.specs.Records.{harvest}
-use Rattle.base.proofs.Harvests.{harvest_found}
-use Rattle.page.specs.Carries.{FitsIn}
-use Rattle.page.specs.Marks.{marks_of, IsBelow}
+use Rattle.base.specs.MarkedRecords.{harvest}
+use Rattle.base.proofs.MarkedHarvests.{harvest_found}
+use Rattle.page.specs.CarriedHarvests.{FitsIn}
+use Rattle.page.specs.Marks.{marks_of, MarksBelow}
 
 -- halves of halves
 halved : (word s : ℕ) → word / 2 / 2 ^ s ≡ word / 2 ^ suc s
@@ -52,16 +52,16 @@ harvest_first (suc s) o (w ∷ words) rest within none one =
     eq-eqb_not e = ap (λ (r : ℕ). r == 1) e
 
 -- what is left after the first dirty word has no bit past the words that are left
-pub IsBelow-rest : (s : ℕ) (words : List ℕ) (rest : ℕ) → IsBelow (length words) rest
-    → IsBelow (length (drop (suc s) words)) (rest / 2 ^ s / 2)
-IsBelow-rest s words rest below i le =
+pub MarksBelow-rest : (s : ℕ) (words : List ℕ) (rest : ℕ) → MarksBelow (length words) rest
+    → MarksBelow (length (drop (suc s) words)) (rest / 2 ^ s / 2)
+MarksBelow-rest s words rest below i le =
     sym (bit_at-suc (rest / 2 ^ s) i) ∙ bit_at-shifted rest s (suc i)
     ∙ below (s + suc i) (let e = length-drop (suc s) words in omega arith)
 
 -- the first dirty word lies among the words
-pub first_within : (words : List ℕ) (rest : ℕ) → 0 < rest → rest < 2 ^ 64 → IsBelow (length words) rest
+pub harvest_first_within : (words : List ℕ) (rest : ℕ) → 0 < rest → rest < 2 ^ 64 → MarksBelow (length words) rest
     → trailing_zeros w64 rest < length words
-first_within words rest some fits below =
+harvest_first_within words rest some fits below =
     let first = bit_at-trailing_zeros w64 rest some fits in
     elim (cases_lt (trailing_zeros w64 rest) (length words)) [
       | inl within ↦ within
@@ -77,15 +77,15 @@ harvest_fits words marks x has =
     omega arith
 
 -- one step: the first dirty word joins those found
-pub found_more : (found : List (ℕ × ℕ)) (words : List ℕ) (all : List (ℕ × ℕ)) (o rest : ℕ) → 0 < rest → rest < 2 ^ 64
-    → IsBelow (length (drop o words)) rest
+pub harvest_found_more : (found : List (ℕ × ℕ)) (words : List ℕ) (all : List (ℕ × ℕ)) (o rest : ℕ) → 0 < rest → rest < 2 ^ 64
+    → MarksBelow (length (drop o words)) rest
     → found ++ harvest o (drop o words) (marks_of (length (drop o words)) rest) ≡ all
     → let s = trailing_zeros w64 rest in
     (found ++ (o + s, get_or words (o + s) 0) ∷ [])
     ++ harvest (o + s + 1) (drop (o + s + 1) words)
     (marks_of (length (drop (o + s + 1) words)) (rest / 2 ^ s / 2))
     ≡ all
-found_more found words all o rest some fits below so_far =
+harvest_found_more found words all o rest some fits below so_far =
     let s = trailing_zeros w64 rest in
     let first = bit_at-trailing_zeros w64 rest some fits in
     let left = drop (o + s + 1) words in
@@ -104,18 +104,18 @@ found_more found words all o rest some fits below so_far =
     (marks_of (length (drop (suc s) (drop o words))) (rest / 2 ^ s / 2)))
     (sym (get_or-drop o words s 0))
     ∙ ap (λ (ws : List (ℕ × ℕ)). found ++ ws) (sym
-    (harvest_first s o (drop o words) rest (first_within (drop o words) rest some fits below) first.2 first.1))
+    (harvest_first s o (drop o words) rest (harvest_first_within (drop o words) rest some fits below) first.2 first.1))
     ∙ so_far
 
-pub below_more : (words : List ℕ) (o rest : ℕ) → IsBelow (length (drop o words)) rest
+pub harvest_below_more : (words : List ℕ) (o rest : ℕ) → MarksBelow (length (drop o words)) rest
     → let s = trailing_zeros w64 rest in
-    IsBelow (length (drop (o + s + 1) words)) (rest / 2 ^ s / 2)
-below_more words o rest below =
+    MarksBelow (length (drop (o + s + 1) words)) (rest / 2 ^ s / 2)
+harvest_below_more words o rest below =
     let s = trailing_zeros w64 rest in
     let same : drop (suc s) (drop o words) ≡ drop (o + s + 1) words =
     drop-drop (suc s) o words ∙ ap (λ (k : ℕ). drop k words) (omega arith) in
-    let P : List ℕ → Type 0 = λ ws. IsBelow (length ws) (rest / 2 ^ s / 2) in
-    subst P same (IsBelow-rest s (drop o words) rest below)
+    let P : List ℕ → Type 0 = λ ws. MarksBelow (length ws) (rest / 2 ^ s / 2) in
+    subst P same (MarksBelow-rest s (drop o words) rest below)
 
 -- nothing is left of a word with no bit set
 pub harvest-none : (o : ℕ) (words : List ℕ) → harvest o words (marks_of (length words) 0) ≡ []

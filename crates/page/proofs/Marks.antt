@@ -5,7 +5,7 @@ use Rattle.std.proofs.lemmas.Nat.Bits.{bit_at_lowest, bit_at-suc, bit_at-lt, bit
 use Rattle.std.proofs.lemmas.List.{same_lists, length-set, get_or-set_same, get_or-set_other, get_or-replicate}
 use Rattle.std.proofs.lemmas.Bool.{cases_lt, cases_eq}
 use Rattle.std.proofs.lemmas.Bool.Decides.{nat_tests}
-use Rattle.page.specs.Marks.{marks_of, IsBelow}
+use Rattle.page.specs.Marks.{marks_of, MarksBelow}
 
 -- a word with no bit set marks nothing
 pub marks_of-zero : (n : ℕ) → marks_of n 0 ≡ replicate n false
@@ -48,12 +48,12 @@ marks_of-set n word k lt few =
         ]
 
 -- to set bit k sets none from n on
-pub IsBelow-set : (n word k : ℕ) → k < n → n ≤ 64 → IsBelow n word → IsBelow n (bit_or word (1 * 2 ^ k % 2 ^ 64))
-IsBelow-set n word k lt few below i le = bit_at_set_other w64 word k (omega arith) i (omega arith) ∙ below i le
+pub MarksBelow-set : (n word k : ℕ) → k < n → n ≤ 64 → MarksBelow n word → MarksBelow n (bit_or word (1 * 2 ^ k % 2 ^ 64))
+MarksBelow-set n word k lt few below i le = bit_at_set_other w64 word k (omega arith) i (omega arith) ∙ below i le
 
 -- a word that marks nothing is 0
-pub zero_from_clean : (n word : ℕ) → IsBelow n word → marks_of n word ≡ replicate n false → word ≡ 0
-zero_from_clean n word below clean = same_from_bits word 0 (λ i. unset i ∙ sym (bit_at-zero i))
+pub zero_marks_from_clean : (n word : ℕ) → MarksBelow n word → marks_of n word ≡ replicate n false → word ≡ 0
+zero_marks_from_clean n word below clean = same_from_bits word 0 (λ i. unset i ∙ sym (bit_at-zero i))
   where
     unset : (i : ℕ) → bit_at word i ≡ 0
     unset i =

@@ -1,5 +1,5 @@
-pub mod Changes
+pub mod RisingChanges
 pub mod Contents
 pub mod Marks
-pub mod Carries
+pub mod CarriedHarvests
 pub mod Prelude

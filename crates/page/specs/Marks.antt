@@ -8,5 +8,5 @@ marks_of zero word = []
 marks_of (suc n) word = (word % 2 == 1) ∷ marks_of n (word / 2)
 
 -- no bit from n on is set
-abbrev pub IsBelow : ℕ → ℕ → Type 0
-IsBelow n word = (i : ℕ) → n ≤ i → bit_at word i ≡ 0
+abbrev pub MarksBelow : ℕ → ℕ → Type 0
+MarksBelow n word = (i : ℕ) → n ≤ i → bit_at word i ≡ 0

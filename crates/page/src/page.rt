@@ -2,7 +2,7 @@
 ghost use Rattle.std.specs.Prelude.{◌≡◌, ◌≤◌, ◌<◌, ◌^◌, ◌↔◌, IsTrue, IfOk, IfSome, IfNone, Some, None, Ok, true};
 ghost use Rattle.std.specs.Prelude.{length, replicate, slice_get, slice_set};
 ghost use Rattle.base.specs.Prelude.{record_applied, harvest};
-ghost use Rattle.page.specs.Prelude.{marks_of, IsBelow, IsClean, FitsIn, IsHarvest, CarriesStores};
+ghost use Rattle.page.specs.Prelude.{marks_of, MarksBelow, IsClean, FitsIn, IsHarvest, CarriesStores};
 
 use crate::record::Record;
 use std::alloc::{AllocError, Global};
@@ -32,7 +32,7 @@ pub struct Page {
 impl Model for Page {
     ghost use Rattle.std.specs.Prelude.{◌≤◌, length};
     ghost use Rattle.page.specs.Contents.{Contents};
-    ghost use Rattle.page.specs.Marks.{marks_of, IsBelow};
+    ghost use Rattle.page.specs.Marks.{marks_of, MarksBelow};
 
     ghost Value = { Contents };
 
@@ -42,7 +42,7 @@ impl Model for Page {
       access = p.access;
     } };
 
-    ghost invariant = { λ p. (length p.words.items ≤ 64) × IsBelow (length p.words.items) p.dirty };
+    ghost invariant = { λ p. (length p.words.items ≤ 64) × MarksBelow (length p.words.items) p.dirty };
 }
 
 impl Page {
@@ -79,7 +79,7 @@ impl Page {
         ensures dirty { self.new.dirty ≡ slice_set self.old.dirty offset true }
         ensures access { self.new.access ≡ self.old.access }
     {
-        write(&mut self.words, &mut self.dirty, offset, value);
+        write_page(&mut self.words, &mut self.dirty, offset, value);
     }
 
     /// All words.
@@ -158,13 +158,13 @@ impl Page {
 }
 
 /// Writes the word at this offset, and sets its bit.
-fn write(words: &mut [u32], dirty: &mut u64, offset: usize, value: u32)
+fn write_page(words: &mut [u32], dirty: &mut u64, offset: usize, value: u32)
     requires in_range { offset < length words.old }
     requires few { length words.old ≤ 64 }
     ensures words { words.new ≡ slice_set words.old offset value }
     ensures dirty { marks_of (length words.old) dirty.new
         ≡ slice_set (marks_of (length words.old) dirty.old) offset true }
-    ensures below { IsBelow (length words.old) dirty.old → IsBelow (length words.old) dirty.new }
+    ensures below { MarksBelow (length words.old) dirty.old → MarksBelow (length words.old) dirty.new }
 {
     words[offset] = value;
     *dirty |= 1 << offset;
@@ -183,7 +183,7 @@ fn overwrite(words: &mut [u32], changes: &[(usize, u32)])
 
 /// The words whose bits are set, lowest first, each with its offset.
 fn dirty_words(alloc: Global, words: &[u32], dirty: u64) -> Result<Vec<(usize, u32)>, AllocError>
-    requires { IsBelow (length words.now) dirty }
+    requires { MarksBelow (length words.now) dirty }
     ensures { let marks = marks_of (length words.now) dirty in
         IfOk result (λ found. found.items ≡ harvest 0 words.now marks) }
 {

@@ -14,7 +14,7 @@ pub struct Record {
 }
 
 impl Model for Record {
-    ghost use Rattle.page.specs.Changes.{Changes, IsRising};
+    ghost use Rattle.page.specs.RisingChanges.{Changes, IsRising};
 
     ghost Value = { Changes };
 
@@ -39,7 +39,7 @@ impl Record {
         ensures some { IsSome result ↔ IsRising words.items }
         ensures value { IfSome result (λ r. (r.page ≡ page) × (r.words ≡ words.items)) }
     {
-        if is_rising(&words) {
+        if is_rising_record(&words) {
             Some(Record::new(page, words))
         } else {
             None
@@ -62,7 +62,7 @@ impl Record {
     }
 }
 
-fn is_rising(words: &[(usize, u32)]) -> bool
+fn is_rising_record(words: &[(usize, u32)]) -> bool
     ensures { IsTrue result ↔ IsRising words.now }
 {
     for i in 1..words.len() {

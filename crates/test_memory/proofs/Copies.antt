@@ -5,42 +5,42 @@ use Rattle.std.proofs.lemmas.List.{length-map, length-replicate}
 use Rattle.std.proofs.lemmas.List.Sums.{count_by-le-length, length-filter, sum_by-cons}
 use Rattle.std.proofs.lemmas.Bool.{eq-eqb}
 use Rattle.std.proofs.lemmas.Option.{none-some, same_Some, slice_get-get_or, slice_get-map, slice_get_within}
-use Rattle.base.specs.Places.{Has}
+use Rattle.base.specs.InOrderOnce.{Has}
 use Rattle.base.proofs.Joined.{has-nil, in_order-nil, in_order_weaker}
-use Rattle.base.proofs.Once.{once_le}
-use Rattle.base.proofs.Picked.{has-filter, in_order-filter}
-use Rattle.base.proofs.Sets.{slice_get-replicate_found}
+use Rattle.base.proofs.OnceWithout.{once_le}
+use Rattle.base.proofs.FilteredInOrder.{has-filter, in_order-filter}
+use Rattle.base.proofs.SliceSets.{slice_get-replicate_found}
 use Rattle.page.specs.Contents.{Contents, IsClean}
 use Rattle.page.specs.declared.page.Access.TheVariants.{Valid, Invalid}
-use Rattle.journal.specs.Missing.{Missing}
-use Rattle.interval.specs.Intervals.{SentRecord}
+use Rattle.journal.specs.MissingWords.{Missing}
+use Rattle.interval.specs.SentIntervals.{SentRecord}
 use Rattle.interval.specs.Closings.{is_of_page}
 use Rattle.cluster.specs.Copies.Counts.{AreCountable}
-use Rattle.cluster.specs.Copies.Copies.{AllFit, Copied, FitsPage, record_words, zeros}
-use Rattle.cluster.specs.Copies.Records.{DirtyAreMarked}
-use Rattle.cluster.specs.Copies.Steps.{AreAfterNews, AreSameCopies, HaveRoom, IsAfterNews, IsSameCopy, MayLack, MayLearn, cleaned}
+use Rattle.cluster.specs.Copies.PageReplica.{AllFitPage, Copied, FitsPage, record_words, zero_replica}
+use Rattle.cluster.specs.Copies.MarksAndHarvests.{DirtyAreMarked}
+use Rattle.cluster.specs.Copies.AfterNews.{AreAfterNews, AreSameCopies, HaveRoomForNews, IsAfterNews, IsSameCopy, MayLackNews, MayLearnNews, cleaned}
 use Rattle.test_memory.specs.Copies.{AreNotices, AreOpen, IsStale}
-use Rattle.cluster.proofs.copies.Learned.{IsBefore, in_order, closing_order}
+use Rattle.cluster.proofs.copies.Learned.{IsLearnedBefore, in_order, closing_order}
 
 -- copies of zeros may be stored to
 pub zeros_open : (pages words : ℕ) (copies : List Copied) (marks : List Bool) → pages ≤ 64
-    → copies ≡ replicate pages (zeros words)
+    → copies ≡ replicate pages (zero_replica words)
     → AreOpen words copies marks
 zeros_open pages words copies marks few are = record {
   valid = λ n c at. subst (λ (x : Copied). x.page.access ≡ Valid) (is n c at) refl;
   long = λ n c at. subst (λ (x : Copied). length x.page.words ≡ words) (is n c at) (length-replicate words 0);
   marked = record {
-    few = let long = ap length are ∙ length-replicate pages (zeros words) in omega arith;
+    few = let long = ap length are ∙ length-replicate pages (zero_replica words) in omega arith;
     clean = λ n c at _. subst (λ (x : Copied). IsClean x.page) (is n c at) clean;
   };
 }
   where
-    is : (n : ℕ) (c : Copied) → slice_get copies n ≡ Some c → zeros words ≡ c
+    is : (n : ℕ) (c : Copied) → slice_get copies n ≡ Some c → zero_replica words ≡ c
     is n c at =
         let P : List Copied → Type 0 = λ xs. slice_get xs n ≡ Some c in
-        slice_get-replicate_found pages (zeros words) c n (subst P are at)
+        slice_get-replicate_found pages (zero_replica words) c n (subst P are at)
 
-    clean : IsClean (zeros words).page
+    clean : IsClean (zero_replica words).page
     clean = ap (λ (k : ℕ). replicate k false) (sym (length-replicate words 0))
 
 -- copies that were cleaned need no marks
@@ -66,39 +66,39 @@ words_few (x ∷ xs) few =
     omega (arith, both)
 
 module _ (words : ℕ) (old copies : List Copied) (sent : List SentRecord) (are : AreNotices words sent)
-    (zero_copy : old ≡ replicate 1 (zeros words)) (same : AreSameCopies old copies)
+    (zero_copy : old ≡ replicate 1 (zero_replica words)) (same : AreSameCopies old copies)
   where
     one : length copies ≡ 1
     one = same.all ∙ ap length zero_copy
 
-    is_zeros : (n : ℕ) (c : Copied) → slice_get copies n ≡ Some c → IsSameCopy (zeros words) c
+    is_zeros : (n : ℕ) (c : Copied) → slice_get copies n ≡ Some c → IsSameCopy (zero_replica words) c
     is_zeros n c at =
         let inside = slice_get_within copies n c at in
         let all = same.all in
         let found = slice_get-get_or old n c (omega arith) in
         let P : List Copied → Type 0 = λ xs. slice_get xs n ≡ Some (get_or old n c) in
-        let is = slice_get-replicate_found 1 (zeros words) (get_or old n c) n (subst P zero_copy found) in
+        let is = slice_get-replicate_found 1 (zero_replica words) (get_or old n c) n (subst P zero_copy found) in
         subst (λ (x : Copied). IsSameCopy x c) (sym is) (same.each n (get_or old n c) c found at)
 
     -- a copy of zeros with room may learn of notices
-    pub zeros_may : HaveRoom (length sent ∷ []) copies → MayLearn copies sent
+    pub zeros_may : HaveRoomForNews (length sent ∷ []) copies → MayLearnNews copies sent
     zeros_may room = record {
       in_range = λ x has. let page = are.page x has in let long = one in omega arith;
       each = each;
     }
       where
-        each : (n : ℕ) (c : Copied) → slice_get copies n ≡ Some c → MayLack c (filter (is_of_page n) sent)
+        each : (n : ℕ) (c : Copied) → slice_get copies n ≡ Some c → MayLackNews c (filter (is_of_page n) sent)
         each n c at = record {
           room = fits;
           clean = λ _. subst IsClean (sym is.page) (ap (λ (k : ℕ). replicate k false) (sym (length-replicate words 0)));
           order = rw (is.missing) (in_order-nil (λ (a b : Missing). a.place < b.place));
           news_order =
               closing_order (filter (is_of_page n) sent)
-              (in_order-filter IsBefore (is_of_page n) sent (in_order sent are.order));
+              (in_order-filter IsLearnedBefore (is_of_page n) sent (in_order sent are.order));
           apart = rw (is.missing) (λ x y none _. absurd (has-nil x none));
         }
           where
-            is : IsSameCopy (zeros words) c
+            is : IsSameCopy (zero_replica words) c
             is = is_zeros n c at
 
             fits : length (filter (is_of_page n) sent) ≤ c.room
@@ -115,7 +115,7 @@ module _ (words : ℕ) (old copies : List Copied) (sent : List SentRecord) (are 
     -- a copy that was one of zeros
     record WasZeros (new : List Copied) (n : ℕ) (d : Copied) : Type 0 where
       was : Copied
-      is : IsSameCopy (zeros words) was
+      is : IsSameCopy (zero_replica words) was
       news : IsAfterNews was (filter (is_of_page n) sent) d
       first : n ≡ 0
 
@@ -134,7 +134,7 @@ module _ (words : ℕ) (old copies : List Copied) (sent : List SentRecord) (are 
       some_item (x ∷ xs) some = (x, (zero, refl))
 
       page_is : (n : ℕ) (d : Copied) → slice_get new n ≡ Some d
-          → d.page ≡ record (zeros words).page { access = Invalid }
+          → d.page ≡ record (zero_replica words).page { access = Invalid }
       page_is n d at =
           let w = was_zeros n d at in
           let x = some_item sent are.some in
@@ -153,7 +153,7 @@ module _ (words : ℕ) (old copies : List Copied) (sent : List SentRecord) (are 
             | inr now ↦ ((has-filter (is_of_page n) sent x).0 now).0
           ]
 
-      fits : (n : ℕ) (d : Copied) → slice_get new n ≡ Some d → AllFit (length d.page.words) d.missing
+      fits : (n : ℕ) (d : Copied) → slice_get new n ≡ Some d → AllFitPage (length d.page.words) d.missing
       fits n d at x has =
           let long = ap (λ (p : Contents). length p.words) (page_is n d at) ∙ length-replicate words 0 in
           let P : ℕ → Type 0 = λ k. FitsPage k x in
@@ -165,7 +165,7 @@ module _ (words : ℕ) (old copies : List Copied) (sent : List SentRecord) (are 
           let apart = λ (a b : SentRecord) (x : Has d.missing a) (y : Has d.missing b) (lt : a.place < b.place).
           not_same a b lt
           in
-          let once = in_order_weaker IsBefore (λ (a b : SentRecord). a ≢ b) d.missing apart order in
+          let once = in_order_weaker IsLearnedBefore (λ (a b : SentRecord). a ≢ b) d.missing apart order in
           let le = once_le d.missing sent once (came n d at) in
           let all = words_few d.missing (λ x h. (fits n d at x h).short) in
           record { records = omega arith; words = omega arith }

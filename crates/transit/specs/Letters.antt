@@ -1,6 +1,6 @@
 -- Messages as contracts see them.
 use Rattle.std.specs.Prelude.{ℕ, List}
-use Rattle.interval.specs.Intervals.{SentRecord}
+use Rattle.interval.specs.SentIntervals.{SentRecord}
 use Rattle.transit.specs.declared.message.Message.{Message}
 use Rattle.transit.specs.declared.message.Message.TheVariants.{Grant, Departure, Signal}
 

@@ -1,8 +1,8 @@
-pub mod Lists
+pub mod ListItems
 pub mod ChairLists
 mod Boards
 mod Places
-mod Steps
-mod Rounds
-mod Dealing
+mod NumbersServed
+mod AllowedLooks
+mod DealingAndGathering
 mod TakingTurns

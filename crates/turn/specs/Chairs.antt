@@ -1,8 +1,8 @@
 -- The words of the lock's contract.
 use Rattle.std.specs.Prelude.{◌≡◌, ℕ, List, length, slice_get, slice_set, Some}
 use Rattle.atomic_table.specs.Seated.{TableId}
-use Rattle.turn.specs.declared.chair.Stage.{Stage}
-use Rattle.turn.specs.declared.chair.Stage.TheVariants.{Outside, Inside}
+use Rattle.turn.specs.declared.chair.ChairStage.{ChairStage}
+use Rattle.turn.specs.declared.chair.ChairStage.TheVariants.{Outside, Inside}
 use Rattle.turn.specs.declared.chair.ChairState.{ChairState}
 use Rattle.turn.specs.declared.chair.ChairToken.{ChairToken}
 use Rattle.turn.specs.declared.chair.Held.{Held}
@@ -33,33 +33,33 @@ module _ {B V : Type 0} where
   entries c = c.seat.me.0.lead.entries
 
   -- what the lock's rule says of the chair
-  abbrev pub state_of : ChairToken B V → ChairState B V
-  state_of c = c.seat.me.0.lead
+  abbrev pub chair_state_of : ChairToken B V → ChairState B V
+  chair_state_of c = c.seat.me.0.lead
 
-  abbrev pub stage : ChairToken B V → Stage B
-  stage c = c.seat.me.0.lead.stage
+  abbrev pub chair_stage : ChairToken B V → ChairStage B
+  chair_stage c = c.seat.me.0.lead.stage
 
   abbrev pub IsOutside : ChairToken B V → Type 0
-  IsOutside c = stage c ≡ Outside
+  IsOutside c = chair_stage c ≡ Outside
 
   -- the chair is inside, with the right `h`, and took the book as `b`
   abbrev pub IsInside : ChairToken B V → Held → B → Type 0
-  IsInside c h b = stage c ≡ Inside h.number b
+  IsInside c h b = chair_stage c ≡ Inside h.number b
 
   abbrev pub IsSameChair : ChairToken B V → ChairToken B V → Type 0
   IsSameChair c d = (lock d ≡ lock c) × (place d ≡ place c)
 
   -- a chair of the lock, at this place and with this view, that never entered
-  abbrev pub IsFresh : LockId → ℕ → V → ChairToken B V → Type 0
-  IsFresh l k v c = (lock c ≡ l) × (place c ≡ k) × (view c ≡ v) × (entries c ≡ 0) × IsOutside c
+  abbrev pub IsFreshChair : LockId → ℕ → V → ChairToken B V → Type 0
+  IsFreshChair l k v c = (lock c ≡ l) × (place c ≡ k) × (view c ≡ v) × (entries c ≡ 0) × IsOutside c
 
   -- chairs of the lock in the order of their places, with this view, that never entered
-  abbrev pub AreFresh : LockId → V → List (ChairToken B V) → Type 0
-  AreFresh l v cs = (k : ℕ) (c : ChairToken B V) → slice_get cs k ≡ Some c → IsFresh l k v c
+  abbrev pub AreFreshChairs : LockId → V → List (ChairToken B V) → Type 0
+  AreFreshChairs l v cs = (k : ℕ) (c : ChairToken B V) → slice_get cs k ≡ Some c → IsFreshChair l k v c
 
   -- all n chairs of the lock, in the order of their places and none inside
-  abbrev pub AreAll : LockId → ℕ → List (ChairToken B V) → Type 0
-  AreAll l n cs = (length cs ≡ n) × ((k : ℕ) (c : ChairToken B V) → slice_get cs k ≡ Some c
+  abbrev pub AreAllChairs : LockId → ℕ → List (ChairToken B V) → Type 0
+  AreAllChairs l n cs = (length cs ≡ n) × ((k : ℕ) (c : ChairToken B V) → slice_get cs k ≡ Some c
       → (lock c ≡ l) × (place c ≡ k) × IsOutside c)
 
   -- the fact holds of the book and some list of views with v at the place p

@@ -3,11 +3,11 @@ use Rattle.std.specs.Prelude.{◌≡◌, ◌↔◌, ℕ, ◌<◌, ◌≤◌, Lis
 use mathlib.Core.Option as maybe
 use mathlib.Core.Option.{some, none}
 use Rattle.atomic_table.specs.Table.{State}
-use Rattle.turn.specs.declared.chair.Stage.TheVariants.{Inside}
+use Rattle.turn.specs.declared.chair.ChairStage.TheVariants.{Inside}
 use Rattle.turn.specs.declared.chair.ChairState.{ChairState}
 use Rattle.turn.specs.declared.chair.ChairRun.{ChairRun}
-use Rattle.turn.specs.Runs.{Dealt}
-use Rattle.turn.specs.Tickets.{view_of, HasNumber, Turns}
+use Rattle.turn.specs.ChairRuns.{DealtChairs}
+use Rattle.turn.specs.Tickets.{view_of, HasTicket, TicketTurns}
 
 module _ {B V : Type 0} where
   -- the chair at this place is inside, with the number m and the book as it took it
@@ -20,14 +20,14 @@ module _ {B V : Type 0} where
     -- the number of leaves
     pub serving : ℕ
     -- the numbers drawn and not left are those from the number of leaves up to the next one, each of one chair
-    pub drawn : (m : ℕ) → ((k : ℕ) × HasNumber chairs k m) ↔ ((serving ≤ m) × (m < slice_index words 0))
-    pub apart : (k j m : ℕ) → HasNumber chairs k m → HasNumber chairs j m → k ≡ j
+    pub drawn : (m : ℕ) → ((k : ℕ) × HasTicket chairs k m) ↔ ((serving ≤ m) × (m < slice_index words 0))
+    pub apart : (k j m : ℕ) → HasTicket chairs k m → HasTicket chairs j m → k ≡ j
     -- the chair with the number of leaves finds it where it looks
     pub shown : slice_index words (at serving) ≡ serving
     -- one chair at most is inside
     pub alone : (k j m n : ℕ) (a b : B) → InsideAt chairs k m a → InsideAt chairs j n b → k ≡ j
     -- it has the least number that was drawn and not left
-    pub least : (k j m n : ℕ) (b : B) → InsideAt chairs k m b → HasNumber chairs j n → m ≤ n
+    pub least : (k j m n : ℕ) (b : B) → InsideAt chairs k m b → HasTicket chairs j n → m ≤ n
     -- the slot is empty only while a chair is inside
     pub empty : homes ≡ none ∷ [] → (k m : ℕ) × (b : B) × InsideAt chairs k m b
     -- the keeper's fact holds of the book in the slot
@@ -38,5 +38,5 @@ module _ {B V : Type 0} where
 abbrev pub TurnsLaw : {B V : Type 0} → (B → List V → Type 0) → (List ℕ → ℕ → Type 0) → (ℕ → ℕ) → ℕ → ℕ
     → Type 0
 TurnsLaw {B = B} {V = V} fact shows at n limit =
-    (s : State (Option B) (ChairRun (ChairState B V))) (d : Dealt n (Turns fact shows limit) s)
+    (s : State (Option B) (ChairRun (ChairState B V))) (d : DealtChairs n (TicketTurns fact shows limit) s)
     → TakeTurns fact at s.words s.homes d.chairs

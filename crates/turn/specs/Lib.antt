@@ -1,8 +1,8 @@
 pub mod Stages
 pub mod Chairs
-pub mod Runs
+pub mod ChairRuns
 pub mod Tickets
 pub mod Boards
-pub mod Moves
+pub mod SeatSteps
 pub mod Laws
 pub mod Prelude

@@ -3,16 +3,16 @@
 use Rattle.std.specs.Prelude.{◌≡◌, ℕ, ◌+◌, ◌*◌, ◌^◌, ◌<◌, ◌≤◌, List, [], ◌∷◌, map, length, slice_index, slice_get, Bool, true, false, Option, Some, None}
 use mathlib.Core.Option as maybe
 use mathlib.Core.Option.{some, none}
-use Rattle.turn.specs.declared.chair.Stage.{Stage}
-use Rattle.turn.specs.declared.chair.Stage.TheVariants.{Outside, Waiting, Inside}
+use Rattle.turn.specs.declared.chair.ChairStage.{ChairStage}
+use Rattle.turn.specs.declared.chair.ChairStage.TheVariants.{Outside, Waiting, Inside}
 use Rattle.turn.specs.declared.chair.ChairState.{ChairState}
 
 module _ {B : Type 0} where
   -- the number that was drawn and not yet left
-  abbrev pub number : Stage B → Option ℕ
-  number Outside = None
-  number (Waiting m) = Some m
-  number (Inside m b) = Some m
+  abbrev pub ticket_number : ChairStage B → Option ℕ
+  ticket_number Outside = None
+  ticket_number (Waiting m) = Some m
+  ticket_number (Inside m b) = Some m
 
   -- the slot: empty while the book is out
   abbrev pub shelf : Bool → B → List (maybe.Option (Option B))
@@ -20,29 +20,29 @@ module _ {B : Type 0} where
   shelf false b = some (Some b) ∷ []
 
   -- a number is one that was drawn and not yet left; who is inside is served, and has the book, which is out
-  abbrev pub Fits : ℕ → ℕ → Bool → B → Stage B → Type 0
-  Fits serving next out book Outside = Unit {0}
-  Fits serving next out book (Waiting m) = (serving ≤ m) × (m < next)
-  Fits serving next out book (Inside m b) = (m ≡ serving) × (m < next) × (out ≡ true) × (b ≡ book)
+  abbrev pub FitsTickets : ℕ → ℕ → Bool → B → ChairStage B → Type 0
+  FitsTickets serving next out book Outside = Unit {0}
+  FitsTickets serving next out book (Waiting m) = (serving ≤ m) × (m < next)
+  FitsTickets serving next out book (Inside m b) = (m ≡ serving) × (m < next) × (out ≡ true) × (b ≡ book)
 
 module _ {B V : Type 0} where
-  abbrev pub chair_state : Stage B → ℕ → V → ChairState B V
+  abbrev pub chair_state : ChairStage B → ℕ → V → ChairState B V
   chair_state g e v = record { stage = g; entries = e; view = v }
 
   abbrev pub view_of : ChairState B V → V
   view_of c = c.view
 
   -- how many numbers the chairs have drawn
-  abbrev pub drawn : List (ChairState B V) → ℕ
-  drawn [] = 0
-  drawn (c ∷ cs) = c.entries + drawn cs
+  abbrev pub tickets_drawn : List (ChairState B V) → ℕ
+  tickets_drawn [] = 0
+  tickets_drawn (c ∷ cs) = c.entries + tickets_drawn cs
 
   -- the chair at this place has drawn this number and not yet left
-  abbrev pub HasNumber : List (ChairState B V) → ℕ → ℕ → Type 0
-  HasNumber chairs k m = (c : ChairState B V) × (slice_get chairs k ≡ Some c) × (number c.stage ≡ Some m)
+  abbrev pub HasTicket : List (ChairState B V) → ℕ → ℕ → Type 0
+  HasTicket chairs k m = (c : ChairState B V) × (slice_get chairs k ≡ Some c) × (ticket_number c.stage ≡ Some m)
 
 -- `shows words k` says that the words let the number k in
-pub record Turns {B V : Type 0} (fact : B → List V → Type 0) (shows : List ℕ → ℕ → Type 0) (limit : ℕ)
+pub record TicketTurns {B V : Type 0} (fact : B → List V → Type 0) (shows : List ℕ → ℕ → Type 0) (limit : ℕ)
     (words : List ℕ) (homes : List (maybe.Option (Option B))) (chairs : List (ChairState B V)) : Type 0 where
   -- the number of leaves; the book as it lies in the slot or was taken from it; whether it is out
   pub serving : ℕ
@@ -51,13 +51,13 @@ pub record Turns {B V : Type 0} (fact : B → List V → Type 0) (shows : List �
   -- no number wraps
   pub room : length chairs * limit < 2 ^ 64
   pub within : (k : ℕ) (c : ChairState B V) → slice_get chairs k ≡ Some c → c.entries ≤ limit
-  pub next_is : slice_index words 0 ≡ drawn chairs
+  pub next_is : slice_index words 0 ≡ tickets_drawn chairs
   pub shown : shows words serving
-  pub behind : serving ≤ drawn chairs
+  pub behind : serving ≤ tickets_drawn chairs
   -- the numbers drawn and not yet left are those from `serving` up to the next, each one chair's
-  pub fits : (k : ℕ) (c : ChairState B V) → slice_get chairs k ≡ Some c → Fits serving (drawn chairs) out book c.stage
-  pub apart : (k j m : ℕ) → HasNumber chairs k m → HasNumber chairs j m → k ≡ j
-  pub queued : (m : ℕ) → serving ≤ m → m < drawn chairs → (k : ℕ) × HasNumber chairs k m
+  pub fits : (k : ℕ) (c : ChairState B V) → slice_get chairs k ≡ Some c → FitsTickets serving (tickets_drawn chairs) out book c.stage
+  pub apart : (k j m : ℕ) → HasTicket chairs k m → HasTicket chairs j m → k ≡ j
+  pub queued : (m : ℕ) → serving ≤ m → m < tickets_drawn chairs → (k : ℕ) × HasTicket chairs k m
   -- the book is out only while a chair is inside
   pub lies : homes ≡ shelf out book
   pub taken : out ≡ true → (k m : ℕ) × (c : ChairState B V) × (slice_get chairs k ≡ Some c) × (c.stage ≡ Inside m book)

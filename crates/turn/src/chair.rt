@@ -1,7 +1,7 @@
 //! What a thread enters with: its chair, and what it has while it is inside.
 ghost use Rattle.std.specs.Prelude.{◌≡◌, ◌+◌, ◌^◌, ◌<◌, ◌≤◌, nat_le, true, []};
-ghost use Rattle.turn.specs.declared.chair.Stage.TheVariants.{Outside};
-ghost use Rattle.turn.specs.Stages.{carried};
+ghost use Rattle.turn.specs.declared.chair.ChairStage.TheVariants.{Outside};
+ghost use Rattle.turn.specs.Stages.{stage_carries};
 
 use crate::contract::Keeper;
 use atomic_table::Seat;
@@ -10,7 +10,7 @@ use thiserror::Error;
 
 /// Where a chair stands, for proofs alone: outside, waiting with its number, or inside with its number and the book as
 /// it took it. No value of it is made.
-pub enum Stage<B> {
+pub enum ChairStage<B> {
     Outside,
     Waiting(u64),
     Inside(u64, B),
@@ -18,7 +18,7 @@ pub enum Stage<B> {
 
 /// What the lock's rule says of one chair, for proofs alone: its stage, how often it has entered, and the keeper's view.
 pub struct ChairState<B, V> {
-    pub stage: Stage<B>,
+    pub stage: ChairStage<B>,
     pub entries: u64,
     pub view: V,
 }
@@ -43,21 +43,21 @@ pub struct ChairToken<B, V> {
     pub(crate) limit: u64,
     ghost single: { (seat.me.0.live ≡ true) × (seat.me.0.others ≡ []) },
     ghost counted: { (entries ≡ seat.me.0.lead.entries) × (entries ≤ limit) },
-    ghost carries: { seat.me.1 ≡ carried seat.me.0.lead.stage },
+    ghost carries: { seat.me.1 ≡ stage_carries seat.me.0.lead.stage },
 }
 
 impl<B, V> ChairToken<B, V> {
-    ghost use Rattle.turn.specs.Chairs.{lock_id, lock, entries, IsFresh};
-    ghost use Rattle.turn.specs.Moves.{IsAtStage};
+    ghost use Rattle.turn.specs.Chairs.{lock_id, lock, entries, IsFreshChair};
+    ghost use Rattle.turn.specs.SeatSteps.{IsSeatAtStage};
 
     // A chair that never entered.
     pub(crate) fn fresh(
         seat: Seat<Option<B>, ChairRun<ChairState<B, V>>>,
         limit: u64,
     ) -> ChairToken<B, V>
-        requires outside { IsAtStage Outside seat.me }
+        requires outside { IsSeatAtStage Outside seat.me }
         requires never { seat.me.0.lead.entries ≡ 0 }
-        ensures { IsFresh (lock_id seat.table_id limit) seat.me.0.place seat.me.0.lead.view result }
+        ensures { IsFreshChair (lock_id seat.table_id limit) seat.me.0.place seat.me.0.lead.view result }
     {
         ChairToken {
             seat,

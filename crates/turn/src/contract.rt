@@ -1,7 +1,7 @@
 //! The contract of the lock round the book.
 ghost use Rattle.std.specs.Prelude.{◌≡◌, ℕ, List, ◌+◌, ◌*◌, ◌^◌, ◌<◌, ◌≤◌, length, map, replicate, IfOk, IfErr};
-ghost use Rattle.turn.specs.Prelude.{LockId, lock, place, view, entries, IsOutside, IsInside, IsSameChair, AreFresh};
-ghost use Rattle.turn.specs.Prelude.{AreAll, Stands, MayHandIn};
+ghost use Rattle.turn.specs.Prelude.{LockId, lock, place, view, entries, IsOutside, IsInside, IsSameChair, AreFreshChairs};
+ghost use Rattle.turn.specs.Prelude.{AreAllChairs, Stands, MayHandIn};
 
 use crate::chair::{Chair, Held, Spent};
 use std::alloc::{AllocError, Global};
@@ -41,7 +41,7 @@ pub trait Outcome<B, V> {
 pub trait Turn<B, K: Keeper<B>>: Sized + Sync {
     ghost use Rattle.std.specs.Prelude.{◌≡◌, ℕ, ◌+◌, ◌*◌, ◌^◌, ◌<◌, ◌≤◌, length, map, replicate, IfOk, IfErr};
     ghost use Rattle.turn.specs.Chairs.{LockId, lock, place, view, entries, IsOutside, IsInside, IsSameChair};
-    ghost use Rattle.turn.specs.Chairs.{AreFresh, AreAll, Stands, MayHandIn};
+    ghost use Rattle.turn.specs.Chairs.{AreFreshChairs, AreAllChairs, Stands, MayHandIn};
 
     /// How often a chair may enter.
     const ENTRIES: u64;
@@ -63,7 +63,7 @@ pub trait Turn<B, K: Keeper<B>>: Sized + Sync {
         requires fact { K.fact book (replicate seats (K.first book)) }
         ensures { IfOk result (λ t.
             (size t.0 ≡ seats) × (length t.1.items ≡ seats)
-            × AreFresh (id t.0) (K.first book) t.1.items) };
+            × AreFreshChairs (id t.0) (K.first book) t.1.items) };
 
     /// Waits for the chair's turn, and answers the book. It takes no memory.
     ///
@@ -90,7 +90,7 @@ pub trait Turn<B, K: Keeper<B>>: Sized + Sync {
 
     /// Takes the lock apart, with all its chairs in the order of their places. It waits for nothing and takes no memory.
     fn close(self, chairs: Vec<Chair<B, K>>) -> B
-        requires { AreAll (id self) (size self) chairs.items }
+        requires { AreAllChairs (id self) (size self) chairs.items }
         ensures { K.fact result (map view chairs.items) };
 
     // How many times a chair of the lock may enter.

@@ -2,11 +2,11 @@
 ghost use Rattle.std.specs.Prelude.{◌≡◌, ℕ, ◌+◌, ◌^◌, ◌<◌, ◌≤◌, true, [], ◌∷◌, map, length, vec_capacity, None, Some};
 ghost use Rattle.std.specs.Prelude.{refl};
 ghost use Rattle.std.specs.Bool.{OnTrue, OnFalse};
-ghost use Rattle.turn.specs.declared.chair.Stage.TheVariants.{Outside, Waiting, Inside};
+ghost use Rattle.turn.specs.declared.chair.ChairStage.TheVariants.{Outside, Waiting, Inside};
 
 use crate::chair::{Chair, ChairRun, ChairState, ChairToken, Held, Spent};
 use crate::contract::{Keeper, Outcome, Turn};
-use crate::lock_words::{Board, Change, Counter, Layout, Row};
+use crate::lock_words::{ArrayBoard, Board, BoardLayout, Change, TicketBoard};
 use crate::sleepers::{Sleepers, low_half};
 use atomic_table::{Join, Play, Seat, Split, Table, TableRule};
 use crossbeam_utils::Backoff;
@@ -25,17 +25,17 @@ pub struct Terms<B> {
 }
 
 /// The lock's rule, on the board `W`.
-pub struct Tickets<K, W> {
+pub struct TicketRule<K, W> {
     of: PhantomData<(K, W)>,
 }
 
 impl<B, K: Keeper<B>, W: Board> TableRule<Option<B>, ChairRun<ChairState<B, K::View>>, Terms<B>>
-    for Tickets<K, W> {
-    ghost use Rattle.turn.specs.Runs.{Dealt};
-    ghost use Rattle.turn.specs.Tickets.{Turns};
-    ghost use Rattle.turn.specs.Moves.{fresh_run};
+    for TicketRule<K, W> {
+    ghost use Rattle.turn.specs.ChairRuns.{DealtChairs};
+    ghost use Rattle.turn.specs.Tickets.{TicketTurns};
+    ghost use Rattle.turn.specs.SeatSteps.{fresh_run};
 
-    ghost holds = { λ z. Dealt z.seats (Turns K.fact (W.shows z.seats) z.entries) };
+    ghost holds = { λ z. DealtChairs z.seats (TicketTurns K.fact (W.shows z.seats) z.entries) };
 
     ghost first = { λ z. fresh_run (K.first z.book.value) 0 z.seats };
 }
@@ -43,9 +43,9 @@ impl<B, K: Keeper<B>, W: Board> TableRule<Option<B>, ChairRun<ChairState<B, K::V
 struct Draw;
 
 impl<B, V> Play<Option<B>, ChairRun<ChairState<B, V>>> for Draw {
-    ghost use Rattle.turn.specs.Moves.{Draws};
+    ghost use Rattle.turn.specs.SeatSteps.{DrawStep};
 
-    ghost then = { λ _ before found after. Draws before found after };
+    ghost then = { λ _ before found after. DrawStep before found after };
 }
 
 struct Look<K> {
@@ -53,20 +53,20 @@ struct Look<K> {
 }
 
 impl<B, K: Keeper<B>> Play<Option<B>, ChairRun<ChairState<B, K::View>>> for Look<K> {
-    ghost use Rattle.turn.specs.Moves.{Looks};
+    ghost use Rattle.turn.specs.SeatSteps.{LookStep};
 
-    ghost then = { λ _ before found after. Looks K.fact before found after };
+    ghost then = { λ _ before found after. LookStep K.fact before found after };
 }
 
 // The first chair of a run goes to a new seat.
 struct Deal;
 
 impl<C> Split<ChairRun<C>> for Deal {
-    ghost use Rattle.turn.specs.Runs.{rest_of, first_of};
+    ghost use Rattle.turn.specs.ChairRuns.{rest_of_chairs, first_chair};
 
-    ghost left = { λ h. rest_of h };
+    ghost left = { λ h. rest_of_chairs h };
 
-    ghost right = { λ h. first_of h };
+    ghost right = { λ h. first_chair h };
 }
 
 // A seat takes in the chair at the place before its own.
@@ -76,10 +76,10 @@ struct Gather<K> {
 
 impl<B, K: Keeper<B>> Join<ChairRun<ChairState<B, K::View>>> for Gather<K> {
     ghost use Rattle.std.specs.Prelude.{false};
-    ghost use Rattle.turn.specs.Runs.{chair_run, both_of};
-    ghost use Rattle.turn.specs.Moves.{fresh};
+    ghost use Rattle.turn.specs.ChairRuns.{chair_run, both_chairs};
+    ghost use Rattle.turn.specs.SeatSteps.{fresh};
 
-    ghost both = { λ h g. both_of h g };
+    ghost both = { λ h g. both_chairs h g };
 
     ghost spent = { chair_run false 0 (fresh K.nobody) [] };
 }
@@ -89,9 +89,9 @@ struct StepOut<M> {
 }
 
 impl<B, V, M: Outcome<B, V>> Change<Option<B>, ChairRun<ChairState<B, V>>> for StepOut<M> {
-    ghost use Rattle.turn.specs.Moves.{Leaves};
+    ghost use Rattle.turn.specs.SeatSteps.{LeaveStep};
 
-    ghost then = { λ before after. Leaves M.then before after };
+    ghost then = { λ before after. LeaveStep M.then before after };
 }
 
 /// A seat of a lock's table.
@@ -107,28 +107,28 @@ const LOOKS_AWAKE: u32 = 128;
 
 /// A lock whose chairs draw numbers, and enter in the order of their numbers, on the board `W`.
 pub struct TurnLock<B, K: Keeper<B>, W: Board, const ENTRIES: u64> {
-    table: Table<Option<B>, ChairRun<ChairState<B, K::View>>, Terms<B>, Tickets<K, W>, Global>,
-    pub(crate) layout: Layout<W>,
+    table: Table<Option<B>, ChairRun<ChairState<B, K::View>>, Terms<B>, TicketRule<K, W>, Global>,
+    pub(crate) layout: BoardLayout<W>,
     sleepers: Sleepers,
     ghost wide: { (table.shared.table_id.words ≡ layout.words) × (table.shared.table_id.slots ≡ 1) },
     ghost sized: { (table.shared.key.seats ≡ layout.seats) × (table.shared.key.entries ≡ ENTRIES) },
 }
 
 /// The ticket lock: waiting chairs all look at the number that is served.
-pub type TicketLock<B, K, const ENTRIES: u64> = TurnLock<B, K, Counter, ENTRIES>;
+pub type TicketLock<B, K, const ENTRIES: u64> = TurnLock<B, K, TicketBoard, ENTRIES>;
 
 /// The array lock: each waiting chair looks at a word of its own.
-pub type ArrayLock<B, K, const ENTRIES: u64> = TurnLock<B, K, Row, ENTRIES>;
+pub type ArrayLock<B, K, const ENTRIES: u64> = TurnLock<B, K, ArrayBoard, ENTRIES>;
 
 impl<B, K: Keeper<B>, W: Board, const ENTRIES: u64> TurnLock<B, K, W, ENTRIES> {
-    ghost use Rattle.turn.specs.Moves.{fresh_run, seat_with, with_stage, IsAtStage, StepsIn};
-    ghost use Rattle.turn.specs.Runs.{chairs_of};
-    ghost use Rattle.turn.specs.Chairs.{lock_id, state_of, AreFresh, AreAll, Stands, MayHandIn};
+    ghost use Rattle.turn.specs.SeatSteps.{fresh_run, seat_with, seat_at_stage, IsSeatAtStage, StepsIn};
+    ghost use Rattle.turn.specs.ChairRuns.{chairs_of};
+    ghost use Rattle.turn.specs.Chairs.{lock_id, chair_state_of, AreFreshChairs, AreAllChairs, Stands, MayHandIn};
 
     // The step 'draw': one addition to the next number. The chair waits with the number found.
     fn draw(&self, seat: &mut LockSeat<B, K::View>) -> u64
         requires own { seat.old.table_id ≡ self.now.table.shared.table_id }
-        requires outside { IsAtStage Outside seat.old.me }
+        requires outside { IsSeatAtStage Outside seat.old.me }
         requires left { seat.old.me.0.lead.entries < ENTRIES }
         ensures own { seat.new.table_id ≡ seat.old.table_id }
         ensures waits { seat.new.me
@@ -145,7 +145,7 @@ impl<B, K: Keeper<B>, W: Board, const ENTRIES: u64> TurnLock<B, K, W, ENTRIES> {
     fn look(&self, seat: &mut LockSeat<B, K::View>, word: usize, number: u64) -> bool
         requires own { seat.old.table_id ≡ self.now.table.shared.table_id }
         requires word { word ≡ W.at self.now.layout.seats number }
-        requires waits { IsAtStage (Waiting number) seat.old.me }
+        requires waits { IsSeatAtStage (Waiting number) seat.old.me }
         ensures own { seat.new.table_id ≡ seat.old.table_id }
         ensures enter { OnTrue result (StepsIn K.fact number seat.old.me seat.new.me) }
         ensures look { OnFalse result (seat.new.me ≡ seat.old.me) }
@@ -171,7 +171,7 @@ impl<B, K: Keeper<B>, W: Board, const ENTRIES: u64> TurnLock<B, K, W, ENTRIES> {
     fn wait_awake(&self, seat: &mut LockSeat<B, K::View>, word: usize, number: u64) -> bool
         requires own { seat.old.table_id ≡ self.now.table.shared.table_id }
         requires word { word ≡ W.at self.now.layout.seats number }
-        requires waits { IsAtStage (Waiting number) seat.old.me }
+        requires waits { IsSeatAtStage (Waiting number) seat.old.me }
         ensures own { seat.new.table_id ≡ seat.old.table_id }
         ensures enter { OnTrue result (StepsIn K.fact number seat.old.me seat.new.me) }
         ensures wait { OnFalse result (seat.new.me ≡ seat.old.me) }
@@ -198,7 +198,7 @@ impl<B, K: Keeper<B>, W: Board, const ENTRIES: u64> TurnLock<B, K, W, ENTRIES> {
     )
         requires own { seat.old.table_id ≡ self.now.table.shared.table_id }
         requires word { word ≡ W.at self.now.layout.seats number }
-        requires waits { IsAtStage (Waiting number) seat.old.me }
+        requires waits { IsSeatAtStage (Waiting number) seat.old.me }
         ensures own { seat.new.table_id ≡ seat.old.table_id }
         ensures enter { StepsIn K.fact number seat.old.me seat.new.me }
     {
@@ -216,29 +216,29 @@ impl<B, K: Keeper<B>, W: Board, const ENTRIES: u64> TurnLock<B, K, W, ENTRIES> {
     }
 
     // Waits until the chair's number is served: awake for a while, and then asleep.
-    fn wait_until_served<R: Wait>(&self, rt: &R, seat: &mut LockSeat<B, K::View>, number: u64)
+    fn wait_for_turn<R: Wait>(&self, rt: &R, seat: &mut LockSeat<B, K::View>, number: u64)
         requires own { seat.old.table_id ≡ self.now.table.shared.table_id }
-        requires waits { IsAtStage (Waiting number) seat.old.me }
+        requires waits { IsSeatAtStage (Waiting number) seat.old.me }
         ensures own { seat.new.table_id ≡ seat.old.table_id }
         ensures enter { StepsIn K.fact number seat.old.me seat.new.me }
     {
         let word = W::at(self.layout.seats, number);
         if !self.wait_awake(seat, word, number) {
-            self.sleepers.count_one();
+            self.sleepers.count_sleeper();
             self.wait_asleep(rt, seat, word, number);
-            self.sleepers.forget_one();
+            self.sleepers.forget_sleeper();
         }
     }
 
     // Waits for the chair's turn, and takes the book.
     fn step_in<R: Wait>(&self, rt: &R, seat: &mut LockSeat<B, K::View>, number: u64) -> B
         requires own { seat.old.table_id ≡ self.now.table.shared.table_id }
-        requires waits { IsAtStage (Waiting number) seat.old.me }
+        requires waits { IsSeatAtStage (Waiting number) seat.old.me }
         ensures own { seat.new.table_id ≡ seat.old.table_id }
-        ensures inside { seat.new.me ≡ with_stage (Inside number result) seat.old.me }
+        ensures inside { seat.new.me ≡ seat_at_stage (Inside number result) seat.old.me }
         ensures fact { Stands K.fact result seat.old.me.0.place seat.old.me.0.lead.view }
     {
-        self.wait_until_served(rt, seat, number);
+        self.wait_for_turn(rt, seat, number);
         self.take_book(seat)
     }
 
@@ -247,13 +247,13 @@ impl<B, K: Keeper<B>, W: Board, const ENTRIES: u64> TurnLock<B, K, W, ENTRIES> {
     fn hand_in<M: Outcome<B, K::View>>(&self, seat: &mut LockSeat<B, K::View>, number: u64, book: B)
         requires own { seat.old.table_id ≡ self.now.table.shared.table_id }
         requires small { number + 1 < 2 ^ 64 }
-        requires inside { (found : B) × IsAtStage (Inside number found) seat.old.me
+        requires inside { (found : B) × IsSeatAtStage (Inside number found) seat.old.me
             × MayHandIn K.fact M.then found book seat.old.me.0.place seat.old.me.0.lead.view }
         ensures own { seat.new.table_id ≡ seat.old.table_id }
         ensures outside { seat.new.me
             ≡ seat_with seat.old.me.0.place Outside seat.old.me.0.lead.entries
             seat.new.me.0.lead.view }
-        ensures then { (found : B) → IsAtStage (Inside number found) seat.old.me
+        ensures then { (found : B) → IsSeatAtStage (Inside number found) seat.old.me
             → M.then found book seat.old.me.0.place seat.old.me.0.lead.view seat.new.me.0.lead.view }
     {
         let taken = self.table.shared.exchange(seat, 0, Some(book));
@@ -263,7 +263,7 @@ impl<B, K: Keeper<B>, W: Board, const ENTRIES: u64> TurnLock<B, K, W, ENTRIES> {
     }
 
     // Wakes whoever sleeps at the next number's word. It comes after the step 'leave': who sleeps is looked for last.
-    fn wake_next(&self, number: u64)
+    fn wake_next_turn(&self, number: u64)
         requires { number + 1 < 2 ^ 64 }
     {
         if self.sleepers.number() > 0 {
@@ -284,7 +284,7 @@ impl<B, K: Keeper<B>, W: Board, const ENTRIES: u64> TurnLock<B, K, W, ENTRIES> {
         ) }
         requires room { (chairs.items ≡ []) × (self.now.layout.seats ≤ vec_capacity chairs) }
         ensures all { length result.items ≡ self.now.layout.seats }
-        ensures fresh { AreFresh (lock_id self.now.table.shared.table_id ENTRIES)
+        ensures fresh { AreFreshChairs (lock_id self.now.table.shared.table_id ENTRIES)
             (K.first self.now.table.shared.key.book.value) result.items }
     {
         for _ in 0..self.layout.seats {
@@ -296,12 +296,12 @@ impl<B, K: Keeper<B>, W: Board, const ENTRIES: u64> TurnLock<B, K, W, ENTRIES> {
 
     // Takes the chairs in, the last one first, so that one seat has all places.
     fn gather(&self, mut chairs: Vec<Chair<B, K>>) -> LockSeat<B, K::View>
-        requires { AreAll (lock_id self.now.table.shared.table_id ENTRIES) self.now.layout.seats
+        requires { AreAllChairs (lock_id self.now.table.shared.table_id ENTRIES) self.now.layout.seats
             chairs.items }
         ensures own { result.table_id ≡ self.now.table.shared.table_id }
         ensures free { result.me.1 ≡ [] }
         ensures whole { (result.me.0.live ≡ true) × (result.me.0.place ≡ 0)
-            × (chairs_of result.me.0 ≡ map state_of chairs.items) }
+            × (chairs_of result.me.0 ≡ map chair_state_of chairs.items) }
     {
         let Some(last) = chairs.pop() else {
             unreachable!()
@@ -318,7 +318,7 @@ impl<B, K: Keeper<B>, W: Board, const ENTRIES: u64> TurnLock<B, K, W, ENTRIES> {
 
 impl<B: Send, K: Keeper<B>, W: Board + Sync, const ENTRIES: u64> Turn<B, K>
     for TurnLock<B, K, W, ENTRIES> {
-    ghost use Rattle.turn.specs.Chairs.{lock_id, view, AreAll};
+    ghost use Rattle.turn.specs.Chairs.{lock_id, view, AreAllChairs};
 
     const ENTRIES: u64 = ENTRIES;
 
@@ -334,7 +334,7 @@ impl<B: Send, K: Keeper<B>, W: Board + Sync, const ENTRIES: u64> Turn<B, K>
     {
         let chairs = Vec::with_capacity(alloc, seats)?;
         let words = W::words(alloc, seats)?;
-        let layout = Layout::new(seats, words.len());
+        let layout = BoardLayout::new(seats, words.len());
         let mut slots = Vec::with_capacity(alloc, 1)?;
         let terms = Terms {
             seats,
@@ -367,11 +367,11 @@ impl<B: Send, K: Keeper<B>, W: Board + Sync, const ENTRIES: u64> Turn<B, K>
     fn leave<M: Outcome<B, K::View>>(&self, chair: &mut Chair<B, K>, held: Held, book: B) {
         let Held { number } = held;
         self.hand_in::<M>(&mut chair.seat, number, book);
-        self.wake_next(number);
+        self.wake_next_turn(number);
     }
 
     fn close(self, chairs: Vec<Chair<B, K>>) -> B
-        requires { AreAll (lock_id self.table.shared.table_id ENTRIES) self.layout.seats
+        requires { AreAllChairs (lock_id self.table.shared.table_id ENTRIES) self.layout.seats
             chairs.items }
         ensures { K.fact result (map view chairs.items) }
     {

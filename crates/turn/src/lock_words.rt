@@ -71,7 +71,7 @@ pub trait Board {
 
 /// What is known of a board for a lock with this many chairs.
 #[derive(Drop)]
-pub struct Layout<W: Board> {
+pub struct BoardLayout<W: Board> {
     pub(crate) seats: usize,
     // How many words the lock's table has.
     pub(crate) words: usize,
@@ -81,15 +81,15 @@ pub struct Layout<W: Board> {
     ghost more: { 1 ≤ words },
 }
 
-impl<W: Board> Layout<W> {
+impl<W: Board> BoardLayout<W> {
     // The layout of a table with that many words.
-    pub(crate) fn new(seats: usize, words: usize) -> Layout<W>
+    pub(crate) fn new(seats: usize, words: usize) -> BoardLayout<W>
         requires some { 1 ≤ seats }
         requires wide { words ≡ W.width seats }
         ensures { (result.seats ≡ seats) × (result.words ≡ words) }
     {
         W::lawful(seats);
-        Layout {
+        BoardLayout {
             seats,
             words,
             board: PhantomData,
@@ -98,11 +98,11 @@ impl<W: Board> Layout<W> {
 }
 
 /// The board of the ticket lock: one word for all chairs, the number that is served.
-pub struct Counter;
+pub struct TicketBoard;
 
 const SERVING: usize = 1;
 
-impl Board for Counter {
+impl Board for TicketBoard {
     ghost width = { λ _. 2 };
 
     ghost at = { λ _ _. 1 };
@@ -132,9 +132,9 @@ impl Board for Counter {
 }
 
 /// The board of the array lock: one word for each chair, so that waiting chairs look at different words.
-pub struct Row;
+pub struct ArrayBoard;
 
-impl Board for Row {
+impl Board for ArrayBoard {
     ghost width = { λ n. n + 1 };
 
     ghost at = { λ n m. m % n + 1 };

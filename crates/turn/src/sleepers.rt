@@ -31,12 +31,12 @@ impl Sleepers {
     }
 
     // One more sleeps, or is about to.
-    pub(crate) fn count_one(&self) {
+    pub(crate) fn count_sleeper(&self) {
         self.count.fetch_add(1, SeqCst);
     }
 
     // One is awake again.
-    pub(crate) fn forget_one(&self) {
+    pub(crate) fn forget_sleeper(&self) {
         self.count.fetch_sub(1, SeqCst);
     }
 

@@ -19,10 +19,10 @@ all_same (x ∷ xs) a same =
     ∙ ap (λ ys. a ∷ ys) (all_same xs a (λ i lt. same (suc i) (omega arith)))
 
 -- the last of the empty places is filled
-fill : {A : Type 0} (n : ℕ) (ys : List (Option A)) (v : Option A)
+posting_fills : {A : Type 0} (n : ℕ) (ys : List (Option A)) (v : Option A)
     → slice_set (replicate (suc n) None ++ ys) n v ≡ replicate n None ++ v ∷ ys
-fill zero ys v = refl
-fill (suc n) ys v = ap (λ zs. None ∷ zs) (fill n ys v)
+posting_fills zero ys v = refl
+posting_fills (suc n) ys v = ap (λ zs. None ∷ zs) (posting_fills n ys v)
 
 -- the last message that was left, m, is sent to its place n: old and new are the mail before that and after it
 pub record PostsOne (all rest : List Letter) (new : List (Option Letter)) : Type 0 where
@@ -47,5 +47,5 @@ posting_step {all} {rest} {new} step = record {
       step.set ∙ ap (λ k. slice_set step.old k (Some step.m)) step.at
       ∙ ap (λ ms. slice_set ms (length rest) (Some step.m))
       (step.is.posted ∙ ap (λ k. replicate k None ++ map (λ (x : Letter). Some x) step.is.sent) long)
-      ∙ fill (length rest) (map (λ (x : Letter). Some x) step.is.sent) (Some step.m);
+      ∙ posting_fills (length rest) (map (λ (x : Letter). Some x) step.is.sent) (Some step.m);
 }

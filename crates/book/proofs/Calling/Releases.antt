@@ -8,31 +8,31 @@ use Rattle.journal.specs.declared.event.Kind.{Kind}
 use Rattle.journal.specs.declared.event.Kind.TheVariants.{Ask, Acquire, Release, Arrive, Depart}
 use Rattle.journal.specs.Sizes.{Sizes}
 use Rattle.journal.specs.WellFormed.{LastIs, Holds, Allowed}
-use Rattle.journal.proofs.Journals.WellFormed.{last_unique}
-use Rattle.page.specs.Changes.{Changes}
+use Rattle.journal.proofs.Journals.WellFormedLast.{last_unique}
+use Rattle.page.specs.RisingChanges.{Changes}
 use Rattle.vtime.specs.Times.{tick}
-use Rattle.interval.specs.Intervals.{ClosedInterval}
+use Rattle.interval.specs.SentIntervals.{ClosedInterval}
 use Rattle.interval.specs.Closings.{Closings, pushed}
-use Rattle.lockq.specs.Lock.{Locks, unheld, lock_at, with_lock, line, released}
+use Rattle.lockq.specs.LockQueues.{Locks, unheld_lock, lock_at, with_lock, lock_line, released_lock}
 use Rattle.transit.specs.Letters.{Letter}
 use Rattle.book.specs.Lines.{IsLock}
-use Rattle.book.specs.Mail.{IsPosted, IsMail}
+use Rattle.book.specs.Mail.{ComesByMail, IsMail}
 use Rattle.book.specs.State.{State, time_of}
-use Rattle.book.specs.Transitions.{addressed_grant, grant_to, handed_in, open_interval, closed_by, mail_passed_on, book_released}
-use Rattle.book.specs.Calls.{MayRelease, MayBeSent}
+use Rattle.book.specs.Transitions.{addressed_grant, grant_to, book_handed_in, book_open_interval, book_closed_by, book_mail_passed, book_released}
+use Rattle.book.specs.Calls.{AllowsRelease, AllowsNotices}
 use Rattle.book.specs.Told.{Represents}
-use Rattle.book.proofs.Parts.Each.{is_at}
+use Rattle.book.proofs.Parts.Each.{each_is_at}
 use Rattle.book.proofs.Parts.Mail.{no_mail}
 use Rattle.book.proofs.Parts.Lines.{idle_no_ask}
-use Rattle.book.proofs.Keeps.Locks.{holder_first}
-use Rattle.book.proofs.Parts.Told.{is_idle, is_processor, own_stamp}
+use Rattle.book.proofs.Told.Locks.{lock_holder_first}
+use Rattle.book.proofs.Parts.TimesAndAwaits.{idle_awaits_none, is_processor, own_time_stamp}
 
 -- everyone with a timestamp may be sent what it lacks
 pub may_be_sent : (s : Sizes) (h : List Event) (b : State) (r : ℕ) → Represents s h b → r < s.processors
-    → MayBeSent b.closed b.times r
+    → AllowsNotices b.closed b.times r
 may_be_sent s h b r told lt =
     let times_long = told.times.long in
-    let own_long = (own_stamp s h b r told lt).long in
+    let own_long = (own_time_stamp s h b r told lt).long in
     let first_long = told.closed.first_long in
     record {
       within = omega arith;
@@ -45,7 +45,7 @@ held_mail : (s : Sizes) (h : List Event) (p r i l : ℕ) (o : Option Letter) →
     → IsMail s h r o → None ≡ o
 held_mail s h p r i l o held asks mail = no_mail s h r o never mail
   where
-    never : (a : Kind) → IsPosted a → ¬ Allowed s h r a
+    never : (a : Kind) → ComesByMail a → ¬ Allowed s h r a
     never (Acquire m) posted (k, last, may) =
         let is : Ask m ≡ Ask l = (last_unique h r k i (Ask m) (Ask l) last asks).1 in
         may.free p (subst (λ x. Holds h p x) (sym (lock_is m is)) held)
@@ -58,7 +58,7 @@ held_mail s h p r i l o held asks mail = no_mail s h r o never mail
 -- who gets the lock next
 pub record IsNextHolder (b : State) (p r : ℕ) : Type 0 where
   pub apart : r ≢ p
-  pub sent : MayBeSent b.closed b.times r
+  pub sent : AllowsNotices b.closed b.times r
   pub none : slice_get b.transit r ≡ Some None
 
 -- what a release rests on
@@ -73,7 +73,7 @@ releasing_by : (s : Sizes) (h : List Event) (b : State) (p l : ℕ) → Represen
     → l < s.locks → Holds h p l → IsReleasing b p l
 releasing_by s h b p l told idle range held =
     let lt = is_processor s h b p None told idle in
-    let own_long = (own_stamp s h b p told lt).long in
+    let own_long = (own_time_stamp s h b p told lt).long in
     let first_long = told.closed.first_long in
     let locks_long = told.locks.long in
     let lockers = told.sizes.lockers in
@@ -86,16 +86,16 @@ releasing_by s h b p l told idle range held =
     }
   where
     lock : IsLock s.processors h l (lock_at b.locks l)
-    lock = is_at s.locks (IsLock s.processors h) b.locks.locks l (unheld b.locks.processors) told.locks range
+    lock = each_is_at s.locks (IsLock s.processors h) b.locks.locks l (unheld_lock b.locks.processors) told.locks range
 
     first : (lock_at b.locks l).holder ≡ Some p
-    first = holder_first s.processors h p l (lock_at b.locks l).holder (lock_at b.locks l).queue
+    first = lock_holder_first s.processors h p l (lock_at b.locks l).holder (lock_at b.locks l).queue
         (lock_at b.locks l).time held lock
 
     asks : (r : ℕ) → slice_get (lock_at b.locks l).queue 0 ≡ Some r → (i : ℕ) × LastIs h r i (Ask l)
     asks r at = elim (lock.line_is.asks 1 r
         (subst (λ (o : Option ℕ). slice_get
-        (line (record { holder = o; queue = (lock_at b.locks l).queue; time = (lock_at b.locks l).time })) 1
+        (lock_line (record { holder = o; queue = (lock_at b.locks l).queue; time = (lock_at b.locks l).time })) 1
         ≡ Some r) (sym first) at)) [
           | inl ask ↦ ask
           | inr zeroth ↦ absurd (cc (zeroth.0))
@@ -108,7 +108,7 @@ releasing_by s h b p l told idle range held =
         let transit_long = told.transit.long in
         let read = slice_get-get_or b.transit r None (omega arith) in
         record {
-          apart = λ e. idle_no_ask h p l (is_idle s h b p told idle) ask.0
+          apart = λ e. idle_no_ask h p l (idle_awaits_none s h b p told idle) ask.0
               (subst (λ (x : ℕ). LastIs h x ask.0 (Ask l)) e ask.1);
           sent = may_be_sent s h b r told lt;
           none = read ∙ ap (λ (x : Option Letter). Some x)
@@ -116,30 +116,30 @@ releasing_by s h b p l told idle range held =
               (told.transit.each r (slice_index_or b.transit r None) read)));
         }
 
-pub releasing : (b : State) (p l : ℕ) (block : List Event) → MayRelease b p l block → IsReleasing b p l
+pub releasing : (b : State) (p l : ℕ) (block : List Event) → AllowsRelease b p l block → IsReleasing b p l
 releasing b p l block may =
     let by = may.call.by in
     releasing_by by.sizes by.history b p l by.told may.call.hands_in.idle may.range may.held
 
-pub releases : (b now : State) (p l : ℕ) (block : List Event) → b ≡ now → MayRelease now p l block → IsReleasing b p l
+pub releases : (b now : State) (p l : ℕ) (block : List Event) → b ≡ now → AllowsRelease now p l block → IsReleasing b p l
 releases b now p l block same may = subst (λ x. IsReleasing x p l) (sym same) (releasing now p l block may)
 
 -- the next one's grant is posted
-pub passed_some : (c : State) (queue t : List ℕ) (times : List (List ℕ)) (r : ℕ) (m : Letter)
+pub released_passes_some : (c : State) (queue t : List ℕ) (times : List (List ℕ)) (r : ℕ) (m : Letter)
     → ((q : ℕ) → slice_get queue 0 ≡ Some q → slice_index_or times q [] ≡ time_of c q)
     → Some (r, m) ≡ option_map (addressed_grant c.closed times t) (slice_get queue 0)
-    → slice_set c.transit r (Some m) ≡ mail_passed_on c queue t
-passed_some c [] t times r m same made = absurd (none-some (r, m) (sym made))
-passed_some c (q ∷ queue) t times r m same made =
+    → slice_set c.transit r (Some m) ≡ book_mail_passed c queue t
+released_passes_some c [] t times r m same made = absurd (none-some (r, m) (sym made))
+released_passes_some c (q ∷ queue) t times r m same made =
     let is = same_Some (r, m) (addressed_grant c.closed times t q) made in
     ap (λ (x : ℕ × Letter). slice_set c.transit x.0 (Some x.1)) is
     ∙ ap (λ (own : List ℕ). slice_set c.transit q (Some (grant_to c.closed t own))) (same q refl)
 
 -- and where nobody is next there is no mail
-passed_none : (c : State) (queue t : List ℕ) (times : List (List ℕ))
-    → None ≡ option_map (addressed_grant c.closed times t) (slice_get queue 0) → c.transit ≡ mail_passed_on c queue t
-passed_none c [] t times made = refl
-passed_none c (q ∷ queue) t times made = absurd (none-some (addressed_grant c.closed times t q) made)
+released_passes_none : (c : State) (queue t : List ℕ) (times : List (List ℕ))
+    → None ≡ option_map (addressed_grant c.closed times t) (slice_get queue 0) → c.transit ≡ book_mail_passed c queue t
+released_passes_none c [] t times made = refl
+released_passes_none c (q ∷ queue) t times made = absurd (none-some (addressed_grant c.closed times t q) made)
 
 -- after p's closing event the others' timestamps are as before
 others_time : (b : State) (p r : ℕ) (u : List ℕ) → r ≢ p
@@ -148,33 +148,33 @@ others_time b p r u apart = sym (get_or-set_other b.times p r u [] apart)
 
 -- p's release of l: b is the book when the interval is closed, t the timestamp that stays with the lock
 pub record IsLeaving (old b : State) (p l : ℕ) (block : List Event) (records : List Changes) (t : List ℕ) : Type 0 where
-  pub may : MayRelease old p l block
-  pub closed : b ≡ closed_by (handed_in old block) p (Release l) records
+  pub may : AllowsRelease old p l block
+  pub closed : b ≡ book_closed_by (book_handed_in old block) p (Release l) records
   pub time : t ≡ tick (time_of old p) p
 
 -- the grant of who is next, as it is made before the interval is closed
 abbrev pub grant_before : State → ℕ → ℕ → List Changes → List ℕ → Option (ℕ × Letter)
 grant_before old p l records t =
-    option_map (addressed_grant (pushed old.closed (open_interval old p records)) old.times t)
+    option_map (addressed_grant (pushed old.closed (book_open_interval old p records)) old.times t)
     (slice_get (lock_at old.locks l).queue 0)
 
 -- p releases the lock at this time
 module _ {old b : State} {p l : ℕ} {block : List Event} {records : List Changes} {t : List ℕ}
     (leaving : IsLeaving old b p l block records t) where
   released_is : (locks : Locks) (transit : List (Option Letter))
-      → locks ≡ with_lock b.locks l (released (lock_at b.locks l) t)
-      → transit ≡ mail_passed_on b (lock_at b.locks l).queue t
-      → record b { locks = locks; transit = transit } ≡ book_released (handed_in old block) p l records
-  released_is locks transit line mail =
+      → locks ≡ with_lock b.locks l (released_lock (lock_at b.locks l) t)
+      → transit ≡ book_mail_passed b (lock_at b.locks l).queue t
+      → record b { locks = locks; transit = transit } ≡ book_released (book_handed_in old block) p l records
+  released_is locks transit lock_line mail =
       let is = leaving.closed in
       let time = leaving.time in
-      rw is (let now = rw is at line in let post = rw is at mail in cc)
+      rw is (let now = rw is at lock_line in let post = rw is at mail in cc)
 
   -- what stands of the grant when the interval is closed
-  grant_made : (o : Option (ℕ × Letter)) → o ≡ grant_before old p l records t
+  released_grant_made : (o : Option (ℕ × Letter)) → o ≡ grant_before old p l records t
       → (o ≡ option_map (addressed_grant b.closed old.times t) (slice_get (lock_at b.locks l).queue 0))
       × ((q : ℕ) → slice_get (lock_at b.locks l).queue 0 ≡ Some q → slice_index_or old.times q [] ≡ time_of b q)
-  grant_made o made =
+  released_grant_made o made =
       subst (λ (x : State).
       (o ≡ option_map (addressed_grant x.closed old.times t) (slice_get (lock_at x.locks l).queue 0))
       × ((q : ℕ) → slice_get (lock_at x.locks l).queue 0 ≡ Some q → slice_index_or old.times q [] ≡ time_of x q))
@@ -186,49 +186,49 @@ module _ {old b : State} {p l : ℕ} {block : List Event} {records : List Change
 
   -- a release whose grant is posted
   pub released_granted : (locks : Locks) (transit : List (Option Letter)) (r : ℕ) (m : Letter)
-      → locks ≡ with_lock b.locks l (released (lock_at b.locks l) t) → transit ≡ slice_set b.transit r (Some m)
+      → locks ≡ with_lock b.locks l (released_lock (lock_at b.locks l) t) → transit ≡ slice_set b.transit r (Some m)
       → Some (r, m) ≡ grant_before old p l records t
-      → record b { locks = locks; transit = transit } ≡ book_released (handed_in old block) p l records
-  released_granted locks transit r m line post made =
-      let grant = grant_made (Some (r, m)) made in
-      released_is locks transit line
-      (post ∙ passed_some b (lock_at b.locks l).queue t old.times r m grant.1 grant.0)
+      → record b { locks = locks; transit = transit } ≡ book_released (book_handed_in old block) p l records
+  released_granted locks transit r m lock_line post made =
+      let grant = released_grant_made (Some (r, m)) made in
+      released_is locks transit lock_line
+      (post ∙ released_passes_some b (lock_at b.locks l).queue t old.times r m grant.1 grant.0)
 
   -- a release that nobody waits for
-  pub released_alone : (locks : Locks) → locks ≡ with_lock b.locks l (released (lock_at b.locks l) t)
+  pub released_alone : (locks : Locks) → locks ≡ with_lock b.locks l (released_lock (lock_at b.locks l) t)
       → None ≡ grant_before old p l records t
-      → record b { locks = locks } ≡ book_released (handed_in old block) p l records
-  released_alone locks line made =
-      let grant = grant_made None made in
-      released_is locks b.transit line (passed_none b (lock_at b.locks l).queue t old.times grant.0)
+      → record b { locks = locks } ≡ book_released (book_handed_in old block) p l records
+  released_alone locks lock_line made =
+      let grant = released_grant_made None made in
+      released_is locks b.transit lock_line (released_passes_none b (lock_at b.locks l).queue t old.times grant.0)
 
-pub next_sent : (b : State) (p l : ℕ) (o : Option ℕ) → IsReleasing b p l → o ≡ slice_get (lock_at b.locks l).queue 0
-    → IfSome o (λ r. MayBeSent b.closed b.times r)
-next_sent b p l None rel is = tt
-next_sent b p l (Some r) rel is = (rel.next r (sym is)).sent
+pub releasing_sends_next : (b : State) (p l : ℕ) (o : Option ℕ) → IsReleasing b p l → o ≡ slice_get (lock_at b.locks l).queue 0
+    → IfSome o (λ r. AllowsNotices b.closed b.times r)
+releasing_sends_next b p l None rel is = tt
+releasing_sends_next b p l (Some r) rel is = (rel.next r (sym is)).sent
 
 -- a grant is for the first of the queue
-pub grant_to_whom : (c : Closings) (times : List (List ℕ)) (t queue : List ℕ) (r : ℕ) (m : Letter)
+pub released_to_whom : (c : Closings) (times : List (List ℕ)) (t queue : List ℕ) (r : ℕ) (m : Letter)
     → Some (r, m) ≡ option_map (addressed_grant c times t) (slice_get queue 0) → slice_get queue 0 ≡ Some r
-grant_to_whom c times t [] r m made = absurd (none-some (r, m) (sym made))
-grant_to_whom c times t (q ∷ queue) r m made =
+released_to_whom c times t [] r m made = absurd (none-some (r, m) (sym made))
+released_to_whom c times t (q ∷ queue) r m made =
     ap (λ (x : ℕ × Letter). Some x.0) (sym (same_Some (r, m) (addressed_grant c times t q) made))
 
 -- a grant g, made of what a release reads before its interval is closed: the interval, who is next, the timestamps
-pub record IsGrantRead (b : State) (p l : ℕ) (records : List Changes) (t : List ℕ) (g : Option (ℕ × Letter))
+pub record IsReleaseGrantRead (b : State) (p l : ℕ) (records : List Changes) (t : List ℕ) (g : Option (ℕ × Letter))
     : Type 0 where
   pub interval : ClosedInterval
   pub times : List (List ℕ)
   pub next : Option ℕ
-  pub opened : interval ≡ open_interval b p records
+  pub opened : interval ≡ book_open_interval b p records
   pub all : times ≡ b.times
   pub first : next ≡ slice_get (lock_at b.locks l).queue 0
   pub made : g ≡ option_map (addressed_grant (pushed b.closed interval) times t) next
 
 -- the grant as it was made, read off the book before the call
-pub grant_read : {b old : State} {p l : ℕ} {records : List Changes} {t : List ℕ} {g : Option (ℕ × Letter)}
-    → IsGrantRead b p l records t g → b ≡ old → g ≡ grant_before old p l records t
-grant_read {b} {old} {p} {l} {records} {t} {g} read same =
+pub release_grant_read : {b old : State} {p l : ℕ} {records : List Changes} {t : List ℕ} {g : Option (ℕ × Letter)}
+    → IsReleaseGrantRead b p l records t g → b ≡ old → g ≡ grant_before old p l records t
+release_grant_read {b} {old} {p} {l} {records} {t} {g} read same =
     let opened = read.opened in
     let all = read.all in
     let first = read.first in

@@ -7,52 +7,52 @@ use Rattle.std.proofs.lemmas.List.{length-set, get_or-set_same, get_or-set_other
 use Rattle.std.proofs.Math.Seq.{take-append_seam}
 use Rattle.journal.specs.declared.event.Event.{Event}
 use Rattle.journal.specs.declared.event.Kind.{Kind}
-use Rattle.base.specs.Places.{Has, InOrder}
+use Rattle.base.specs.InOrderOnce.{Has, InOrder}
 use Rattle.journal.specs.Sizes.{Sizes}
 use Rattle.journal.specs.Events.{count_of, interval_at, is_closing}
 use Rattle.journal.specs.Times.{ClosesAt}
-use Rattle.base.proofs.Places.{push_cases, slice_get-append_left, slice_get-last, count_by-append, count_by-within}
-use Rattle.base.proofs.Picked.{has-filter, in_order-filter}
-use Rattle.journal.proofs.Order.Places.{count_of-front, count_of-within}
+use Rattle.base.proofs.SlicesAndCounts.{push_cases, slice_get-append_left, slice_get-last, count_by-append, count_by-within}
+use Rattle.base.proofs.FilteredInOrder.{has-filter, in_order-filter}
+use Rattle.journal.proofs.Order.CountedAndNumbered.{count_of-front, count_of-within}
 use Rattle.journal.specs.declared.event.Kind.TheVariants.{Store}
-use Rattle.journal.specs.Groups.{StoresIn}
-use Rattle.journal.proofs.Intervals.Contents.{stores_in_shorter, content_closing, content_closed}
-use Rattle.journal.specs.Missing.{closed_count, IsPlaced}
+use Rattle.journal.specs.ContentsSince.{StoresInInterval}
+use Rattle.journal.proofs.Intervals.StoreContents.{stores_in_shorter, content_closing, content_closed}
+use Rattle.journal.specs.MissingWords.{closed_count, IsPlaced}
 use Rattle.journal.proofs.Missing.Placed.{placed_longer, placed_now}
 use Rattle.journal.proofs.Times.Times.{closes_shorter, interval_behind}
-use Rattle.page.specs.Changes.{Changes}
+use Rattle.page.specs.RisingChanges.{Changes}
 use Rattle.interval.specs.declared.kept_interval.KeptInterval.{KeptInterval}
-use Rattle.interval.specs.Closings.{Closings, pushed, trimmed, is_trimmed, is_news, between, sent_interval}
+use Rattle.interval.specs.Closings.{Closings, pushed, trimmed, is_trimmed, is_news, closings_between, sent_interval}
 use Rattle.base.proofs.Filters.{filter_same}
-use Rattle.journal.specs.Did.{event, did}
-use Rattle.book.specs.ClosedIntervals.{AreContents, AreFromFirst, AreClosed, DropsOnlyCovered}
+use Rattle.journal.specs.DidEvent.{event, did}
+use Rattle.book.specs.ClosedIntervals.{AreIntervalContents, AreClosedFromFirst, AreClosed, DropsOnlyCoveredIntervals}
 use Rattle.book.specs.Transitions.{lesser, least, trimmed_by}
-use Rattle.book.proofs.Parts.Doings.{count_did, count_others, count_kept}
+use Rattle.book.proofs.Parts.LastAndCounts.{count_did, count_others, count_kept}
 
 -- one more event, which closes an interval or doesn't
 closings_did : (h : List Event) (p : ℕ) (k : Kind) → closed_count (did h p k) ≡ closed_count h + cond (is_closing k) 1 0
 closings_did h p k = let sum = count_by-append (λ (e : Event). is_closing e.kind) h (event p k ∷ []) in omega arith
 
 -- the contents of a closed interval stay
-stores_before : (s : Sizes) (h es : List Event) (q k n i : ℕ) → k < count_of is_closing h q
-    → StoresIn s (h ++ es) q k n i → StoresIn s h q k n i
-stores_before s h es q k n i lt x = elim (cases_lt i (length h)) [
+interval_stores_before : (s : Sizes) (h es : List Event) (q k n i : ℕ) → k < count_of is_closing h q
+    → StoresInInterval s (h ++ es) q k n i → StoresInInterval s h q k n i
+interval_stores_before s h es q k n i lt x = elim (cases_lt i (length h)) [
   | inl less ↦ stores_in_shorter s h es q k n i less x
   | inr past ↦ (let behind = interval_behind h es q i past in let number = x.4 in absurd (omega arith))
 ]
 
-pub contents_on : (s : Sizes) (h es : List Event) (q k : ℕ) (records : List Changes) → k < count_of is_closing h q
-    → AreContents s h q k records → AreContents s (h ++ es) q k records
-contents_on s h es q k records lt x = record {
+pub interval_contents_on : (s : Sizes) (h es : List Event) (q k : ℕ) (records : List Changes) → k < count_of is_closing h q
+    → AreIntervalContents s h q k records → AreIntervalContents s (h ++ es) q k records
+interval_contents_on s h es q k records lt x = record {
   each = λ r has. content_closed s h es q k r.page r.words lt (x.each r has);
   some = x.some;
-  all = λ n i stores. x.all n i (stores_before s h es q k n i lt stores);
+  all = λ n i stores. x.all n i (interval_stores_before s h es q k n i lt stores);
   rising = x.rising;
 }
 
 -- and of the one that the event closes
 contents_closing : (s : Sizes) (h : List Event) (p : ℕ) (a : Kind) (q k : ℕ) (records : List Changes)
-    → is_closing a ≡ true → AreContents s h q k records → AreContents s (did h p a) q k records
+    → is_closing a ≡ true → AreIntervalContents s h q k records → AreIntervalContents s (did h p a) q k records
 contents_closing s h p a q k records closes x = record {
   each = λ r has. content_closing s h (event p a) q k r.page r.words closes (x.each r has);
   some = x.some;
@@ -60,7 +60,7 @@ contents_closing s h p a q k records closes x = record {
   rising = x.rising;
 }
   where
-    before : (n i : ℕ) → StoresIn s (did h p a) q k n i → StoresIn s h q k n i
+    before : (n i : ℕ) → StoresInInterval s (did h p a) q k n i → StoresInInterval s h q k n i
     before n i stores = elim (push_cases h (event p a) i (event q (Store stores.0 stores.1)) stores.2) [
       | inl old ↦ stores_in_shorter s h (event p a ∷ []) q k n i old.0 stores
       | inr new ↦ (let none : is_closing a ≡ false = ap (λ (e : Event). is_closing e.kind) new.1 in
@@ -68,9 +68,9 @@ contents_closing s h p a q k records closes x = record {
     ]
 
 -- a kept interval's number is one of a closed interval
-kept_number : (h : List Event) (k : KeptInterval) → IsPlaced h k.interval.owner k.interval.number k.place
+kept_interval_number : (h : List Event) (k : KeptInterval) → IsPlaced h k.interval.owner k.interval.number k.place
     → k.interval.number < count_of is_closing h k.interval.owner
-kept_number h k x = let within =
+kept_interval_number h k x = let within =
     count_of-within is_closing h x.at k.interval.owner x.closes.kind x.closes.does x.closes.closes in let number =
     x.number in omega arith
 
@@ -98,8 +98,8 @@ closed_quiet s h p k c quiet x = record {
   from = x.from;
   each = λ j has. placed_longer h (event p k ∷ []) j.interval.owner j.interval.number j.place (x.each j has);
   all = all;
-  contents = λ j has. contents_on s h (event p k ∷ []) j.interval.owner j.interval.number j.interval.records
-      (kept_number h j (x.each j has)) (x.contents j has);
+  contents = λ j has. interval_contents_on s h (event p k ∷ []) j.interval.owner j.interval.number j.interval.records
+      (kept_interval_number h j (x.each j has)) (x.contents j has);
   rising = x.rising;
 }
   where
@@ -117,7 +117,7 @@ closed_quiet s h p k c quiet x = record {
 -- a closing event closes its processor's interval
 pub closed_closing : (s : Sizes) (h : List Event) (p : ℕ) (k : Kind) (c : Closings) (n : ℕ) (records : List Changes)
     → is_closing k ≡ true → p < s.processors → n ≡ count_of is_closing h p → slice_index c.first p ≤ n
-    → AreContents s h p n records → AreClosed s h c
+    → AreIntervalContents s h p n records → AreClosed s h c
     → AreClosed s (did h p k) (pushed c (record { owner = p; number = n; records = records }))
 closed_closing s h p k c n records closes lt number covered stored x = record {
   count = let sum = closings_did h p k in let one = ap (λ (b : Bool). cond {A = ℕ} b 1 0) closes in let was =
@@ -193,11 +193,11 @@ closed_closing s h p k c n records closes lt number covered stored x = record {
     ]
 
     contents : (j : KeptInterval) → Has (c.kept ++ new ∷ []) j
-        → AreContents s (did h p k) j.interval.owner j.interval.number j.interval.records
+        → AreIntervalContents s (did h p k) j.interval.owner j.interval.number j.interval.records
     contents j has = elim (push_cases c.kept new has.0 j has.1) [
-      | inl old ↦ contents_on s h (event p k ∷ []) j.interval.owner j.interval.number j.interval.records
-          (kept_number h j (x.each j (has.0, old.1))) (x.contents j (has.0, old.1))
-      | inr last ↦ subst (λ (y : KeptInterval). AreContents s (did h p k)
+      | inl old ↦ interval_contents_on s h (event p k ∷ []) j.interval.owner j.interval.number j.interval.records
+          (kept_interval_number h j (x.each j (has.0, old.1))) (x.contents j (has.0, old.1))
+      | inr last ↦ subst (λ (y : KeptInterval). AreIntervalContents s (did h p k)
           y.interval.owner y.interval.number y.interval.records) last.1
           (contents_closing s h p k p n records closes stored)
     ]
@@ -224,19 +224,19 @@ closed_closing s h p k c n records closes lt number covered stored x = record {
     ]
 
 -- where nothing is news, nothing is news
-news_false : (old new : List ℕ) (k : KeptInterval) → slice_index new k.interval.owner ≤ slice_index old k.interval.owner
+interval_not_news : (old new : List ℕ) (k : KeptInterval) → slice_index new k.interval.owner ≤ slice_index old k.interval.owner
     → is_news old new k ≡ false
-news_false old new k le = false_from_ne_true (is_news old new k) (λ e. (
+interval_not_news old new k le = false_from_ne_true (is_news old new k) (λ e. (
     let parts = and_parts _ _ e in
     let from : slice_index old k.interval.owner ≤ k.interval.number = leb-true _ _ parts.0 in
     let below : k.interval.number < slice_index new k.interval.owner = ltb-true _ _ parts.1 in
     absurd (omega arith)))
 
 -- two that differ in intervals alone that aren't covered are sent the same
-pub between_same : (c : Closings) (one other new : List ℕ) (p : ℕ)
+pub intervals_between_same : (c : Closings) (one other new : List ℕ) (p : ℕ)
     → ((q : ℕ) → q ≢ p → slice_index one q ≡ slice_index other q) → slice_index new p ≤ slice_index one p
-    → slice_index new p ≤ slice_index other p → between c one new ≡ between c other new
-between_same c one other new p same here there =
+    → slice_index new p ≤ slice_index other p → closings_between c one new ≡ closings_between c other new
+intervals_between_same c one other new p same here there =
     ap (λ (ks : List KeptInterval). flat_map sent_interval ks)
     (filter_same (is_news one new) (is_news other new) c.kept (λ k has. each k))
   where
@@ -244,8 +244,8 @@ between_same c one other new p same here there =
     each k = elim (cases_eq k.interval.owner p) [
       | inl is ↦ (
           let P : List ℕ → ℕ → Type 0 = λ t q. slice_index new q ≤ slice_index t q in
-          news_false one new k (subst (P one) (sym is) here)
-          ∙ sym (news_false other new k (subst (P other) (sym is) there)))
+          interval_not_news one new k (subst (P one) (sym is) here)
+          ∙ sym (interval_not_news other new k (subst (P other) (sym is) there)))
       | inr apart ↦ ap (λ (n : ℕ). nat_le n k.interval.number && nat_lt k.interval.number
           (slice_index new k.interval.owner)) (same k.interval.owner apart)
     ]
@@ -262,27 +262,27 @@ stays_from c owner to k le from = elim (cases_eq k.interval.owner owner) [
 ]
 
 -- the first kept interval after a trim, of its owner and of others
-pub first_own : (c : Closings) (owner to : ℕ) → owner < length c.first
+pub first_interval_own : (c : Closings) (owner to : ℕ) → owner < length c.first
     → slice_index (trimmed c owner to).first owner ≡ max (slice_index c.first owner) (min to (slice_index c.next owner))
-first_own c owner to lt =
+first_interval_own c owner to lt =
     get_or-set_same c.first owner (max (slice_index c.first owner) (min to (slice_index c.next owner))) 0 lt
 
-pub first_other : (c : Closings) (owner to q : ℕ) → q ≢ owner
+pub first_interval_other : (c : Closings) (owner to q : ℕ) → q ≢ owner
     → slice_index (trimmed c owner to).first q ≡ slice_index c.first q
-first_other c owner to q isnt =
+first_interval_other c owner to q isnt =
     get_or-set_other c.first owner q (max (slice_index c.first owner) (min to (slice_index c.next owner))) 0 isnt
 
 -- a trim leaves nothing below what it says is dropped
-pub from_trimmed : (c : Closings) (owner to : ℕ) → owner < length c.first → AreFromFirst c
-    → AreFromFirst (trimmed c owner to)
-from_trimmed c owner to lt from k has =
+pub closed_from_first_trimmed : (c : Closings) (owner to : ℕ) → owner < length c.first → AreClosedFromFirst c
+    → AreClosedFromFirst (trimmed c owner to)
+closed_from_first_trimmed c owner to lt from k has =
     let was = (has-filter (λ k. not (is_trimmed owner to k)) c.kept k).0 has in
     let old = from k was.0 in
     elim (cases_eq k.interval.owner owner) [
       | inl is ↦ (
           let P : ℕ → Type 0 = λ q. slice_index (trimmed c owner to).first q ≤ k.interval.number in
           let Q : ℕ → Type 0 = λ q. slice_index c.first q ≤ k.interval.number in
-          let here = first_own c owner to lt in
+          let here = first_interval_own c owner to lt in
           let from_here = subst Q is old in
           let stays : to ≤ k.interval.number = elim (cases_lt k.interval.number to) [
             | inl less ↦ absurd
@@ -292,7 +292,7 @@ from_trimmed c owner to lt from k has =
             | inr most ↦ most
           ] in
           subst P (sym is) (omega arith))
-      | inr isnt ↦ (let same = first_other c owner to k.interval.owner isnt in omega arith)
+      | inr isnt ↦ (let same = first_interval_other c owner to k.interval.owner isnt in omega arith)
     ]
 
 -- a trim keeps what the intervals are
@@ -304,7 +304,7 @@ closed_trimmed s h c owner to lt x = record {
   next = x.next;
   first_long = length-set c.first owner (max (slice_index c.first owner) (min to (slice_index c.next owner)))
       ∙ x.first_long;
-  from = from_trimmed c owner to (subst (λ n. owner < n) (sym x.first_long) lt) x.from;
+  from = closed_from_first_trimmed c owner to (subst (λ n. owner < n) (sym x.first_long) lt) x.from;
   each = λ k has. x.each k (old k has);
   all = all;
   contents = λ k has. x.contents k (old k has);
@@ -325,7 +325,7 @@ closed_trimmed s h c owner to lt x = record {
       | inl is ↦ (
           let P : ℕ → Type 0 = λ r. slice_index (trimmed c owner to).first r ≤ interval_at h q i in
           let long = x.first_long in
-          let here = first_own c owner to (omega arith) in
+          let here = first_interval_own c owner to (omega arith) in
           let from_here = subst P is from in
           let Q : ℕ → Type 0 = λ r. slice_index c.first r ≤ interval_at h q i in
           let k = x.all q i closes (subst Q (sym is) (omega arith)) in
@@ -342,7 +342,7 @@ closed_trimmed s h c owner to lt x = record {
             k.3,
           ))
       | inr isnt ↦ (
-          let same = first_other c owner to q isnt in
+          let same = first_interval_other c owner to q isnt in
           let k = x.all q i closes (omega arith) in (
             k.0,
             stays k.0 k.1
@@ -353,18 +353,18 @@ closed_trimmed s h c owner to lt x = record {
           ))
     ]
 
-pub within_trimmed : (c : Closings) (owner to : ℕ) (times : List (List ℕ))
+pub covered_intervals_trimmed : (c : Closings) (owner to : ℕ) (times : List (List ℕ))
     → ((p : ℕ) (t : List ℕ) → slice_get times p ≡ Some t → to ≤ slice_index t owner) → owner < length c.first
-    → DropsOnlyCovered c.first times → DropsOnlyCovered (trimmed c owner to).first times
-within_trimmed c owner to times covered lt within p q t at = elim (cases_eq q owner) [
+    → DropsOnlyCoveredIntervals c.first times → DropsOnlyCoveredIntervals (trimmed c owner to).first times
+covered_intervals_trimmed c owner to times covered lt within p q t at = elim (cases_eq q owner) [
   | inl is ↦ (
       let P : ℕ → Type 0 = λ r. slice_index (trimmed c owner to).first r ≤ slice_index t r in
-      let here = first_own c owner to lt in
+      let here = first_interval_own c owner to lt in
       let one = covered p t at in
       let was = within p owner t at in
       subst P (sym is) (omega arith))
   | inr isnt ↦ (
-      let same = first_other c owner to q isnt in
+      let same = first_interval_other c owner to q isnt in
       let was = within p q t at in
       omega arith)
 ]

@@ -3,7 +3,7 @@ use Rattle.std.proofs.Common.{◌≡◌, ◌≢◌, ℕ, zero, suc, ◌<◌, inl
 use Rattle.std.proofs.lemmas.Bool.{cases_eq}
 use Rattle.std.proofs.lemmas.List.{length-set, length-replicate}
 use Rattle.std.proofs.lemmas.Option.{same_Some, slice_get-get_or}
-use Rattle.base.proofs.Sets.{slice_get-set_found, slice_get-set_other, slice_get-replicate_found}
+use Rattle.base.proofs.SliceSets.{slice_get-set_found, slice_get-set_other, slice_get-replicate_found}
 use Rattle.book.specs.Stamps.{EachAt}
 
 -- one item is written, and each other keeps what it has to be
@@ -46,13 +46,13 @@ each_replicate {A} n Q v all =
     }
 
 -- the item at a place within the list
-pub item_at : {A : Type 0} (n : ℕ) (R : ℕ → A → Type 0) (xs : List A) (i : ℕ) (d : A) → EachAt n R xs → i < n
+pub each_item_at : {A : Type 0} (n : ℕ) (R : ℕ → A → Type 0) (xs : List A) (i : ℕ) (d : A) → EachAt n R xs → i < n
     → slice_get xs i ≡ Some (slice_index_or xs i d)
-item_at n R xs i d all lt = slice_get-get_or xs i d (subst (λ m. i < m) (sym all.long) lt)
+each_item_at n R xs i d all lt = slice_get-get_or xs i d (subst (λ m. i < m) (sym all.long) lt)
 
-pub is_at : {A : Type 0} (n : ℕ) (R : ℕ → A → Type 0) (xs : List A) (i : ℕ) (d : A) → EachAt n R xs → i < n
+pub each_is_at : {A : Type 0} (n : ℕ) (R : ℕ → A → Type 0) (xs : List A) (i : ℕ) (d : A) → EachAt n R xs → i < n
     → R i (slice_index_or xs i d)
-is_at n R xs i d all lt = all.each i (slice_index_or xs i d) (item_at n R xs i d all lt)
+each_is_at n R xs i d all lt = all.each i (slice_index_or xs i d) (each_item_at n R xs i d all lt)
 
 -- what is there already is written without a change
 pub set_back : {A : Type 0} (xs : List A) (i : ℕ) (v : A) → slice_get xs i ≡ Some v → slice_set xs i v ≡ xs

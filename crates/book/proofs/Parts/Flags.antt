@@ -7,13 +7,13 @@ use Rattle.journal.specs.declared.event.Kind.TheVariants.{Set}
 use Rattle.journal.specs.Pasts.{InPast, UpToSome}
 use Rattle.journal.specs.Brings.{SomeDoes}
 use Rattle.journal.proofs.Times.Times.{time_none}
-use Rattle.journal.proofs.Order.Places.{at_last}
-use Rattle.journal.proofs.Times.Kept.{does_kept, kind_joins}
-use Rattle.journal.specs.Did.{event, did}
+use Rattle.journal.proofs.Order.CountedAndNumbered.{at_last}
+use Rattle.journal.proofs.Times.KeptArrives.{does_kept, kind_joins}
+use Rattle.journal.specs.DidEvent.{event, did}
 use Rattle.journal.specs.Sizes.{Sizes}
 use Rattle.book.specs.Stamps.{EachAt, IsStamp}
 use Rattle.book.specs.Flags.{IsFlag}
-use Rattle.book.specs.Transitions.{flag_joined}
+use Rattle.book.specs.Transitions.{book_flag_joined}
 use Rattle.book.proofs.Parts.Each.{each_kept}
 use Rattle.book.proofs.Parts.Stamps.{stamp_equal, stamp_join}
 use Rattle.book.proofs.Parts.Mail.{other_kind, stamp_kept}
@@ -38,7 +38,7 @@ flags_kept s h p k flags isnt all =
 -- a set joins its timestamp
 pub flag_set : (n : ℕ) (h : List Event) (p f : ℕ) (o : Option (List ℕ)) (t : List ℕ) → IsFlag n h f o
     → IsStamp n (did h p (Set f)) (InPast (did h p (Set f)) p) t
-    → IsFlag n (did h p (Set f)) f (Some (flag_joined o t))
+    → IsFlag n (did h p (Set f)) f (Some (book_flag_joined o t))
 flag_set n h p f None t none x = (
   (length h, (p, at_last h (event p (Set f)))),
   stamp_equal n (did h p (Set f)) (UpToSome (did h p (Set f)) (SomeDoes (did h p (Set f)) (Set f))) t

@@ -5,8 +5,8 @@ use Rattle.journal.specs.declared.event.Event.{Event}
 use Rattle.journal.specs.Log.{Log}
 use Rattle.journal.specs.Sizes.{Sizes}
 use Rattle.journal.specs.WellFormed.{WellFormed}
-use Rattle.journal.specs.Cutting.{WasCut}
-use Rattle.journal.specs.HistoryLaws.{IsOf}
+use Rattle.journal.specs.CutFaults.{WasCut}
+use Rattle.journal.specs.HistoryLaws.{HasHistorySizes}
 use Rattle.journal.proofs.Journals.History.{whole_law, history_law}
 use Rattle.book.specs.Transitions.{appended, new_book}
 use Rattle.book.specs.Told.{HoldsSome}
@@ -39,7 +39,7 @@ history_room log h room holds = record {
 }
 
 -- nor is a cut: it holds the same history
-pub history_cut : (s : Sizes) (h : List Event) (old new : Log) → IsOf s old → WellFormed s h → HoldsSome old h
+pub history_cut : (s : Sizes) (h : List Event) (old new : Log) → HasHistorySizes s old → WellFormed s h → HoldsSome old h
     → WasCut old new → HoldsSome new h
 history_cut s h old new of well holds was = record {
   taken = holds.taken ++ take was.taken old.events;

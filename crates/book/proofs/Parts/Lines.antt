@@ -6,15 +6,15 @@ use Rattle.std.proofs.lemmas.Option.{same_Some, none-some, slice_get_within}
 use Rattle.journal.specs.declared.event.Event.{Event}
 use Rattle.journal.specs.declared.event.Kind.{Kind}
 use Rattle.journal.specs.declared.event.Kind.TheVariants.{Ask, Acquire, Release}
-use Rattle.base.specs.Places.{Has}
+use Rattle.base.specs.InOrderOnce.{Has}
 use Rattle.journal.specs.WellFormed.{LastIs, Holds, MayBeGranted}
 use Rattle.journal.specs.Waits.{IsIdle}
-use Rattle.base.proofs.Places.{push_cases, slice_get-append_left, slice_get-last}
-use Rattle.journal.proofs.Order.Places.{at_within}
-use Rattle.journal.proofs.Journals.WellFormed.{last_cases, last_unique, holds_cases, holds_now}
-use Rattle.journal.specs.Did.{event, did}
+use Rattle.base.proofs.SlicesAndCounts.{push_cases, slice_get-append_left, slice_get-last}
+use Rattle.journal.proofs.Order.CountedAndNumbered.{at_within}
+use Rattle.journal.proofs.Journals.WellFormedLast.{last_cases, last_unique, holds_cases, holds_now}
+use Rattle.journal.specs.DidEvent.{event, did}
 use Rattle.book.specs.Lines.{IsLine}
-use Rattle.book.proofs.Parts.Doings.{last_on, last_own, holds_on, holds_back}
+use Rattle.book.proofs.Parts.LastAndCounts.{last_on, last_own, holds_last_on, holds_back}
 
 -- p's last event is no ask of the lock
 abbrev pub NoAsk : List Event → ℕ → ℕ → Type 0
@@ -35,7 +35,7 @@ line_kept h p k l xs ask acquire release none x = record {
   first = λ q held. x.first q (holds_back h p k q l acquire held);
   asks = λ m q at. elim (x.asks m q at) [
     | inl a ↦ inl (a.0, last_on h p k q a.0 (Ask l) (apart q a.0 a.1) a.1)
-    | inr b ↦ inr (b.0, holds_on h p k q l release b.1)
+    | inr b ↦ inr (b.0, holds_last_on h p k q l release b.1)
   ];
   order = λ m n q r i j lt at to one two. x.order m n q r i j lt at to (old q i one) (old r j two);
 }
@@ -78,7 +78,7 @@ line_asked h p l xs none free x = record { each = each; first = first; asks = as
     asks m q at = elim (push_cases xs p m q at) [
       | inl o ↦ elim (x.asks m q o.1) [
         | inl a ↦ inl (a.0, last_on h p (Ask l) q a.0 (Ask l) (apart m q o.1) a.1)
-        | inr b ↦ inr (b.0, holds_on h p (Ask l) q l (λ e. absurd cc) b.1)
+        | inr b ↦ inr (b.0, holds_last_on h p (Ask l) q l (λ e. absurd cc) b.1)
       ]
       | inr n ↦ inl (
         length h,
@@ -140,9 +140,9 @@ line_released h p l xs none held x = record {
     ]
 
 -- who may acquire the lock is first in its line
-pub first_allowed : (h : List Event) (p l i : ℕ) (xs : List ℕ) → LastIs h p i (Ask l) → MayBeGranted h i l
+pub first_in_line_allowed : (h : List Event) (p l i : ℕ) (xs : List ℕ) → LastIs h p i (Ask l) → MayBeGranted h i l
     → IsLine h l xs → slice_get xs 0 ≡ Some p
-first_allowed h p l i xs last may x = go xs x (x.each p i last)
+first_in_line_allowed h p l i xs last may x = go xs x (x.each p i last)
   where
     later : (ys : List ℕ) (y m : ℕ) → IsLine h l (y ∷ ys) → slice_get (y ∷ ys) (suc m) ≡ Some p → ⊥
     later ys y m line at = elim (line.asks 0 y refl) [
@@ -159,9 +159,9 @@ first_allowed h p l i xs last may x = go xs x (x.each p i last)
         place (suc m) at = absurd (later ys y m line at)
 
 -- who asked first may acquire a lock that nobody holds
-pub allowed_first : (h : List Event) (p l : ℕ) (xs : List ℕ) → ((q : ℕ) → ¬ Holds h q l) → slice_get xs 0 ≡ Some p
+pub allowed_first_in_line : (h : List Event) (p l : ℕ) (xs : List ℕ) → ((q : ℕ) → ¬ Holds h q l) → slice_get xs 0 ≡ Some p
     → IsLine h l xs → (i : ℕ) × LastIs h p i (Ask l) × MayBeGranted h i l
-allowed_first h p l xs free at x = elim (x.asks 0 p at) [
+allowed_first_in_line h p l xs free at x = elim (x.asks 0 p at) [
   | inl a ↦ (a.0, a.1, record { free = free; first = λ k q lt last. before a.0 a.1 k q lt last (x.each q k last) })
   | inr b ↦ absurd (free p b.1)
 ]
@@ -189,7 +189,7 @@ line_taken h p l i xs last may x = record {
 }
   where
     here : slice_get xs 0 ≡ Some p
-    here = first_allowed h p l i xs last may x
+    here = first_in_line_allowed h p l i xs last may x
 
     old : (q m : ℕ) → LastIs (did h p (Acquire l)) q m (Ask l) → (q ≢ p) × LastIs h q m (Ask l)
     old q m ask = elim (last_cases h (event p (Acquire l)) q m (Ask l) ask) [

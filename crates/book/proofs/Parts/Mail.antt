@@ -12,39 +12,39 @@ use Rattle.journal.specs.Waits.{IsIdle}
 use Rattle.journal.specs.Pasts.{UpToSome}
 use Rattle.journal.specs.Times.{IsTimeIn}
 use Rattle.journal.specs.Brings.{Brings, SomeDoes, SomeArrives}
-use Rattle.base.proofs.Places.{push_cases}
-use Rattle.journal.proofs.Order.Places.{at_within, does_same}
-use Rattle.journal.proofs.Times.Kept.{kind_kept, arrivals_others}
-use Rattle.journal.proofs.Journals.WellFormed.{last_cases, holds_cases, holds_now}
+use Rattle.base.proofs.SlicesAndCounts.{push_cases}
+use Rattle.journal.proofs.Order.CountedAndNumbered.{at_within, does_same}
+use Rattle.journal.proofs.Times.KeptArrives.{kind_kept, arrivals_others}
+use Rattle.journal.proofs.Journals.WellFormedLast.{last_cases, holds_cases, holds_now}
 use Rattle.transit.specs.Letters
 use Rattle.transit.specs.Letters.{Letter}
 use Rattle.transit.specs.Letters.Kind.{grant, departure, signal}
-use Rattle.journal.specs.Did.{event, did}
+use Rattle.journal.specs.DidEvent.{event, did}
 use Rattle.book.specs.Stamps.{IsStamp}
-use Rattle.book.specs.Mail.{Carries, LetsDo, IsPosted, IsMail}
-use Rattle.book.proofs.Parts.Doings.{last_on, last_none, holds_on, count_others, count_more, count_kept}
+use Rattle.book.specs.Mail.{MailCarries, MailLets, ComesByMail, IsMail}
+use Rattle.book.proofs.Parts.LastAndCounts.{last_on, last_none, holds_last_on, count_others, count_more, count_kept}
 
-pub lets_posted : (m : Letters.Kind) (k : Kind) → LetsDo m k → IsPosted k
-lets_posted grant (Acquire l) h = tt
-lets_posted departure Depart h = tt
-lets_posted _ _ h = absurd h
+pub mail_lets_posted : (m : Letters.Kind) (k : Kind) → MailLets m k → ComesByMail k
+mail_lets_posted grant (Acquire l) h = tt
+mail_lets_posted departure Depart h = tt
+mail_lets_posted _ _ h = absurd h
 
 -- an event of this kind may let another go on
-abbrev pub News : Kind → Kind → Type 0
-News k (Acquire l) = k ≡ Release l
-News k Depart = k ≡ Arrive
-News k _ = ⊥
+abbrev pub MailNews : Kind → Kind → Type 0
+MailNews k (Acquire l) = k ≡ Release l
+MailNews k Depart = k ≡ Arrive
+MailNews k _ = ⊥
 
-pub news_cases : (k a : Kind) → News k a ⊎ ¬ News k a
-news_cases (Release m) (Acquire l) =
+pub mail_news_cases : (k a : Kind) → MailNews k a ⊎ ¬ MailNews k a
+mail_news_cases (Release m) (Acquire l) =
     elim (cases_eq m l) [ inl is ↦ inl (ap (λ x. Release x) is) | inr isnt ↦ inr (λ e. isnt (released e)) ]
   where
     released : Release m ≡ Release l → m ≡ l
     released e = cc
-news_cases Arrive Depart = inl refl
-news_cases _ (Acquire l) = inr (λ e. absurd cc)
-news_cases _ Depart = inr (λ e. absurd cc)
-news_cases _ _ = inr (λ e. e)
+mail_news_cases Arrive Depart = inl refl
+mail_news_cases _ (Acquire l) = inr (λ e. absurd cc)
+mail_news_cases _ Depart = inr (λ e. absurd cc)
+mail_news_cases _ _ = inr (λ e. e)
 
 arrives_not : (k : Kind) → k ≢ Arrive → is_arrive k ≡ false
 arrives_not Arrive isnt = absurd (isnt refl)
@@ -66,8 +66,8 @@ stamp_kept n h p k a t isnt x =
 -- what another does
 module _ (s : Sizes) (h : List Event) (p : ℕ) (k : Kind) (may : MayFollow s h (event p k)) (r : ℕ) (isnt : r ≢ p) where
   -- what a processor is let do it stays allowed to do, whatever others do
-  pub allowed_on : (a : Kind) → IsPosted a → Allowed s h r a → Allowed s (did h p k) r a
-  allowed_on (Acquire l) posted (i, last, granted) =
+  pub mail_allowed_on : (a : Kind) → ComesByMail a → Allowed s h r a → Allowed s (did h p k) r a
+  mail_allowed_on (Acquire l) posted (i, last, granted) =
       (i, last_on h p k r i (Ask l) isnt last, record { free = free; first = first })
     where
       both : (m : ℕ) → LastIs h p m (Ask l) → MayBeGranted h m l → ⊥
@@ -92,21 +92,21 @@ module _ (s : Sizes) (h : List Event) (p : ℕ) (k : Kind) (may : MayFollow s h 
             absurd (omega (arith, own.1)))
         | inr old ↦ granted.first m q lt old.1
       ]
-  allowed_on Depart posted (i, last, all) = (
+  mail_allowed_on Depart posted (i, last, all) = (
     i,
     last_on h p k r i Arrive isnt last,
     λ q lt. (let one = all q lt in let same = count_others is_depart h p k r isnt in
         let more = count_more is_arrive h p k q in omega arith),
   )
-  allowed_on _ posted allowed = absurd posted
+  mail_allowed_on _ posted allowed = absurd posted
 
   -- nor do others change what that brings
-  brings_on : (a : Kind) (t : List ℕ) → IsPosted a → Allowed s h r a → IsStamp s.processors h (Brings h r a) t
+  mail_brings_on : (a : Kind) (t : List ℕ) → ComesByMail a → Allowed s h r a → IsStamp s.processors h (Brings h r a) t
       → IsStamp s.processors (did h p k) (Brings (did h p k) r a) t
-  brings_on (Acquire l) t posted (i, last, granted) x =
+  mail_brings_on (Acquire l) t posted (i, last, granted) x =
       stamp_kept s.processors h p k (Release l) t
       (λ e. granted.free p (subst (λ b. Allowed s h p b) e may.allowed)) x
-  brings_on Depart t posted (i, last, all) x =
+  mail_brings_on Depart t posted (i, last, all) x =
       record {
         long = x.long;
         is = subst (λ n. IsTimeIn (did h p k) (UpToSome (did h p k) (SomeArrives (did h p k) n)) (slice_index t))
@@ -114,12 +114,12 @@ module _ (s : Sizes) (h : List Event) (p : ℕ) (k : Kind) (may : MayFollow s h 
             (arrivals_others h (event p k) (count_of is_depart h r) (slice_index t)
             (λ e. (let one = all p may.processor in absurd (omega arith))) x.is);
       }
-  brings_on _ t posted allowed x = absurd posted
+  mail_brings_on _ t posted allowed x = absurd posted
 
   -- what is allowed after an event that is no news was so before
-  pub allowed_back : (a : Kind) → IsPosted a → ¬ News k a → Allowed s (did h p k) r a → Allowed s h r a
-  allowed_back (Acquire l) posted none (i, last, granted) =
-      (i, old, record { free = λ q held. granted.free q (holds_on h p k q l none held); first = first })
+  pub mail_allowed_back : (a : Kind) → ComesByMail a → ¬ MailNews k a → Allowed s (did h p k) r a → Allowed s h r a
+  mail_allowed_back (Acquire l) posted none (i, last, granted) =
+      (i, old, record { free = λ q held. granted.free q (holds_last_on h p k q l none held); first = first })
     where
       old : LastIs h r i (Ask l)
       old = elim (last_cases h (event p k) r i (Ask l) last) [ inl own ↦ absurd (isnt (sym own.0)) | inr o ↦ o.1 ]
@@ -132,7 +132,7 @@ module _ (s : Sizes) (h : List Event) (p : ℕ) (k : Kind) (may : MayFollow s h 
             granted.free p (subst (λ b. Holds (did h p b) p l) (sym acquires) (holds_now h p l)))
         | inr apart ↦ granted.first m q lt (last_on h p k q m (Ask l) apart ask)
       ]
-  allowed_back Depart posted none (i, last, all) = (
+  mail_allowed_back Depart posted none (i, last, all) = (
     i,
     old,
     λ q lt.
@@ -142,26 +142,26 @@ module _ (s : Sizes) (h : List Event) (p : ℕ) (k : Kind) (may : MayFollow s h 
     where
       old : LastIs h r i Arrive
       old = elim (last_cases h (event p k) r i Arrive last) [ inl own ↦ absurd (isnt (sym own.0)) | inr o ↦ o.1 ]
-  allowed_back _ posted none allowed = absurd posted
+  mail_allowed_back _ posted none allowed = absurd posted
 
   -- another's message stays right
-  pub mail_stays : (m : Letter) → Carries s h r m → Carries s (did h p k) r m
+  pub mail_stays : (m : Letter) → MailCarries s h r m → MailCarries s (did h p k) r m
   mail_stays m mail =
-      let posted = lets_posted m.kind mail.kind mail.lets in
+      let posted = mail_lets_posted m.kind mail.kind mail.lets in
       record {
         kind = mail.kind;
         lets = mail.lets;
-        allowed = allowed_on mail.kind posted mail.allowed;
-        time = brings_on mail.kind m.time posted mail.allowed mail.time;
+        allowed = mail_allowed_on mail.kind posted mail.allowed;
+        time = mail_brings_on mail.kind m.time posted mail.allowed mail.time;
       }
 
   -- and stays away unless the event brings news
-  pub mail_unless : (o : Option Letter) → ((a : Kind) → IsPosted a → News k a → ¬ Allowed s (did h p k) r a)
+  pub mail_unless : (o : Option Letter) → ((a : Kind) → ComesByMail a → MailNews k a → ¬ Allowed s (did h p k) r a)
       → IsMail s h r o → IsMail s (did h p k) r o
   mail_unless None never mail =
-      λ a posted allowed. elim (news_cases k a) [
+      λ a posted allowed. elim (mail_news_cases k a) [
         | inl news ↦ never a posted news allowed
-        | inr none ↦ mail a posted (allowed_back a posted none allowed)
+        | inr none ↦ mail a posted (mail_allowed_back a posted none allowed)
       ]
   mail_unless (Some m) never mail = mail_stays m mail
 
@@ -169,34 +169,34 @@ module _ (s : Sizes) (h : List Event) (p : ℕ) (k : Kind) (may : MayFollow s h 
       → IsMail s (did h p k) r o
   mail_kept o release arrive mail = mail_unless o none mail
     where
-      none : (a : Kind) → IsPosted a → News k a → ¬ Allowed s (did h p k) r a
+      none : (a : Kind) → ComesByMail a → MailNews k a → ¬ Allowed s (did h p k) r a
       none (Acquire l) posted news allowed = release l news
       none Depart posted news allowed = arrive news
       none _ posted news allowed = absurd posted
 
 -- who is idle has no message
-pub idle_allowed : (s : Sizes) (h : List Event) (p : ℕ) (a : Kind) → IsIdle h p → IsPosted a → ¬ Allowed s h p a
-idle_allowed s h p (Acquire l) idle posted allowed = absurd (cc (idle allowed.0 (Ask l) allowed.1))
-idle_allowed s h p Depart idle posted allowed = absurd (cc (idle allowed.0 Arrive allowed.1))
-idle_allowed s h p _ idle posted allowed = absurd posted
+pub idle_allowed_no_mail : (s : Sizes) (h : List Event) (p : ℕ) (a : Kind) → IsIdle h p → ComesByMail a → ¬ Allowed s h p a
+idle_allowed_no_mail s h p (Acquire l) idle posted allowed = absurd (cc (idle allowed.0 (Ask l) allowed.1))
+idle_allowed_no_mail s h p Depart idle posted allowed = absurd (cc (idle allowed.0 Arrive allowed.1))
+idle_allowed_no_mail s h p _ idle posted allowed = absurd posted
 
 -- nor has anyone who may take none
 pub no_mail : (s : Sizes) (h : List Event) (p : ℕ) (o : Option Letter)
-    → ((a : Kind) → IsPosted a → ¬ Allowed s h p a) → IsMail s h p o → None ≡ o
+    → ((a : Kind) → ComesByMail a → ¬ Allowed s h p a) → IsMail s h p o → None ≡ o
 no_mail s h p None never mail = refl
-no_mail s h p (Some m) never mail = absurd (never mail.kind (lets_posted m.kind mail.kind mail.lets) mail.allowed)
+no_mail s h p (Some m) never mail = absurd (never mail.kind (mail_lets_posted m.kind mail.kind mail.lets) mail.allowed)
 
 pub idle_mail : (s : Sizes) (h : List Event) (p : ℕ) (o : Option Letter) → IsIdle h p → IsMail s h p o → None ≡ o
-idle_mail s h p o idle mail = no_mail s h p o (λ a posted. idle_allowed s h p a idle posted) mail
+idle_mail s h p o idle mail = no_mail s h p o (λ a posted. idle_allowed_no_mail s h p a idle posted) mail
 
 -- who neither asked nor arrived last has none
-pub own_none : (s : Sizes) (h : List Event) (p : ℕ) (k : Kind) → ((l : ℕ) → k ≢ Ask l) → k ≢ Arrive
+pub own_mail_none : (s : Sizes) (h : List Event) (p : ℕ) (k : Kind) → ((l : ℕ) → k ≢ Ask l) → k ≢ Arrive
     → IsMail s (did h p k) p None
-own_none s h p k ask arrive (Acquire l) posted allowed = last_none h p k allowed.0 (Ask l) (ask l) allowed.1
-own_none s h p k ask arrive Depart posted allowed = last_none h p k allowed.0 Arrive arrive allowed.1
-own_none s h p k ask arrive _ posted allowed = absurd posted
+own_mail_none s h p k ask arrive (Acquire l) posted allowed = last_none h p k allowed.0 (Ask l) (ask l) allowed.1
+own_mail_none s h p k ask arrive Depart posted allowed = last_none h p k allowed.0 Arrive arrive allowed.1
+own_mail_none s h p k ask arrive _ posted allowed = absurd posted
 
-pub own_idle : (s : Sizes) (h : List Event) (p : ℕ) (k : Kind) (o : Option Letter) → IsIdle h p
+pub own_mail_idle : (s : Sizes) (h : List Event) (p : ℕ) (k : Kind) (o : Option Letter) → IsIdle h p
     → ((l : ℕ) → k ≢ Ask l) → k ≢ Arrive → IsMail s h p o → IsMail s (did h p k) p o
-own_idle s h p k o idle ask arrive mail =
-    subst (λ x. IsMail s (did h p k) p x) (idle_mail s h p o idle mail) (own_none s h p k ask arrive)
+own_mail_idle s h p k o idle ask arrive mail =
+    subst (λ x. IsMail s (did h p k) p x) (idle_mail s h p o idle mail) (own_mail_none s h p k ask arrive)

@@ -2,7 +2,7 @@
 use Rattle.std.proofs.Common.{◌≡◌, ◌≢◌, ℕ, ◌+◌, ◌<◌, max, inl, inr, List, [], ◌∷◌, length, replicate, Bool, cond, false, true, slice_index, subst, sym, refl, ap, ◌∙◌, arith}
 use Rattle.std.proofs.lemmas.Bool.{cases_eq}
 use Rattle.std.proofs.lemmas.List.{length-set, length-replicate, get_or-set_same, get_or-set_other}
-use Rattle.base.proofs.Sets.{index-zeros}
+use Rattle.base.proofs.SliceSets.{index-zeros}
 use Rattle.journal.specs.declared.event.Event.{Event}
 use Rattle.journal.specs.declared.event.Kind.{Kind}
 use Rattle.journal.specs.declared.event.Kind.TheVariants.{Release}
@@ -13,13 +13,13 @@ use Rattle.journal.specs.Pasts.{InPast, UpToSome}
 use Rattle.journal.specs.Times.{IsTimeIn}
 use Rattle.journal.specs.Brings.{Brings, SomeDoes}
 use Rattle.journal.proofs.Times.Times.{time_equal, time_none}
-use Rattle.journal.proofs.Times.Pushes.{others_keep, own_quiet, own_closing, own_taking}
-use Rattle.journal.proofs.Journals.Holding.{release_time}
+use Rattle.journal.proofs.Times.PushesCovered.{others_keep_time, own_time_quiet, own_time_closing, own_time_taking}
+use Rattle.journal.proofs.Journals.HoldingReleases.{release_time}
 use Rattle.vtime.specs.Times.{tick, join}
 use Rattle.vtime.proofs.Joins.{length-join, get_or-join}
-use Rattle.journal.specs.Did.{event, did}
+use Rattle.journal.specs.DidEvent.{event, did}
 use Rattle.book.specs.Stamps.{IsStamp}
-use Rattle.book.proofs.Parts.Doings.{away, count_did, count_others}
+use Rattle.book.proofs.Parts.LastAndCounts.{away, count_did, count_others}
 
 -- an entry of a tick, as a count of the one event
 tick_index : (t : List ℕ) (p : ℕ) (k : Kind) (q : ℕ) → is_closing k ≡ true → p < length t
@@ -54,7 +54,7 @@ stamp_none n h some none =
 pub stamp_others : (n : ℕ) (h : List Event) (p : ℕ) (k : Kind) (q : ℕ) (t : List ℕ) → q ≢ p
     → IsStamp n h (InPast h q) t → IsStamp n (did h p k) (InPast (did h p k) q) t
 stamp_others n h p k q t isnt x =
-    record { long = x.long; is = others_keep h (event p k ∷ []) q (slice_index t) (away p q k isnt) x.is }
+    record { long = x.long; is = others_keep_time h (event p k ∷ []) q (slice_index t) (away p q k isnt) x.is }
 
 -- a closing event ticks
 pub stamp_closing : (n : ℕ) (h : List Event) (p : ℕ) (k : Kind) (t : List ℕ) → p < n → is_taking k ≡ false
@@ -64,7 +64,7 @@ stamp_closing n h p k t lt quiet closes x =
     stamp_equal n (did h p k) (InPast (did h p k) p) (tick t p)
     (λ q. slice_index t q + count_of is_closing (event p k ∷ []) q)
     (length-set t p (slice_index t p + 1) ∙ x.long) (λ q. tick_index t p k q closes (omega arith))
-    (own_closing h (event p k) (slice_index t) quiet x.is)
+    (own_time_closing h (event p k) (slice_index t) quiet x.is)
 
 -- a joined time
 pub stamp_join : (n : ℕ) (h : List Event) (among : ℕ → Type 0) (t u : List ℕ) → length t ≡ n → length u ≡ n
@@ -79,7 +79,7 @@ pub stamp_taking : (n : ℕ) (h : List Event) (p : ℕ) (k : Kind) (t u : List �
     → IsStamp n (did h p k) (InPast (did h p k) p) (join t u)
 stamp_taking n h p k t u quiet x y =
     stamp_join n (did h p k) (InPast (did h p k) p) t u x.long y.long
-    (own_taking h (event p k) (slice_index t) (slice_index u) quiet x.is y.is)
+    (own_time_taking h (event p k) (slice_index t) (slice_index u) quiet x.is y.is)
 
 -- after a release the releaser's time is the lock's
 pub stamp_released : (s : Sizes) (h : List Event) (p l : ℕ) (t : List ℕ) → WellFormed s (did h p (Release l))
@@ -93,4 +93,4 @@ stamp_released s h p l t well x =
 pub stamp_quiet : (n : ℕ) (h : List Event) (p : ℕ) (k : Kind) (t : List ℕ) → is_taking k ≡ false
     → is_closing k ≡ false → IsStamp n h (InPast h p) t → IsStamp n (did h p k) (InPast (did h p k) p) t
 stamp_quiet n h p k t takes closes x =
-    record { long = x.long; is = own_quiet h (event p k) (slice_index t) takes closes x.is }
+    record { long = x.long; is = own_time_quiet h (event p k) (slice_index t) takes closes x.is }

@@ -3,46 +3,46 @@ use Rattle.std.proofs.Common.{◌≡◌, ℕ, zero, suc, ◌<◌, ◌≤◌, Lis
 use Rattle.journal.specs.declared.event.Event.{Event}
 use Rattle.journal.specs.Sizes.{Sizes}
 use Rattle.journal.specs.Pasts.{InPast}
-use Rattle.interval.specs.Closings.{Closings, between}
-use Rattle.interval.proofs.News.Unchanged.{between-trimmed}
+use Rattle.interval.specs.Closings.{Closings, closings_between}
+use Rattle.interval.proofs.News.BetweenUnchanged.{closings_between-trimmed}
 use Rattle.book.specs.Stamps.{EachAt, IsStamp}
-use Rattle.book.specs.ClosedIntervals.{AreClosed, DropsOnlyCovered, IsTight}
+use Rattle.book.specs.ClosedIntervals.{AreClosed, DropsOnlyCoveredIntervals, IsTight}
 use Rattle.book.specs.Transitions.{least, trimmed_by}
-use Rattle.book.proofs.Parts.Each.{item_at}
-use Rattle.book.proofs.Parts.ClosedIntervals.{closed_trimmed, within_trimmed, least_le}
-use Rattle.book.proofs.Parts.Tight.{tight_trimmed}
+use Rattle.book.proofs.Parts.Each.{each_item_at}
+use Rattle.book.proofs.Parts.ClosedIntervals.{closed_trimmed, covered_intervals_trimmed, least_le}
+use Rattle.book.proofs.Parts.Trimmed.{tight_trimmed}
 
 -- the history tells these closed intervals and these timestamps, and none is dropped that someone doesn't cover
 pub record AreTimed (s : Sizes) (h : List Event) (c : Closings) (ts : List (List ℕ)) : Type 0 where
   pub closed : AreClosed s h c
   pub times : EachAt s.processors (λ p t. IsStamp s.processors h (InPast h p) t) ts
-  pub within : DropsOnlyCovered c.first ts
+  pub within : DropsOnlyCoveredIntervals c.first ts
 
 -- what is between two timestamps, one of which is among these, is trimmed by none of them
 pub between-trimmed_by : (c : Closings) (ts : List (List ℕ)) (n p : ℕ) (own new : List ℕ) → slice_get ts p ≡ Some own
-    → between (trimmed_by c ts n) own new ≡ between c own new
+    → closings_between (trimmed_by c ts n) own new ≡ closings_between c own new
 between-trimmed_by c ts zero p own new at = refl
 between-trimmed_by c ts (suc n) p own new at =
-    between-trimmed (trimmed_by c ts n) n (least ts n) own new (least_le ts n p own at)
+    closings_between-trimmed (trimmed_by c ts n) n (least ts n) own new (least_le ts n p own at)
     ∙ between-trimmed_by c ts n p own new at
 
 module _ (s : Sizes) (h : List Event) (c : Closings) (ts : List (List ℕ)) (timed : AreTimed s h c ts) where
-  trimmed_first : (n : ℕ) → n ≤ s.processors → AreTimed s h (trimmed_by c ts n) ts
-  trimmed_first zero le = timed
-  trimmed_first (suc n) le =
-      let old = trimmed_first n (omega arith) in
+  timed_trimmed_first : (n : ℕ) → n ≤ s.processors → AreTimed s h (trimmed_by c ts n) ts
+  timed_trimmed_first zero le = timed
+  timed_trimmed_first (suc n) le =
+      let old = timed_trimmed_first n (omega arith) in
       let long = old.closed.first_long in
       record {
         closed = closed_trimmed s h (trimmed_by c ts n) n (least ts n) (omega arith) old.closed;
         times = old.times;
-        within = within_trimmed (trimmed_by c ts n) n (least ts n) ts (λ p t at. least_le ts n p t at) (omega arith)
+        within = covered_intervals_trimmed (trimmed_by c ts n) n (least ts n) ts (λ p t at. least_le ts n p t at) (omega arith)
             old.within;
       }
 
   -- no more intervals are covered than are closed
-  least_few : (q : ℕ) → q < s.processors → least ts q ≤ slice_index c.next q
-  least_few q lt =
-      let own = item_at s.processors (λ p t. IsStamp s.processors h (InPast h p) t) ts q [] timed.times lt in
+  timed_least_few : (q : ℕ) → q < s.processors → least ts q ≤ slice_index c.next q
+  timed_least_few q lt =
+      let own = each_item_at s.processors (λ p t. IsStamp s.processors h (InPast h p) t) ts q [] timed.times lt in
       let most = (timed.times.each q (slice_index_or ts q []) own).is.within q in
       let low = least_le ts q q (slice_index_or ts q []) own in
       let next = timed.closed.next q lt in
@@ -50,10 +50,10 @@ module _ (s : Sizes) (h : List Event) (c : Closings) (ts : List (List ℕ)) (tim
 
   -- all that everyone covers is trimmed
   pub timed_trimmed : AreTimed s h (trimmed_by c ts (length ts)) ts
-  timed_trimmed = let long = timed.times.long in trimmed_first (length ts) (omega arith)
+  timed_trimmed = let long = timed.times.long in timed_trimmed_first (length ts) (omega arith)
 
-  pub tight_then : 0 < s.processors → IsTight (trimmed_by c ts (length ts)).first ts
-  tight_then some =
+  pub timed_trimmed_tight : 0 < s.processors → IsTight (trimmed_by c ts (length ts)).first ts
+  timed_trimmed_tight some =
       let long = timed.times.long in
       let first_long = timed.closed.first_long in
-      tight_trimmed c ts (length ts) (omega arith) (omega arith) (λ q lt. least_few q (omega arith))
+      tight_trimmed c ts (length ts) (omega arith) (omega arith) (λ q lt. timed_least_few q (omega arith))

@@ -4,17 +4,17 @@ use Rattle.std.proofs.Math.Seq.{drop-append-add, take-append-add}
 use Rattle.std.proofs.lemmas.Bool.{cases_eq}
 use Rattle.std.proofs.lemmas.List.{length-append, length-take, length-drop, take-append-drop, take-append-le, drop-append-le}
 use Rattle.std.proofs.lemmas.Option.{same_Some, slice_get-get_or}
-use Rattle.journal.specs.Missing.{InClosingOrder}
-use Rattle.interval.specs.Intervals.{SentRecord}
-use Rattle.book.specs.News.{missing_of}
+use Rattle.journal.specs.MissingWords.{MissingInOrder}
+use Rattle.interval.specs.SentIntervals.{SentRecord}
+use Rattle.book.specs.News.{news_of_notice}
 use Rattle.cluster.specs.Copies.Backlogs.{read_from}
 use Rattle.cluster.proofs.copies.Learned.{in_order}
 
 -- what stands before a record that was closed no later was closed no later
-pub none_later : (xs : List SentRecord) (place k : ℕ) → InClosingOrder (map missing_of xs) → k ≤ length xs
+pub backlog_none_later : (xs : List SentRecord) (place k : ℕ) → MissingInOrder (map news_of_notice xs) → k ≤ length xs
     → ((x : SentRecord) → 0 < k → slice_get xs (k - 1) ≡ Some x → x.place ≤ place)
     → (i : ℕ) (y : SentRecord) → i < k → slice_get xs i ≡ Some y → y.place ≤ place
-none_later xs place k order within last i y lt at = elim (cases_eq i (k - 1)) [
+backlog_none_later xs place k order within last i y lt at = elim (cases_eq i (k - 1)) [
   | inl same ↦
       (let P : ℕ → Type 0 = λ n. slice_get xs n ≡ Some y in
       last y (omega arith) (subst P same at))
@@ -27,10 +27,10 @@ none_later xs place k order within last i y lt at = elim (cases_eq i (k - 1)) [
 ]
 
 -- what stands behind a record that was closed later was closed later
-pub all_later : (xs : List SentRecord) (place k : ℕ) (x : SentRecord) → InClosingOrder (map missing_of xs)
+pub backlog_all_later : (xs : List SentRecord) (place k : ℕ) (x : SentRecord) → MissingInOrder (map news_of_notice xs)
     → slice_get xs k ≡ Some x → place < x.place
     → (i : ℕ) (y : SentRecord) → k ≤ i → slice_get xs i ≡ Some y → place < y.place
-all_later xs place k x order there late i y le at = elim (cases_eq i k) [
+backlog_all_later xs place k x order there late i y le at = elim (cases_eq i k) [
   | inl same ↦
       (let P : ℕ → Type 0 = λ n. slice_get xs n ≡ Some y in
       let is = same_Some y x (sym (subst P same at) ∙ there) in
@@ -57,9 +57,9 @@ module _ {A : Type 0} where
       ∙ ap (λ (zs : List A). drop k ys ++ zs) (take-append-add xs ys k)
 
   -- two lists that change places are read round as before
-  read_swapped : (k : ℕ) (xs ys : List A) → k ≤ length ys
+  backlog_read_swapped : (k : ℕ) (xs ys : List A) → k ≤ length ys
       → read_from k (ys ++ xs) ≡ read_from (length xs + k) (xs ++ ys)
-  read_swapped k xs ys le = read_append k ys xs le ∙ sym (read_behind k xs ys)
+  backlog_read_swapped k xs ys le = read_append k ys xs le ∙ sym (read_behind k xs ys)
 
   -- it is as long
   pub length_read : (k : ℕ) (xs : List A) → length (read_from k xs) ≡ length xs
@@ -70,25 +70,25 @@ module _ {A : Type 0} where
       omega arith
 
   -- turned to the left
-  pub turned_left : (from to : ℕ) (xs : List A) → to < from → from ≤ length xs
+  pub backlog_turned_left : (from to : ℕ) (xs : List A) → to < from → from ≤ length xs
       → read_from to (drop (from - to) xs ++ take (from - to) xs) ≡ read_from from xs
-  turned_left from to xs lt within =
+  backlog_turned_left from to xs lt within =
       let k = from - to in
       let cut = length-drop k xs in
       let long = length-take k xs in
       let e : length (take k xs) + to ≡ from = omega arith in
-      let swapped = read_swapped to (take k xs) (drop k xs) (omega arith) in
+      let swapped = backlog_read_swapped to (take k xs) (drop k xs) (omega arith) in
       let whole = ap (λ (zs : List A). read_from (length (take k xs) + to) zs) (take-append-drop k xs) in
       swapped ∙ whole ∙ ap (λ (n : ℕ). read_from n xs) e
 
   -- turned to the right
-  pub turned_right : (from to : ℕ) (xs : List A) → from < to → to ≤ length xs
+  pub backlog_turned_right : (from to : ℕ) (xs : List A) → from < to → to ≤ length xs
       → read_from to (drop (length xs - (to - from)) xs ++ take (length xs - (to - from)) xs) ≡ read_from from xs
-  turned_right from to xs lt within =
+  backlog_turned_right from to xs lt within =
       let k = length xs - (to - from) in
       let cut = length-drop k xs in
       let long = length-take k xs in
       let e : length (drop k xs) + from ≡ to = omega arith in
       let same = ap (λ (n : ℕ). read_from n (drop k xs ++ take k xs)) e in
-      let swapped = read_swapped from (drop k xs) (take k xs) (omega arith) in
+      let swapped = backlog_read_swapped from (drop k xs) (take k xs) (omega arith) in
       sym same ∙ sym swapped ∙ ap (λ (zs : List A). read_from from zs) (take-append-drop k xs)

@@ -7,30 +7,30 @@ use Rattle.std.proofs.lemmas.List.Elements.{filter-append}
 use Rattle.std.proofs.lemmas.Option.{none-some, same_Some, get_or_from_slice_get, slice_get_within}
 use Rattle.journal.specs.declared.event.Kind.{Kind}
 use Rattle.journal.specs.declared.event.Kind.TheVariants.{Ask, Acquire, Arrive, Depart, Watch, Await}
-use Rattle.journal.specs.Did.{event, did}
+use Rattle.journal.specs.DidEvent.{event, did}
 use Rattle.journal.specs.Events.{is_closing, is_taking}
 use Rattle.journal.specs.WellFormed.{KindInRange, WellFormed}
 use Rattle.journal.specs.Waits.{awaited}
-use Rattle.journal.specs.Missing.{InClosingOrder, AreMissingNotices}
-use Rattle.journal.proofs.Journals.WellFormed.{well_formed_front}
+use Rattle.journal.specs.MissingWords.{MissingInOrder, AreMissingNotices}
+use Rattle.journal.proofs.Journals.WellFormedLast.{well_formed_front}
 use Rattle.vtime.specs.Times.{join}
-use Rattle.interval.specs.Intervals.{SentRecord}
-use Rattle.interval.specs.Closings.{between, is_of_page}
+use Rattle.interval.specs.SentIntervals.{SentRecord}
+use Rattle.interval.specs.Closings.{closings_between, is_of_page}
 use Rattle.transit.specs.Letters.{Letter}
-use Rattle.book.specs.News.{missing_in}
+use Rattle.book.specs.News.{news_of_page}
 use Rattle.book.specs.State.{State, time_of}
-use Rattle.book.specs.Brought.{message_for, sent_with, brought}
+use Rattle.book.specs.Messages.{message_for, sent_with_message, brought}
 use Rattle.book.specs.Laws.{IsMessage}
 use Rattle.book.specs.Told.{Represents}
-use Rattle.book.proofs.Keeps.Whole.{take_law, message_law, news_law, news_order_law}
-use Rattle.cluster.specs.Copies.Copies.{Copied}
+use Rattle.book.proofs.Told.Whole.{take_law, message_law, news_law, news_order_law}
+use Rattle.cluster.specs.Copies.PageReplica.{Copied}
 use Rattle.cluster.specs.Copies.Local.{Local, calls}
 use Rattle.cluster.specs.Copies.Sound.{IsSound, most_seen}
-use Rattle.cluster.specs.Copies.Steps.{handed, interval_closed, took, AreSameCopies, AreAfterNews, HaveRoom, MayLearn}
+use Rattle.cluster.specs.Copies.AfterNews.{handed, interval_closed, took_news, AreSameCopies, AreAfterNews, HaveRoomForNews, MayLearnNews}
 use Rattle.cluster.proofs.copies.HandingIn.{handed_sound}
 use Rattle.cluster.proofs.copies.Closing.{closed_sound}
-use Rattle.cluster.proofs.copies.Taking.{took_sound}
-use Rattle.cluster.proofs.copies.Waiting.{may_learn}
+use Rattle.cluster.proofs.copies.Taking.{taking_sound}
+use Rattle.cluster.proofs.copies.Waiting.{waiting_may_learn}
 
 -- the block is handed in, and then the interval closed
 pub called_sound : (m : Local) (k : Kind) → IsSound m
@@ -47,7 +47,7 @@ called_sound m k sound closes in_range well few =
 
 -- a take of one who waits adds its event to the calls
 pub calls_took : (m : Local) (k : Kind) (u : List ℕ) (copies : List Copied) → IsSound m → m.awaits ≢ None
-    → calls (took m k u copies) ≡ calls m ++ event m.number k ∷ []
+    → calls (took_news m k u copies) ≡ calls m ++ event m.number k ∷ []
 calls_took m k u copies sound waits =
     let own = eq-eqb m.number m.number refl in
     rw (sound.quiet waits, append-nil, append-nil, filter-append, own) refl
@@ -61,8 +61,8 @@ awaited_takes _ k is = absurd (none-some k is)
 
 module _ (m : Local) (sound : IsSound m) (k : Kind) (waits : m.awaits ≡ Some k) where
   -- a processor waits for what takes
-  pub waits_to_take : is_taking k ≡ true
-  waits_to_take =
+  pub called_waits_to_take : is_taking k ≡ true
+  called_waits_to_take =
       let last = sound.awaits.some k waits in
       awaited_takes last.1 k (sym (sound.awaits.last last.0 last.1 last.2) ∙ waits)
 
@@ -81,41 +81,41 @@ module _ (m : Local) (sound : IsSound m) (k : Kind) (waits : m.awaits ≡ Some k
 
       abbrev IsNews : ℕ → List ℕ → List SentRecord → Type 0
       IsNews n t sent =
-          AreMissingNotices m.sizes m.seen m.number n (slice_index t) (slice_index (join t x.time)) (missing_in n sent)
+          AreMissingNotices m.sizes m.seen m.number n (slice_index t) (slice_index (join t x.time)) (news_of_page n sent)
 
       -- what the message that has come says of a page is news of it
-      pub message_news : (n : ℕ)
+      pub called_message_news : (n : ℕ)
           → AreMissingNotices m.sizes m.seen m.number n (slice_index m.time) (slice_index (join m.time x.time))
-          (missing_in n x.notices)
-      message_news n =
+          (news_of_page n x.notices)
+      called_message_news n =
           let brought = news_law m.sizes m.seen b m.number n k x.time told sound.mine message.time in
-          let P : List ℕ → Type 0 = λ t. IsNews n t (between b.closed t x.time) in
+          let P : List ℕ → Type 0 = λ t. IsNews n t (closings_between b.closed t x.time) in
           rw (message.notices, time) (subst P time brought)
 
       -- in closing order
-      pub message_order : (n : ℕ) → InClosingOrder (missing_in n x.notices)
-      message_order n =
-          let P : List SentRecord → Type 0 = λ sent. InClosingOrder (missing_in n sent) in
+      pub called_message_order : (n : ℕ) → MissingInOrder (news_of_page n x.notices)
+      called_message_order n =
+          let P : List SentRecord → Type 0 = λ sent. MissingInOrder (news_of_page n sent) in
           subst P (sym message.notices) (news_order_law m.sizes m.seen b n (time_of b m.number) x.time told)
 
       waiting : m.awaits ≢ None
       waiting none = none-some k (sym none ∙ waits)
 
       -- what a take brings is the message's
-      brought_is : brought b m.number ≡ x.notices
-      brought_is =
+      called_brought_is : brought b m.number ≡ x.notices
+      called_brought_is =
           let kind = get_or_from_slice_get b.awaits m.number (Some k) None here in
-          ap (λ (w : Option Kind). sent_with (option_and_then (message_for b m.number) w)) kind ∙ ap sent_with come
+          ap (λ (w : Option Kind). sent_with_message (option_and_then (message_for b m.number) w)) kind ∙ ap sent_with_message come
 
       -- its copies may learn what the message brings, with as much room as the book counts
-      pub message_learned : (copies : List Copied) (counts : List ℕ) → AreSameCopies m.copies copies
-          → HaveRoom counts copies
+      pub called_message_learned : (copies : List Copied) (counts : List ℕ) → AreSameCopies m.copies copies
+          → HaveRoomForNews counts copies
           → length counts ≡ m.sizes.pages
           → EachIndex counts (λ n. slice_index counts n ≡ count_by (is_of_page n) (brought b m.number))
-          → MayLearn copies x.notices
-      message_learned copies counts same room long counted =
+          → MayLearnNews copies x.notices
+      called_message_learned copies counts same room long counted =
           let after = slice_index (join m.time x.time) in
-          may_learn m sound copies same waiting x.notices after message_news message_order fits
+          waiting_may_learn m sound copies same waiting x.notices after called_message_news called_message_order fits
         where
           fits : (n : ℕ) (c : Copied) → slice_get copies n ≡ Some c → count_by (is_of_page n) x.notices ≤ c.room
           fits n c at =
@@ -125,14 +125,14 @@ module _ (m : Local) (sound : IsSound m) (k : Kind) (waits : m.awaits ≡ Some k
               let pages = sound.copies.long in
               let is = counted n (omega arith) in
               let P : List SentRecord → Type 0 = λ sent. count_by (is_of_page n) sent ≤ c.room in
-              subst P brought_is (omega arith)
+              subst P called_brought_is (omega arith)
 
       -- it takes the message that has come for it, and what that says of each page comes to its copies
-      pub took_message : (copies : List Copied) → length (did m.seen m.number k) ≤ most_seen
+      pub called_took_message : (copies : List Copied) → length (did m.seen m.number k) ≤ most_seen
           → AreAfterNews m.copies x.notices copies
-          → IsSound (took m k x.time copies)
-      took_message copies few after =
-          took_sound m k x.time x.notices copies sound waiting waits_to_take well few message.time message_news after
+          → IsSound (took_news m k x.time copies)
+      called_took_message copies few after =
+          taking_sound m k x.time x.notices copies sound waiting called_waits_to_take well few message.time called_message_news after
         where
           well : WellFormed m.sizes (did m.seen m.number k)
           well = (take_law m.sizes m.seen b m.number k x told here come).well_formed

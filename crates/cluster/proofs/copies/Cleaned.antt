@@ -4,12 +4,12 @@ use Rattle.std.proofs.lemmas.Bool.{cases_lt, cases_eq}
 use Rattle.std.proofs.lemmas.List.{map-set, map-id}
 use Rattle.std.specs.Option.{option_map}
 use Rattle.std.proofs.lemmas.Option.{slice_get-map, slice_get_within}
-use Rattle.base.proofs.Picked.{map_same}
-use Rattle.base.proofs.Sets.{same_places, slice_get-set_same, slice_get-set_found, slice_get-set_other}
+use Rattle.base.proofs.FilteredInOrder.{map_same}
+use Rattle.base.proofs.SliceSets.{same_places, slice_get-set_same, slice_get-set_found, slice_get-set_other}
 use Rattle.page.specs.Contents.{IsClean}
-use Rattle.cluster.specs.Copies.Copies.{Copied}
-use Rattle.cluster.specs.Copies.Records.{IsFirstMark, HasNoMark, DirtyAreMarked}
-use Rattle.cluster.specs.Copies.Steps.{cleaned}
+use Rattle.cluster.specs.Copies.PageReplica.{Copied}
+use Rattle.cluster.specs.Copies.MarksAndHarvests.{IsFirstMark, HasNoMark, DirtyAreMarked}
+use Rattle.cluster.specs.Copies.AfterNews.{cleaned}
 
 -- a clean copy stays as it is
 cleaned_same : (c : Copied) → IsClean c.page → cleaned c ≡ c

@@ -2,21 +2,21 @@
 use Rattle.std.proofs.Common.{ℕ, ◌≡◌, ◌≤◌, true, false, Some, List, [], map, replicate, length, slice_get, refl, sym, ap, subst, subst₂, ◌∙◌}
 use Rattle.std.proofs.lemmas.List.{length-map}
 use Rattle.journal.specs.declared.event.Kind.{Kind}
-use Rattle.journal.specs.Did.{did}
+use Rattle.journal.specs.DidEvent.{did}
 use Rattle.journal.specs.Events.{is_closing}
 use Rattle.journal.specs.WellFormed.{KindInRange, WellFormed}
-use Rattle.journal.proofs.Copies.Pages.{answers_start}
+use Rattle.journal.proofs.CopyOfPage.ValidAndStale.{answers_start}
 use Rattle.journal.proofs.Missing.Counted.{block_counts_start}
-use Rattle.turn.proofs.Lists.{at_unmap}
+use Rattle.turn.proofs.ListItems.{item_of_unmap}
 use Rattle.page.specs.Contents.{IsClean}
-use Rattle.book.proofs.Parts.Doings.{awaited_now}
+use Rattle.book.proofs.Parts.LastAndCounts.{awaited_last_now}
 use Rattle.book.proofs.Parts.Stamps.{stamp_closing}
-use Rattle.cluster.specs.Copies.Copies.{Copied, IsReplica}
+use Rattle.cluster.specs.Copies.PageReplica.{Copied, IsReplica}
 use Rattle.cluster.specs.Copies.Local.{Local}
 use Rattle.cluster.specs.Copies.Sound.{IsSound, most_seen}
-use Rattle.cluster.specs.Copies.Steps.{cleaned, interval_closed}
+use Rattle.cluster.specs.Copies.AfterNews.{cleaned, interval_closed}
 use Rattle.cluster.proofs.copies.Replicas.{closing_takes, replica_closed}
-use Rattle.cluster.proofs.copies.Locks.{held_now}
+use Rattle.cluster.proofs.copies.Locks.{locks_held_now}
 use Rattle.cluster.proofs.copies.HandingIn.{copied_words}
 
 -- a processor that closed its interval, with no open block, is as sound as it was
@@ -42,8 +42,8 @@ closed_sound m k sound empty closes in_range well few = record {
   copies = record { long = length-map m.copies cleaned ∙ sound.copies.long; each = copies };
   marks = refl;
   clean = clean;
-  held = held_now m.sizes.locks m.seen m.number k m.held sound.held;
-  awaits = awaited_now m.seen m.number k;
+  held = locks_held_now m.sizes.locks m.seen m.number k m.held sound.held;
+  awaits = awaited_last_now m.seen m.number k;
   quiet = λ _. empty;
   unstored = λ _. refl;
 }
@@ -54,7 +54,7 @@ closed_sound m k sound empty closes in_range well few = record {
     copies : (n : ℕ) (d : Copied) → slice_get (map cleaned m.copies) n ≡ Some d
         → IsReplica m.sizes (did m.seen m.number k) m.block m.number n (bases n) d
     copies n d at =
-        let old = at_unmap cleaned m.copies n d at in
+        let old = item_of_unmap cleaned m.copies n d at in
         let c = old.0 in
         let was = rw empty at (sound.copies.each n c old.1) in
         let now = replica_closed m.sizes m.seen m.number n k (sound.bases n) c closes was in
@@ -65,5 +65,5 @@ closed_sound m k sound empty closes in_range well few = record {
         → slice_get (replicate 64 false) n ≡ Some false
         → IsClean d.page
     clean n d at _ =
-        let old = at_unmap cleaned m.copies n d at in
+        let old = item_of_unmap cleaned m.copies n d at in
         subst (λ (x : Copied). IsClean x.page) old.2 refl

@@ -4,34 +4,34 @@ use Rattle.journal.specs.declared.event.Event.{Event}
 use Rattle.journal.specs.declared.event.Kind.{Kind}
 use Rattle.journal.specs.Events.{At}
 use Rattle.journal.specs.WellFormed.{WellFormed, Holds}
-use Rattle.journal.proofs.Journals.WellFormed.{last_longer, last_shorter}
-use Rattle.journal.proofs.Journals.Holders.{holds_others}
-use Rattle.journal.proofs.Times.Pushes.{others_keep}
-use Rattle.journal.proofs.Copies.OpenBlocks.{answers_others}
+use Rattle.journal.proofs.Journals.WellFormedLast.{last_longer, last_shorter}
+use Rattle.journal.proofs.Journals.HoldsOfOthers.{holds_others}
+use Rattle.journal.proofs.Times.PushesCovered.{others_keep_time}
+use Rattle.journal.proofs.CopyOfPage.BlockAnswers.{answers_others}
 use Rattle.journal.proofs.Missing.Counted.{block_counts_others}
 use Rattle.book.specs.Stamps.{IsAwaited}
 use Rattle.cluster.specs.Copies.Local.{Local}
 use Rattle.cluster.specs.Copies.Sound.{IsSound, most_seen}
-use Rattle.cluster.specs.Copies.Steps.{found}
+use Rattle.cluster.specs.Copies.AfterNews.{found}
 use Rattle.cluster.proofs.copies.Replicas.{replica_others}
 
 -- others' events leave what a processor waits for
-pub awaited_others : (h rest : List Event) (p : ℕ) (w : Option Kind)
+pub entered_awaited_others : (h rest : List Event) (p : ℕ) (w : Option Kind)
     → ((k : ℕ) (e : Event) → At rest k e → e.processor ≢ p)
     → IsAwaited h p w
     → IsAwaited (h ++ rest) p w
-awaited_others h rest p w away x = record {
+entered_awaited_others h rest p w away x = record {
   last = λ i a last. x.last i a (last_shorter h rest p i a away last);
   some = λ k is. let s = x.some k is in (s.0, s.1, last_longer h rest p s.0 s.1 away s.2);
 }
 
 -- a processor that finds the journal gone on by others' events is as sound as it was
-pub found_sound : (m : Local) (rest : List Event) → IsSound m
+pub entered_found_sound : (m : Local) (rest : List Event) → IsSound m
     → ((k : ℕ) (e : Event) → At rest k e → e.processor ≢ m.number)
     → WellFormed m.sizes (m.seen ++ rest)
     → length (m.seen ++ rest) ≤ most_seen
     → IsSound (found m rest)
-found_sound m rest sound away well few = record {
+entered_found_sound m rest sound away well few = record {
   sizes = sound.sizes;
   mine = sound.mine;
   few = few;
@@ -40,7 +40,7 @@ found_sound m rest sound away well few = record {
   short = sound.short;
   time = record {
     long = sound.time.long;
-    is = others_keep m.seen rest m.number (slice_index m.time) away sound.time.is;
+    is = others_keep_time m.seen rest m.number (slice_index m.time) away sound.time.is;
   };
   bases = sound.bases;
   answers = answers_others m.sizes m.seen rest m.block m.number sound.bases away sound.answers;
@@ -53,7 +53,7 @@ found_sound m rest sound away well few = record {
   marks = sound.marks;
   clean = sound.clean;
   held = record { long = sound.held.long; each = held };
-  awaits = awaited_others m.seen rest m.number m.awaits away sound.awaits;
+  awaits = entered_awaited_others m.seen rest m.number m.awaits away sound.awaits;
   quiet = sound.quiet;
   unstored = sound.unstored;
 }

@@ -8,7 +8,7 @@ use Rattle.std.proofs.lemmas.Nat.Bits.{bit_at-trailing_zeros, bit_at_above, bit_
 use Rattle.std.proofs.lemmas.Option.{slice_get-get_or}
 use Rattle.page.specs.Marks.{marks_of}
 use Rattle.page.proofs.Marks.{length-marks_of, get_or-marks_of}
-use Rattle.cluster.specs.Copies.Records.{IsFirstMark, HasNoMark}
+use Rattle.cluster.specs.Copies.MarksAndHarvests.{IsFirstMark, HasNoMark}
 
 -- the mark of a number is its bit
 pub mark_at : (word n : ℕ) → n < 64 → slice_get (marks_of 64 word) n ≡ Some (bit_at word n == 1)

@@ -4,22 +4,22 @@ use Rattle.std.proofs.lemmas.Option.{none-some}
 use Rattle.journal.specs.declared.event.Event.{Event}
 use Rattle.journal.specs.declared.event.Kind.{Kind}
 use Rattle.journal.specs.declared.event.Kind.TheVariants.{Acquire, Release}
-use Rattle.journal.specs.Did.{event}
+use Rattle.journal.specs.DidEvent.{event}
 use Rattle.journal.specs.Events.{At}
 use Rattle.journal.specs.WellFormed.{Does, WellFormed, Holds}
 use Rattle.journal.specs.Waits.{IsIdle}
 use Rattle.journal.specs.Pasts.{InPast}
 use Rattle.journal.specs.Blocks.{IsBlock}
-use Rattle.journal.proofs.Journals.Ready.{IsPlainAt, plain_block}
-use Rattle.journal.proofs.Journals.Holders.{holds_over, holds_before}
+use Rattle.journal.proofs.Journals.ReadyIdleWaits.{IsPlainAt, plain_block}
+use Rattle.journal.proofs.Journals.HoldsOfOthers.{holds_over, holds_before}
 use Rattle.journal.proofs.Times.Blocks.{block_time}
-use Rattle.journal.proofs.Copies.Pages.{answers_start}
+use Rattle.journal.proofs.CopyOfPage.ValidAndStale.{answers_start}
 use Rattle.journal.proofs.Missing.Counted.{block_counts_start}
 use Rattle.book.specs.Stamps.{IsStamp, IsAwaited}
-use Rattle.cluster.specs.Copies.Copies.{Copied, IsReplica}
+use Rattle.cluster.specs.Copies.PageReplica.{Copied, IsReplica}
 use Rattle.cluster.specs.Copies.Local.{Local}
 use Rattle.cluster.specs.Copies.Sound.{IsSound, most_seen}
-use Rattle.cluster.specs.Copies.Steps.{handed}
+use Rattle.cluster.specs.Copies.AfterNews.{handed}
 use Rattle.cluster.proofs.copies.Replicas.{replica_handed}
 
 -- the words of the copy, if there is one
@@ -33,8 +33,8 @@ module _ (m : Local) (sound : IsSound m) where
   is_block k e at = let inner = sound.inner k e at in (inner.mine, inner.takes)
 
   -- so it leaves the timestamp
-  block_keeps_time : IsStamp m.sizes.processors (m.seen ++ m.block) (InPast (m.seen ++ m.block) m.number) m.time
-  block_keeps_time = record {
+  handed_keeps_time : IsStamp m.sizes.processors (m.seen ++ m.block) (InPast (m.seen ++ m.block) m.number) m.time
+  handed_keeps_time = record {
     long = sound.time.long;
     is =
         let closes = λ (k : ℕ) (e : Event) (at : At m.block k e). (sound.inner k e at).closes in
@@ -42,9 +42,9 @@ module _ (m : Local) (sound : IsSound m) where
   }
 
   -- which locks are held
-  block_keeps_held : (l : ℕ) (b : Bool) → slice_get m.held l ≡ Some b
+  handed_keeps_held : (l : ℕ) (b : Bool) → slice_get m.held l ≡ Some b
       → (b ≡ true) ↔ Holds (m.seen ++ m.block) m.number l
-  block_keeps_held l b at =
+  handed_keeps_held l b at =
       let old = sound.held.each l b at in (
         (λ is. holds_over m.seen m.block m.number l release (old.0 is)),
         (λ holds. old.1 (holds_before m.seen m.block m.number l acquire holds)),
@@ -57,8 +57,8 @@ module _ (m : Local) (sound : IsSound m) where
       acquire k does = true≢false (sound.inner k (event m.number (Acquire l)) does).takes
 
   -- and what is awaited
-  block_keeps_awaits : IsAwaited (m.seen ++ m.block) m.number m.awaits
-  block_keeps_awaits = go m.awaits refl
+  handed_keeps_awaits : IsAwaited (m.seen ++ m.block) m.number m.awaits
+  handed_keeps_awaits = go m.awaits refl
     where
       go : (o : Option Kind) → m.awaits ≡ o → IsAwaited (m.seen ++ m.block) m.number o
       go None none =
@@ -88,15 +88,15 @@ module _ (m : Local) (sound : IsSound m) where
     well_formed = well;
     inner = λ k e at. absurd (none-some e at);
     short = omega arith;
-    time = block_keeps_time;
+    time = handed_keeps_time;
     bases = bases;
     answers = answers_start m.sizes (m.seen ++ m.block) m.number bases;
     counts = block_counts_start m.sizes (m.seen ++ m.block) m.number;
     copies = record { long = sound.copies.long; each = copies };
     marks = sound.marks;
     clean = sound.clean;
-    held = record { long = sound.held.long; each = block_keeps_held };
-    awaits = block_keeps_awaits;
+    held = record { long = sound.held.long; each = handed_keeps_held };
+    awaits = handed_keeps_awaits;
     quiet = λ waits. refl;
     unstored = sound.unstored;
   }

@@ -3,41 +3,41 @@ use Rattle.std.proofs.Common.{ℕ, zero, suc, ◌≡◌, ◌≢◌, ◌<◌, ◌
 use Rattle.std.specs.Option.{option_map}
 use Rattle.std.proofs.lemmas.List.{length-take, take-append-drop}
 use Rattle.std.proofs.lemmas.Option.{slice_get-map}
-use Rattle.journal.specs.Missing.{Missing, InClosingOrder}
-use Rattle.base.specs.Places.{Has, InOrder}
+use Rattle.journal.specs.MissingWords.{Missing, MissingInOrder}
+use Rattle.base.specs.InOrderOnce.{Has, InOrder}
 use Rattle.base.proofs.Joined.{has-nil, has-cons, has-append, in_order-append, in_order-cons, in_order-map, in_order_single, in_order_tail}
-use Rattle.base.proofs.Places.{slice_get-append_right, slice_get-from_take, slice_get-take_within}
-use Rattle.interval.specs.Intervals.{SentRecord}
-use Rattle.book.specs.News.{missing_of}
+use Rattle.base.proofs.SlicesAndCounts.{slice_get-append_right, slice_get-from_take, slice_get-take_within}
+use Rattle.interval.specs.SentIntervals.{SentRecord}
+use Rattle.book.specs.News.{news_of_notice}
 use Rattle.page.specs.Contents.{Contents}
 use Rattle.page.specs.declared.page.Access.TheVariants.{Invalid}
-use Rattle.cluster.specs.Copies.Backlogs.{IsPlaceAmong}
-use Rattle.cluster.specs.Copies.Copies.{Copied}
-use Rattle.cluster.specs.Copies.Steps.{IsAfterNews, MayLack}
+use Rattle.cluster.specs.Copies.Backlogs.{IsPlaceInBacklog}
+use Rattle.cluster.specs.Copies.PageReplica.{Copied}
+use Rattle.cluster.specs.Copies.AfterNews.{IsAfterNews, MayLackNews}
 
 -- one interval was closed before the other
-abbrev pub IsBefore : SentRecord → SentRecord → Type 0
-IsBefore a b = a.place < b.place
+abbrev pub IsLearnedBefore : SentRecord → SentRecord → Type 0
+IsLearnedBefore a b = a.place < b.place
 
 -- closing order, of the records themselves
-pub in_order : (xs : List SentRecord) → InClosingOrder (map missing_of xs) → InOrder IsBefore xs
-in_order xs order x y a b lt at bt = order x y (missing_of a) (missing_of b) lt (there x a at) (there y b bt)
+pub in_order : (xs : List SentRecord) → MissingInOrder (map news_of_notice xs) → InOrder IsLearnedBefore xs
+in_order xs order x y a b lt at bt = order x y (news_of_notice a) (news_of_notice b) lt (there x a at) (there y b bt)
   where
-    there : (k : ℕ) (r : SentRecord) → slice_get xs k ≡ Some r → slice_get (map missing_of xs) k ≡ Some (missing_of r)
-    there k r is = slice_get-map missing_of xs k ∙ ap (option_map missing_of) is
+    there : (k : ℕ) (r : SentRecord) → slice_get xs k ≡ Some r → slice_get (map news_of_notice xs) k ≡ Some (news_of_notice r)
+    there k r is = slice_get-map news_of_notice xs k ∙ ap (option_map news_of_notice) is
 
 -- and back
-pub closing_order : (xs : List SentRecord) → InOrder IsBefore xs → InClosingOrder (map missing_of xs)
-closing_order xs = in_order-map (λ (a b : Missing). a.place < b.place) missing_of xs
+pub closing_order : (xs : List SentRecord) → InOrder IsLearnedBefore xs → MissingInOrder (map news_of_notice xs)
+closing_order xs = in_order-map (λ (a b : Missing). a.place < b.place) news_of_notice xs
 
-module _ (xs : List SentRecord) (x : SentRecord) (k : ℕ) (is : IsPlaceAmong xs x.place k) where
+module _ (xs : List SentRecord) (x : SentRecord) (k : ℕ) (is : IsPlaceInBacklog xs x.place k) where
   -- the list with the record at its place
   abbrev inserted : List SentRecord
   inserted = take k xs ++ x ∷ drop k xs
 
   -- it has the record, and what it had
-  pub inserted_has : (y : SentRecord) → Has (take k xs ++ x ∷ drop k xs) y ↔ (Has xs y ⊎ Has (x ∷ []) y)
-  inserted_has y = (there, back)
+  pub learned_inserted_has : (y : SentRecord) → Has (take k xs ++ x ∷ drop k xs) y ↔ (Has xs y ⊎ Has (x ∷ []) y)
+  learned_inserted_has y = (there, back)
     where
       old : Has xs y ↔ (Has (take k xs) y ⊎ Has (drop k xs) y)
       old =
@@ -76,22 +76,22 @@ module _ (xs : List SentRecord) (x : SentRecord) (k : ℕ) (is : IsPlaceAmong xs
       sym (subst Q (take-append-drop k xs) here)
 
   -- and it is in closing order, where its interval was not in the list
-  pub inserted_order : InClosingOrder (map missing_of xs) → ((y : SentRecord) → Has xs y → y.place ≢ x.place)
-      → InClosingOrder (map missing_of (take k xs ++ x ∷ drop k xs))
-  inserted_order closed apart =
-      closing_order inserted (in_order-append IsBefore (take k xs) (x ∷ drop k xs) front rest across)
+  pub learned_inserted_order : MissingInOrder (map news_of_notice xs) → ((y : SentRecord) → Has xs y → y.place ≢ x.place)
+      → MissingInOrder (map news_of_notice (take k xs ++ x ∷ drop k xs))
+  learned_inserted_order closed apart =
+      closing_order inserted (in_order-append IsLearnedBefore (take k xs) (x ∷ drop k xs) front rest across)
     where
-      order : InOrder IsBefore xs
+      order : InOrder IsLearnedBefore xs
       order = in_order xs closed
 
       behind : (b : SentRecord) → Has (drop k xs) b → x.place < b.place
       behind b has = is.behind (k + has.0) b (omega arith) (sym (at_dropped has.0) ∙ has.1)
 
-      front : InOrder IsBefore (take k xs)
+      front : InOrder IsLearnedBefore (take k xs)
       front i j a b lt at bt = order i j a b lt (slice_get-from_take xs k i a at) (slice_get-from_take xs k j b bt)
 
-      rest : InOrder IsBefore (x ∷ drop k xs)
-      rest = in_order-cons IsBefore x (drop k xs) behind (λ i j a b lt at bt.
+      rest : InOrder IsLearnedBefore (x ∷ drop k xs)
+      rest = in_order-cons IsLearnedBefore x (drop k xs) behind (λ i j a b lt at bt.
           order (k + i) (k + j) a b (omega arith) (sym (at_dropped i) ∙ at) (sym (at_dropped j) ∙ bt))
 
       across : (a b : SentRecord) → Has (take k xs) a → Has (x ∷ drop k xs) b → a.place < b.place
@@ -111,22 +111,22 @@ module _ (xs : List SentRecord) (x : SentRecord) (k : ℕ) (is : IsPlaceAmong xs
               omega arith
 
 -- a copy that learns of one record
-pub added_news : (c d : Copied) (x : SentRecord) (k : ℕ) → MayLack c (x ∷ []) → IsPlaceAmong c.missing x.place k
+pub learned_news : (c d : Copied) (x : SentRecord) (k : ℕ) → MayLackNews c (x ∷ []) → IsPlaceInBacklog c.missing x.place k
     → d.page ≡ record c.page { access = Invalid }
     → d.missing ≡ take k c.missing ++ x ∷ drop k c.missing
     → IsAfterNews c (x ∷ []) d
-added_news c d x k may is page missing = record {
+learned_news c d x k may is page missing = record {
   none = λ none. absurd (cc);
   page = λ _. page;
-  lacks = rw missing (inserted_has c.missing x k is);
-  order = rw missing (inserted_order c.missing x k is may.order (λ y has. may.apart y x has (zero, refl)));
+  lacks = rw missing (learned_inserted_has c.missing x k is);
+  order = rw missing (learned_inserted_order c.missing x k is may.order (λ y has. may.apart y x has (zero, refl)));
 }
 
 -- what a copy learned, and then one record more
-pub added_more : (c d e : Copied) (news : List SentRecord) (x : SentRecord) → IsAfterNews c news d
+pub learned_more : (c d e : Copied) (news : List SentRecord) (x : SentRecord) → IsAfterNews c news d
     → IsAfterNews d (x ∷ []) e
     → IsAfterNews c (news ++ x ∷ []) e
-added_more c d e news x before now = record {
+learned_more c d e news x before now = record {
   none = λ none. absurd (some news none);
   page = λ _. now.page (λ none. cc) ∙ closed news before;
   lacks = λ y. (there y, back y);
@@ -160,14 +160,14 @@ added_more c d e news x before now = record {
     ]
 
 -- a copy that learned of the first of these records may learn of the rest
-pub rest_may : (c d : Copied) (x : SentRecord) (xs : List SentRecord) → MayLack c (x ∷ xs) → IsAfterNews c (x ∷ []) d
+pub may_learn_rest : (c d : Copied) (x : SentRecord) (xs : List SentRecord) → MayLackNews c (x ∷ xs) → IsAfterNews c (x ∷ []) d
     → d.room + 1 ≡ c.room
-    → MayLack d xs
-rest_may c d x xs may is room = record {
+    → MayLackNews d xs
+may_learn_rest c d x xs may is room = record {
   room = let all = may.room in omega arith;
   clean = λ _. rw (is.page (λ none. cc)) (may.clean (λ none. cc));
   order = is.order;
-  news_order = closing_order xs (in_order_tail IsBefore x xs order);
+  news_order = closing_order xs (in_order_tail IsLearnedBefore x xs order);
   apart = λ y z has new. elim ((is.lacks y).0 has) [
     | inl old ↦ may.apart y z old ((has-cons x xs z).1 (inr new))
     | inr first ↦
@@ -182,16 +182,16 @@ rest_may c d x xs may is room = record {
   ];
 }
   where
-    order : InOrder IsBefore (x ∷ xs)
+    order : InOrder IsLearnedBefore (x ∷ xs)
     order = in_order (x ∷ xs) may.news_order
 
 -- a record may be learned where it and others may
-pub first_may : (c : Copied) (x : SentRecord) (xs : List SentRecord) → MayLack c (x ∷ xs) → MayLack c (x ∷ [])
-first_may c x xs may = record {
+pub may_learn_first : (c : Copied) (x : SentRecord) (xs : List SentRecord) → MayLackNews c (x ∷ xs) → MayLackNews c (x ∷ [])
+may_learn_first c x xs may = record {
   room = let all = may.room in omega arith;
   clean = λ _. may.clean (λ none. cc);
   order = may.order;
-  news_order = in_order_single (λ (a b : Missing). a.place < b.place) (missing_of x);
+  news_order = in_order_single (λ (a b : Missing). a.place < b.place) (news_of_notice x);
   apart = λ y z has new. elim ((has-cons x [] z).0 new) [
     | inl same ↦ may.apart y z has (zero, ap (λ (r : SentRecord). Some r) same)
     | inr none ↦ absurd (has-nil z none)

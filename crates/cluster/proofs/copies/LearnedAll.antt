@@ -5,12 +5,12 @@ use Rattle.std.proofs.lemmas.List.{length-set}
 use Rattle.std.proofs.lemmas.List.Elements.{filter-append}
 use Rattle.std.proofs.lemmas.Option.{same_Some}
 use Rattle.base.proofs.Joined.{has-nil, has-cons}
-use Rattle.base.proofs.Sets.{slice_get-set_found, slice_get-set_other}
-use Rattle.interval.specs.Intervals.{SentRecord}
+use Rattle.base.proofs.SliceSets.{slice_get-set_found, slice_get-set_other}
+use Rattle.interval.specs.SentIntervals.{SentRecord}
 use Rattle.interval.specs.Closings.{is_of_page}
-use Rattle.cluster.specs.Copies.Copies.{Copied}
-use Rattle.cluster.specs.Copies.Steps.{IsAfterNews, AreAfterNews, MayLack, MayLearn}
-use Rattle.cluster.proofs.copies.Learned.{added_more, rest_may, first_may}
+use Rattle.cluster.specs.Copies.PageReplica.{Copied}
+use Rattle.cluster.specs.Copies.AfterNews.{IsAfterNews, AreAfterNews, MayLackNews, MayLearnNews}
+use Rattle.cluster.proofs.copies.Learned.{learned_more, may_learn_rest, may_learn_first}
 
 filter_yes : {A : Type 0} (p : A → Bool) (x : A) (xs : List A) → p x ≡ true → filter p (x ∷ xs) ≡ x ∷ filter p xs
 filter_yes p x xs = cond-true (p x) (x ∷ filter p xs) (filter p xs)
@@ -18,26 +18,26 @@ filter_yes p x xs = cond-true (p x) (x ∷ filter p xs) (filter p xs)
 filter_no : {A : Type 0} (p : A → Bool) (x : A) (xs : List A) → p x ≡ false → filter p (x ∷ xs) ≡ filter p xs
 filter_no p x xs = cond-false (p x) (x ∷ filter p xs) (filter p xs)
 
-module _ (copies : List Copied) (x : SentRecord) (xs : List SentRecord) (may : MayLearn copies (x ∷ xs)) where
+module _ (copies : List Copied) (x : SentRecord) (xs : List SentRecord) (may : MayLearnNews copies (x ∷ xs)) where
   -- the record's page has a copy
-  pub page_within : x.notice.page < length copies
-  page_within = may.in_range x (zero, refl)
+  pub learned_page_within : x.notice.page < length copies
+  learned_page_within = may.in_range x (zero, refl)
 
   module _ (c : Copied) (at : slice_get copies x.notice.page ≡ Some c) where
-    mine : MayLack c (x ∷ filter (is_of_page x.notice.page) xs)
+    mine : MayLackNews c (x ∷ filter (is_of_page x.notice.page) xs)
     mine =
-        let P : List SentRecord → Type 0 = λ ys. MayLack c ys in
+        let P : List SentRecord → Type 0 = λ ys. MayLackNews c ys in
         let here = eq-eqb x.notice.page x.notice.page refl in
         subst P (filter_yes (is_of_page x.notice.page) x xs here) (may.each x.notice.page c at)
 
     -- and that may learn of it
-    pub may_first : MayLack c (x ∷ [])
-    may_first = first_may c x (filter (is_of_page x.notice.page) xs) mine
+    pub may_learn_one : MayLackNews c (x ∷ [])
+    may_learn_one = may_learn_first c x (filter (is_of_page x.notice.page) xs) mine
 
     module _ (d : Copied) (is : IsAfterNews c (x ∷ []) d) (room : d.room + 1 ≡ c.room) where
       -- then the copies may learn of the rest
-      pub may_rest : MayLearn (slice_set copies x.notice.page d) xs
-      may_rest = record {
+      pub may_learn_others : MayLearnNews (slice_set copies x.notice.page d) xs
+      may_learn_others = record {
         in_range = λ y has.
             let long = length-set copies x.notice.page d in
             let inside = may.in_range y ((has-cons x xs y).1 (inr has)) in
@@ -46,24 +46,24 @@ module _ (copies : List Copied) (x : SentRecord) (xs : List SentRecord) (may : M
       }
         where
           each : (n : ℕ) (e : Copied) → slice_get (slice_set copies x.notice.page d) n ≡ Some e
-              → MayLack e (filter (is_of_page n) xs)
+              → MayLackNews e (filter (is_of_page n) xs)
           each n e there = elim (cases_eq n x.notice.page) [
             | inl same ↦
                 (let P : ℕ → Type 0 = λ k. slice_get (slice_set copies x.notice.page d) k ≡ Some e in
                 let here : d ≡ e = slice_get-set_found copies x.notice.page d e (subst P same there) in
-                let Q : Copied → ℕ → Type 0 = λ f k. MayLack f (filter (is_of_page k) xs) in
-                subst₂ Q here (sym same) (rest_may c d x (filter (is_of_page x.notice.page) xs) mine is room))
+                let Q : Copied → ℕ → Type 0 = λ f k. MayLackNews f (filter (is_of_page k) xs) in
+                subst₂ Q here (sym same) (may_learn_rest c d x (filter (is_of_page x.notice.page) xs) mine is room))
             | inr other ↦
                 (let before = sym (slice_get-set_other copies x.notice.page n d other) ∙ there in
-                let P : List SentRecord → Type 0 = λ ys. MayLack e ys in
+                let P : List SentRecord → Type 0 = λ ys. MayLackNews e ys in
                 let no = ne_eqb x.notice.page n (λ same. other (sym same)) in
                 subst P (filter_no (is_of_page n) x xs no) (may.each n e before))
           ]
 
       -- and after what they learned before they have learned of it too
-      pub news_more : (old : List Copied) (news : List SentRecord) → AreAfterNews old news copies
+      pub learned_news_more : (old : List Copied) (news : List SentRecord) → AreAfterNews old news copies
           → AreAfterNews old (news ++ x ∷ []) (slice_set copies x.notice.page d)
-      news_more old news after = record { all = length-set copies x.notice.page d ∙ after.all; each = each }
+      learned_news_more old news after = record { all = length-set copies x.notice.page d ∙ after.all; each = each }
         where
           each : (n : ℕ) (o e : Copied) → slice_get old n ≡ Some o
               → slice_get (slice_set copies x.notice.page d) n ≡ Some e
@@ -80,7 +80,7 @@ module _ (copies : List Copied) (x : SentRecord) (xs : List SentRecord) (may : M
                 let R : List SentRecord → Type 0 = λ ys. IsAfterNews o ys d in
                 let now : IsAfterNews o (filter (is_of_page x.notice.page) (news ++ x ∷ [])) d =
                 let all = more ∙ ap (λ (ys : List SentRecord). sofar ++ ys) yes in
-                subst R (sym all) (added_more o c d sofar x before is)
+                subst R (sym all) (learned_more o c d sofar x before is)
                 in
                 let S : Copied → ℕ → Type 0 = λ f k. IsAfterNews o (filter (is_of_page k) (news ++ x ∷ [])) f in
                 subst₂ S here (sym same) now)
@@ -95,8 +95,8 @@ module _ (copies : List Copied) (x : SentRecord) (xs : List SentRecord) (may : M
           ]
 
 -- before the first record
-pub news_start : (copies : List Copied) (sent : List SentRecord) → MayLearn copies sent → AreAfterNews copies [] copies
-news_start copies sent may = record { all = refl; each = each }
+pub learned_news_start : (copies : List Copied) (sent : List SentRecord) → MayLearnNews copies sent → AreAfterNews copies [] copies
+learned_news_start copies sent may = record { all = refl; each = each }
   where
     each : (n : ℕ) (c d : Copied) → slice_get copies n ≡ Some c → slice_get copies n ≡ Some d
         → IsAfterNews c [] d

@@ -4,52 +4,52 @@ use Rattle.std.proofs.lemmas.Option.{slice_get-get_or}
 use Rattle.journal.specs.declared.event.Event.{Event}
 use Rattle.journal.specs.declared.event.Kind.{Kind}
 use Rattle.journal.specs.declared.event.Kind.TheVariants.{Acquire, Release}
-use Rattle.journal.specs.Did.{event, did}
+use Rattle.journal.specs.DidEvent.{event, did}
 use Rattle.journal.specs.WellFormed.{Holds}
-use Rattle.journal.proofs.Journals.WellFormed.{holds_cases, holds_now}
+use Rattle.journal.proofs.Journals.WellFormedLast.{holds_cases, holds_now}
 use Rattle.book.specs.Stamps.{EachAt}
 use Rattle.book.proofs.Parts.Each.{each_set, each_kept}
-use Rattle.book.proofs.Parts.Doings.{holds_on, holds_back}
+use Rattle.book.proofs.Parts.LastAndCounts.{holds_last_on, holds_back}
 use Rattle.cluster.specs.Copies.Local.{Local}
 use Rattle.cluster.specs.Copies.Sound.{IsSound}
-use Rattle.cluster.specs.Copies.Steps.{held_after}
+use Rattle.cluster.specs.Copies.AfterNews.{held_after}
 
 -- the mark says whether p holds lock l
-abbrev pub IsHeldMark : List Event → ℕ → ℕ → Bool → Type 0
-IsHeldMark h p l b = (b ≡ true) ↔ Holds h p l
+abbrev pub IsLockMark : List Event → ℕ → ℕ → Bool → Type 0
+IsLockMark h p l b = (b ≡ true) ↔ Holds h p l
 
 -- a lock that the event doesn't name stays held or not
-held_kept : (h : List Event) (p : ℕ) (k : Kind) (l : ℕ) (b : Bool) → k ≢ Acquire l → k ≢ Release l
-    → IsHeldMark h p l b
-    → IsHeldMark (did h p k) p l b
-held_kept h p k l b acquire release is = (
-  (λ yes. holds_on h p k p l release (is.0 yes)),
+lock_held_kept : (h : List Event) (p : ℕ) (k : Kind) (l : ℕ) (b : Bool) → k ≢ Acquire l → k ≢ Release l
+    → IsLockMark h p l b
+    → IsLockMark (did h p k) p l b
+lock_held_kept h p k l b acquire release is = (
+  (λ yes. holds_last_on h p k p l release (is.0 yes)),
   (λ holds. is.1 (holds_back h p k p l acquire holds)),
 )
 
 -- who releases a lock doesn't hold it
-released_now : (h : List Event) (p l : ℕ) → ¬ Holds (did h p (Release l)) p l
-released_now h p l holds = elim (holds_cases h (event p (Release l)) p l holds) [
+lock_released_now : (h : List Event) (p l : ℕ) → ¬ Holds (did h p (Release l)) p l
+lock_released_now h p l holds = elim (holds_cases h (event p (Release l)) p l holds) [
   | inl old ↦ old.1 refl
   | inr new ↦ absurd (cc (ap (λ (e : Event). e.kind) new))
 ]
 
 -- the marks after an event are what the history says
-pub held_now : (n : ℕ) (h : List Event) (p : ℕ) (k : Kind) (held : List Bool)
-    → EachAt n (IsHeldMark h p) held
-    → EachAt n (IsHeldMark (did h p k) p) (held_after k held)
-held_now n h p (Acquire l) held all = each_set n (IsHeldMark h p) (IsHeldMark (did h p (Acquire l)) p) held l true all
-    (λ m b isnt at is. held_kept h p (Acquire l) m b (λ e. isnt (cc e)) (λ e. absurd cc) is)
+pub locks_held_now : (n : ℕ) (h : List Event) (p : ℕ) (k : Kind) (held : List Bool)
+    → EachAt n (IsLockMark h p) held
+    → EachAt n (IsLockMark (did h p k) p) (held_after k held)
+locks_held_now n h p (Acquire l) held all = each_set n (IsLockMark h p) (IsLockMark (did h p (Acquire l)) p) held l true all
+    (λ m b isnt at is. lock_held_kept h p (Acquire l) m b (λ e. isnt (cc e)) (λ e. absurd cc) is)
     (λ _. holds_now h p l, λ _. refl)
-held_now n h p (Release l) held all = each_set n (IsHeldMark h p) (IsHeldMark (did h p (Release l)) p) held l false all
-    (λ m b isnt at is. held_kept h p (Release l) m b (λ e. absurd cc) (λ e. isnt (cc e)) is)
-    (λ yes. absurd (true≢false (sym yes)), λ holds. absurd (released_now h p l holds))
-held_now n h p k held all = each_kept n (IsHeldMark h p) (IsHeldMark (did h p k) p) held all
-    (λ m b at is. held_kept h p k m b (λ e. absurd cc) (λ e. absurd cc) is)
+locks_held_now n h p (Release l) held all = each_set n (IsLockMark h p) (IsLockMark (did h p (Release l)) p) held l false all
+    (λ m b isnt at is. lock_held_kept h p (Release l) m b (λ e. absurd cc) (λ e. isnt (cc e)) is)
+    (λ yes. absurd (true≢false (sym yes)), λ holds. absurd (lock_released_now h p l holds))
+locks_held_now n h p k held all = each_kept n (IsLockMark h p) (IsLockMark (did h p k) p) held all
+    (λ m b at is. lock_held_kept h p k m b (λ e. absurd cc) (λ e. absurd cc) is)
 
 -- a lock's mark tells whether the processor holds it
-pub held_mark : (m : Local) (l : ℕ) → IsSound m → l < m.sizes.locks
+pub lock_held_mark : (m : Local) (l : ℕ) → IsSound m → l < m.sizes.locks
     → (slice_index_or m.held l false ≡ true) ↔ Holds m.seen m.number l
-held_mark m l sound within =
+lock_held_mark m l sound within =
     let long = sound.held.long in
     sound.held.each l (slice_index_or m.held l false) (slice_get-get_or m.held l false (omega arith))

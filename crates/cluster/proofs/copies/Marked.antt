@@ -3,14 +3,14 @@ use Rattle.std.proofs.Common.{ℕ, ◌≡◌, ◌≤◌, ◌+◌, ◌≢◌, Boo
 use Rattle.std.proofs.lemmas.Bool.{cases_lt}
 use Rattle.std.proofs.lemmas.List.{length-take}
 use Rattle.std.proofs.lemmas.Option.{slice_get_within, same_Some}
-use Rattle.base.proofs.Places.{slice_get-take, slice_get-take_within, slice_get-from_take, take-suc_at}
-use Rattle.base.proofs.Sets.{slice_get-replicate_found}
-use Rattle.page.specs.Carries.{IsHarvest}
-use Rattle.page.specs.Changes.{Changes}
+use Rattle.base.proofs.SlicesAndCounts.{slice_get-take, slice_get-take_within, slice_get-from_take, take-suc_at}
+use Rattle.base.proofs.SliceSets.{slice_get-replicate_found}
+use Rattle.page.specs.CarriedHarvests.{IsHarvest}
+use Rattle.page.specs.RisingChanges.{Changes}
 use Rattle.page.specs.Contents.{IsClean}
-use Rattle.cluster.specs.Copies.Copies.{Copied}
-use Rattle.cluster.specs.Copies.Records.{AreHarvests, IsFirstMark, HasNoMark, DirtyAreMarked}
-use Rattle.cluster.proofs.copies.Records.{harvests_more}
+use Rattle.cluster.specs.Copies.PageReplica.{Copied}
+use Rattle.cluster.specs.Copies.MarksAndHarvests.{AreHarvests, IsFirstMark, HasNoMark, DirtyAreMarked}
+use Rattle.cluster.proofs.copies.Records.{records_harvest_more}
 
 -- further copies that are clean add no record
 harvests_wider : (xs ys : List Copied) (rs : List Changes)
@@ -30,8 +30,8 @@ module _ (xs : List Copied) (marks : List Bool) (dirty : DirtyAreMarked xs marks
     (hs : AreHarvests (take a xs) rs)
   where
     -- no page is left that has a mark
-    pub harvests_end : HasNoMark marks a → AreHarvests xs rs
-    harvests_end none = harvests_wider (take a xs) xs rs (slice_get-from_take xs a) back hs
+    pub marked_harvests_end : HasNoMark marks a → AreHarvests xs rs
+    marked_harvests_end none = harvests_wider (take a xs) xs rs (slice_get-from_take xs a) back hs
       where
         back : (n : ℕ) (c : Copied) → slice_get xs n ≡ Some c → ¬ IsClean c.page → slice_get (take a xs) n ≡ Some c
         back n c at some = elim (cases_lt n a) [
@@ -44,8 +44,8 @@ module _ (xs : List Copied) (marks : List Bool) (dirty : DirtyAreMarked xs marks
 
     module _ (b : ℕ) (is : IsFirstMark marks a b) where
       -- the pages up to the next one with a mark add none
-      pub harvests_until : AreHarvests (take b xs) rs
-      harvests_until = harvests_wider (take a xs) (take b xs) rs there back hs
+      pub marked_harvests_until : AreHarvests (take b xs) rs
+      marked_harvests_until = harvests_wider (take a xs) (take b xs) rs there back hs
         where
           there : (n : ℕ) (c : Copied) → slice_get (take a xs) n ≡ Some c → slice_get (take b xs) n ≡ Some c
           there n c at =
@@ -64,8 +64,8 @@ module _ (xs : List Copied) (marks : List Bool) (dirty : DirtyAreMarked xs marks
               ]
 
       -- it is past the last copy
-      pub harvests_past : length xs ≤ b → AreHarvests xs rs
-      harvests_past past = harvests_wider (take b xs) xs rs (slice_get-from_take xs b) back harvests_until
+      pub marked_harvests_past : length xs ≤ b → AreHarvests xs rs
+      marked_harvests_past past = harvests_wider (take b xs) xs rs (slice_get-from_take xs b) back marked_harvests_until
         where
           back : (n : ℕ) (c : Copied) → slice_get xs n ≡ Some c → ¬ IsClean c.page → slice_get (take b xs) n ≡ Some c
           back n c at some =
@@ -77,9 +77,9 @@ module _ (xs : List Copied) (marks : List Bool) (dirty : DirtyAreMarked xs marks
         one_more = ap (λ (n : ℕ). take n xs) (add-one b) ∙ take-suc_at xs b c at
 
         -- it is clean all the same
-        pub harvests_none_at : IsClean c.page → AreHarvests (take (b + 1) xs) rs
-        harvests_none_at clean =
-            harvests_wider (take b xs) (take (b + 1) xs) rs there back harvests_until
+        pub marked_harvests_none_at : IsClean c.page → AreHarvests (take (b + 1) xs) rs
+        marked_harvests_none_at clean =
+            harvests_wider (take b xs) (take (b + 1) xs) rs there back marked_harvests_until
           where
             there : (n : ℕ) (d : Copied) → slice_get (take b xs) n ≡ Some d → slice_get (take (b + 1) xs) n ≡ Some d
             there n d old =
@@ -102,13 +102,13 @@ module _ (xs : List Copied) (marks : List Bool) (dirty : DirtyAreMarked xs marks
                 ]
 
         -- or it adds its harvest
-        pub harvests_more_at : (r : Changes) → ¬ IsClean c.page → IsHarvest b c.page r
+        pub marked_harvests_more_at : (r : Changes) → ¬ IsClean c.page → IsHarvest b c.page r
             → AreHarvests (take (b + 1) xs) (rs ++ r ∷ [])
-        harvests_more_at r some harvest =
+        marked_harvests_more_at r some harvest =
             let inside = slice_get_within xs b c at in
             let long : b ≡ length (take b xs) = let e = length-take b xs in omega arith in
             let P : ℕ → Type 0 = λ n. IsHarvest n c.page r in
-            let more = harvests_more (take b xs) c rs harvests_until r some (subst P long harvest) in
+            let more = records_harvest_more (take b xs) c rs marked_harvests_until r some (subst P long harvest) in
             let Q : List Copied → Type 0 = λ ys. AreHarvests ys (rs ++ r ∷ []) in
             subst Q (sym one_more) more
 

@@ -2,14 +2,14 @@
 use Rattle.std.proofs.Common.{ℕ, zero, ◌≡◌, ◌≢◌, ◌+◌, ◌↔◌, ◌⊎◌, inl, inr, Bool, true, false, Some, List, [], ◌∷◌, ◌++◌, length, slice_get, slice_set, replicate, refl, sym, ap, subst, ◌∙◌, true≢false}
 use Rattle.std.proofs.lemmas.Bool.{cases_eq}
 use Rattle.std.proofs.lemmas.List.{length_push, length-set}
-use Rattle.interval.specs.Intervals.{SentRecord}
-use Rattle.journal.specs.Copies.{HasCount}
-use Rattle.base.specs.Places.{Has}
+use Rattle.interval.specs.SentIntervals.{SentRecord}
+use Rattle.journal.specs.PageImages.{HasCount}
+use Rattle.base.specs.InOrderOnce.{Has}
 use Rattle.base.proofs.Joined.{has-nil, has-cons, has-append}
-use Rattle.base.proofs.Once.{once-append}
+use Rattle.base.proofs.OnceWithout.{once-append}
 use Rattle.base.proofs.Joined.{in_order-nil, in_order_single}
-use Rattle.base.proofs.Sets.{slice_get-set_found, slice_get-set_other, slice_get-replicate_found}
-use Rattle.cluster.specs.Copies.Copies.{IsOwner}
+use Rattle.base.proofs.SliceSets.{slice_get-set_found, slice_get-set_other, slice_get-replicate_found}
+use Rattle.cluster.specs.Copies.PageReplica.{IsOwner}
 
 -- the marks are those of the records' owners
 pub record AreMarked (missing : List SentRecord) (marks : List Bool) : Type 0 where

@@ -5,27 +5,27 @@ use Rattle.std.proofs.lemmas.List.{length-replicate}
 use Rattle.std.proofs.lemmas.Option.{none-some, slice_get_within, slice_get-get_or}
 use Rattle.journal.specs.declared.event.Event.{Event}
 use Rattle.journal.specs.declared.event.Kind.TheVariants.{Store}
-use Rattle.journal.specs.Did.{event}
+use Rattle.journal.specs.DidEvent.{event}
 use Rattle.journal.specs.Events.{At, is_closing, count_of}
 use Rattle.journal.specs.WellFormed.{KindInRange}
-use Rattle.journal.specs.Blocks.{write_in}
-use Rattle.journal.specs.Groups.{since, StoresIn, IsContent}
-use Rattle.journal.proofs.Intervals.Contents.{content_none}
+use Rattle.journal.specs.Blocks.{block_write}
+use Rattle.journal.specs.ContentsSince.{since, StoresInInterval, IsContent}
+use Rattle.journal.proofs.Intervals.StoreContents.{content_none}
 use Rattle.journal.proofs.Intervals.Dirty.{dirty_content}
-use Rattle.base.specs.Places.{Has}
-use Rattle.base.specs.Records.{harvest}
-use Rattle.base.proofs.Harvests.{length-marked}
+use Rattle.base.specs.InOrderOnce.{Has}
+use Rattle.base.specs.MarkedRecords.{harvest}
+use Rattle.base.proofs.MarkedHarvests.{length-marked}
 use Rattle.base.proofs.Joined.{in_order-append, in_order_single, has-append}
-use Rattle.base.proofs.Places.{append_cases, push_cases, slice_get-append_left, slice_get-last}
+use Rattle.base.proofs.SlicesAndCounts.{append_cases, push_cases, slice_get-append_left, slice_get-last}
 use Rattle.base.proofs.Unmarked.{harvest_unmarked, unmarked_harvest}
-use Rattle.page.specs.Carries.{IsHarvest}
-use Rattle.page.specs.Changes.{Changes}
+use Rattle.page.specs.CarriedHarvests.{IsHarvest}
+use Rattle.page.specs.RisingChanges.{Changes}
 use Rattle.page.specs.Contents.{IsClean}
-use Rattle.interval.specs.Intervals.{HasRisingPages}
-use Rattle.book.specs.ClosedIntervals.{AreContents}
-use Rattle.cluster.specs.Copies.Copies.{Copied}
+use Rattle.interval.specs.SentIntervals.{HasRisingPages}
+use Rattle.book.specs.ClosedIntervals.{AreIntervalContents}
+use Rattle.cluster.specs.Copies.PageReplica.{Copied}
 use Rattle.cluster.specs.Copies.Local.{Local, blank}
-use Rattle.cluster.specs.Copies.Records.{IsOfCopy, AreHarvests}
+use Rattle.cluster.specs.Copies.MarksAndHarvests.{IsOfCopy, AreHarvests}
 use Rattle.cluster.specs.Copies.Sound.{IsSound}
 use Rattle.cluster.proofs.copies.Replicas.{replica_long}
 
@@ -40,9 +40,9 @@ module _ (xs : List Copied) (c : Copied) (rs : List Changes) (hs : AreHarvests x
   }
 
   -- a further copy with dirty words adds its harvest
-  pub harvests_more : (r : Changes) → ¬ IsClean c.page → IsHarvest (length xs) c.page r
+  pub records_harvest_more : (r : Changes) → ¬ IsClean c.page → IsHarvest (length xs) c.page r
       → AreHarvests (xs ++ c ∷ []) (rs ++ r ∷ [])
-  harvests_more r dirty harvest = record { each = each; all = all; rising = rising }
+  records_harvest_more r dirty harvest = record { each = each; all = all; rising = rising }
     where
       last : Has (rs ++ r ∷ []) r
       last = (length rs, slice_get-last rs r)
@@ -82,9 +82,9 @@ module _ (xs : List Copied) (c : Copied) (rs : List Changes) (hs : AreHarvests x
 
 module _ (m : Local) (sound : IsSound m) where
   -- only a page with a mark needs a look
-  pub stored_last : (n : ℕ) (c : Copied) → slice_get m.copies n ≡ Some c → ¬ IsClean c.page
+  pub recorded_stored_last : (n : ℕ) (c : Copied) → slice_get m.copies n ≡ Some c → ¬ IsClean c.page
       → slice_get m.stored n ≡ Some true
-  stored_last n c at dirty = go (get_or m.stored n false) found
+  recorded_stored_last n c at dirty = go (get_or m.stored n false) found
     where
       found : slice_get m.stored n ≡ Some (get_or m.stored n false)
       found =
@@ -107,9 +107,9 @@ module _ (m : Local) (sound : IsSound m) where
   number = count_of is_closing (m.seen ++ m.block) m.number
 
   -- what the open interval comes to in a page
-  content : (n : ℕ) (c : Copied) → slice_get m.copies n ≡ Some c
+  record_content : (n : ℕ) (c : Copied) → slice_get m.copies n ≡ Some c
       → IsContent m.sizes now m.number number n (harvest 0 c.page.words c.page.dirty)
-  content n c at =
+  record_content n c at =
       let dirty = (sound.copies.each n c at).dirty in
       dirty_content m.sizes now m.number n c.page.words c.page.dirty sound.sizes.some_words dirty
 
@@ -117,7 +117,7 @@ module _ (m : Local) (sound : IsSound m) where
   marks_long : (n : ℕ) (c : Copied) → slice_get m.copies n ≡ Some c → length c.page.dirty ≡ length c.page.words
   marks_long n c at =
       let r = sound.copies.each n c at in
-      let f = λ (e : Event). write_in m.sizes n e.kind in
+      let f = λ (e : Event). block_write m.sizes n e.kind in
       let none = replicate m.sizes.words false in
       let marked = length-marked f none (since now m.number) ∙ length-replicate m.sizes.words false in
       let words = replica_long m.sizes m.seen m.block m.number n (sound.bases n) c r in
@@ -131,25 +131,25 @@ module _ (m : Local) (sound : IsSound m) where
   ]
 
   -- a page that the open interval stores in is not clean
-  stored_dirty : (n i : ℕ) (c : Copied) → slice_get m.copies n ≡ Some c
-      → StoresIn m.sizes now m.number number n i
+  recorded_stored_dirty : (n i : ℕ) (c : Copied) → slice_get m.copies n ≡ Some c
+      → StoresInInterval m.sizes now m.number number n i
       → ¬ IsClean c.page
-  stored_dirty n i c at stores clean =
-      let is = content n c at in
+  recorded_stored_dirty n i c at stores clean =
+      let is = record_content n c at in
       let nothing = ap (harvest 0 c.page.words) clean ∙ harvest_unmarked 0 c.page.words in
       let P : List (ℕ × ℕ) → Type 0 = λ ws. IsContent m.sizes now m.number number n ws in
       content_none m.sizes now m.number number n i (subst P nothing is) stores
 
   -- the harvests of the copies with dirty words are the records of the open interval
-  pub harvest_contents : (rs : List Changes) → AreHarvests m.copies rs
-      → AreContents m.sizes (m.seen ++ m.block) m.number (count_of is_closing (m.seen ++ m.block) m.number) rs
-  harvest_contents rs hs = record { each = each; some = some; all = all; rising = hs.rising }
+  pub record_harvest_contents : (rs : List Changes) → AreHarvests m.copies rs
+      → AreIntervalContents m.sizes (m.seen ++ m.block) m.number (count_of is_closing (m.seen ++ m.block) m.number) rs
+  record_harvest_contents rs hs = record { each = each; some = some; all = all; rising = hs.rising }
     where
       each : (r : Changes) → Has rs r → IsContent m.sizes now m.number number r.page r.words
       each r has =
           let x = hs.each r has in
           let P : ℕ → List (ℕ × ℕ) → Type 0 = λ n ws. IsContent m.sizes now m.number number n ws in
-          subst₂ P (sym x.harvest.page_is) (sym x.harvest.words_are) (content x.page x.copy x.at)
+          subst₂ P (sym x.harvest.page_is) (sym x.harvest.words_are) (record_content x.page x.copy x.at)
 
       some : (r : Changes) → Has rs r → r.words ≢ []
       some r has none =
@@ -157,8 +157,8 @@ module _ (m : Local) (sound : IsSound m) where
           let long = marks_long x.page x.copy x.at in
           x.dirty (unmarked_harvest 0 x.copy.page.words x.copy.page.dirty long (sym x.harvest.words_are ∙ none))
 
-      all : (n i : ℕ) → StoresIn m.sizes now m.number number n i → (r : Changes) × Has rs r × (r.page ≡ n)
-      all n i stores = hs.all n copy found (stored_dirty n i copy found stores)
+      all : (n i : ℕ) → StoresInInterval m.sizes now m.number number n i → (r : Changes) × Has rs r × (r.page ≡ n)
+      all n i stores = hs.all n copy found (recorded_stored_dirty n i copy found stores)
         where
           copy : Copied
           copy = get_or m.copies n (blank m.sizes)

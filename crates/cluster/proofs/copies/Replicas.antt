@@ -4,31 +4,31 @@ use Rattle.std.proofs.lemmas.Option.{none-some}
 use Rattle.journal.specs.declared.event.Event.{Event}
 use Rattle.journal.specs.declared.event.Kind.{Kind}
 use Rattle.journal.specs.declared.event.Kind.TheVariants.{Load, Store, Fetch, Ask, Release, Arrive, Set, Watch}
-use Rattle.journal.specs.Did.{event, did}
+use Rattle.journal.specs.DidEvent.{event, did}
 use Rattle.journal.specs.Sizes.{Sizes}
 use Rattle.journal.specs.Events.{At, is_closing, is_taking}
-use Rattle.journal.specs.Blocks.{write_in, IsBlock}
-use Rattle.journal.specs.Pages.{Touches, IsValidCopy, IsStaleCopy}
-use Rattle.journal.specs.Groups.{since}
+use Rattle.journal.specs.Blocks.{block_write, IsBlock}
+use Rattle.journal.specs.ValidAndStaleCopy.{Touches, IsValidCopy, IsStaleCopy}
+use Rattle.journal.specs.ContentsSince.{since}
 use Rattle.journal.specs.Dirty.{IsDirty}
-use Rattle.journal.proofs.Copies.Pages.{valid_push, stale_push, valid_others, stale_others, valid_handed, stale_handed}
+use Rattle.journal.proofs.CopyOfPage.ValidAndStale.{valid_push, stale_push, valid_others, stale_others, valid_handed, stale_handed}
 use Rattle.journal.proofs.Intervals.Dirty.{dirty_push, dirty_others, dirty_closing}
-use Rattle.base.specs.Writes.{wrote}
-use Rattle.base.specs.Records.{mark}
-use Rattle.base.proofs.LastWrites.{length-written}
-use Rattle.base.proofs.Places.{push_cases}
+use Rattle.base.specs.LastWritten.{wrote}
+use Rattle.base.specs.MarkedRecords.{mark}
+use Rattle.base.proofs.LastWritten.{length-written}
+use Rattle.base.proofs.SlicesAndCounts.{push_cases}
 use Rattle.page.specs.declared.page.Access.TheVariants.{Invalid}
 use Rattle.page.specs.Contents.{IsClean}
-use Rattle.book.specs.News.{missing_of}
-use Rattle.cluster.specs.Copies.Copies.{Copied, IsReplica}
-use Rattle.cluster.specs.Copies.Steps.{IsSameCopy, cleaned}
+use Rattle.book.specs.News.{news_of_notice}
+use Rattle.cluster.specs.Copies.PageReplica.{Copied, IsReplica}
+use Rattle.cluster.specs.Copies.AfterNews.{IsSameCopy, cleaned}
 
 -- a copy has as many words as its page
 pub replica_long : (s : Sizes) (seen block : List Event) (p n : ℕ) (base : List ℕ) (c : Copied)
     → IsReplica s seen block p n base c
     → length c.page.words ≡ s.words
 replica_long s seen block p n base c r =
-    let f = λ (e : Event). write_in s n e.kind in
+    let f = λ (e : Event). block_write s n e.kind in
     ap length r.dirty.page_is ∙ length-written f r.dirty.clean (since (seen ++ block) p) ∙ r.dirty.long
 
 -- a copy's room is no matter
@@ -45,11 +45,11 @@ replica_same s seen block p n base c d same r = record {
 
 -- the copy d is c after an event of the block
 pub record IsAfterEvent (s : Sizes) (n : ℕ) (e : Event) (c d : Copied) : Type 0 where
-  pub words : d.page.words ≡ wrote c.page.words (write_in s n e.kind)
-  pub dirty : d.page.dirty ≡ mark c.page.dirty (write_in s n e.kind)
+  pub words : d.page.words ≡ wrote c.page.words (block_write s n e.kind)
+  pub dirty : d.page.dirty ≡ mark c.page.dirty (block_write s n e.kind)
   pub access : d.page.access ≡ c.page.access
   pub missing : d.missing ≡ c.missing
-  pub away : c.page.access ≡ Invalid → (¬ Touches s n e.kind) × (write_in s n e.kind ≡ None)
+  pub away : c.page.access ≡ Invalid → (¬ Touches s n e.kind) × (block_write s n e.kind ≡ None)
 
 -- an event of the block that doesn't use a stale copy
 pub replica_pushed : (s : Sizes) (seen block : List Event) (e : Event) (p n : ℕ) (base : List ℕ) (c d : Copied)
@@ -73,7 +73,7 @@ replica_pushed s seen block e p n base c d mine inner after r = record {
         subst (IsValidCopy s seen (block ++ e ∷ []) p n base) (sym after.words) now
 
     stale : d.page.access ≡ Invalid
-        → IsStaleCopy s seen (block ++ e ∷ []) p n d.page.words (map missing_of d.missing)
+        → IsStaleCopy s seen (block ++ e ∷ []) p n d.page.words (map news_of_notice d.missing)
         × (d.missing ≢ [])
         × IsClean d.page
     stale h =
@@ -82,7 +82,7 @@ replica_pushed s seen block e p n base c d mine inner after r = record {
         let away = after.away was in
         let words : d.page.words ≡ c.page.words = after.words ∙ ap (wrote c.page.words) away.1 in
         let dirty : d.page.dirty ≡ c.page.dirty = after.dirty ∙ ap (mark c.page.dirty) away.1 in
-        let now = stale_push s seen block e p n c.page.words (map missing_of c.missing) away.0 old.0 in (
+        let now = stale_push s seen block e p n c.page.words (map news_of_notice c.missing) away.0 old.0 in (
           rw (words, after.missing) now,
           (λ none. old.1 (sym after.missing ∙ none)),
           rw (words) (dirty ∙ old.2),
@@ -96,7 +96,7 @@ pub replica_others : (s : Sizes) (seen rest block : List Event) (p n : ℕ) (bas
 replica_others s seen rest block p n base c away r = record {
   valid = λ h. let old = r.valid h in (valid_others s seen rest block p n base c.page.words away old.0, old.1);
   stale = λ h. let old = r.stale h in (
-    stale_others s seen rest block p n c.page.words (map missing_of c.missing) away old.0,
+    stale_others s seen rest block p n c.page.words (map news_of_notice c.missing) away old.0,
     old.1,
     old.2,
   );
@@ -112,7 +112,7 @@ pub replica_handed : (s : Sizes) (seen block : List Event) (p n : ℕ) (base : L
 replica_handed s seen block p n base c is r = record {
   valid = λ h. let old = r.valid h in (valid_handed s seen block p n base c.page.words is old.0, old.1);
   stale = λ h. let old = r.stale h in (
-    stale_handed s seen block p n c.page.words (map missing_of c.missing) is old.0,
+    stale_handed s seen block p n c.page.words (map news_of_notice c.missing) is old.0,
     old.1,
     old.2,
   );
@@ -137,7 +137,7 @@ closing_touches s n (Fetch w m r d) closes = absurd (true≢false (sym closes))
 closing_touches s n _ closes = λ h. h
 
 -- and stores in none
-pub closing_writes : (s : Sizes) (n : ℕ) (k : Kind) → is_closing k ≡ true → write_in s n k ≡ None
+pub closing_writes : (s : Sizes) (n : ℕ) (k : Kind) → is_closing k ≡ true → block_write s n k ≡ None
 closing_writes s n (Store a v) closes = absurd (true≢false (sym closes))
 closing_writes s n _ closes = refl
 
@@ -172,12 +172,12 @@ replica_closed s seen p n k base c closes r = record {
         let P : List ℕ → Type 0 = λ page. IsValidCopy s seen (e ∷ []) p n base page in
         valid_handed s seen (e ∷ []) p n base c.page.words is (subst P same pushed)
 
-    stale : IsStaleCopy s seen [] p n c.page.words (map missing_of c.missing)
-        → IsStaleCopy s (did seen p k) [] p n c.page.words (map missing_of c.missing)
+    stale : IsStaleCopy s seen [] p n c.page.words (map news_of_notice c.missing)
+        → IsStaleCopy s (did seen p k) [] p n c.page.words (map news_of_notice c.missing)
     stale old =
         let away = closing_touches s n k closes in
-        let pushed = stale_push s seen [] e p n c.page.words (map missing_of c.missing) away old in
-        stale_handed s seen (e ∷ []) p n c.page.words (map missing_of c.missing) is pushed
+        let pushed = stale_push s seen [] e p n c.page.words (map news_of_notice c.missing) away old in
+        stale_handed s seen (e ∷ []) p n c.page.words (map news_of_notice c.missing) is pushed
 
     dirty : IsDirty s (did seen p k ++ []) p n c.page.words (replicate (length c.page.words) false)
     dirty =

@@ -8,11 +8,11 @@ module _ {A : Type 0} (xs : List A) (k : ℕ) (x : A) (within : k < length xs) (
   pub item_at : slice_get xs k ≡ Some x
   item_at = slice_get-get_or xs k x within ∙ ap (λ (y : A). Some y) (sym is)
 
-  pub item_taken : take (k + 1) xs ≡ take k xs ++ x ∷ []
-  item_taken = take_more xs k x within ∙ ap (λ (y : A). take k xs ++ y ∷ []) (sym is)
+  pub step_item_taken : take (k + 1) xs ≡ take k xs ++ x ∷ []
+  step_item_taken = take_more xs k x within ∙ ap (λ (y : A). take k xs ++ y ∷ []) (sym is)
 
-  pub item_dropped : drop k xs ≡ x ∷ drop (k + 1) xs
-  item_dropped =
+  pub step_item_dropped : drop k xs ≡ x ∷ drop (k + 1) xs
+  step_item_dropped =
       drop-cons xs k x within ∙ ap (λ (y : A). y ∷ drop (suc k) xs) (sym is)
       ∙ ap (λ (n : ℕ). x ∷ drop n xs) (sym (add-one k))
 
@@ -20,8 +20,8 @@ module _ {A : Type 0} (xs : List A) (k : ℕ) (x : A) (within : k < length xs) (
   same : x ≡ get_or xs k x
   same = same_Some x (get_or xs k x) (sym at ∙ slice_get-get_or xs k x within)
 
-  pub found_taken : take (k + 1) xs ≡ take k xs ++ x ∷ []
-  found_taken = item_taken xs k x within same
+  pub step_found_taken : take (k + 1) xs ≡ take k xs ++ x ∷ []
+  step_found_taken = step_item_taken xs k x within same
 
-  pub found_dropped : drop k xs ≡ x ∷ drop (k + 1) xs
-  found_dropped = item_dropped xs k x within same
+  pub step_found_dropped : drop k xs ≡ x ∷ drop (k + 1) xs
+  step_found_dropped = step_item_dropped xs k x within same

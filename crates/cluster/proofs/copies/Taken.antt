@@ -3,27 +3,27 @@ use Rattle.std.proofs.Common.{ℕ, zero, ◌≡◌, ◌≢◌, ◌↔◌, ◌⊎
 use Rattle.journal.specs.declared.event.Event.{Event}
 use Rattle.journal.specs.declared.event.Kind.{Kind}
 use Rattle.journal.specs.declared.event.Kind.TheVariants.{Store, Acquire, Depart, Await}
-use Rattle.journal.specs.Did.{event, did}
+use Rattle.journal.specs.DidEvent.{event, did}
 use Rattle.journal.specs.Sizes.{Sizes}
 use Rattle.journal.specs.Events.{is_closing, is_taking}
 use Rattle.journal.specs.Waits.{awaited}
 use Rattle.journal.specs.Times.{IsTimeOf}
-use Rattle.journal.specs.Blocks.{write_in}
+use Rattle.journal.specs.Blocks.{block_write}
 use Rattle.journal.specs.Dirty.{IsDirty}
-use Rattle.journal.specs.Missing.{Missing, AreMissingNotices}
-use Rattle.journal.specs.Pages.{IsStaleCopy}
-use Rattle.journal.proofs.Copies.Pages.{valid_taken, valid_staled, stale_taken}
+use Rattle.journal.specs.MissingWords.{Missing, AreMissingNotices}
+use Rattle.journal.specs.ValidAndStaleCopy.{IsStaleCopy}
+use Rattle.journal.proofs.CopyOfPage.ValidAndStale.{valid_taken, valid_staled, stale_taken}
 use Rattle.journal.proofs.Intervals.Dirty.{dirty_push}
 use Rattle.journal.proofs.Missing.Keeping.{missing_same}
-use Rattle.base.specs.Places.{Has}
+use Rattle.base.specs.InOrderOnce.{Has}
 use Rattle.base.proofs.Joined.{has-nil, has-append, has-map}
 use Rattle.page.specs.declared.page.Access.{Access}
 use Rattle.page.specs.declared.page.Access.TheVariants.{Valid, Invalid}
 use Rattle.page.specs.Contents.{Contents, IsClean}
-use Rattle.interval.specs.Intervals.{SentRecord}
-use Rattle.book.specs.News.{missing_of}
-use Rattle.cluster.specs.Copies.Copies.{Copied, IsReplica}
-use Rattle.cluster.specs.Copies.Steps.{IsSameCopy, IsAfterNews}
+use Rattle.interval.specs.SentIntervals.{SentRecord}
+use Rattle.book.specs.News.{news_of_notice}
+use Rattle.cluster.specs.Copies.PageReplica.{Copied, IsReplica}
+use Rattle.cluster.specs.Copies.AfterNews.{IsSameCopy, IsAfterNews}
 use Rattle.cluster.proofs.copies.Replicas.{replica_same}
 
 -- what takes closes no interval
@@ -41,16 +41,16 @@ taking_awaits (Await f) takes = refl
 taking_awaits _ takes = absurd (true≢false (sym takes))
 
 -- it stores in no page
-taking_writes : (s : Sizes) (n : ℕ) (k : Kind) → is_taking k ≡ true → write_in s n k ≡ None
+taking_writes : (s : Sizes) (n : ℕ) (k : Kind) → is_taking k ≡ true → block_write s n k ≡ None
 taking_writes s n (Store a v) takes = absurd (true≢false (sym takes))
 taking_writes s n _ takes = refl
 
 -- a stale copy may list what it lacks in another order
-stale_same : (s : Sizes) (j block : List Event) (p n : ℕ) (page : List ℕ) (missing other : List Missing)
+taken_stale_same : (s : Sizes) (j block : List Event) (p n : ℕ) (page : List ℕ) (missing other : List Missing)
     → ((x : Missing) → Has missing x ↔ Has other x)
     → IsStaleCopy s j block p n page missing
     → IsStaleCopy s j block p n page other
-stale_same s j block p n page missing other same stale = record {
+taken_stale_same s j block p n page missing other same stale = record {
   copy = stale.copy;
   lacks = missing_same s j p n missing other same stale.lacks;
   untouched = stale.untouched;
@@ -58,8 +58,8 @@ stale_same s j block p n page missing other same stale = record {
 
 module _ (c d : Copied) (news : List SentRecord) (after : IsAfterNews c news d) where
   -- news leave the words of a copy, and its marks
-  pub news_keep : (d.page.words ≡ c.page.words) × (d.page.dirty ≡ c.page.dirty)
-  news_keep = go news after
+  pub taken_news_keep : (d.page.words ≡ c.page.words) × (d.page.dirty ≡ c.page.dirty)
+  taken_news_keep = go news after
     where
       go : (sent : List SentRecord) → IsAfterNews c sent d
           → (d.page.words ≡ c.page.words) × (d.page.dirty ≡ c.page.dirty)
@@ -71,35 +71,35 @@ module _ (c d : Copied) (news : List SentRecord) (after : IsAfterNews c news d) 
           (ap (λ (y : Contents). y.words) same, ap (λ (y : Contents). y.dirty) same)
 
   -- so a clean copy is clean after
-  pub news_clean : IsClean c.page → IsClean d.page
-  news_clean clean = rw (news_keep.0, news_keep.1) clean
+  pub taken_news_clean : IsClean c.page → IsClean d.page
+  taken_news_clean clean = rw (taken_news_keep.0, taken_news_keep.1) clean
 
   -- the copy lacks what it lacked, and the news
-  missing_after : (x : Missing)
-      → Has (map missing_of c.missing ++ map missing_of news) x ↔ Has (map missing_of d.missing) x
-  missing_after x = (there, back)
+  taken_missing_after : (x : Missing)
+      → Has (map news_of_notice c.missing ++ map news_of_notice news) x ↔ Has (map news_of_notice d.missing) x
+  taken_missing_after x = (there, back)
     where
-      add : (y : SentRecord) → missing_of y ≡ x → Has c.missing y ⊎ Has news y → Has (map missing_of d.missing) x
-      add y is has = (has-map missing_of d.missing x).1 (y, (after.lacks y).1 has, is)
+      add : (y : SentRecord) → news_of_notice y ≡ x → Has c.missing y ⊎ Has news y → Has (map news_of_notice d.missing) x
+      add y is has = (has-map news_of_notice d.missing x).1 (y, (after.lacks y).1 has, is)
 
-      there : Has (map missing_of c.missing ++ map missing_of news) x → Has (map missing_of d.missing) x
-      there has = elim ((has-append (map missing_of c.missing) (map missing_of news) x).0 has) [
-        | inl old ↦ (let y = (has-map missing_of c.missing x).0 old in add y.0 y.2 (inl y.1))
-        | inr new ↦ (let y = (has-map missing_of news x).0 new in add y.0 y.2 (inr y.1))
+      there : Has (map news_of_notice c.missing ++ map news_of_notice news) x → Has (map news_of_notice d.missing) x
+      there has = elim ((has-append (map news_of_notice c.missing) (map news_of_notice news) x).0 has) [
+        | inl old ↦ (let y = (has-map news_of_notice c.missing x).0 old in add y.0 y.2 (inl y.1))
+        | inr new ↦ (let y = (has-map news_of_notice news x).0 new in add y.0 y.2 (inr y.1))
       ]
 
-      back : Has (map missing_of d.missing) x → Has (map missing_of c.missing ++ map missing_of news) x
+      back : Has (map news_of_notice d.missing) x → Has (map news_of_notice c.missing ++ map news_of_notice news) x
       back has =
-          let y = (has-map missing_of d.missing x).0 has in
-          (has-append (map missing_of c.missing) (map missing_of news) x).1 (elim ((after.lacks y.0).0 y.1) [
-            | inl old ↦ inl ((has-map missing_of c.missing x).1 (y.0, old, y.2))
-            | inr new ↦ inr ((has-map missing_of news x).1 (y.0, new, y.2))
+          let y = (has-map news_of_notice d.missing x).0 has in
+          (has-append (map news_of_notice c.missing) (map news_of_notice news) x).1 (elim ((after.lacks y.0).0 y.1) [
+            | inl old ↦ inl ((has-map news_of_notice c.missing x).1 (y.0, old, y.2))
+            | inr new ↦ inr ((has-map news_of_notice news x).1 (y.0, new, y.2))
           ])
 
 -- what comes to a copy comes to one that is the same but for its room
-pub news_same : (c d e : Copied) (news : List SentRecord) → IsSameCopy c d → IsAfterNews d news e
+pub taken_news_same : (c d e : Copied) (news : List SentRecord) → IsSameCopy c d → IsAfterNews d news e
     → IsAfterNews c news e
-news_same c d e news same after = record {
+taken_news_same c d e news same after = record {
   none = λ none. let still = after.none none in record {
     page = still.page ∙ same.page;
     missing = still.missing ∙ same.missing;
@@ -125,14 +125,14 @@ module _ (s : Sizes) (seen : List Event) (p n : ℕ) (k : Kind) (t t' : ℕ → 
         rw append-nil (rw (taking_writes s n k takes) at now)
 
     -- without news the copy stays as it is
-    unnewed : AreMissingNotices s seen p n t t' [] → IsReplica s (did seen p k) [] p n c.page.words c
-    unnewed none = record {
+    taken_without_news : AreMissingNotices s seen p n t t' [] → IsReplica s (did seen p k) [] p n c.page.words c
+    taken_without_news none = record {
       valid = λ h. let old = r.valid h in (
         valid_taken s seen p n base c.page.words k t t' takes time after_time none old.0,
         old.1,
       );
       stale = λ h. let old = r.stale h in (
-        let lacking = map missing_of c.missing in
+        let lacking = map news_of_notice c.missing in
             rw append-nil at (stale_taken s seen p n c.page.words k t t' lacking [] takes time after_time none old.0),
         old.1,
         old.2,
@@ -142,44 +142,44 @@ module _ (s : Sizes) (seen : List Event) (p n : ℕ) (k : Kind) (t t' : ℕ → 
     }
 
     -- with news it is stale
-    newed : (new : List Missing) → AreMissingNotices s seen p n t t' new
-        → IsStaleCopy s (did seen p k) [] p n c.page.words (map missing_of c.missing ++ new)
-    newed new news = go c.page.access refl
+    taken_with_news : (new : List Missing) → AreMissingNotices s seen p n t t' new
+        → IsStaleCopy s (did seen p k) [] p n c.page.words (map news_of_notice c.missing ++ new)
+    taken_with_news new news = go c.page.access refl
       where
         go : (a : Access) → c.page.access ≡ a
-            → IsStaleCopy s (did seen p k) [] p n c.page.words (map missing_of c.missing ++ new)
+            → IsStaleCopy s (did seen p k) [] p n c.page.words (map news_of_notice c.missing ++ new)
         go Valid is =
             let old = r.valid is in
             rw (old.1) (valid_staled s seen p n base c.page.words k t t' new takes time after_time news old.0)
         go Invalid is =
-            let lacking = map missing_of c.missing in
+            let lacking = map news_of_notice c.missing in
             stale_taken s seen p n c.page.words k t t' lacking new takes time after_time news (r.stale is).0
 
     -- a taking that brings news of the page, or none
-    pub replica_taken : (d : Copied) (sent : List SentRecord) → AreMissingNotices s seen p n t t' (map missing_of sent)
+    pub replica_taken : (d : Copied) (sent : List SentRecord) → AreMissingNotices s seen p n t t' (map news_of_notice sent)
         → IsClean c.page
         → IsAfterNews c sent d
         → IsReplica s (did seen p k) [] p n d.page.words d
     replica_taken d [] news clean after =
         let P : Contents → Type 0 = λ x. IsReplica s (did seen p k) [] p n x.words d in
-        let same = replica_same s (did seen p k) [] p n c.page.words c d (after.none refl) (unnewed news) in
+        let same = replica_same s (did seen p k) [] p n c.page.words c d (after.none refl) (taken_without_news news) in
         subst P (sym (after.none refl).page) same
     replica_taken d (x ∷ xs) news clean after = record {
       valid = λ valid. absurd (cc (valid, invalid));
-      stale = λ _. (rw (kept.0) stale, some, news_clean c d (x ∷ xs) after clean);
+      stale = λ _. (rw (kept.0) stale, some, taken_news_clean c d (x ∷ xs) after clean);
       order = after.order;
       dirty = rw (kept.0, kept.1) dirty_taken;
     }
       where
-        stale : IsStaleCopy s (did seen p k) [] p n c.page.words (map missing_of d.missing)
+        stale : IsStaleCopy s (did seen p k) [] p n c.page.words (map news_of_notice d.missing)
         stale =
-            let lacking = map missing_of c.missing ++ map missing_of (x ∷ xs) in
-            let same = missing_after c d (x ∷ xs) after in
-            let was = newed (map missing_of (x ∷ xs)) news in
-            stale_same s (did seen p k) [] p n c.page.words lacking (map missing_of d.missing) same was
+            let lacking = map news_of_notice c.missing ++ map news_of_notice (x ∷ xs) in
+            let same = taken_missing_after c d (x ∷ xs) after in
+            let was = taken_with_news (map news_of_notice (x ∷ xs)) news in
+            taken_stale_same s (did seen p k) [] p n c.page.words lacking (map news_of_notice d.missing) same was
 
         kept : (d.page.words ≡ c.page.words) × (d.page.dirty ≡ c.page.dirty)
-        kept = news_keep c d (x ∷ xs) after
+        kept = taken_news_keep c d (x ∷ xs) after
 
         invalid : d.page.access ≡ Invalid
         invalid = ap (λ (y : Contents). y.access) (after.page (λ none. cc))

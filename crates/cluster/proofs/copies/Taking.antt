@@ -3,36 +3,36 @@ use Rattle.std.proofs.Common.{ℕ, ◌≡◌, ◌≢◌, ◌≤◌, true, false,
 use Rattle.std.proofs.lemmas.Option.{slice_get_within, slice_get-get_or}
 use Rattle.journal.specs.declared.event.Event.{Event}
 use Rattle.journal.specs.declared.event.Kind.{Kind}
-use Rattle.journal.specs.Did.{did}
+use Rattle.journal.specs.DidEvent.{did}
 use Rattle.journal.specs.Events.{is_taking}
 use Rattle.journal.specs.WellFormed.{WellFormed}
 use Rattle.journal.specs.Brings.{Brings}
-use Rattle.journal.specs.Missing.{AreMissingNotices}
+use Rattle.journal.specs.MissingWords.{AreMissingNotices}
 use Rattle.journal.specs.Pasts.{InPast}
-use Rattle.journal.proofs.Copies.Pages.{answers_start}
+use Rattle.journal.proofs.CopyOfPage.ValidAndStale.{answers_start}
 use Rattle.journal.proofs.Missing.Counted.{block_counts_start}
-use Rattle.base.proofs.Sets.{slice_get-replicate}
+use Rattle.base.proofs.SliceSets.{slice_get-replicate}
 use Rattle.vtime.specs.Times.{join}
 use Rattle.page.specs.Contents.{IsClean}
-use Rattle.interval.specs.Intervals.{SentRecord}
+use Rattle.interval.specs.SentIntervals.{SentRecord}
 use Rattle.interval.specs.Closings.{is_of_page}
-use Rattle.book.specs.News.{missing_in}
+use Rattle.book.specs.News.{news_of_page}
 use Rattle.book.specs.Stamps.{IsStamp, IsAwaited}
-use Rattle.book.proofs.Parts.Doings.{awaited_now}
+use Rattle.book.proofs.Parts.LastAndCounts.{awaited_last_now}
 use Rattle.book.proofs.Parts.Stamps.{stamp_taking}
-use Rattle.cluster.specs.Copies.Copies.{Copied, IsReplica}
+use Rattle.cluster.specs.Copies.PageReplica.{Copied, IsReplica}
 use Rattle.cluster.specs.Copies.Local.{Local}
 use Rattle.cluster.specs.Copies.Sound.{IsSound, most_seen}
-use Rattle.cluster.specs.Copies.Steps.{IsAfterNews, AreAfterNews, AreSameCopies, took}
-use Rattle.cluster.proofs.copies.Taken.{taking_closes, taking_awaits, news_clean, news_same, replica_taken}
-use Rattle.cluster.proofs.copies.Locks.{held_now}
+use Rattle.cluster.specs.Copies.AfterNews.{IsAfterNews, AreAfterNews, AreSameCopies, took_news}
+use Rattle.cluster.proofs.copies.Taken.{taking_closes, taking_awaits, taken_news_clean, taken_news_same, replica_taken}
+use Rattle.cluster.proofs.copies.Locks.{locks_held_now}
 use Rattle.cluster.proofs.copies.HandingIn.{copied_words}
 
 -- what comes to copies comes to those that are the same but for their room
-pub after_same : (old mid new : List Copied) (sent : List SentRecord) → AreSameCopies old mid
+pub taking_after_same : (old mid new : List Copied) (sent : List SentRecord) → AreSameCopies old mid
     → AreAfterNews mid sent new
     → AreAfterNews old sent new
-after_same old mid new sent same after = record { all = after.all ∙ same.all; each = each }
+taking_after_same old mid new sent same after = record { all = after.all ∙ same.all; each = each }
   where
     each : (n : ℕ) (c e : Copied) → slice_get old n ≡ Some c → slice_get new n ≡ Some e
         → IsAfterNews c (filter (is_of_page n) sent) e
@@ -41,12 +41,12 @@ after_same old mid new sent same after = record { all = after.all ∙ same.all; 
         let all = after.all in
         let d = get_or mid n e in
         let found = slice_get-get_or mid n e (omega arith) in
-        news_same c d e (filter (is_of_page n) sent) (same.each n c d at found) (after.each n d e found to)
+        taken_news_same c d e (filter (is_of_page n) sent) (same.each n c d at found) (after.each n d e found to)
 
 -- the copies of a processor that waits are clean
-pub waiting_clean : (m : Local) → IsSound m → m.awaits ≢ None → (n : ℕ) (c : Copied) → slice_get m.copies n ≡ Some c
+pub waiting_to_take_clean : (m : Local) → IsSound m → m.awaits ≢ None → (n : ℕ) (c : Copied) → slice_get m.copies n ≡ Some c
     → IsClean c.page
-waiting_clean m sound waits n c at =
+waiting_to_take_clean m sound waits n c at =
     let inside = slice_get_within m.copies n c at in
     let long = sound.copies.long in
     let pages = sound.sizes.pages in
@@ -61,17 +61,17 @@ record WasCopy (m : Local) (sent : List SentRecord) (n : ℕ) (d : Copied) : Typ
   news : IsAfterNews copy (filter (is_of_page n) sent) d
 
 -- a processor that took what it waited for, with its news, is as sound as it was
-pub took_sound : (m : Local) (k : Kind) (u : List ℕ) (sent : List SentRecord) (copies : List Copied) → IsSound m
+pub taking_sound : (m : Local) (k : Kind) (u : List ℕ) (sent : List SentRecord) (copies : List Copied) → IsSound m
     → m.awaits ≢ None
     → is_taking k ≡ true
     → WellFormed m.sizes (did m.seen m.number k)
     → length (did m.seen m.number k) ≤ most_seen
     → IsStamp m.sizes.processors m.seen (Brings m.seen m.number k) u
     → ((n : ℕ) → AreMissingNotices m.sizes m.seen m.number n (slice_index m.time) (slice_index (join m.time u))
-    (missing_in n sent))
+    (news_of_page n sent))
     → AreAfterNews m.copies sent copies
-    → IsSound (took m k u copies)
-took_sound m k u sent copies sound waits takes well few stamp news after = record {
+    → IsSound (took_news m k u copies)
+taking_sound m k u sent copies sound waits takes well few stamp news after = record {
   sizes = sound.sizes;
   mine = sound.mine;
   few = few;
@@ -84,9 +84,9 @@ took_sound m k u sent copies sound waits takes well few stamp news after = recor
   counts = rw empty (block_counts_start m.sizes now m.number);
   copies = record { long = after.all ∙ sound.copies.long; each = each };
   marks = sound.marks;
-  clean = λ n d at _. let c = was n d at in news_clean c.copy d (filter (is_of_page n) sent) c.news c.clean;
-  held = held_now m.sizes.locks m.seen m.number k m.held sound.held;
-  awaits = subst (IsAwaited now m.number) (taking_awaits k takes) (awaited_now m.seen m.number k);
+  clean = λ n d at _. let c = was n d at in taken_news_clean c.copy d (filter (is_of_page n) sent) c.news c.clean;
+  held = locks_held_now m.sizes.locks m.seen m.number k m.held sound.held;
+  awaits = subst (IsAwaited now m.number) (taking_awaits k takes) (awaited_last_now m.seen m.number k);
   quiet = λ still. absurd (still refl);
   unstored = λ still. absurd (still refl);
 }
@@ -111,7 +111,7 @@ took_sound m k u sent copies sound waits takes well few stamp news after = recor
         record {
           copy = get_or m.copies n d;
           at = found;
-          clean = waiting_clean m sound waits n (get_or m.copies n d) found;
+          clean = waiting_to_take_clean m sound waits n (get_or m.copies n d) found;
           news = after.each n (get_or m.copies n d) d found at;
         }
 

@@ -6,29 +6,29 @@ use Rattle.std.proofs.lemmas.List.Sums.{length-filter}
 use Rattle.std.proofs.lemmas.Option.{same_Some, slice_get_within, slice_get-get_or}
 use Rattle.journal.specs.declared.event.Event.{Event}
 use Rattle.journal.specs.declared.event.Kind.TheVariants.{Store}
-use Rattle.journal.specs.Did.{event}
+use Rattle.journal.specs.DidEvent.{event}
 use Rattle.journal.specs.Events.{is_closing, interval_at}
-use Rattle.journal.specs.Missing.{Missing, IsPlaced, AreMissing, AreMissingNotices, InClosingOrder}
+use Rattle.journal.specs.MissingWords.{Missing, IsPlaced, AreMissing, AreMissingNotices, MissingInOrder}
 use Rattle.journal.specs.Times.{IsTimeOf}
 use Rattle.journal.specs.Sizes.{Sizes}
-use Rattle.journal.proofs.Missing.Gaps.{gap_apart}
-use Rattle.journal.proofs.Times.Pushes.{covered}
-use Rattle.base.specs.Places.{Has}
+use Rattle.journal.proofs.Missing.GapsTaken.{gaps_apart}
+use Rattle.journal.proofs.Times.PushesCovered.{covered}
+use Rattle.base.specs.InOrderOnce.{Has}
 use Rattle.base.proofs.Joined.{has-nil, has-map}
-use Rattle.base.proofs.Picked.{has-filter}
-use Rattle.base.proofs.Places.{count_by-past}
+use Rattle.base.proofs.FilteredInOrder.{has-filter}
+use Rattle.base.proofs.SlicesAndCounts.{count_by-past}
 use Rattle.page.specs.declared.page.Access.{Access}
 use Rattle.page.specs.declared.page.Access.TheVariants.{Valid, Invalid}
 use Rattle.page.specs.Contents.{IsClean}
-use Rattle.interval.specs.Intervals.{SentRecord}
+use Rattle.interval.specs.SentIntervals.{SentRecord}
 use Rattle.interval.specs.Closings.{is_of_page}
-use Rattle.book.specs.News.{missing_of, missing_in}
-use Rattle.cluster.specs.Copies.Copies.{Copied, IsReplica}
+use Rattle.book.specs.News.{news_of_notice, news_of_page}
+use Rattle.cluster.specs.Copies.PageReplica.{Copied, IsReplica}
 use Rattle.cluster.specs.Copies.Local.{Local}
 use Rattle.cluster.specs.Copies.Sound.{IsSound}
-use Rattle.cluster.specs.Copies.Steps.{AreSameCopies, IsSameCopy, MayLack, MayLearn}
+use Rattle.cluster.specs.Copies.AfterNews.{AreSameCopies, IsSameCopy, MayLackNews, MayLearnNews}
 use Rattle.cluster.proofs.copies.Replicas.{replica_same}
-use Rattle.cluster.proofs.copies.Taking.{waiting_clean}
+use Rattle.cluster.proofs.copies.Taking.{waiting_to_take_clean}
 
 -- a closing number is of one interval
 placed_apart : (j : List Event) (q k r m place : ℕ) → IsPlaced j q k place → IsPlaced j r m place
@@ -75,7 +75,7 @@ missing_apart : (s : Sizes) (j : List Event) (p n : ℕ) (t t' : ℕ → ℕ) (m
     → x.place ≢ y.place
 missing_apart s j p n t t' missing new time are news x y has now same =
     let g = (are.each x.owner x.number).0 (x, has, refl, refl) in
-    let apart = gap_apart s j p n x.owner g.1.0 g.0 g.1.1 g.1.3 g.1.2 in
+    let apart = gaps_apart s j p n x.owner g.1.0 g.0 g.1.1 g.1.3 g.1.2 in
     let counted = (covered j p x.owner g.1.0 (Store g.0 g.1.1) t time g.1.2 apart).0 g.1.3.past in
     let number = g.1.4 in
     let uncounted = ((news.each y.owner y.number).0 (y, now, refl, refl)).3 in
@@ -94,16 +94,16 @@ module _ (m : Local) (sound : IsSound m) (copies : List Copied) (same : AreSameC
     at : slice_get m.copies n ≡ Some copy
     kept : IsSameCopy copy d
 
-  was_same : (n : ℕ) (d : Copied) → slice_get copies n ≡ Some d → WasSame n d
-  was_same n d at =
+  waiting_was_same : (n : ℕ) (d : Copied) → slice_get copies n ≡ Some d → WasSame n d
+  waiting_was_same n d at =
       let inside = slice_get_within copies n d at in
       let all = same.all in
       let found = slice_get-get_or m.copies n d (omega arith) in
       record { copy = get_or m.copies n d; at = found; kept = same.each n (get_or m.copies n d) d found at }
 
   -- room for records that may come is no matter
-  pub roomy_sound : IsSound (record m { copies = copies })
-  roomy_sound = record {
+  pub waiting_roomy_sound : IsSound (record m { copies = copies })
+  waiting_roomy_sound = record {
     sizes = sound.sizes;
     mine = sound.mine;
     few = sound.few;
@@ -126,19 +126,19 @@ module _ (m : Local) (sound : IsSound m) (copies : List Copied) (same : AreSameC
       each : (n : ℕ) (d : Copied) → slice_get copies n ≡ Some d
           → IsReplica m.sizes m.seen m.block m.number n (sound.bases n) d
       each n d at =
-          let c = was_same n d at in
+          let c = waiting_was_same n d at in
           let old = sound.copies.each n c.copy c.at in
           replica_same m.sizes m.seen m.block m.number n (sound.bases n) c.copy d c.kept old
 
       clean : (n : ℕ) (d : Copied) → slice_get copies n ≡ Some d → slice_get m.stored n ≡ Some false
           → IsClean d.page
       clean n d at unmarked =
-          let c = was_same n d at in
+          let c = waiting_was_same n d at in
           subst IsClean (sym c.kept.page) (sound.clean n c.copy c.at unmarked)
 
   module _ (waits : m.awaits ≢ None) (sent : List SentRecord) (t' : ℕ → ℕ)
-      (news : (n : ℕ) → AreMissingNotices m.sizes m.seen m.number n (slice_index m.time) t' (missing_in n sent))
-      (order : (n : ℕ) → InClosingOrder (missing_in n sent))
+      (news : (n : ℕ) → AreMissingNotices m.sizes m.seen m.number n (slice_index m.time) t' (news_of_page n sent))
+      (order : (n : ℕ) → MissingInOrder (news_of_page n sent))
       (room : (n : ℕ) (c : Copied) → slice_get copies n ≡ Some c → count_by (is_of_page n) sent ≤ c.room)
     where
       -- what comes is of pages that there are
@@ -146,10 +146,10 @@ module _ (m : Local) (sound : IsSound m) (copies : List Copied) (same : AreSameC
       in_range x has =
           let n = x.notice.page in
           let mine = (has-filter (is_of_page n) sent x).1 (has, eq-eqb n n refl) in
-          let here = (has-map missing_of (filter (is_of_page n) sent) (missing_of x)).1 (x, mine, refl) in
-          let store = (((news n).each x.notice.owner x.notice.number).0 (missing_of x, here, refl, refl)).1 in
+          let here = (has-map news_of_notice (filter (is_of_page n) sent) (news_of_notice x)).1 (x, mine, refl) in
+          let store = (((news n).each x.notice.owner x.notice.number).0 (news_of_notice x, here, refl, refl)).1 in
           let lawful =
-          (sound.well_formed (((news n).each x.notice.owner x.notice.number).0 (missing_of x, here, refl, refl)).0
+          (sound.well_formed (((news n).each x.notice.owner x.notice.number).0 (news_of_notice x, here, refl, refl)).0
           (event x.notice.owner (Store store.0 store.1)) store.2).in_range in
           let P : ℕ → Type 0 = λ k. k < m.sizes.pages in
           let within = subst P store.3 ((div-lt_iff_lt-mul sound.sizes.some_words).1 lawful) in
@@ -172,24 +172,24 @@ module _ (m : Local) (sound : IsSound m) (copies : List Copied) (same : AreSameC
               absurd (has-nil x (subst P (replica.valid is).1 has))
           go Invalid is =
               let lacks = (replica.stale is).0.lacks in
-              let here = (has-map missing_of c.missing (missing_of x)).1 (x, has, refl) in
-              let there = (has-map missing_of (filter (is_of_page n) sent) (missing_of y)).1 (y, now, refl) in
-              missing_apart m.sizes m.seen m.number n (slice_index m.time) t' (map missing_of c.missing)
-              (missing_in n sent)
-              sound.time.is lacks (news n) (missing_of x) (missing_of y) here there
+              let here = (has-map news_of_notice c.missing (news_of_notice x)).1 (x, has, refl) in
+              let there = (has-map news_of_notice (filter (is_of_page n) sent) (news_of_notice y)).1 (y, now, refl) in
+              missing_apart m.sizes m.seen m.number n (slice_index m.time) t' (map news_of_notice c.missing)
+              (news_of_page n sent)
+              sound.time.is lacks (news n) (news_of_notice x) (news_of_notice y) here there
 
       -- a processor that waits may learn what it lacks, where its copies have room
-      pub may_learn : MayLearn copies sent
-      may_learn = record { in_range = in_range; each = each }
+      pub waiting_may_learn : MayLearnNews copies sent
+      waiting_may_learn = record { in_range = in_range; each = each }
         where
-          each : (n : ℕ) (d : Copied) → slice_get copies n ≡ Some d → MayLack d (filter (is_of_page n) sent)
+          each : (n : ℕ) (d : Copied) → slice_get copies n ≡ Some d → MayLackNews d (filter (is_of_page n) sent)
           each n d at = record {
             room = let fits = room n d at in let counts = length-filter (is_of_page n) sent in omega arith;
-            clean = λ _. subst IsClean (sym c.kept.page) (waiting_clean m sound waits n c.copy c.at);
+            clean = λ _. subst IsClean (sym c.kept.page) (waiting_to_take_clean m sound waits n c.copy c.at);
             order = rw (c.kept.missing) (sound.copies.each n c.copy c.at).order;
             news_order = order n;
             apart = rw (c.kept.missing) (apart n c.copy c.at);
           }
             where
               c : WasSame n d
-              c = was_same n d at
+              c = waiting_was_same n d at

@@ -1,9 +1,9 @@
 -- What a fetch counts.
 use Rattle.std.specs.Prelude.{◌≡◌, ◌<◌, ◌^◌, List, length, sum_by}
-use Rattle.journal.specs.Copies.{HasCount}
-use Rattle.interval.specs.Intervals.{SentRecord}
+use Rattle.journal.specs.PageImages.{HasCount}
+use Rattle.interval.specs.SentIntervals.{SentRecord}
 use Rattle.cluster.specs.declared.copies.page_copy.MissingCounts.{MissingCounts}
-use Rattle.cluster.specs.Copies.Copies.{record_words, IsOwner}
+use Rattle.cluster.specs.Copies.PageReplica.{record_words, IsOwner}
 
 -- how many owners, records and words these are
 pub record AreCounts (missing : List SentRecord) (c : MissingCounts) : Type 0 where

@@ -3,10 +3,10 @@ use Rattle.std.specs.Prelude.{ℕ, Bool, false, Option, None, List, [], ◌∷�
 use Rattle.journal.specs.declared.event.Event.{Event}
 use Rattle.journal.specs.declared.event.Kind.{Kind}
 use Rattle.journal.specs.Sizes.{Sizes}
-use Rattle.journal.specs.Events.{part}
-use Rattle.journal.specs.Did.{event}
+use Rattle.journal.specs.Events.{events_of}
+use Rattle.journal.specs.DidEvent.{event}
 use Rattle.turn.specs.Chairs.{LockId}
-use Rattle.cluster.specs.Copies.Copies.{Copied, zeros}
+use Rattle.cluster.specs.Copies.PageReplica.{Copied, zero_replica}
 
 -- its lock and how often it has entered; its number and the cluster's sizes; the history as it left it last, how many
 -- of its first events were cut off then, and how many its own cuts took off in all; its open block; its copy of each page, and to which pages it may have
@@ -29,7 +29,7 @@ pub record Local : Type 0 where
 
 -- its accepted calls, as events with their replies
 abbrev pub calls : Local → List Event
-calls m = part m.seen m.number ++ m.block
+calls m = events_of m.seen m.number ++ m.block
 
 -- after one more event of its open block
 abbrev pub noted : Local → Kind → Local
@@ -37,7 +37,7 @@ noted m k = record m { block = m.block ++ event m.number k ∷ [] }
 
 -- a copy of a page that nobody stored to
 abbrev pub blank : Sizes → Copied
-blank s = zeros s.words
+blank s = zero_replica s.words
 
 -- processor p of this lock before its first call
 abbrev pub new_local : LockId → ℕ → Sizes → Local

@@ -11,11 +11,11 @@ use Rattle.base.specs.Limits.{most_processors, most_events, most_cut, most_in_bl
 use Rattle.page.specs.Contents.{IsClean}
 use Rattle.book.specs.Stamps.{EachAt, IsStamp, IsAwaited}
 use Rattle.book.specs.Calls.{IsInner}
-use Rattle.cluster.specs.Copies.Copies.{Copied, IsReplica}
+use Rattle.cluster.specs.Copies.PageReplica.{Copied, IsReplica}
 use Rattle.cluster.specs.Copies.Local.{Local}
 
 -- sizes within the product's: 1 to 16 processors, 1 to 64 pages of 1 to 64 words, and up to 32 locks and flags
-pub record AreSizes (s : Sizes) : Type 0 where
+pub record AreSoundSizes (s : Sizes) : Type 0 where
   pub some_processors : 0 < s.processors
   pub processors : s.processors ≤ most_processors
   pub some_pages : 0 < s.pages
@@ -31,7 +31,7 @@ most_seen = most_cut + most_events
 
 -- the copies, the timestamp, the locks held and what is awaited are what `seen` and the open block say
 pub record IsSound (m : Local) : Type 0 where
-  pub sizes : AreSizes m.sizes
+  pub sizes : AreSoundSizes m.sizes
   pub mine : m.number < m.sizes.processors
   pub few : length m.seen ≤ most_seen
   pub well_formed : WellFormed m.sizes m.seen

@@ -2,7 +2,7 @@
 //! with reasons of refusal of its own.
 ghost use Rattle.std.specs.Prelude.{◌≡◌};
 ghost use Rattle.std.specs.Result.{result_err};
-ghost use Rattle.cluster.specs.Prelude.{arrive_test, ask_test, release_test, flag_test, IsClosingCall};
+ghost use Rattle.cluster.specs.Prelude.{arrive_refusal, ask_refusal, release_refusal, flag_refusal, IsClosingCall};
 
 use super::Cluster;
 use crate::keeper::BookTurn;
@@ -28,7 +28,7 @@ impl<T: BookTurn> Cluster<T> {
         lock: usize,
     ) -> Result<(), Refused>
         requires own { processor.old.lock ≡ self.now.lock }
-        ensures { IsClosingCall (ask_test processor.old lock) (Kind.Ask lock)
+        ensures { IsClosingCall (ask_refusal processor.old lock) (Kind.Ask lock)
             processor.old processor.new (result_err result) }
     {
         self.close(rt, processor, Kind::Ask(lock))
@@ -45,7 +45,7 @@ impl<T: BookTurn> Cluster<T> {
         lock: usize,
     ) -> Result<(), Refused>
         requires own { processor.old.lock ≡ self.now.lock }
-        ensures { IsClosingCall (release_test processor.old lock) (Kind.Release lock)
+        ensures { IsClosingCall (release_refusal processor.old lock) (Kind.Release lock)
             processor.old processor.new (result_err result) }
     {
         self.close(rt, processor, Kind::Release(lock))
@@ -57,7 +57,7 @@ impl<T: BookTurn> Cluster<T> {
     /// Refused as [`ask`](Cluster::ask) is, with none of the reasons that name the lock.
     pub fn arrive<R: Wait>(&self, rt: &R, processor: &mut Processor<T>) -> Result<(), Refused>
         requires own { processor.old.lock ≡ self.now.lock }
-        ensures { IsClosingCall (arrive_test processor.old) Kind.Arrive
+        ensures { IsClosingCall (arrive_refusal processor.old) Kind.Arrive
             processor.old processor.new (result_err result) }
     {
         self.close(rt, processor, Kind::Arrive)
@@ -75,7 +75,7 @@ impl<T: BookTurn> Cluster<T> {
         flag: usize,
     ) -> Result<(), Refused>
         requires own { processor.old.lock ≡ self.now.lock }
-        ensures { IsClosingCall (flag_test processor.old flag) (Kind.Set flag)
+        ensures { IsClosingCall (flag_refusal processor.old flag) (Kind.Set flag)
             processor.old processor.new (result_err result) }
     {
         self.close(rt, processor, Kind::Set(flag))
@@ -92,7 +92,7 @@ impl<T: BookTurn> Cluster<T> {
         flag: usize,
     ) -> Result<(), Refused>
         requires own { processor.old.lock ≡ self.now.lock }
-        ensures { IsClosingCall (flag_test processor.old flag) (Kind.Watch flag)
+        ensures { IsClosingCall (flag_refusal processor.old flag) (Kind.Watch flag)
             processor.old processor.new (result_err result) }
     {
         self.close(rt, processor, Kind::Watch(flag))

@@ -5,9 +5,9 @@ ghost use Rattle.std.specs.Result.{result_err};
 ghost use Rattle.base.specs.Prelude.{most_in_block};
 ghost use Rattle.journal.specs.Prelude.{is_closing, awaited};
 ghost use Rattle.interval.specs.Prelude.{HasRisingPages};
-ghost use Rattle.book.specs.Prelude.{Closes, HasClosed, handed_in};
+ghost use Rattle.book.specs.Prelude.{EndsClosed, HasClosed, book_handed_in};
 ghost use Rattle.cluster.specs.Copies.Prelude.{AreHarvests, held_after};
-ghost use Rattle.cluster.specs.Prelude.{closing_test, MayClose, MayMake, MayHold, IsClosingCall, book_closed};
+ghost use Rattle.cluster.specs.Prelude.{closing_refusal, MayClose, MayMake, MayHold, IsClosingCall, book_closed};
 
 use super::Cluster;
 use crate::bells::Bells;
@@ -29,7 +29,7 @@ impl<T: BookTurn> Cluster<T> {
     ) -> Result<(), Refused>
         requires own { processor.old.lock ≡ self.now.lock }
         requires closes { is_closing kind ≡ true }
-        ensures { IsClosingCall (closing_test processor.old kind) kind
+        ensures { IsClosingCall (closing_refusal processor.old kind) kind
             processor.old processor.new (result_err result) }
     {
         processor.admit_closing(kind)?;
@@ -89,9 +89,9 @@ fn close_in(
     requires call { MayClose kind book.old p block.now }
     requires short { length block.now ≤ most_in_block }
     requires rising { HasRisingPages (map arc_value records.items) }
-    requires told { HasClosed (book_closed kind (handed_in book.old block.now) p
+    requires told { HasClosed (book_closed kind (book_handed_in book.old block.now) p
         (map arc_value records.items)) p kind }
-    ensures { Closes block.now (λ b. book_closed kind b p (map arc_value records.items)) book.old book.new result }
+    ensures { EndsClosed block.now (λ b. book_closed kind b p (map arc_value records.items)) book.old book.new result }
 {
     close_by(book, p, kind, block, records)?;
     bells.ready(book.let_on(p, kind));
@@ -110,7 +110,7 @@ fn close_by(
     requires call { MayClose kind book.old p block.now }
     requires short { length block.now ≤ most_in_block }
     requires rising { HasRisingPages (map arc_value records.items) }
-    ensures { Closes block.now (λ b. book_closed kind b p (map arc_value records.items)) book.old book.new result }
+    ensures { EndsClosed block.now (λ b. book_closed kind b p (map arc_value records.items)) book.old book.new result }
 {
     match kind {
         Kind::Ask(lock) => book.ask(p, lock, block, records),

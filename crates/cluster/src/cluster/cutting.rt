@@ -2,7 +2,7 @@
 ghost use Rattle.std.specs.Prelude.{◌≡◌, IfErr, OnErr, OnOk};
 ghost use Rattle.std.specs.Result.{result_err};
 ghost use Rattle.book.specs.Prelude.{WasBookCut};
-ghost use Rattle.cluster.specs.Prelude.{IsCuttingCall, IsNoCut};
+ghost use Rattle.cluster.specs.Prelude.{IsCuttingCall, IsCuttingFault};
 
 use super::Cluster;
 use crate::keeper::BookTurn;
@@ -37,7 +37,7 @@ impl<T: BookTurn> Cluster<T> {
 fn cut_off(book: &mut Book) -> Result<(), Refused>
     ensures ok { OnOk result (WasBookCut book.old book.new) }
     ensures err { OnErr result (book.new ≡ book.old) }
-    ensures fault { IfErr result (λ e. IsNoCut book.old.journal e) }
+    ensures fault { IfErr result (λ e. IsCuttingFault book.old.journal e) }
 {
     book.cut()?;
     Ok(())

@@ -5,7 +5,7 @@ ghost use Rattle.journal.specs.declared.event.Event.{Event as AnEvent};
 ghost use Rattle.journal.specs.Sizes.{Sizes};
 ghost use Rattle.base.specs.Limits.{most_processors};
 ghost use Rattle.cluster.specs.Copies.Local.{Local};
-ghost use Rattle.cluster.specs.Finishing.{AreAllOf, AreTakenApart, AreBlocksOf, IsFinished, IsFinishing};
+ghost use Rattle.cluster.specs.Finishing.{AreAllToFinish, AreTakenApart, AreBlocksToFinish, IsFinished, IsFinishing};
 
 use super::Cluster;
 use crate::keeper::{BookTurn, Rule};
@@ -41,7 +41,7 @@ impl<T: BookTurn> Cluster<T> {
     /// Hands in the open blocks of all processors, by rising number, and answers the journal. It takes no memory and
     /// waits for nothing; processors that wait may be among them.
     pub fn finish(self, processors: Vec<Processor<T>>) -> Journal
-        requires { AreAllOf self processors.items }
+        requires { AreAllToFinish self processors.items }
         ensures { IsFinished self.sizes processors.items result }
     {
         let Cluster {
@@ -80,9 +80,9 @@ fn take_apart<T: BookTurn>(
 /// Hands the blocks in, the one at place p as that of processor p.
 fn hand_in_all(book: &mut Book, blocks: &[Vec<Event>])
     requires { (s : Sizes) × (ms : List Local) × (h : List AnEvent)
-        × IsFinishing s ms 0 h book.old × AreBlocksOf ms (map vec_items blocks.now) }
+        × IsFinishing s ms 0 h book.old × AreBlocksToFinish ms (map vec_items blocks.now) }
     ensures { (s : Sizes) (ms : List Local) (h : List AnEvent)
-        → IsFinishing s ms 0 h book.old → AreBlocksOf ms (map vec_items blocks.now)
+        → IsFinishing s ms 0 h book.old → AreBlocksToFinish ms (map vec_items blocks.now)
         → (g : List AnEvent) × IsFinishing s ms (length ms) g book.new }
 {
     for p in 0..blocks.len() {

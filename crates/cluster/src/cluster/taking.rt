@@ -7,9 +7,9 @@ ghost use Rattle.journal.specs.Prelude.{is_taking, Sizes, Ready};
 ghost use Rattle.journal.specs.declared.event.Event.{Event};
 ghost use Rattle.vtime.specs.Times.{join};
 ghost use Rattle.transit.specs.Prelude.{letter};
-ghost use Rattle.book.specs.Prelude.{brought, IsProcessor, MayTakeSome, Takes, IsFullAt, IsWantOfRoom, Represents};
-ghost use Rattle.cluster.specs.Copies.Prelude.{AreAfterNews, AreSameCopies, HaveRoom, MayLearn, held_after};
-ghost use Rattle.cluster.specs.Prelude.{IsTakingCall, MayHoldOne, HasRoomFor};
+ghost use Rattle.book.specs.Prelude.{brought, IsProcessor, AllowsSomeTake, BookTakes, IsFullRefusal, IsRoomRefusal, Represents};
+ghost use Rattle.cluster.specs.Copies.Prelude.{AreAfterNews, AreSameCopies, HaveRoomForNews, MayLearnNews, held_after};
+ghost use Rattle.cluster.specs.Prelude.{IsTakingCall, MayHoldOne, HasRoomToTake};
 
 use super::Cluster;
 use crate::copies::Replica;
@@ -54,11 +54,11 @@ impl<T: BookTurn> Cluster<T> {
 /// Takes what `p` waits for from the book, and makes room for it in the copies' lists. Whoever waits looks again and
 /// again, so it asks first whether that has come.
 fn receive(book: &mut Book, p: usize, replicas: &mut Vec<Replica>) -> Result<Message, Refused>
-    requires call { MayTakeSome book.old p }
+    requires call { AllowsSomeTake book.old p }
     requires few { vec_len replicas.old ≤ 64 }
     ensures same { AreSameCopies replicas.old.items replicas.new.items }
-    ensures room { IfOk result (λ m. HasRoomFor (letter m).notices replicas.new.items) }
-    ensures ok { IfOk result (λ m. Takes book.old p (letter m) book.new) }
+    ensures room { IfOk result (λ m. HasRoomToTake (letter m).notices replicas.new.items) }
+    ensures ok { IfOk result (λ m. BookTakes book.old p (letter m) book.new) }
     ensures err { OnErr result (book.new ≡ book.old) }
     ensures absent { (s : Sizes) (h : List Event) → Represents s h book.old
         → result ≡ Err Refused.NotYet ↔ (¬ Ready s h p) }
@@ -78,15 +78,15 @@ fn receive(book: &mut Book, p: usize, replicas: &mut Vec<Replica>) -> Result<Mes
 /// whoever comes too early would else set up all its locals.
 #[inline(never)]
 fn receive_ready(book: &mut Book, p: usize, replicas: &mut Vec<Replica>) -> Result<Message, Refused>
-    requires call { MayTakeSome book.old p }
+    requires call { AllowsSomeTake book.old p }
     requires ready { (s : Sizes) (h : List Event) → Represents s h book.old → Ready s h p }
     requires few { vec_len replicas.old ≤ 64 }
     ensures same { AreSameCopies replicas.old.items replicas.new.items }
-    ensures room { IfOk result (λ m. HasRoomFor (letter m).notices replicas.new.items) }
-    ensures ok { IfOk result (λ m. Takes book.old p (letter m) book.new) }
+    ensures room { IfOk result (λ m. HasRoomToTake (letter m).notices replicas.new.items) }
+    ensures ok { IfOk result (λ m. BookTakes book.old p (letter m) book.new) }
     ensures err { OnErr result (book.new ≡ book.old) }
-    ensures full { IsFullAt (length book.old.journal.events + 1) result }
-    ensures only { IfErr result IsWantOfRoom }
+    ensures full { IsFullRefusal (length book.old.journal.events + 1) result }
+    ensures only { IfErr result IsRoomRefusal }
 {
     if book.is_full() {
         return Err(Refused::JournalFull);
@@ -100,7 +100,7 @@ fn prepare(book: &Book, p: usize, replicas: &mut Vec<Replica>) -> Result<(), All
     requires call { IsProcessor book.now p }
     requires few { vec_len replicas.old ≤ 64 }
     ensures same { AreSameCopies replicas.old.items replicas.new.items }
-    ensures room { OnOk result (HasRoomFor (brought book.now p) replicas.new.items) }
+    ensures room { OnOk result (HasRoomToTake (brought book.now p) replicas.new.items) }
 {
     let mut counts = [0; MOST_PAGES];
     let counts = &mut counts[..replicas.len()];
@@ -113,14 +113,14 @@ fn make_room(replicas: &mut Vec<Replica>, counts: &[usize]) -> Result<(), AllocE
     requires { length counts.now ≡ vec_len replicas.old }
     ensures same { AreSameCopies replicas.old.items replicas.new.items }
     ensures long { length counts.now ≡ length replicas.new.items }
-    ensures ok { OnOk result (HaveRoom counts.now replicas.new.items) }
+    ensures ok { OnOk result (HaveRoomForNews counts.now replicas.new.items) }
 {
     crate::copies::make_room(replicas.as_mut_slice(), counts)
 }
 
 /// Takes over what came: the records that the copies lack from then on, and the sender's timestamp.
 fn accept(message: Message, replicas: &mut Vec<Replica>, time: &mut VTime)
-    requires news { MayLearn replicas.old.items (letter message).notices }
+    requires news { MayLearnNews replicas.old.items (letter message).notices }
     requires times { length (letter message).time ≡ length time.old }
     ensures news { AreAfterNews replicas.old.items (letter message).notices replicas.new.items }
     ensures time { time.new ≡ join time.old (letter message).time }
@@ -132,7 +132,7 @@ fn accept(message: Message, replicas: &mut Vec<Replica>, time: &mut VTime)
 
 /// Puts what came among the records that the copies lack.
 fn learn(replicas: &mut Vec<Replica>, notices: Vec<Sent>)
-    requires { MayLearn replicas.old.items notices.items }
+    requires { MayLearnNews replicas.old.items notices.items }
     ensures { AreAfterNews replicas.old.items notices.items replicas.new.items }
 {
     crate::copies::learn(replicas.as_mut_slice(), notices);

@@ -2,8 +2,8 @@
 ghost use Rattle.std.specs.Prelude.{◌≡◌, ◌↔◌, List};
 ghost use Rattle.journal.specs.Prelude.{Sizes, Ready, IsDeadlock};
 ghost use Rattle.journal.specs.declared.event.Event.{Event};
-ghost use Rattle.book.specs.Prelude.{Represents, MayTakeSome};
-ghost use Rattle.cluster.specs.Prelude.{IsWaitingCall, answer_of};
+ghost use Rattle.book.specs.Prelude.{Represents, AllowsSomeTake};
+ghost use Rattle.cluster.specs.Prelude.{IsWaitingCall, waited_answer};
 
 use super::Cluster;
 use crate::bells::Bells;
@@ -47,11 +47,11 @@ impl<T: BookTurn> Cluster<T> {
 
 /// What processor `p` finds: an answer, or None where it has to sleep. Where nothing has come it forgets what it was told.
 fn look(bells: &Bells, book: &Book, p: usize) -> Option<Waited>
-    requires call { MayTakeSome book.now p }
+    requires call { AllowsSomeTake book.now p }
     ensures stuck { (s : Sizes) (h : List Event) → Represents s h book.now
-        → answer_of result ≡ Waited.Stuck ↔ IsDeadlock s h }
+        → waited_answer result ≡ Waited.Stuck ↔ IsDeadlock s h }
     ensures deserted { (s : Sizes) (h : List Event) → Represents s h book.now
-        → answer_of result ≡ Waited.Deserted → ¬ Ready s h p }
+        → waited_answer result ≡ Waited.Deserted → ¬ Ready s h p }
 {
     if book.is_ready(p) {
         return Some(Waited::MayHaveCome);
@@ -68,7 +68,7 @@ fn look(bells: &Bells, book: &Book, p: usize) -> Option<Waited>
 
 /// Answers what was found, and tells all others where nothing can come any more; or waits until `p` is told.
 fn settle<R: Wait>(rt: &R, bells: &Bells, p: usize, found: Option<Waited>) -> Waited
-    ensures { result ≡ answer_of found }
+    ensures { result ≡ waited_answer found }
 {
     match found {
         None => {

@@ -2,9 +2,9 @@
 ghost use Rattle.std.specs.Prelude.{◌≡◌, ℕ, ◌<◌, ◌≤◌, ◌+◌, ◌-◌, Some, OnOk, [], length, map, slice_get};
 ghost use Rattle.std.specs.VecDeque.{deque_capacity, deque_len};
 ghost use Rattle.interval.specs.Prelude.{SentRecord};
-ghost use Rattle.journal.specs.Prelude.{InClosingOrder};
-ghost use Rattle.book.specs.Prelude.{missing_of};
-ghost use Rattle.cluster.specs.Copies.Prelude.{IsPlaceAmong, IsPut, none_queued, read_from};
+ghost use Rattle.journal.specs.Prelude.{MissingInOrder};
+ghost use Rattle.book.specs.Prelude.{news_of_notice};
+ghost use Rattle.cluster.specs.Copies.Prelude.{IsPlaceInBacklog, IsPutInBacklog, no_backlog, read_from};
 
 use interval::Sent;
 use std::alloc::{AllocError, Global};
@@ -24,9 +24,9 @@ pub(crate) struct Backlog {
 impl Model for Backlog {
     ghost use Rattle.std.specs.Prelude.{◌≤◌, ◌-◌, length};
     ghost use Rattle.std.specs.VecDeque.{deque_capacity};
-    ghost use Rattle.cluster.specs.Copies.Backlogs.{Queued, read_from};
+    ghost use Rattle.cluster.specs.Copies.Backlogs.{Backlogged, read_from};
 
-    ghost Value = { Queued };
+    ghost Value = { Backlogged };
 
     ghost view = { λ b. record {
       records = read_from b.start b.ring.items;
@@ -39,7 +39,7 @@ impl Model for Backlog {
 impl Backlog {
     /// No records.
     pub(crate) fn new(alloc: Global) -> Backlog
-        ensures { result ≡ none_queued }
+        ensures { result ≡ no_backlog }
     {
         Backlog {
             ring: VecDeque::from_vec(Vec::new(alloc)),
@@ -79,8 +79,8 @@ impl Backlog {
     /// It costs as many steps as records stand between that place and the place of the last one that was put.
     pub(crate) fn put(&mut self, sent: Sent)
         requires room { 0 < self.old.room }
-        requires order { InClosingOrder (map missing_of self.old.records) }
-        ensures put { IsPut self.old.records sent self.new.records }
+        requires order { MissingInOrder (map news_of_notice self.old.records) }
+        ensures put { IsPutInBacklog self.old.records sent self.new.records }
         ensures room { self.new.room + 1 ≡ self.old.room }
     {
         let start = self.ring.len() - self.place_of(sent.place);
@@ -101,8 +101,8 @@ impl Backlog {
     /// How many records were closed no later than `place`, where they are in closing order. It looks from the place
     /// of the last one that was put.
     fn place_of(&self, place: u64) -> usize
-        requires { InClosingOrder (map missing_of self.now.records) }
-        ensures { IsPlaceAmong self.now.records place result }
+        requires { MissingInOrder (map news_of_notice self.now.records) }
+        ensures { IsPlaceInBacklog self.now.records place result }
     {
         let last = self.ring.len() - self.start;
         let start = self.back_from(last, place);
@@ -128,8 +128,8 @@ impl Backlog {
         requires within { from ≤ length self.now.records }
         requires before { (i : ℕ) (x : SentRecord) → i < from
             → slice_get self.now.records i ≡ Some x → x.place ≤ place }
-        requires order { InClosingOrder (map missing_of self.now.records) }
-        ensures { IsPlaceAmong self.now.records place result }
+        requires order { MissingInOrder (map news_of_notice self.now.records) }
+        ensures { IsPlaceInBacklog self.now.records place result }
     {
         let mut at = from;
         while at < self.len() && self.at(at).place <= place {

@@ -3,13 +3,13 @@ ghost use Rattle.std.specs.Prelude.{◌≡◌, ◌<◌, ◌≤◌, ◌^◌, Some
 ghost use Rattle.std.specs.Prelude.{length, map, slice_get, sum_by};
 ghost use Rattle.std.specs.Option.{option_map};
 ghost use Rattle.base.specs.Prelude.{records_applied, Has};
-ghost use Rattle.journal.specs.Prelude.{HasCount, InClosingOrder};
+ghost use Rattle.journal.specs.Prelude.{HasCount, MissingInOrder};
 ghost use Rattle.page.specs.Prelude.{IsHarvest, IsClean};
 ghost use Rattle.page.specs.declared.page.Access.TheVariants.{Valid, Invalid};
 ghost use Rattle.interval.specs.Prelude.{SentRecord};
-ghost use Rattle.book.specs.Prelude.{missing_of};
-ghost use Rattle.cluster.specs.Copies.Prelude.{AllFit, IsOwner, may_use, words_if, record_words, AreCountable};
-ghost use Rattle.cluster.specs.Copies.Prelude.{fetched, written_at, zeros, IsAfterNews, IsSameCopy, MayLack, cleaned};
+ghost use Rattle.book.specs.Prelude.{news_of_notice};
+ghost use Rattle.cluster.specs.Copies.Prelude.{AllFitPage, IsOwner, may_use_replica, words_if, record_words, AreCountable};
+ghost use Rattle.cluster.specs.Copies.Prelude.{replica_fetched, replica_written_at, zero_replica, IsAfterNews, IsSameCopy, MayLackNews, cleaned};
 ghost use Rattle.cluster.specs.Copies.Prelude.{AreCounts};
 
 use crate::copies::marks::Marks;
@@ -39,7 +39,7 @@ pub struct Replica {
 }
 
 impl Model for Replica {
-    ghost use Rattle.cluster.specs.Copies.Copies.{Copied};
+    ghost use Rattle.cluster.specs.Copies.PageReplica.{Copied};
 
     ghost Value = { Copied };
 
@@ -55,7 +55,7 @@ impl Replica {
     pub fn zero(alloc: Global, words: usize) -> Result<Replica, AllocError>
         requires some { 0 < words }
         requires few { words ≤ 64 }
-        ensures { IfOk result (λ r. r ≡ zeros words) }
+        ensures { IfOk result (λ r. r ≡ zero_replica words) }
     {
         Ok(Replica {
             page: Page::zero(alloc, words)?,
@@ -65,7 +65,7 @@ impl Replica {
 
     /// Whether the copy lacks nothing.
     pub fn is_valid(&self) -> bool
-        ensures { result ≡ may_use self.now.page.access }
+        ensures { result ≡ may_use_replica self.now.page.access }
     {
         self.page.access() == Access::Valid
     }
@@ -73,7 +73,7 @@ impl Replica {
     /// Its words, where it lacks nothing.
     pub fn words(&self) -> Option<&[u32]>
         ensures { option_map (λ words. words.now) result
-            ≡ words_if (may_use self.now.page.access) self.now }
+            ≡ words_if (may_use_replica self.now.page.access) self.now }
     {
         if !self.is_valid() {
             return None;
@@ -94,7 +94,7 @@ impl Replica {
     pub fn store(&mut self, offset: usize, value: u32)
         requires valid { self.old.page.access ≡ Valid }
         requires in_range { offset < length self.old.page.words }
-        ensures { self.new ≡ written_at self.old offset value }
+        ensures { self.new ≡ replica_written_at self.old offset value }
     {
         self.page.store(offset, value);
     }
@@ -102,7 +102,7 @@ impl Replica {
     /// What a fetch applies now: of how many owners, how many records, and how many words.
     pub fn counts(&self) -> MissingCounts
         requires few { AreCountable self.now.missing }
-        requires fit { AllFit (length self.now.page.words) self.now.missing }
+        requires fit { AllFitPage (length self.now.page.words) self.now.missing }
         ensures { AreCounts self.now.missing result }
     {
         let missing = &self.missing;
@@ -140,7 +140,7 @@ impl Replica {
     /// Puts a record among those that are missing, at its place in closing order, and closes the copy to loads
     /// and stores. Takes no memory.
     pub(crate) fn learn(&mut self, sent: Sent)
-        requires { MayLack self.old (sent ∷ []) }
+        requires { MayLackNews self.old (sent ∷ []) }
         ensures news { IsAfterNews self.old (sent ∷ []) self.new }
         ensures room { self.new.room + 1 ≡ self.old.room }
     {
@@ -152,8 +152,8 @@ impl Replica {
     /// valid. What was missing is room again.
     pub fn fetch(&mut self)
         requires invalid { self.old.page.access ≡ Invalid }
-        requires fit { AllFit (length self.old.page.words) self.old.missing }
-        ensures { self.new ≡ fetched self.old }
+        requires fit { AllFitPage (length self.old.page.words) self.old.missing }
+        ensures { self.new ≡ replica_fetched self.old }
     {
         apply_all(&mut self.page, &self.missing);
         self.page.set_valid();
@@ -164,7 +164,7 @@ impl Replica {
 /// Applies the records in their order.
 fn apply_all(page: &mut Page, missing: &Backlog)
     requires invalid { page.old.access ≡ Invalid }
-    requires fit { AllFit (length page.old.words) missing.now.records }
+    requires fit { AllFitPage (length page.old.words) missing.now.records }
     ensures { page.new ≡ record page.old
         { words = records_applied page.old.words (map record_words missing.now.records) } }
 {

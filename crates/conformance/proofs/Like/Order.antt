@@ -4,12 +4,12 @@ use Rattle.journal.specs.declared.event.Event.{Event}
 use Rattle.journal.specs.declared.event.Kind.{Kind}
 use Rattle.journal.specs.declared.event.Kind.TheVariants.{Load, Store, Acquire, Release, Arrive, Depart, Set, Await}
 use Rattle.journal.specs.Events.{address_of, is_store, is_arrive, is_depart}
-use Rattle.journal.specs.Order.{LetsThrough, Link, Edge, HappensBefore}
-use Rattle.journal.specs.Order.Link.{same, lets, meets}
-use Rattle.journal.specs.Order.HappensBefore.{edge, on}
+use Rattle.journal.specs.HappensBeforeEdges.{LetsThrough, Link, Edge, HappensBefore}
+use Rattle.journal.specs.HappensBeforeEdges.Link.{same, lets, meets}
+use Rattle.journal.specs.HappensBeforeEdges.HappensBefore.{edge, on}
 use Rattle.journal.specs.Races.{Conflict, Race}
 use Rattle.conformance.specs.Like.{valueless, SameButValues}
-use Rattle.conformance.proofs.Like.Places.{exact, AreAlike, like_at, like_take, count_like, arrive_valueless, depart_valueless}
+use Rattle.conformance.proofs.Like.Places.{exact_if_like, AreLikeEvents, like_at, like_take, count_like, arrive_valueless, depart_valueless}
 
 lets_valueless : (a b : Kind) → LetsThrough a b → LetsThrough (valueless a) (valueless b)
 lets_valueless (Release l) (Acquire m) h = h
@@ -24,7 +24,7 @@ lets_back _ _ h = absurd h
 lets_like : (a b c d : Kind) → valueless a ≡ valueless c → valueless b ≡ valueless d → LetsThrough a b → LetsThrough c d
 lets_like a b c d first second h = lets_back c d (rw (← first, ← second) (lets_valueless a b h))
 
-link_like : (h g : List Event) (i k : ℕ) (e f x y : Event) → SameButValues h g → AreAlike e x → AreAlike f y → Link h i k e f
+link_like : (h g : List Event) (i k : ℕ) (e f x y : Event) → SameButValues h g → AreLikeEvents e x → AreLikeEvents f y → Link h i k e f
     → Link g i k x y
 link_like h g i k e f x y like first second (same s) = same (sym first.processors ∙ s ∙ second.processors)
 link_like h g i k e f x y like first second (lets l) =
@@ -33,8 +33,8 @@ link_like h g i k e f x y like first second (meets m) =
     let arrivals = count_like is_arrive (take i h) (take i g) e.processor arrive_valueless (like_take h g i like) in
     let departures = count_like is_depart (take k h) (take k g) f.processor depart_valueless (like_take h g k like) in
     meets (record {
-      arrives = exact x.kind Arrive (sym first.kinds ∙ ap valueless m.arrives) refl;
-      departs = exact y.kind Depart (sym second.kinds ∙ ap valueless m.departs) refl;
+      arrives = exact_if_like x.kind Arrive (sym first.kinds ∙ ap valueless m.arrives) refl;
+      departs = exact_if_like y.kind Depart (sym second.kinds ∙ ap valueless m.departs) refl;
       episode = rw (← first.processors, ← second.processors) (sym arrivals ∙ m.episode ∙ departures);
     })
 
@@ -72,7 +72,7 @@ address_like a b e = sym (address_valueless a) ∙ ap address_of e ∙ address_v
 store_like : (a b : Kind) → valueless a ≡ valueless b → IsTrue (is_store a) → IsTrue (is_store b)
 store_like a b e stores = subst IsTrue (sym (store_valueless a) ∙ ap is_store e ∙ store_valueless b) stores
 
-conflict_like : (e f x y : Event) → AreAlike e x → AreAlike f y → Conflict e f → Conflict x y
+conflict_like : (e f x y : Event) → AreLikeEvents e x → AreLikeEvents f y → Conflict e f → Conflict x y
 conflict_like e f x y first second c =
     record {
       address = c.address;
@@ -84,8 +84,8 @@ conflict_like e f x y first second c =
       ];
     }
 
-race_there : (h g : List Event) (i k : ℕ) → SameButValues h g → Race h i k → Race g i k
-race_there h g i k like r =
+race_there_like : (h g : List Event) (i k : ℕ) → SameButValues h g → Race h i k → Race g i k
+race_there_like h g i k like r =
     let first = like_at h g i r.first like r.first_at in
     let second = like_at h g k r.second like r.second_at in
     record {
@@ -101,4 +101,4 @@ race_there h g i k like r =
 
 -- the races are the same
 pub race_like : (h g : List Event) (i k : ℕ) → SameButValues h g → Race h i k ↔ Race g i k
-race_like h g i k like = (race_there h g i k like, race_there g h i k (sym like))
+race_like h g i k like = (race_there_like h g i k like, race_there_like g h i k (sym like))

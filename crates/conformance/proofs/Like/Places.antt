@@ -7,10 +7,10 @@ use Rattle.std.proofs.lemmas.Option.{slice_get-map, same_Some, none-some}
 use Rattle.journal.specs.declared.event.Event.{Event}
 use Rattle.journal.specs.declared.event.Kind.{Kind}
 use Rattle.journal.specs.declared.event.Kind.TheVariants.{Load, Store}
-use Rattle.journal.specs.Did.{event}
+use Rattle.journal.specs.DidEvent.{event}
 use Rattle.journal.specs.Events.{At, count_of, is_arrive, is_depart}
 use Rattle.journal.specs.WellFormed.{Does}
-use Rattle.journal.proofs.Order.Places.{count_of-append}
+use Rattle.journal.proofs.Order.CountedAndNumbered.{count_of-append}
 use Rattle.conformance.specs.Like.{valueless, without_value, SameButValues}
 
 -- whether a kind has a value
@@ -20,8 +20,8 @@ has_value (Store a v) = true
 has_value k = false
 
 -- what is like a kind without a value is that kind
-pub exact : (k c : Kind) → valueless k ≡ valueless c → has_value c ≡ false → k ≡ c
-exact k c same none = back k (same ∙ plain c none)
+pub exact_if_like : (k c : Kind) → valueless k ≡ valueless c → has_value c ≡ false → k ≡ c
+exact_if_like k c same none = back k (same ∙ plain c none)
   where
     plain : (x : Kind) → has_value x ≡ false → valueless x ≡ x
     plain (Load a v) h = absurd (false≢true (sym h))
@@ -34,7 +34,7 @@ exact k c same none = back k (same ∙ plain c none)
     back _ e = e
 
 -- two events are the same but for their values
-pub record AreAlike (e f : Event) : Type 0 where
+pub record AreLikeEvents (e f : Event) : Type 0 where
   pub processors : e.processor ≡ f.processor
   pub kinds : valueless e.kind ≡ valueless f.kind
 
@@ -42,7 +42,7 @@ pub record AreAlike (e f : Event) : Type 0 where
 pub record LikeAt (g : List Event) (i : ℕ) (e : Event) : Type 0 where
   pub event : Event
   pub at : At g i event
-  pub like : AreAlike e event
+  pub like : AreLikeEvents e event
 
 -- an event of the one history has its like in the other
 pub like_at : (h g : List Event) (i : ℕ) (e : Event) → SameButValues h g → At h i e → LikeAt g i e
@@ -70,7 +70,7 @@ like_at h g i e like at =
 pub does_like : (h g : List Event) (i p : ℕ) (k : Kind) → SameButValues h g → has_value k ≡ false → Does h i p k → Does g i p k
 does_like h g i p k like none does =
     let l = like_at h g i (event p k) like does in
-    let kind : l.event.kind ≡ k = exact l.event.kind k (sym l.like.kinds) none in
+    let kind : l.event.kind ≡ k = exact_if_like l.event.kind k (sym l.like.kinds) none in
     let same : l.event ≡ event p k = ap₂ event (sym l.like.processors) kind in
     l.at ∙ ap Some same
 

@@ -5,22 +5,22 @@ use Rattle.journal.specs.declared.event.Kind.{Kind}
 use Rattle.journal.specs.declared.event.Kind.TheVariants.{Load, Store, Ask, Acquire, Release, Arrive, Depart, Set, Watch, Await}
 use Rattle.journal.specs.Events.{At, count_of, is_arrive, is_depart}
 use Rattle.journal.specs.Sizes.{Sizes}
-use Rattle.journal.specs.WellFormed.{KindInRange, LastIs, Holds, MayBeGranted, AllArrived, Answers, Allowed, MayFollow, WellFormed}
+use Rattle.journal.specs.WellFormed.{KindInRange, LastIs, Holds, MayBeGranted, AllArrived, AnswersCall, Allowed, MayFollow, WellFormed}
 use Rattle.conformance.specs.Like.{valueless, SameButValues}
-use Rattle.conformance.proofs.Like.Places.{has_value, exact, AreAlike, like_at, does_like, like_take, count_like, arrive_valueless, depart_valueless}
+use Rattle.conformance.proofs.Like.Places.{has_value, exact_if_like, AreLikeEvents, like_at, does_like, like_take, count_like, arrive_valueless, depart_valueless}
 
 range_valueless : (s : Sizes) (k : Kind) → KindInRange s k → KindInRange s (valueless k)
 range_valueless s (Load a v) h = h
 range_valueless s (Store a v) h = h
 range_valueless s _ h = h
 
-range_back : (s : Sizes) (k : Kind) → KindInRange s (valueless k) → KindInRange s k
-range_back s (Load a v) h = h
-range_back s (Store a v) h = h
-range_back s _ h = h
+range_back_like : (s : Sizes) (k : Kind) → KindInRange s (valueless k) → KindInRange s k
+range_back_like s (Load a v) h = h
+range_back_like s (Store a v) h = h
+range_back_like s _ h = h
 
 range_like : (s : Sizes) (a b : Kind) → valueless a ≡ valueless b → KindInRange s a → KindInRange s b
-range_like s a b same h = range_back s b (subst (KindInRange s) same (range_valueless s a h))
+range_like s a b same h = range_back_like s b (subst (KindInRange s) same (range_valueless s a h))
 
 -- p's last event stands at the same place, and is the same where it has no value
 last_like : (h g : List Event) (p i : ℕ) (k : Kind) → SameButValues h g → has_value k ≡ false → LastIs h p i k → LastIs g p i k
@@ -55,48 +55,48 @@ arrived_like s h g p like all q inside =
     rw (← departures, ← arrivals) (all q inside)
 
 -- what may be done next, may be done next after what is alike
-allowed_here : (s : Sizes) (h g : List Event) (p : ℕ) (k : Kind) → SameButValues h g → Allowed s h p k → Allowed s g p k
-allowed_here s h g p (Ask l) like x = λ held. x (holds_like g h p l (sym like) held)
-allowed_here s h g p (Acquire l) like x =
+allowed_here_like : (s : Sizes) (h g : List Event) (p : ℕ) (k : Kind) → SameButValues h g → Allowed s h p k → Allowed s g p k
+allowed_here_like s h g p (Ask l) like x = λ held. x (holds_like g h p l (sym like) held)
+allowed_here_like s h g p (Acquire l) like x =
     (x.0, last_like h g p x.0 (Ask l) like refl x.1, granted_like h g x.0 l like x.2)
-allowed_here s h g p (Release l) like x = holds_like h g p l like x
-allowed_here s h g p Depart like x = (x.0, last_like h g p x.0 Arrive like refl x.1, arrived_like s h g p like x.2)
-allowed_here s h g p (Await f) like x =
+allowed_here_like s h g p (Release l) like x = holds_like h g p l like x
+allowed_here_like s h g p Depart like x = (x.0, last_like h g p x.0 Arrive like refl x.1, arrived_like s h g p like x.2)
+allowed_here_like s h g p (Await f) like x =
     (x.0, x.1, x.2, last_like h g p x.0 (Watch f) like refl x.3, does_like h g x.1 x.2 (Set f) like refl x.4)
-allowed_here s h g p _ like x = tt
+allowed_here_like s h g p _ like x = tt
 
 allowed_valueless : (s : Sizes) (h : List Event) (p : ℕ) (k : Kind) → Allowed s h p k → Allowed s h p (valueless k)
 allowed_valueless s h p (Load a v) x = x
 allowed_valueless s h p (Store a v) x = x
 allowed_valueless s h p _ x = x
 
-allowed_back : (s : Sizes) (h : List Event) (p : ℕ) (k : Kind) → Allowed s h p (valueless k) → Allowed s h p k
-allowed_back s h p (Load a v) x = x
-allowed_back s h p (Store a v) x = x
-allowed_back s h p _ x = x
+allowed_back_like : (s : Sizes) (h : List Event) (p : ℕ) (k : Kind) → Allowed s h p (valueless k) → Allowed s h p k
+allowed_back_like s h p (Load a v) x = x
+allowed_back_like s h p (Store a v) x = x
+allowed_back_like s h p _ x = x
 
 allowed_like : (s : Sizes) (h g : List Event) (p : ℕ) (a b : Kind) → SameButValues h g → valueless a ≡ valueless b
     → Allowed s h p a → Allowed s g p b
 allowed_like s h g p a b like same x =
-    allowed_here s h g p b like (allowed_back s h p b (subst (Allowed s h p) same (allowed_valueless s h p a x)))
+    allowed_here_like s h g p b like (allowed_back_like s h p b (subst (Allowed s h p) same (allowed_valueless s h p a x)))
 
 -- the answer to a call that waits, where what answers is of the same kind
 answers_like : (h g : List Event) (p i : ℕ) (a b c : Kind) → SameButValues h g → valueless a ≡ valueless b
-    → ((k : Kind) → LastIs h p i k → Answers k a) → LastIs g p i c → Answers c b
+    → ((k : Kind) → LastIs h p i k → AnswersCall k a) → LastIs g p i c → AnswersCall c b
 answers_like h g p i a b (Ask l) like same answers last =
-    exact b (Acquire l) (sym same ∙ ap valueless
+    exact_if_like b (Acquire l) (sym same ∙ ap valueless
     (answers (Ask l) (last_like g h p i (Ask l) (sym like) refl last))) refl
 answers_like h g p i a b Arrive like same answers last =
-    exact b Depart (sym same ∙ ap valueless (answers Arrive (last_like g h p i Arrive (sym like) refl last))) refl
+    exact_if_like b Depart (sym same ∙ ap valueless (answers Arrive (last_like g h p i Arrive (sym like) refl last))) refl
 answers_like h g p i a b (Watch f) like same answers last =
-    exact b (Await f) (sym same ∙ ap valueless
+    exact_if_like b (Await f) (sym same ∙ ap valueless
     (answers (Watch f) (last_like g h p i (Watch f) (sym like) refl last))) refl
 answers_like h g p i a b _ like same answers last = tt
 
-follow_like : (s : Sizes) (h g : List Event) (e f : Event) → SameButValues h g → AreAlike e f → MayFollow s h e
+follow_like : (s : Sizes) (h g : List Event) (e f : Event) → SameButValues h g → AreLikeEvents e f → MayFollow s h e
     → MayFollow s g f
 follow_like s h g e f like alike m =
-    let P : ℕ → Type 0 = λ p. (i : ℕ) (c : Kind) → LastIs g p i c → Answers c f.kind in
+    let P : ℕ → Type 0 = λ p. (i : ℕ) (c : Kind) → LastIs g p i c → AnswersCall c f.kind in
     let Q : ℕ → Type 0 = λ p. Allowed s g p f.kind in
     let answers : P e.processor =
     λ i c last. answers_like h g e.processor i e.kind f.kind c like alike.kinds (m.answers i) last in
@@ -111,5 +111,5 @@ follow_like s h g e f like alike m =
 pub well_formed_like : (s : Sizes) (h g : List Event) → SameButValues h g → WellFormed s h → WellFormed s g
 well_formed_like s h g like well k f at =
     let back = like_at g h k f (sym like) at in
-    let alike : AreAlike back.event f = record { processors = sym back.like.processors; kinds = sym back.like.kinds } in
+    let alike : AreLikeEvents back.event f = record { processors = sym back.like.processors; kinds = sym back.like.kinds } in
     follow_like s (take k h) (take k g) back.event f (like_take h g k like) alike (well k back.event back.at)

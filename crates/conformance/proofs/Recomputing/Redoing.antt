@@ -6,31 +6,31 @@ use Rattle.std.proofs.lemmas.Option.{none-some}
 use Rattle.journal.specs.declared.event.Event.{Event}
 use Rattle.journal.specs.declared.event.Kind.{Kind}
 use Rattle.journal.specs.declared.event.Kind.TheVariants.{Load}
-use Rattle.journal.specs.Did.{event}
-use Rattle.journal.specs.Flat.{flat_write, Replays}
+use Rattle.journal.specs.DidEvent.{event}
+use Rattle.journal.specs.FlatMemory.{flat_write, Replays}
 use Rattle.journal.specs.InRange.{AddressesInRange}
-use Rattle.base.specs.Writes.{wrote}
+use Rattle.base.specs.LastWritten.{wrote}
 use Rattle.conformance.specs.Follows.{is_fetch, calls_of}
 use Rattle.conformance.specs.Like.{SameButValues}
 use Rattle.conformance.proofs.Calls.{calls_of_first, calls_of_first-fetch, calls_of_first-other}
 use Rattle.conformance.proofs.Script.Steps.{Step, reply_after, AreSteps, no_steps}
-use Rattle.conformance.proofs.Recomputing.Replaying.{Remade, remade, fetch_like, fetch_answers, replays_first, length-wrote, like_first}
+use Rattle.conformance.proofs.Recomputing.Replaying.{Remade, remade, fetch_like, replay_fetch_answers, replays_first, length-wrote, like_first}
 
 -- what a processor has still to call, and the reply that it was given last
-pub record Due : Type 0 where
+pub record DueToRedo : Type 0 where
   pub steps : List Step
   pub reply : ℕ
 
 -- each processor calls what is due, whatever it was answered before
-abbrev pub CallsDue : List Event → (ℕ → Due) → Type 0
-CallsDue es due = (p : ℕ) → (reply : ℕ) × AreSteps reply (due p).steps (calls_of es p)
+abbrev pub CallsDueToRedo : List Event → (ℕ → DueToRedo) → Type 0
+CallsDueToRedo es due = (p : ℕ) → (reply : ℕ) × AreSteps reply (due p).steps (calls_of es p)
 
 -- and what p calls is what is due after the reply that it was given last
-abbrev pub CallsRight : List Event → (ℕ → Due) → ℕ → Type 0
+abbrev pub CallsRight : List Event → (ℕ → DueToRedo) → ℕ → Type 0
 CallsRight es due p = AreSteps (due p).reply (due p).steps (calls_of es p)
 
 -- the events on the flat memory, from the replies that were given last
-pub record Redone (memory : List ℕ) (due : ℕ → Due) (es : List Event) : Type 0 where
+pub record Redone (memory : List ℕ) (due : ℕ → DueToRedo) (es : List Event) : Type 0 where
   pub events : List Event
   pub like : SameButValues es events
   pub replays : Replays memory events
@@ -38,54 +38,54 @@ pub record Redone (memory : List ℕ) (due : ℕ → Due) (es : List Event) : Ty
 
 -- these events can be done so from any memory where their addresses are
 abbrev CanRedo : List Event → Type 0
-CanRedo es = (memory : List ℕ) (due : ℕ → Due) → AddressesInRange (length memory) es → CallsDue es due
+CanRedo es = (memory : List ℕ) (due : ℕ → DueToRedo) → AddressesInRange (length memory) es → CallsDueToRedo es due
     → Redone memory due es
 
 -- what is due, but this of p
-abbrev pub updated : (ℕ → Due) → ℕ → Due → ℕ → Due
-updated due p d q = cond (q == p) d (due q)
+abbrev pub redo_updated : (ℕ → DueToRedo) → ℕ → DueToRedo → ℕ → DueToRedo
+redo_updated due p d q = cond (q == p) d (due q)
 
-at_updated : (due : ℕ → Due) (p : ℕ) (d : Due) → updated due p d p ≡ d
-at_updated due p d = cond-true (p == p) d (due p) (eq-eqb p p refl)
+redo_updated_at : (due : ℕ → DueToRedo) (p : ℕ) (d : DueToRedo) → redo_updated due p d p ≡ d
+redo_updated_at due p d = cond-true (p == p) d (due p) (eq-eqb p p refl)
 
-off_updated : (due : ℕ → Due) (p q : ℕ) (d : Due) → p ≢ q → updated due p d q ≡ due q
-off_updated due p q d apart = cond-false (q == p) d (due q) (ne_eqb q p (λ e. apart (sym e)))
+redo_updated_off : (due : ℕ → DueToRedo) (p q : ℕ) (d : DueToRedo) → p ≢ q → redo_updated due p d q ≡ due q
+redo_updated_off due p q d apart = cond-false (q == p) d (due q) (ne_eqb q p (λ e. apart (sym e)))
 
 -- what holds of p's and of all others' holds of all
-pub each_updated : (due : ℕ → Due) (p : ℕ) (d : Due) (P : ℕ → Due → Type 0) → P p d → ((q : ℕ) → p ≢ q → P q (due q))
-    → (q : ℕ) → P q (updated due p d q)
-each_updated due p d P own others q = elim (cases_eq p q) [
-  | inl same ↦ subst (λ x. P x (updated due p d x)) same (subst (P p) (sym (at_updated due p d)) own)
-  | inr apart ↦ subst (P q) (sym (off_updated due p q d apart)) (others q apart)
+pub redo_updated_each : (due : ℕ → DueToRedo) (p : ℕ) (d : DueToRedo) (P : ℕ → DueToRedo → Type 0) → P p d → ((q : ℕ) → p ≢ q → P q (due q))
+    → (q : ℕ) → P q (redo_updated due p d q)
+redo_updated_each due p d P own others q = elim (cases_eq p q) [
+  | inl same ↦ subst (λ x. P x (redo_updated due p d x)) same (subst (P p) (sym (redo_updated_at due p d)) own)
+  | inr apart ↦ subst (P q) (sym (redo_updated_off due p q d apart)) (others q apart)
 ]
 
 -- the addresses of the rest are in the memory after the first event too
-inside_rest : (memory : List ℕ) (x e : Event) (es : List Event) → AddressesInRange (length memory) (e ∷ es)
+redo_inside_rest : (memory : List ℕ) (x e : Event) (es : List Event) → AddressesInRange (length memory) (e ∷ es)
     → AddressesInRange (length (wrote memory (flat_write x.kind))) es
-inside_rest memory x e es inside i f at = rw (length-wrote memory x) (inside (suc i) f at)
+redo_inside_rest memory x e es inside i f at = rw (length-wrote memory x) (inside (suc i) f at)
 
 -- a fetch stays
-redo_fetch : (memory : List ℕ) (due : ℕ → Due) (p : ℕ) (k : Kind) (es : List Event) → is_fetch k ≡ true
-    → AddressesInRange (length memory) (event p k ∷ es) → CallsDue (event p k ∷ es) due → CanRedo es
+redo_fetch : (memory : List ℕ) (due : ℕ → DueToRedo) (p : ℕ) (k : Kind) (es : List Event) → is_fetch k ≡ true
+    → AddressesInRange (length memory) (event p k ∷ es) → CallsDueToRedo (event p k ∷ es) due → CanRedo es
     → Redone memory due (event p k ∷ es)
 redo_fetch memory due p k es is inside calls redo =
     let e = event p k in
     let same : (q : ℕ) (gs : List Event) → calls_of (e ∷ gs) q ≡ calls_of gs q =
     λ q gs. calls_of_first-fetch p q k gs is in
-    let later : CallsDue es due =
+    let later : CallsDueToRedo es due =
     λ q. ((calls q).0, subst (AreSteps (calls q).0 (due q).steps) (same q es) (calls q).1) in
-    let rest = redo (wrote memory (flat_write k)) due (inside_rest memory e e es inside) later in
+    let rest = redo (wrote memory (flat_write k)) due (redo_inside_rest memory e e es inside) later in
     record {
       events = e ∷ rest.events;
       like = like_first p k k es rest.events refl rest.like;
-      replays = replays_first memory e rest.events (fetch_answers memory k is) rest.replays;
+      replays = replays_first memory e rest.events (replay_fetch_answers memory k is) rest.replays;
       calls = λ q. subst (AreSteps (due q).reply (due q).steps) (sym (same q rest.events)) (rest.calls q);
     }
 
 -- a call of p is made of its first step
-redo_step : (memory : List ℕ) (due : ℕ → Due) (p old : ℕ) (k : Kind) (es : List Event) (s : Step) (steps : List Step)
+redo_step : (memory : List ℕ) (due : ℕ → DueToRedo) (p old : ℕ) (k : Kind) (es : List Event) (s : Step) (steps : List Step)
     → is_fetch k ≡ false → (due p).steps ≡ s ∷ steps → AreSteps old (s ∷ steps) (k ∷ calls_of es p)
-    → AddressesInRange (length memory) (event p k ∷ es) → CallsDue (event p k ∷ es) due → CanRedo es
+    → AddressesInRange (length memory) (event p k ∷ es) → CallsDueToRedo (event p k ∷ es) due → CanRedo es
     → Redone memory due (event p k ∷ es)
 redo_step memory due p old k es s steps call first is inside calls redo =
     record {
@@ -98,7 +98,7 @@ redo_step memory due p old k es s steps call first is inside calls redo =
     made : Remade memory (due p).reply s k
     made = remade memory old (due p).reply s k (inside 0 (event p k) refl) is.0
 
-    then : Due
+    then : DueToRedo
     then = record { steps = steps; reply = reply_after (due p).reply made.kind }
 
     -- what another has still to call is the same without this call
@@ -107,27 +107,27 @@ redo_step memory due p old k es s steps call first is inside calls redo =
         let c = calls q in
         (c.0, subst (AreSteps c.0 (due q).steps) (calls_of_first-other p q k es apart) c.1)
 
-    later : CallsDue es (updated due p then)
+    later : CallsDueToRedo es (redo_updated due p then)
     later =
-        let P : ℕ → Due → Type 0 = λ q d. (reply : ℕ) × AreSteps reply d.steps (calls_of es q) in
-        each_updated due p then P (reply_after old k, is.1) theirs
+        let P : ℕ → DueToRedo → Type 0 = λ q d. (reply : ℕ) × AreSteps reply d.steps (calls_of es q) in
+        redo_updated_each due p then P (reply_after old k, is.1) theirs
 
-    rest : Redone (wrote memory (flat_write made.kind)) (updated due p then) es
+    rest : Redone (wrote memory (flat_write made.kind)) (redo_updated due p then) es
     rest =
-        let more = inside_rest memory (event p made.kind) (event p k) es inside in
-        redo (wrote memory (flat_write made.kind)) (updated due p then) more later
+        let more = redo_inside_rest memory (event p made.kind) (event p k) es inside in
+        redo (wrote memory (flat_write made.kind)) (redo_updated due p then) more later
 
     own : CallsRight (event p made.kind ∷ rest.events) due p
     own =
-        let P : Due → Type 0 = λ d. AreSteps d.reply d.steps (calls_of rest.events p) in
-        let mine = subst P (at_updated due p then) (rest.calls p) in
+        let P : DueToRedo → Type 0 = λ d. AreSteps d.reply d.steps (calls_of rest.events p) in
+        let mine = subst P (redo_updated_at due p then) (rest.calls p) in
         let both : AreSteps (due p).reply (s ∷ steps) (made.kind ∷ calls_of rest.events p) = (made.is, mine) in
         rw (first, calls_of_first p made.kind rest.events (sym (fetch_like k made.kind made.like) ∙ call)) both
 
     others : (q : ℕ) → p ≢ q → CallsRight (event p made.kind ∷ rest.events) due q
     others q apart =
-        let P : Due → Type 0 = λ d. AreSteps d.reply d.steps (calls_of rest.events q) in
-        let same = subst P (off_updated due p q then apart) (rest.calls q) in
+        let P : DueToRedo → Type 0 = λ d. AreSteps d.reply d.steps (calls_of rest.events q) in
+        let same = subst P (redo_updated_off due p q then apart) (rest.calls q) in
         rw (calls_of_first-other p q made.kind rest.events apart) same
 
     all : (q : ℕ) → CallsRight (event p made.kind ∷ rest.events) due q
@@ -137,8 +137,8 @@ redo_step memory due p old k es s steps call first is inside calls redo =
     ]
 
 -- a call of p
-redo_call : (memory : List ℕ) (due : ℕ → Due) (p : ℕ) (k : Kind) (es : List Event) → is_fetch k ≡ false
-    → AddressesInRange (length memory) (event p k ∷ es) → CallsDue (event p k ∷ es) due → CanRedo es
+redo_call : (memory : List ℕ) (due : ℕ → DueToRedo) (p : ℕ) (k : Kind) (es : List Event) → is_fetch k ≡ false
+    → AddressesInRange (length memory) (event p k ∷ es) → CallsDueToRedo (event p k ∷ es) due → CanRedo es
     → Redone memory due (event p k ∷ es)
 redo_call memory due p k es call inside calls redo =
     by_steps (due p).steps refl (subst (AreSteps (calls p).0 (due p).steps) (calls_of_first p k es call) (calls p).1)
@@ -148,8 +148,8 @@ redo_call memory due p k es call inside calls redo =
     by_steps [] first is = absurd is
     by_steps (s ∷ steps) first is = redo_step memory due p (calls p).0 k es s steps call first is inside calls redo
 
-redo_first : (memory : List ℕ) (due : ℕ → Due) (e : Event) (es : List Event) (fetches : Bool)
-    → is_fetch e.kind ≡ fetches → AddressesInRange (length memory) (e ∷ es) → CallsDue (e ∷ es) due → CanRedo es
+redo_first : (memory : List ℕ) (due : ℕ → DueToRedo) (e : Event) (es : List Event) (fetches : Bool)
+    → is_fetch e.kind ≡ fetches → AddressesInRange (length memory) (e ∷ es) → CallsDueToRedo (e ∷ es) due → CanRedo es
     → Redone memory due (e ∷ es)
 redo_first memory due e es true is inside calls redo = redo_fetch memory due e.processor e.kind es is inside calls redo
 redo_first memory due e es false is inside calls redo = redo_call memory due e.processor e.kind es is inside calls redo

@@ -4,11 +4,11 @@ use Rattle.std.proofs.lemmas.Option.{slice_get-get_or, same_Some}
 use Rattle.journal.specs.declared.event.Event.{Event}
 use Rattle.journal.specs.declared.event.Kind.{Kind}
 use Rattle.journal.specs.declared.event.Kind.TheVariants.{Load, Store}
-use Rattle.journal.specs.Did.{event}
-use Rattle.journal.specs.Flat.{flat_write, Replays, AnswersWord}
+use Rattle.journal.specs.DidEvent.{event}
+use Rattle.journal.specs.FlatMemory.{flat_write, Replays, AnswersWord}
 use Rattle.journal.specs.InRange.{AddressInRange}
-use Rattle.base.specs.Writes.{wrote}
-use Rattle.base.proofs.LastWrites.{length-written}
+use Rattle.base.specs.LastWritten.{wrote}
+use Rattle.base.proofs.LastWritten.{length-written}
 use Rattle.conformance.specs.Follows.{is_fetch}
 use Rattle.conformance.specs.Like.{valueless, SameButValues}
 use Rattle.conformance.proofs.Script.Steps.{Step, IsStep}
@@ -39,9 +39,9 @@ fetch_like a b same = sym (plain_fetch a) ∙ ap is_fetch same ∙ plain_fetch b
     plain_fetch _ = refl
 
 -- a fetch answers nothing
-pub fetch_answers : (memory : List ℕ) (k : Kind) → is_fetch k ≡ true → AnswersWord memory k
-fetch_answers memory (Load a v) is = absurd (cc)
-fetch_answers memory _ is = tt
+pub replay_fetch_answers : (memory : List ℕ) (k : Kind) → is_fetch k ≡ true → AnswersWord memory k
+replay_fetch_answers memory (Load a v) is = absurd (cc)
+replay_fetch_answers memory _ is = tt
 
 -- an event that replays, before events that replay after it
 pub replays_first : (memory : List ℕ) (e : Event) (es : List Event) → AnswersWord memory e.kind
@@ -51,10 +51,10 @@ replays_first memory e es first rest zero p a v does =
 replays_first memory e es first rest (suc i) p a v does = rest i p a v does
 
 -- and back: the first event replays, and the others after it
-pub answers_first : (memory : List ℕ) (p : ℕ) (k : Kind) (es : List Event) → Replays memory (event p k ∷ es)
+pub replay_answers_first : (memory : List ℕ) (p : ℕ) (k : Kind) (es : List Event) → Replays memory (event p k ∷ es)
     → AnswersWord memory k
-answers_first memory p (Load a v) es replays = replays 0 p a v refl
-answers_first memory p _ es replays = tt
+replay_answers_first memory p (Load a v) es replays = replays 0 p a v refl
+replay_answers_first memory p _ es replays = tt
 
 pub replays_rest : (memory : List ℕ) (e : Event) (es : List Event) → Replays memory (e ∷ es)
     → Replays (wrote memory (flat_write e.kind)) es

@@ -49,7 +49,7 @@ steps-append reply (s ∷ steps) more (k ∷ xs) ys h then =
     (h.0, steps-append (reply_after reply k) steps more xs ys h.1 then)
 
 -- calls as the one steps say, and then the others
-pub record AreHalves (reply : ℕ) (steps more : List Step) (kinds : List Kind) : Type 0 where
+pub record AreStepHalves (reply : ℕ) (steps more : List Step) (kinds : List Kind) : Type 0 where
   pub front : List Kind
   pub rest : List Kind
   pub last : ℕ
@@ -57,13 +57,13 @@ pub record AreHalves (reply : ℕ) (steps more : List Step) (kinds : List Kind) 
   pub first : AreSteps reply steps front
   pub second : AreSteps last more rest
 
-pub halves : (reply : ℕ) (steps more : List Step) (kinds : List Kind) → AreSteps reply (steps ++ more) kinds
-    → AreHalves reply steps more kinds
-halves reply [] more kinds h =
+pub step_halves : (reply : ℕ) (steps more : List Step) (kinds : List Kind) → AreSteps reply (steps ++ more) kinds
+    → AreStepHalves reply steps more kinds
+step_halves reply [] more kinds h =
     record { front = []; rest = kinds; last = reply; are = refl; first = tt; second = h }
-halves reply (s ∷ steps) more [] h = absurd h
-halves reply (s ∷ steps) more (k ∷ kinds) h =
-    let x = halves (reply_after reply k) steps more kinds h.1 in
+step_halves reply (s ∷ steps) more [] h = absurd h
+step_halves reply (s ∷ steps) more (k ∷ kinds) h =
+    let x = step_halves (reply_after reply k) steps more kinds h.1 in
     record {
       front = k ∷ x.front;
       rest = x.rest;
@@ -74,18 +74,18 @@ halves reply (s ∷ steps) more (k ∷ kinds) h =
     }
 
 -- the call of one step
-pub record IsOne (reply : ℕ) (s : Step) (kinds : List Kind) : Type 0 where
+pub record IsOneStep (reply : ℕ) (s : Step) (kinds : List Kind) : Type 0 where
   pub call : Kind
   pub are : kinds ≡ call ∷ []
   pub is : IsStep reply s call
 
-pub one_step : (reply : ℕ) (s : Step) (kinds : List Kind) → AreSteps reply (s ∷ []) kinds → IsOne reply s kinds
+pub one_step : (reply : ℕ) (s : Step) (kinds : List Kind) → AreSteps reply (s ∷ []) kinds → IsOneStep reply s kinds
 one_step reply s [] h = absurd h
 one_step reply s (k ∷ []) h = record { call = k; are = refl; is = h.0 }
 one_step reply s (k ∷ l ∷ kinds) h = absurd h.1
 
 -- the calls of two
-pub record AreTwo (reply : ℕ) (s t : Step) (kinds : List Kind) : Type 0 where
+pub record AreTwoSteps (reply : ℕ) (s t : Step) (kinds : List Kind) : Type 0 where
   pub first : Kind
   pub second : Kind
   pub are : kinds ≡ first ∷ second ∷ []
@@ -93,7 +93,7 @@ pub record AreTwo (reply : ℕ) (s t : Step) (kinds : List Kind) : Type 0 where
   pub second_is : IsStep (reply_after reply first) t second
 
 pub two_steps : (reply : ℕ) (s t : Step) (kinds : List Kind) → AreSteps reply (s ∷ t ∷ []) kinds
-    → AreTwo reply s t kinds
+    → AreTwoSteps reply s t kinds
 two_steps reply s t [] h = absurd h
 two_steps reply s t (k ∷ []) h = absurd h.1
 two_steps reply s t (k ∷ l ∷ []) h =

@@ -7,18 +7,18 @@ use Rattle.std.proofs.Math.Seq.{take-append_seam}
 use Rattle.journal.specs.declared.event.Event.{Event}
 use Rattle.journal.specs.declared.event.Kind.{Kind}
 use Rattle.journal.specs.declared.event.Kind.TheVariants.{Load}
-use Rattle.journal.specs.Did.{did, event}
-use Rattle.journal.specs.Flat.{AnswersWord, Replays, memory_after}
-use Rattle.journal.proofs.Order.Places.{at_last, at_longer, at_within}
-use Rattle.journal.proofs.Journals.WellFormed.{each_push, well_formed_empty, well_formed_front}
-use Rattle.base.proofs.Places.{push_cases}
+use Rattle.journal.specs.DidEvent.{did, event}
+use Rattle.journal.specs.FlatMemory.{AnswersWord, Replays, memory_after}
+use Rattle.journal.proofs.Order.CountedAndNumbered.{at_last, at_longer, at_within}
+use Rattle.journal.proofs.Journals.WellFormedLast.{each_push, well_formed_empty, well_formed_front}
+use Rattle.base.proofs.SlicesAndCounts.{push_cases}
 use Rattle.lrc_script.specs.declared.script.Instruction.{Instruction}
 use Rattle.lrc_script.specs.Plan.{Plan}
-use Rattle.lrc_script.specs.Lawful.{addresses}
+use Rattle.lrc_script.specs.Lawful.{plan_addresses}
 use Rattle.conformance.specs.Begins.{BeginsScript, BeginsSection}
 use Rattle.conformance.specs.Follows.{plan_sizes, calls_of, is_fetch, Follows, FollowsSection}
-use Rattle.conformance.specs.Recomputed.{HasNoFetch}
-use Rattle.conformance.proofs.Beginnings.{begins_front}
+use Rattle.conformance.specs.FlatRuns.{HasNoFetch}
+use Rattle.conformance.proofs.Begins.{begins_front}
 use Rattle.conformance.proofs.Calls.{calls_of-append, calls_of-own, calls_of-other}
 use Rattle.explore.specs.Prefixes.Beginnings.{IsFlatBeginning}
 use Rattle.explore.specs.Prefixes.Calling.{IsCalledNext, CallsNext, section_steps, shown_by}
@@ -66,7 +66,7 @@ pub front_begins : FrontLaw
 front_begins s g more h = record {
   well_formed = well_formed_front (plan_sizes s) g more h.well_formed;
   begins = script_front s g more h.begins;
-  replays = replays_front (replicate (addresses s) 0) g more h.replays;
+  replays = replays_front (replicate (plan_addresses s) 0) g more h.replays;
   no_fetch = λ i e at. h.no_fetch i e (at_longer g more i e at);
 }
 
@@ -128,7 +128,7 @@ next_begins s g p k = (there, back)
           record {
             may_follow = ((each_push (plan_sizes s) g (event p k)).0 h.well_formed).1;
             calls = record { call = call; next = begins_now s g p k call h.begins };
-            answers = answers_last (replicate (addresses s) 0) g p k h.replays;
+            answers = answers_last (replicate (plan_addresses s) 0) g p k h.replays;
           },
         )
 
@@ -136,7 +136,7 @@ next_begins s g p k = (there, back)
     back h = record {
       well_formed = (each_push (plan_sizes s) g (event p k)).1 (h.0.well_formed, h.1.may_follow);
       begins = begins_more s g p k h.0.begins h.1.calls;
-      replays = replays_push (replicate (addresses s) 0) g p k h.0.replays h.1.answers;
+      replays = replays_push (replicate (plan_addresses s) 0) g p k h.0.replays h.1.answers;
       no_fetch = fetchless_push g p k h.0.no_fetch h.1.calls.call;
     }
 

@@ -8,11 +8,11 @@ use Rattle.lrc_script.specs.declared.script.Instruction.{Instruction}
 use Rattle.lrc_script.specs.declared.script.Instruction.TheVariants.{Load, Store, Add, Acquire, Release, Barrier, Set, Await, Cut}
 use Rattle.conformance.specs.Begins.{BeginsSection}
 use Rattle.conformance.specs.Follows.{FollowsSection}
-use Rattle.conformance.proofs.Beginnings.{begins_front}
+use Rattle.conformance.proofs.Begins.{begins_front}
 use Rattle.conformance.proofs.Script.Steps.{AreSteps}
 use Rattle.conformance.proofs.Script.Steps.{Step as AStep, IsStep as IsAStep}
 use Rattle.conformance.proofs.Script.Steps.Step.{plain, adds}
-use Rattle.conformance.proofs.Script.Sections.{section_steps as follows_steps, section_told, steps_of as some_steps, steps_of_all as all_some_steps, loads_of, steps_of_section}
+use Rattle.conformance.proofs.Script.SectionSteps.{section_steps as follows_steps, section_told, steps_of as some_steps, steps_of_all as all_some_steps, section_load_steps, steps_of_section}
 use Rattle.explore.specs.declared.prefixes.script_call.ScriptCall.{ScriptCall}
 use Rattle.explore.specs.declared.prefixes.script_call.ScriptCall.TheVariants.{Call, Adds}
 use Rattle.explore.specs.Prefixes.Calling.{steps_of, steps_of_all, load_steps, section_steps, reply_after, IsStep, IsCalledNext}
@@ -53,7 +53,7 @@ theirs_of_all : (is : List Instruction) → map theirs (steps_of_all is) ≡ all
 theirs_of_all [] = refl
 theirs_of_all (i ∷ is) = map-append_theirs (steps_of i) (steps_of_all is) ∙ ap₂ (λ xs ys. xs ++ ys) (theirs_of i) (theirs_of_all is)
 
-theirs_of_loads : (shown : List ℕ) → map theirs (load_steps shown) ≡ loads_of shown
+theirs_of_loads : (shown : List ℕ) → map theirs (load_steps shown) ≡ section_load_steps shown
 theirs_of_loads [] = refl
 theirs_of_loads (a ∷ shown) = ap (λ xs. plain (kind.Load a 0) ∷ xs) (theirs_of_loads shown)
 

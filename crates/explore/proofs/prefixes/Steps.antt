@@ -2,10 +2,10 @@
 use Rattle.std.proofs.Common.{ℕ, zero, suc, inl, inr, length, subst, ◌≡◌, ◌+◌, List, [], ◌∷◌, ◌++◌, take, refl, sym, ap, ◌∙◌, Some, slice_get, append_assoc, append-nil, add-one}
 use Rattle.std.specs.Global.{Vec}
 use Rattle.std.proofs.lemmas.Option.{none-some, same_Some}
-use Rattle.base.proofs.Places.{push_cases, take-suc_at}
+use Rattle.base.proofs.SlicesAndCounts.{push_cases, take-suc_at}
 use Rattle.journal.specs.declared.event.Kind.TheVariants as kind
 use Rattle.lrc_script.specs.declared.script.Instruction.{Instruction}
-use Rattle.lrc_script.specs.Plan.{Plan, items_of}
+use Rattle.lrc_script.specs.Plan.{Plan, plan_sections}
 use Rattle.explore.specs.declared.prefixes.script_call.ScriptCall.{ScriptCall}
 use Rattle.explore.specs.declared.prefixes.script_call.ScriptCall.TheVariants.{Call}
 use Rattle.explore.specs.Prefixes.Calling.{steps_of, steps_of_all, load_steps, section_steps, shown_by}
@@ -65,7 +65,7 @@ rows_next s rows row section at is old p other found there here = elim (push_cas
 
 -- a section of the plan is one in memory
 pub section_at : (sections : List (Vec Instruction)) (n : ℕ) (section : Vec Instruction)
-    → slice_get sections n ≡ Some section → slice_get (items_of sections) n ≡ Some section.items
+    → slice_get sections n ≡ Some section → slice_get (plan_sections sections) n ≡ Some section.items
 section_at [] n section at = absurd (none-some section at)
 section_at (first ∷ sections) zero section at = ap (λ (v : Vec Instruction). Some v.items) (same_Some first section at)
 section_at (first ∷ sections) (suc n) section at = section_at sections n section at

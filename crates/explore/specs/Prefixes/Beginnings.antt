@@ -2,21 +2,21 @@
 use Rattle.std.specs.Prelude.{ℕ, List, replicate}
 use Rattle.journal.specs.declared.event.Event.{Event}
 use Rattle.journal.specs.declared.event.Kind.{Kind}
-use Rattle.journal.specs.Did.{did}
+use Rattle.journal.specs.DidEvent.{did}
 use Rattle.journal.specs.WellFormed.{WellFormed}
-use Rattle.journal.specs.Flat.{Replays}
+use Rattle.journal.specs.FlatMemory.{Replays}
 use Rattle.journal.specs.Races.{RaceFree}
 use Rattle.lrc_script.specs.Plan.{Plan}
-use Rattle.lrc_script.specs.Lawful.{addresses}
+use Rattle.lrc_script.specs.Lawful.{plan_addresses}
 use Rattle.conformance.specs.Begins.{BeginsScript}
 use Rattle.conformance.specs.Follows.{plan_sizes, Follows}
-use Rattle.conformance.specs.Recomputed.{HasNoFetch}
+use Rattle.conformance.specs.FlatRuns.{HasNoFetch}
 
 -- processors have begun the script on one flat memory, and nothing is fetched
 pub record IsFlatBeginning (s : Plan) (g : List Event) : Type 0 where
   pub well_formed : WellFormed (plan_sizes s) g
   pub begins : BeginsScript s g
-  pub replays : Replays (replicate (addresses s) 0) g
+  pub replays : Replays (replicate (plan_addresses s) 0) g
   pub no_fetch : HasNoFetch g
 
 -- and all of them have done all of it

@@ -2,21 +2,21 @@
 use Rattle.std.specs.Prelude.{ℕ, ◌≡◌, ◌≢◌, ◌+◌, ◌↔◌, Some, List, [], ◌++◌, length, replicate, slice_get}
 use Rattle.journal.specs.declared.event.Event.{Event}
 use Rattle.journal.specs.declared.event.Kind.{Kind}
-use Rattle.journal.specs.Did.{did, event}
+use Rattle.journal.specs.DidEvent.{did, event}
 use Rattle.journal.specs.WellFormed.{MayFollow}
-use Rattle.journal.specs.Flat.{AnswersWord, memory_after}
+use Rattle.journal.specs.FlatMemory.{AnswersWord, memory_after}
 use Rattle.journal.specs.Races.{Conflict, Race}
 use Rattle.lrc_script.specs.declared.script.Instruction.{Instruction}
 use Rattle.lrc_script.specs.Plan.{Plan}
-use Rattle.lrc_script.specs.Lawful.{addresses}
+use Rattle.lrc_script.specs.Lawful.{plan_addresses}
 use Rattle.conformance.specs.Follows.{plan_sizes, calls_of, Follows}
-use Rattle.conformance.specs.Recomputed.{NeverRaces}
+use Rattle.conformance.specs.FlatRuns.{NeverRacesFlat}
 use Rattle.explore.specs.Prefixes.Beginnings.{IsFlatBeginning, IsFlatRaceFree}
 use Rattle.explore.specs.Prefixes.Calling.{CallsNext, replyless, section_steps, shown_by}
 
 -- a script of which no beginning races never races
 abbrev pub NeverRacesLaw : Type 0
-NeverRacesLaw = (s : Plan) → IsFlatRaceFree s → NeverRaces s
+NeverRacesLaw = (s : Plan) → IsFlatRaceFree s → NeverRacesFlat s
 
 -- nothing begins each script
 abbrev pub EmptyLaw : Type 0
@@ -30,7 +30,7 @@ FrontLaw = (s : Plan) (g more : List Event) → IsFlatBeginning s (g ++ more) �
 pub record MayComeNext (s : Plan) (g : List Event) (p : ℕ) (k : Kind) : Type 0 where
   pub may_follow : MayFollow (plan_sizes s) g (event p k)
   pub calls : CallsNext s g p k
-  pub answers : AnswersWord (memory_after (replicate (addresses s) 0) g) k
+  pub answers : AnswersWord (memory_after (replicate (plan_addresses s) 0) g) k
 
 -- exactly then it makes a beginning longer
 abbrev pub NextLaw : Type 0

@@ -3,16 +3,16 @@ use Rattle.std.proofs.Common.{◌≡◌, ℕ, ◌+◌, ◌<◌, ◌≤◌, suc, 
 use Rattle.std.specs.List.{flat_map}
 use Rattle.std.proofs.lemmas.Bool.{cases_Bool, eqb-true, ne_eqb}
 use Rattle.std.proofs.lemmas.List.Sums.{sum_by-cons, length-filter, count_by-le-length}
-use Rattle.base.specs.Places.{Has}
-use Rattle.base.proofs.Places.{count_by-append}
+use Rattle.base.specs.InOrderOnce.{Has}
+use Rattle.base.proofs.SlicesAndCounts.{count_by-append}
 use Rattle.base.proofs.Joined.{in_order_tail}
-use Rattle.base.proofs.Picked.{has-filter}
-use Rattle.page.specs.Changes.{Changes}
+use Rattle.base.proofs.FilteredInOrder.{has-filter}
+use Rattle.page.specs.RisingChanges.{Changes}
 use Rattle.interval.specs.declared.kept_interval.KeptInterval.{KeptInterval}
-use Rattle.interval.specs.Intervals.{SentRecord, HasRisingPages}
-use Rattle.interval.specs.Closings.{Closings, is_news, sent_record, sent_interval, between, is_of_page}
-use Rattle.interval.specs.Queues.{Queue, merged, closings, AreQueues}
-use Rattle.interval.proofs.Order.ByPlace.{Rises, rises_first, rises_rest}
+use Rattle.interval.specs.SentIntervals.{SentRecord, HasRisingPages}
+use Rattle.interval.specs.Closings.{Closings, is_news, sent_record, sent_interval, closings_between, is_of_page}
+use Rattle.interval.specs.Queues.{Queue, merged_queues, queue_closings, AreQueues}
+use Rattle.interval.proofs.Order.RisingByPlace.{Rises, rises_first, rises_rest}
 use Rattle.interval.proofs.Queues.Merged.{merged_lies, queued, rises-merged}
 
 counted_more : (page : ℕ) (k : KeptInterval) (r : Changes) (rs : List Changes) (same : Bool) → (r.page == page) ≡ same
@@ -25,40 +25,40 @@ counted_more page k r rs same is =
     omega arith
 
 -- later pages are other pages
-none_above : (page : ℕ) (k : KeptInterval) (rs : List Changes) → ((r : Changes) → Has rs r → page < r.page)
+none_counted_above : (page : ℕ) (k : KeptInterval) (rs : List Changes) → ((r : Changes) → Has rs r → page < r.page)
     → count_by (is_of_page page) (map (sent_record k) rs) ≡ 0
-none_above page k [] above = refl
-none_above page k (r ∷ rs) above =
-    let rest = none_above page k rs (λ s h. above s (suc h.0, h.1)) in
+none_counted_above page k [] above = refl
+none_counted_above page k (r ∷ rs) above =
+    let rest = none_counted_above page k rs (λ s h. above s (suc h.0, h.1)) in
     let lt = above r (0, refl) in
     let step = counted_more page k r rs false (ne_eqb r.page page (λ e. omega arith)) in
     omega arith
 
 -- an interval has one record of the page at most
-one_record : (page : ℕ) (k : KeptInterval) (rs : List Changes) → HasRisingPages rs
+one_record_counted : (page : ℕ) (k : KeptInterval) (rs : List Changes) → HasRisingPages rs
     → count_by (is_of_page page) (map (sent_record k) rs) ≤ 1
-one_record page k [] rises = omega arith
-one_record page k (r ∷ rs) rises =
+one_record_counted page k [] rises = omega arith
+one_record_counted page k (r ∷ rs) rises =
     elim (cases_Bool (r.page == page)) [
       | inl same ↦ (
           let is : r.page ≡ page = eqb-true _ _ same in
           let rest =
-          none_above page k rs (λ s h. let lt = rises 0 (suc h.0) r s (omega arith) refl h.1 in omega arith) in
+          none_counted_above page k rs (λ s h. let lt = rises 0 (suc h.0) r s (omega arith) refl h.1 in omega arith) in
           let step = counted_more page k r rs true same in
           omega arith)
       | inr other ↦ (
-          let rest = one_record page k rs (in_order_tail (λ (r s : Changes). r.page < s.page) r rs rises) in
+          let rest = one_record_counted page k rs (in_order_tail (λ (r s : Changes). r.page < s.page) r rs rises) in
           let step = counted_more page k r rs false other in
           omega arith)
     ]
 
 -- no more than there are intervals
-of_intervals : (page : ℕ) (ks : List KeptInterval) → ((k : KeptInterval) → Has ks k → HasRisingPages k.interval.records)
+count_of_intervals : (page : ℕ) (ks : List KeptInterval) → ((k : KeptInterval) → Has ks k → HasRisingPages k.interval.records)
     → count_by (is_of_page page) (flat_map sent_interval ks) ≤ length ks
-of_intervals page [] pages = omega arith
-of_intervals page (k ∷ ks) pages =
-    let rest = of_intervals page ks (λ j h. pages j (suc h.0, h.1)) in
-    let first = one_record page k k.interval.records (pages k (0, refl)) in
+count_of_intervals page [] pages = omega arith
+count_of_intervals page (k ∷ ks) pages =
+    let rest = count_of_intervals page ks (λ j h. pages j (suc h.0, h.1)) in
+    let first = one_record_counted page k k.interval.records (pages k (0, refl)) in
     let both = count_by-append (is_of_page page) (sent_interval k) (flat_map sent_interval ks) in
     omega arith
 
@@ -77,18 +77,18 @@ few_places m n (k ∷ ks) rises from below le =
 
 -- so the count fits where the number of closed intervals does
 pub count_fits : (queues : List Queue) (count : ℕ) (value : Closings) (page : ℕ) (old new : List ℕ)
-    → closings queues count ≡ value → AreQueues queues count
-    → count_by (is_of_page page) (between value old new) ≤ count
+    → queue_closings queues count ≡ value → AreQueues queues count
+    → count_by (is_of_page page) (closings_between value old new) ≤ count
 count_fits queues count value page old new is are =
-    let news : List KeptInterval = filter (is_news old new) (merged queues) in
+    let news : List KeptInterval = filter (is_news old new) (merged_queues queues) in
     let places =
-    few_places 0 count (merged queues) (rises-merged queues) (λ k h. omega arith)
+    few_places 0 count (merged_queues queues) (rises-merged queues) (λ k h. omega arith)
     (λ k h. (queued queues count are k (merged_lies queues k h)).closed) (omega arith) in
-    let fewer = count_by-le-length (is_news old new) (merged queues) in
-    let long = length-filter (is_news old new) (merged queues) in
+    let fewer = count_by-le-length (is_news old new) (merged_queues queues) in
+    let long = length-filter (is_news old new) (merged_queues queues) in
     let most =
-    of_intervals page news (λ k h. (queued queues count are k
-    (merged_lies queues k ((has-filter (is_news old new) (merged queues) k).0 h).0)).pages)
+    count_of_intervals page news (λ k h. (queued queues count are k
+    (merged_lies queues k ((has-filter (is_news old new) (merged_queues queues) k).0 h).0)).pages)
     in
-    let same = ap (λ (c : Closings). count_by (is_of_page page) (between c old new)) is in
+    let same = ap (λ (c : Closings). count_by (is_of_page page) (closings_between c old new)) is in
     omega arith

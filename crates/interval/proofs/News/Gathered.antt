@@ -4,15 +4,15 @@ use Rattle.std.specs.List.{flat_map}
 use Rattle.std.proofs.lemmas.List.{append-nil, append_assoc, length-map, map-append, take_all, take_more}
 use Rattle.std.proofs.lemmas.Grind.{flat_map-append}
 use Rattle.std.proofs.lemmas.Option.{slice_get_read, get_or_from_slice_get}
-use Rattle.base.specs.Places.{Has, InOrder}
+use Rattle.base.specs.InOrderOnce.{Has, InOrder}
 use Rattle.base.proofs.Joined.{has-flat_map, in_order-flat_map, in_order_weaker}
-use Rattle.base.proofs.Picked.{has-filter, in_order-filter}
+use Rattle.base.proofs.FilteredInOrder.{has-filter, in_order-filter}
 use Rattle.interval.specs.declared.kept_interval.KeptInterval.{KeptInterval}
-use Rattle.interval.specs.Intervals.{SentRecord}
+use Rattle.interval.specs.SentIntervals.{SentRecord}
 use Rattle.interval.specs.Closings.{Closings, is_news, sent_interval}
-use Rattle.interval.specs.Queues.{Queue, merged, closings, within, SameIntervals, AreQueues}
-use Rattle.interval.proofs.Counts.Walked.{queue_news}
-use Rattle.interval.proofs.Order.ByPlace.{IsBefore, Rises}
+use Rattle.interval.specs.Queues.{Queue, merged_queues, queue_closings, queue_within, SameIntervals, AreQueues}
+use Rattle.interval.proofs.Counts.WalkedNews.{queue_news}
+use Rattle.interval.proofs.Order.RisingByPlace.{IsBefore, Rises}
 use Rattle.interval.proofs.Queues.Merged.{Lies, merged_lies, lies_merged, rises-merged}
 
 -- a list that has grown by the first items of another, and grows by the next
@@ -26,12 +26,12 @@ grown_more {X} start now xs k x inside is so_far =
 
 -- how many intervals of a queue are numbered within from..to
 pub within_few : (held queue : Queue) (from to : ℕ) → held ≡ queue
-    → length (within queue from to) ≤ min (to - held.first) (length held.kept) - (from - held.first)
+    → length (queue_within queue from to) ≤ min (to - held.first) (length held.kept) - (from - held.first)
 within_few held queue from to same =
     let front = length-take (to - held.first) held.kept in
     let long = length-drop (from - held.first) (take (to - held.first) held.kept) in
     let P : Queue → Type 0 =
-    λ q. length (within q from to) ≤ min (to - held.first) (length held.kept) - (from - held.first) in
+    λ q. length (queue_within q from to) ≤ min (to - held.first) (length held.kept) - (from - held.first) in
     subst P same (omega arith)
 
 -- the news of a queue
@@ -40,16 +40,16 @@ own_news old new q = filter (is_news old new) q.kept
 
 -- what stands among the news of all queues
 gathered_same : (queues : List Queue) (count : ℕ) (old new : List ℕ) → AreQueues queues count → (k : KeptInterval)
-    → Has (flat_map (own_news old new) queues) k ↔ Has (filter (is_news old new) (merged queues)) k
+    → Has (flat_map (own_news old new) queues) k ↔ Has (filter (is_news old new) (merged_queues queues)) k
 gathered_same queues count old new are k = (
   λ h.
       let w = (has-flat_map (own_news old new) queues k).0 h in
       let p = (has-filter (is_news old new) w.0.kept k).0 w.2 in
       let l : Lies queues k =
       record { owner = w.1.0; queue = w.0; index = p.0.0; owned = w.1.1; at = p.0.1 } in
-      (has-filter (is_news old new) (merged queues) k).1 (lies_merged queues count are k l, p.1),
+      (has-filter (is_news old new) (merged_queues queues) k).1 (lies_merged queues count are k l, p.1),
   λ h.
-      let p = (has-filter (is_news old new) (merged queues) k).0 h in
+      let p = (has-filter (is_news old new) (merged_queues queues) k).0 h in
       let l = merged_lies queues k p.0 in
       (has-flat_map (own_news old new) queues k).1 (
         l.queue,
@@ -76,7 +76,7 @@ gathered_apart queues count old new are =
 
 -- the owner's queue, as it is read
 pub owned_queue : (queues : List Queue) (count : ℕ) (value : Closings) (owner : ℕ) (queue : Queue)
-    → closings queues count ≡ value → owner < length value.first
+    → queue_closings queues count ≡ value → owner < length value.first
     → queue ≡ get_or queues owner queue → slice_get queues owner ≡ Some queue
 owned_queue queues count value owner queue is in_range read =
     let firsts : map (λ (q : Queue). q.first) queues ≡ value.first = ap (λ (c : Closings). c.first) is in
@@ -90,14 +90,14 @@ pub gathered_more : (queues items : List Queue) (count : ℕ) (old new : List �
     → items ≡ queues → AreQueues queues count
     → owner < length items → queue ≡ get_or items owner queue → slice_get old owner ≡ Some from
     → slice_get new owner ≡ Some to → before ≡ flat_map (own_news old new) (take owner items)
-    → now ≡ before ++ within queue from to → now ≡ flat_map (own_news old new) (take (owner + 1) items)
+    → now ≡ before ++ queue_within queue from to → now ≡ flat_map (own_news old new) (take (owner + 1) items)
 gathered_more queues items count old new owner from to queue before now same are inside read old_at new_at so_far is =
     let owned : slice_get queues owner ≡ Some queue =
     ap (λ (qs : List Queue). slice_get qs owner) (sym same)
     ∙ slice_get_read items (length items) owner queue refl inside read in
-    let own : own_news old new queue ≡ within queue from to =
+    let own : own_news old new queue ≡ queue_within queue from to =
     queue_news owner count queue old new (are.each owner queue owned)
-    ∙ ap₂ (λ (a b : ℕ). within queue a b) (get_or_from_slice_get old owner from 0 old_at)
+    ∙ ap₂ (λ (a b : ℕ). queue_within queue a b) (get_or_from_slice_get old owner from 0 old_at)
     (get_or_from_slice_get new owner to 0 new_at) in
     let step = take_more items owner queue inside in
     let one : take (owner + 1) items ≡ take owner items ++ queue ∷ [] = rw (← read) at step in
@@ -110,17 +110,17 @@ gathered_more queues items count old new owner from to queue before now same are
 -- once all queues were gone through
 pub gathered_all : (queues items : List Queue) (count : ℕ) (value : Closings) (old new : List ℕ) (n : ℕ)
     (news : List KeptInterval)
-    → items ≡ queues → closings queues count ≡ value → AreQueues queues count
+    → items ≡ queues → queue_closings queues count ≡ value → AreQueues queues count
     → length items ≤ n → news ≡ flat_map (own_news old new) (take n items)
     → SameIntervals (filter (is_news old new) value.kept) news
 gathered_all queues items count value old new n news same is are end so_far =
     let all : news ≡ flat_map (own_news old new) queues =
     so_far ∙ ap (flat_map (own_news old new)) (take_all n items end ∙ same) in
-    let found : SameIntervals (filter (is_news old new) (merged queues)) (flat_map (own_news old new) queues) = record {
+    let found : SameIntervals (filter (is_news old new) (merged_queues queues)) (flat_map (own_news old new) queues) = record {
       same = gathered_same queues count old new are;
       apart = gathered_apart queues count old new are;
     } in
-    let P : List KeptInterval → Type 0 = λ ks. SameIntervals (filter (is_news old new) (merged queues)) ks in
+    let P : List KeptInterval → Type 0 = λ ks. SameIntervals (filter (is_news old new) (merged_queues queues)) ks in
     let Q : Closings → Type 0 = λ c. SameIntervals (filter (is_news old new) c.kept) news in
     subst Q is (subst P (sym all) found)
 
@@ -140,7 +140,7 @@ sent_more {X} kept items n x before now inside read so_far is =
 
 -- the news that contracts see come in closing order
 pub rises-news : (queues : List Queue) (count : ℕ) (value : Closings) (old new : List ℕ)
-    → closings queues count ≡ value → Rises (filter (is_news old new) value.kept)
+    → queue_closings queues count ≡ value → Rises (filter (is_news old new) value.kept)
 rises-news queues count value old new is =
     let P : Closings → Type 0 = λ c. Rises (filter (is_news old new) c.kept) in
-    subst P is (in_order-filter IsBefore (is_news old new) (merged queues) (rises-merged queues))
+    subst P is (in_order-filter IsBefore (is_news old new) (merged_queues queues) (rises-merged queues))

@@ -1,15 +1,15 @@
 -- What is sent comes in closing order.
 use Rattle.std.proofs.Common.{ℕ, ◌≡◌, ◌<◌, inl, inr, List, ◌++◌, filter, refl, sym, ap, subst, arith, ◌∙◌}
 use Rattle.std.specs.List.{flat_map}
-use Rattle.base.specs.Places.{Has}
+use Rattle.base.specs.InOrderOnce.{Has}
 use Rattle.base.proofs.Joined.{has-map, has-flat_map, in_order-map, in_order_weaker, in_order-append, in_order-flat_map}
-use Rattle.base.proofs.Picked.{has-filter, in_order-filter}
-use Rattle.page.specs.Changes.{Changes}
+use Rattle.base.proofs.FilteredInOrder.{has-filter, in_order-filter}
+use Rattle.page.specs.RisingChanges.{Changes}
 use Rattle.interval.specs.declared.kept_interval.KeptInterval.{KeptInterval}
-use Rattle.interval.specs.Intervals.{ClosedInterval, SentRecord, HasRisingPages, ComesBefore, IsInClosingOrder}
-use Rattle.interval.specs.Closings.{Closings, is_news, sent_record, sent_interval, between}
-use Rattle.interval.specs.Queues.{Queue, merged, closings, AreQueues}
-use Rattle.interval.proofs.Order.ByPlace.{IsBefore, Rises}
+use Rattle.interval.specs.SentIntervals.{ClosedInterval, SentRecord, HasRisingPages, ComesBefore, IsInClosingOrder}
+use Rattle.interval.specs.Closings.{Closings, is_news, sent_record, sent_interval, closings_between}
+use Rattle.interval.specs.Queues.{Queue, merged_queues, queue_closings, AreQueues}
+use Rattle.interval.proofs.Order.RisingByPlace.{IsBefore, Rises}
 use Rattle.interval.proofs.Queues.Merged.{merged_lies, rises-merged, queued}
 
 -- the records of one interval, by rising page
@@ -38,36 +38,36 @@ sent_in_order ks rises pages =
 
 -- the news of the queues
 news_pages_rise : (queues : List Queue) (count : ℕ) (old new : List ℕ) → AreQueues queues count → (k : KeptInterval)
-    → Has (filter (is_news old new) (merged queues)) k → HasRisingPages k.interval.records
+    → Has (filter (is_news old new) (merged_queues queues)) k → HasRisingPages k.interval.records
 news_pages_rise queues count old new are k has =
-    (queued queues count are k (merged_lies queues k ((has-filter (is_news old new) (merged queues) k).0 has).0)).pages
+    (queued queues count are k (merged_lies queues k ((has-filter (is_news old new) (merged_queues queues) k).0 has).0)).pages
 
 pub between_in_order : (queues : List Queue) (count : ℕ) (value : Closings) (old new : List ℕ)
     (sent : List SentRecord)
-    → closings queues count ≡ value → AreQueues queues count
-    → sent ≡ between value old new → IsInClosingOrder sent
+    → queue_closings queues count ≡ value → AreQueues queues count
+    → sent ≡ closings_between value old new → IsInClosingOrder sent
 between_in_order queues count value old new sent is are sent_is =
-    let rises = in_order-filter IsBefore (is_news old new) (merged queues) (rises-merged queues) in
+    let rises = in_order-filter IsBefore (is_news old new) (merged_queues queues) (rises-merged queues) in
     let ordered =
-    sent_in_order (filter (is_news old new) (merged queues)) rises (news_pages_rise queues count old new are) in
+    sent_in_order (filter (is_news old new) (merged_queues queues)) rises (news_pages_rise queues count old new are) in
     let P : List SentRecord → Type 0 = λ s. IsInClosingOrder s in
-    subst P (sym (sent_is ∙ ap (λ (c : Closings). between c old new) (sym is))) ordered
+    subst P (sym (sent_is ∙ ap (λ (c : Closings). closings_between c old new) (sym is))) ordered
 
 -- and so it stays with one more interval, closed after all others
 pub after_in_order : (queues : List Queue) (count : ℕ) (value : Closings) (i : ClosedInterval) (old new : List ℕ)
     (before now : List SentRecord)
-    → closings queues count ≡ value → AreQueues queues count
-    → HasRisingPages i.records → before ≡ between value old new
+    → queue_closings queues count ≡ value → AreQueues queues count
+    → HasRisingPages i.records → before ≡ closings_between value old new
     → now ≡ before ++ sent_interval (record { place = count; interval = i }) → IsInClosingOrder now
 after_in_order queues count value i old new before now is are pages before_is now_is =
     let k : KeptInterval = record { place = count; interval = i } in
-    let news : before ≡ flat_map sent_interval (filter (is_news old new) (merged queues)) =
-    before_is ∙ ap (λ (c : Closings). between c old new) (sym is) in
+    let news : before ≡ flat_map sent_interval (filter (is_news old new) (merged_queues queues)) =
+    before_is ∙ ap (λ (c : Closings). closings_between c old new) (sym is) in
     let front = between_in_order queues count value old new before is are before_is in
     let across : (a b : SentRecord) → Has before a → Has (sent_interval k) b → ComesBefore a b = λ a b h g.
     let P : List SentRecord → Type 0 = λ s. Has s a in
-    let from = (has-flat_map sent_interval (filter (is_news old new) (merged queues)) a).0 (subst P news h) in
-    let l = merged_lies queues from.0 ((has-filter (is_news old new) (merged queues) from.0).0 from.1).0 in
+    let from = (has-flat_map sent_interval (filter (is_news old new) (merged_queues queues)) a).0 (subst P news h) in
+    let l = merged_lies queues from.0 ((has-filter (is_news old new) (merged_queues queues) from.0).0 from.1).0 in
     let closed = (queued queues count are from.0 l).closed in
     let first = one_place from.0 a from.2 in
     let last = one_place k b g in

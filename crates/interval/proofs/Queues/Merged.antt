@@ -2,11 +2,11 @@
 use Rattle.std.proofs.Common.{◌≡◌, ℕ, inl, inr, Some, List, slice_get, sym, ap, arith, ◌∙◌}
 use Rattle.std.specs.List.{flat_map}
 use Rattle.std.proofs.lemmas.Bool.{cases_order}
-use Rattle.base.specs.Places.{Has}
+use Rattle.base.specs.InOrderOnce.{Has}
 use Rattle.base.proofs.Joined.{has-flat_map}
 use Rattle.interval.specs.declared.kept_interval.KeptInterval.{KeptInterval}
-use Rattle.interval.specs.Queues.{Queue, merged, IsQueue, IsQueued, AreQueues}
-use Rattle.interval.proofs.Order.ByPlace.{Rises, IsApart, has-by_place, has-by_place_from, rises-by_place}
+use Rattle.interval.specs.Queues.{Queue, merged_queues, IsQueue, IsQueued, AreQueues}
+use Rattle.interval.proofs.Order.RisingByPlace.{Rises, IsApart, has-by_place, has-by_place_from, rises-by_place}
 
 -- where an interval lies
 pub record Lies (queues : List Queue) (k : KeptInterval) : Type 0 where
@@ -28,9 +28,9 @@ pub lies_in : (queues : List Queue) (k : KeptInterval) → Lies queues k → Has
 lies_in queues k l = (has-flat_map queue_items queues k).1 (l.queue, (l.owner, l.owned), (l.index, l.at))
 
 -- in a queue a closing number stands for one interval
-one_place : (owner count : ℕ) (queue : Queue) → IsQueue owner count queue → (i m : ℕ) (j k : KeptInterval)
+one_place_merged : (owner count : ℕ) (queue : Queue) → IsQueue owner count queue → (i m : ℕ) (j k : KeptInterval)
     → slice_get queue.kept i ≡ Some j → slice_get queue.kept m ≡ Some k → j.place ≡ k.place → j ≡ k
-one_place owner count queue is i m j k at_i at_m same = elim (cases_order i m) [
+one_place_merged owner count queue is i m j k at_i at_m same = elim (cases_order i m) [
   | inl e ↦ let swap : slice_get queue.kept i ≡ Some k = ap (slice_get queue.kept) e ∙ at_m in cc
   | inr other ↦ elim other [
     | inl before ↦ let lt = is.rising i m j k before at_i at_m in absurd (omega arith)
@@ -39,29 +39,29 @@ one_place owner count queue is i m j k at_i at_m same = elim (cases_order i m) [
 ]
 
 -- in all queues
-pub one_interval : (queues : List Queue) (count : ℕ) → AreQueues queues count → (j k : KeptInterval) → Lies queues j
+pub one_queued_interval : (queues : List Queue) (count : ℕ) → AreQueues queues count → (j k : KeptInterval) → Lies queues j
     → Lies queues k → j.place ≡ k.place → j ≡ k
-one_interval queues count are j k a b same =
+one_queued_interval queues count are j k a b same =
     let owner = are.apart a.owner b.owner a.queue b.queue j k a.owned b.owned (a.index, a.at) (b.index, b.at) same in
     let queue : b.queue ≡ a.queue =
     let swap : slice_get queues a.owner ≡ Some b.queue = ap (slice_get queues) owner ∙ b.owned in cc in
     let at : slice_get a.queue.kept b.index ≡ Some k =
     ap (λ (q : Queue). slice_get q.kept b.index) (sym queue) ∙ b.at in
-    one_place a.owner count a.queue (are.each a.owner a.queue a.owned) a.index b.index j k a.at at same
+    one_place_merged a.owner count a.queue (are.each a.owner a.queue a.owned) a.index b.index j k a.at at same
 
-apart : (queues : List Queue) (count : ℕ) → AreQueues queues count → IsApart (flat_map queue_items queues)
-apart queues count are j k h g same = one_interval queues count are j k (lies queues j h) (lies queues k g) same
+apart_merged : (queues : List Queue) (count : ℕ) → AreQueues queues count → IsApart (flat_map queue_items queues)
+apart_merged queues count are j k h g same = one_queued_interval queues count are j k (lies queues j h) (lies queues k g) same
 
 -- what stands in the merged list
-pub merged_lies : (queues : List Queue) (k : KeptInterval) → Has (merged queues) k → Lies queues k
+pub merged_lies : (queues : List Queue) (k : KeptInterval) → Has (merged_queues queues) k → Lies queues k
 merged_lies queues k h = lies queues k (has-by_place (flat_map queue_items queues) k h)
 
 pub lies_merged : (queues : List Queue) (count : ℕ) → AreQueues queues count → (k : KeptInterval) → Lies queues k
-    → Has (merged queues) k
+    → Has (merged_queues queues) k
 lies_merged queues count are k l =
-    has-by_place_from (flat_map queue_items queues) (apart queues count are) k (lies_in queues k l)
+    has-by_place_from (flat_map queue_items queues) (apart_merged queues count are) k (lies_in queues k l)
 
-pub rises-merged : (queues : List Queue) → Rises (merged queues)
+pub rises-merged : (queues : List Queue) → Rises (merged_queues queues)
 rises-merged queues = rises-by_place (flat_map queue_items queues)
 
 -- what is known of an interval where it lies
@@ -70,10 +70,10 @@ pub queued : (queues : List Queue) (count : ℕ) → AreQueues queues count → 
 queued queues count are k l = (are.each l.owner l.queue l.owned).each l.index k l.at
 
 -- an owner's intervals are known by their numbers
-pub one_number : (queues : List Queue) (count : ℕ) → AreQueues queues count → (j k : KeptInterval) → Lies queues j
+pub one_queued_number : (queues : List Queue) (count : ℕ) → AreQueues queues count → (j k : KeptInterval) → Lies queues j
     → Lies queues k
     → j.interval.owner ≡ k.interval.owner → j.interval.number ≡ k.interval.number → j ≡ k
-one_number queues count are j k a b owners numbers =
+one_queued_number queues count are j k a b owners numbers =
     let ja = queued queues count are j a in
     let kb = queued queues count are k b in
     let owner : a.owner ≡ b.owner = sym ja.owner_is ∙ owners ∙ kb.owner_is in

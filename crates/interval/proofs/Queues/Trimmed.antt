@@ -3,24 +3,24 @@ use Rattle.std.proofs.Common.{◌≡◌, ◌≢◌, ℕ, ◌<◌, ◌≤◌, ◌
 use Rattle.std.proofs.lemmas.Bool.{cases_eq, cases_lt, and_left, and_right, and_from, eq-eqb, ne_eqb, lt-ltb, le-ltb, not_from_false, not-true, both_ways}
 use Rattle.std.proofs.lemmas.List.{map-set, set-get_or, length-drop}
 use Rattle.std.proofs.lemmas.Option.{slice_get_within, get_or_from_slice_get}
-use Rattle.base.specs.Places.{Has}
+use Rattle.base.specs.InOrderOnce.{Has}
 use Rattle.interval.specs.declared.kept_interval.KeptInterval.{KeptInterval}
 use Rattle.interval.specs.Closings.{Closings, is_trimmed, trimmed}
-use Rattle.interval.specs.Queues.{Queue, merged, closings, dropped_below, IsQueue, AreQueues}
-use Rattle.base.proofs.Picked.{has-filter, in_order-filter}
-use Rattle.interval.proofs.Order.ByPlace.{IsBefore, same_rising}
+use Rattle.interval.specs.Queues.{Queue, merged_queues, queue_closings, queue_dropped_below, IsQueue, AreQueues}
+use Rattle.base.proofs.FilteredInOrder.{has-filter, in_order-filter}
+use Rattle.interval.proofs.Order.RisingByPlace.{IsBefore, same_rising}
 use Rattle.interval.proofs.Queues.Merged.{Lies, merged_lies, lies_merged, rises-merged}
-use Rattle.base.proofs.Places.{slice_get-drop}
-use Rattle.base.proofs.Sets.{slice_get-set_same, slice_get-set_other}
-use Rattle.interval.proofs.Queues.Pushed.{entry_of}
+use Rattle.base.proofs.SlicesAndCounts.{slice_get-drop}
+use Rattle.base.proofs.SliceSets.{slice_get-set_same, slice_get-set_other}
+use Rattle.interval.proofs.Queues.LastPushed.{entry_of}
 
-abbrev with_trim : List Queue → ℕ → Queue → ℕ → List Queue
-with_trim queues owner queue to = set queues owner (dropped_below queue to)
+abbrev with_trimmed : List Queue → ℕ → Queue → ℕ → List Queue
+with_trimmed queues owner queue to = set queues owner (queue_dropped_below queue to)
 
 module _ (queues : List Queue) (count owner : ℕ) (queue : Queue) (to : ℕ) (are : AreQueues queues count)
     (owned : slice_get queues owner ≡ Some queue) where
-  abbrev gone : ℕ
-  gone = to - queue.first
+  abbrev trimmed_count : ℕ
+  trimmed_count = to - queue.first
 
   inside : owner < length queues
   inside = slice_get_within queues owner queue owned
@@ -29,45 +29,45 @@ module _ (queues : List Queue) (count owner : ℕ) (queue : Queue) (to : ℕ) (a
   was = are.each owner queue owned
 
   -- an interval that stays, where it was
-  stayed : (i : ℕ) (k : KeptInterval) → slice_get (drop gone queue.kept) i ≡ Some k → slice_get queue.kept (gone + i) ≡ Some k
-  stayed i k at = sym (slice_get-drop queue.kept gone i) ∙ at
+  trimmed_stayed : (i : ℕ) (k : KeptInterval) → slice_get (drop trimmed_count queue.kept) i ≡ Some k → slice_get queue.kept (trimmed_count + i) ≡ Some k
+  trimmed_stayed i k at = sym (slice_get-drop queue.kept trimmed_count i) ∙ at
 
-  is_queue : IsQueue owner count (dropped_below queue to)
+  is_queue : IsQueue owner count (queue_dropped_below queue to)
   is_queue = record {
     each = λ i k at.
-        let before = stayed i k at in
-        let old = was.each (gone + i) k before in
-        let within = slice_get_within queue.kept (gone + i) k before in
+        let before = trimmed_stayed i k at in
+        let old = was.each (trimmed_count + i) k before in
+        let within = slice_get_within queue.kept (trimmed_count + i) k before in
         let number = old.number_is in
         record { owner_is = old.owner_is; number_is = omega arith; closed = old.closed; pages = old.pages };
     rising =
-        λ x y a b lt at_x at_y. was.rising (gone + x) (gone + y) a b (omega arith) (stayed x a at_x)
-        (stayed y b at_y);
+        λ x y a b lt at_x at_y. was.rising (trimmed_count + x) (trimmed_count + y) a b (omega arith) (trimmed_stayed x a at_x)
+        (trimmed_stayed y b at_y);
   }
 
-  queue_cases : (q : ℕ) (a : Queue) → slice_get (with_trim queues owner queue to) q ≡ Some a
-      → ((q ≡ owner) × (dropped_below queue to ≡ a)) ⊎ ((q ≢ owner) × (slice_get queues q ≡ Some a))
+  queue_cases : (q : ℕ) (a : Queue) → slice_get (with_trimmed queues owner queue to) q ≡ Some a
+      → ((q ≡ owner) × (queue_dropped_below queue to ≡ a)) ⊎ ((q ≢ owner) × (slice_get queues q ≡ Some a))
   queue_cases q a at = elim (cases_eq q owner) [
     | inl e ↦
-        let here = slice_get-set_same queues owner (dropped_below queue to) inside in
-        let there : slice_get (with_trim queues owner queue to) owner ≡ Some a =
-        ap (slice_get (with_trim queues owner queue to)) (sym e) ∙ at in
+        let here = slice_get-set_same queues owner (queue_dropped_below queue to) inside in
+        let there : slice_get (with_trimmed queues owner queue to) owner ≡ Some a =
+        ap (slice_get (with_trimmed queues owner queue to)) (sym e) ∙ at in
         inl (e, cc (here, there))
-    | inr other ↦ inr (other, sym (slice_get-set_other queues owner q (dropped_below queue to) other) ∙ at)
+    | inr other ↦ inr (other, sym (slice_get-set_other queues owner q (queue_dropped_below queue to) other) ∙ at)
   ]
 
   -- an interval of the new queues, in the old ones
-  was_has : (q : ℕ) (a : Queue) (j : KeptInterval) → slice_get (with_trim queues owner queue to) q ≡ Some a → Has a.kept j
+  trimmed_queue_had : (q : ℕ) (a : Queue) (j : KeptInterval) → slice_get (with_trimmed queues owner queue to) q ≡ Some a → Has a.kept j
       → (b : Queue) × (slice_get queues q ≡ Some b) × Has b.kept j
-  was_has q a j at (i, has) = elim (queue_cases q a at) [
+  trimmed_queue_had q a j at (i, has) = elim (queue_cases q a at) [
     | inl here ↦
-        let at_i : slice_get (drop gone queue.kept) i ≡ Some j =
+        let at_i : slice_get (drop trimmed_count queue.kept) i ≡ Some j =
         ap (λ (q : Queue). slice_get q.kept i) here.1 ∙ has in
-        (queue, ap (slice_get queues) here.0 ∙ owned, (gone + i, stayed i j at_i))
+        (queue, ap (slice_get queues) here.0 ∙ owned, (trimmed_count + i, trimmed_stayed i j at_i))
     | inr there ↦ (a, there.1, (i, has))
   ]
 
-  pub are_trimmed : AreQueues (with_trim queues owner queue to) count
+  pub are_trimmed : AreQueues (with_trimmed queues owner queue to) count
   are_trimmed = record {
     few = are.few;
     each = λ q a at. elim (queue_cases q a at) [
@@ -75,33 +75,33 @@ module _ (queues : List Queue) (count owner : ℕ) (queue : Queue) (to : ℕ) (a
       | inr there ↦ are.each q a there.1
     ];
     apart = λ q r a b i j at_q at_r has_i has_j same.
-        let old_i = was_has q a i at_q has_i in
-        let old_j = was_has r b j at_r has_j in
+        let old_i = trimmed_queue_had q a i at_q has_i in
+        let old_j = trimmed_queue_had r b j at_r has_j in
         are.apart q r old_i.0 old_j.0 i j old_i.1 old_j.1 old_i.2 old_j.2 same;
   }
 
-  other_stays : (k : KeptInterval) → k.interval.owner ≢ owner → not (is_trimmed owner to k) ≡ true
-  other_stays k other = not_from_false _ (and_left _ _ (ne_eqb _ _ other))
+  other_owner_untrimmed : (k : KeptInterval) → k.interval.owner ≢ owner → not (is_trimmed owner to k) ≡ true
+  other_owner_untrimmed k other = not_from_false _ (and_left _ _ (ne_eqb _ _ other))
 
   later_stays : (k : KeptInterval) → to ≤ k.interval.number → not (is_trimmed owner to k) ≡ true
   later_stays k later = not_from_false _ (and_right _ _ (le-ltb _ _ later))
 
-  remains : (k : KeptInterval) → Lies (with_trim queues owner queue to) k
+  trimmed_remains : (k : KeptInterval) → Lies (with_trimmed queues owner queue to) k
       → Lies queues k × (not (is_trimmed owner to k) ≡ true)
-  remains k l = elim (queue_cases l.owner l.queue l.owned) [
+  trimmed_remains k l = elim (queue_cases l.owner l.queue l.owned) [
     | inl here ↦
-        let at_i : slice_get (drop gone queue.kept) l.index ≡ Some k =
+        let at_i : slice_get (drop trimmed_count queue.kept) l.index ≡ Some k =
         ap (λ (q : Queue). slice_get q.kept l.index) here.1 ∙ l.at in
-        let before = stayed l.index k at_i in
-        let number = (was.each (gone + l.index) k before).number_is in (
-          record { owner = owner; queue = queue; index = gone + l.index; owned = owned; at = before },
+        let before = trimmed_stayed l.index k at_i in
+        let number = (was.each (trimmed_count + l.index) k before).number_is in (
+          record { owner = owner; queue = queue; index = trimmed_count + l.index; owned = owned; at = before },
           later_stays k
               (omega arith),
         )
     | inr there ↦
         let is = (are.each l.owner l.queue there.1).each l.index k l.at in (
           record { owner = l.owner; queue = l.queue; index = l.index; owned = there.1; at = l.at },
-          other_stays k
+          other_owner_untrimmed k
               (λ e. there.0 (sym is.owner_is ∙ e)),
         )
   ]
@@ -113,9 +113,9 @@ module _ (queues : List Queue) (count owner : ℕ) (queue : Queue) (to : ℕ) (a
     | inr ge ↦ ge
   ]
 
-  remains_from : (k : KeptInterval) → Lies queues k → not (is_trimmed owner to k) ≡ true
-      → Lies (with_trim queues owner queue to) k
-  remains_from k l stays = elim (cases_eq l.owner owner) [
+  trimmed_remains_from : (k : KeptInterval) → Lies queues k → not (is_trimmed owner to k) ≡ true
+      → Lies (with_trimmed queues owner queue to) k
+  trimmed_remains_from k l stays = elim (cases_eq l.owner owner) [
     | inl e ↦
         let same : l.queue ≡ queue =
         let there : slice_get queues owner ≡ Some l.queue = ap (slice_get queues) (sym e) ∙ l.owned in
@@ -125,64 +125,64 @@ module _ (queues : List Queue) (count owner : ℕ) (queue : Queue) (to : ℕ) (a
         let is = was.each l.index k at in
         let number = is.number_is in
         let from = not_before k stays is.owner_is in
-        let index : gone + (l.index - gone) ≡ l.index = omega arith in
+        let index : trimmed_count + (l.index - trimmed_count) ≡ l.index = omega arith in
         record {
           owner = owner;
-          queue = dropped_below queue to;
-          index = l.index - gone;
-          owned = slice_get-set_same queues owner (dropped_below queue to) inside;
-          at = slice_get-drop queue.kept gone (l.index - gone) ∙ ap (slice_get queue.kept) index ∙ at;
+          queue = queue_dropped_below queue to;
+          index = l.index - trimmed_count;
+          owned = slice_get-set_same queues owner (queue_dropped_below queue to) inside;
+          at = slice_get-drop queue.kept trimmed_count (l.index - trimmed_count) ∙ ap (slice_get queue.kept) index ∙ at;
         }
     | inr other ↦ record {
       owner = l.owner;
       queue = l.queue;
       index = l.index;
-      owned = slice_get-set_other queues owner l.owner (dropped_below queue to) other ∙ l.owned;
+      owned = slice_get-set_other queues owner l.owner (queue_dropped_below queue to) other ∙ l.owned;
       at = l.at;
     }
   ]
 
-  pub merged_trimmed : merged (with_trim queues owner queue to)
-      ≡ filter (λ k. not (is_trimmed owner to k)) (merged queues)
+  pub merged_trimmed : merged_queues (with_trimmed queues owner queue to)
+      ≡ filter (λ k. not (is_trimmed owner to k)) (merged_queues queues)
   merged_trimmed =
       let stays : KeptInterval → Bool = λ k. not (is_trimmed owner to k) in
-      same_rising (merged (with_trim queues owner queue to)) (filter stays (merged queues))
-      (rises-merged (with_trim queues owner queue to))
-      (in_order-filter IsBefore stays (merged queues) (rises-merged queues))
-      (λ k h. let r = remains k (merged_lies (with_trim queues owner queue to) k h) in
-      (has-filter stays (merged queues) k).1 (lies_merged queues count are k r.0, r.1))
-      (λ k h. let r = (has-filter stays (merged queues) k).0 h in
-      lies_merged (with_trim queues owner queue to) count are_trimmed k
-      (remains_from k (merged_lies queues k r.0) r.1))
+      same_rising (merged_queues (with_trimmed queues owner queue to)) (filter stays (merged_queues queues))
+      (rises-merged (with_trimmed queues owner queue to))
+      (in_order-filter IsBefore stays (merged_queues queues) (rises-merged queues))
+      (λ k h. let r = trimmed_remains k (merged_lies (with_trimmed queues owner queue to) k h) in
+      (has-filter stays (merged_queues queues) k).1 (lies_merged queues count are k r.0, r.1))
+      (λ k h. let r = (has-filter stays (merged_queues queues) k).0 h in
+      lies_merged (with_trimmed queues owner queue to) count are_trimmed k
+      (trimmed_remains_from k (merged_lies queues k r.0) r.1))
 
-  pub first_trimmed : map (λ (q : Queue). q.first) (with_trim queues owner queue to)
+  pub first_trimmed : map (λ (q : Queue). q.first) (with_trimmed queues owner queue to)
       ≡ set (map (λ (q : Queue). q.first) queues) owner (max (slice_index (map (λ (q : Queue). q.first) queues) owner)
       (min to (slice_index (map (λ (q : Queue). q.first + length q.kept) queues) owner)))
   first_trimmed =
       let first = entry_of (λ (q : Queue). q.first) queues owner queue owned in
       let next = entry_of (λ (q : Queue). q.first + length q.kept) queues owner queue owned in
-      rw (first, next) (map-set (λ (q : Queue). q.first) queues owner (dropped_below queue to))
+      rw (first, next) (map-set (λ (q : Queue). q.first) queues owner (queue_dropped_below queue to))
 
-  pub next_trimmed : map (λ (q : Queue). q.first + length q.kept) (with_trim queues owner queue to)
+  pub next_trimmed : map (λ (q : Queue). q.first + length q.kept) (with_trimmed queues owner queue to)
       ≡ map (λ (q : Queue). q.first + length q.kept) queues
   next_trimmed =
       let f : Queue → ℕ = λ q. q.first + length q.kept in
       let at = get_or_from_slice_get queues owner queue queue owned in
       let same = set-get_or queues owner queue in
       let old : set queues owner queue ≡ queues = rw at at same in
-      let long = length-drop gone queue.kept in
-      let here : f (dropped_below queue to) ≡ f queue = omega arith in
-      map-set f queues owner (dropped_below queue to) ∙ ap (set (map f queues) owner) here
+      let long = length-drop trimmed_count queue.kept in
+      let here : f (queue_dropped_below queue to) ≡ f queue = omega arith in
+      map-set f queues owner (queue_dropped_below queue to) ∙ ap (set (map f queues) owner) here
       ∙ sym (map-set f queues owner queue) ∙ ap (map f) old
 
 -- `trim` does what it says
 pub closings_trimmed : (queues : List Queue) (count : ℕ) (value : Closings) (owner : ℕ) (queue : Queue) (to : ℕ)
-    → closings queues count ≡ value → AreQueues queues count → slice_get queues owner ≡ Some queue
-    → closings (set queues owner (dropped_below queue to)) count ≡ trimmed value owner to
+    → queue_closings queues count ≡ value → AreQueues queues count → slice_get queues owner ≡ Some queue
+    → queue_closings (set queues owner (queue_dropped_below queue to)) count ≡ trimmed value owner to
 closings_trimmed queues count value owner queue to is are owned =
     let kepts = merged_trimmed queues count owner queue to are owned in
     let firsts = first_trimmed queues count owner queue to are owned in
     let nexts = next_trimmed queues count owner queue to are owned in
-    let now : closings (set queues owner (dropped_below queue to)) count ≡ trimmed (closings queues count) owner to =
+    let now : queue_closings (set queues owner (queue_dropped_below queue to)) count ≡ trimmed (queue_closings queues count) owner to =
     rw (kepts, firsts, nexts) refl in
     now ∙ ap (λ (c : Closings). trimmed c owner to) is

@@ -6,23 +6,23 @@ use Rattle.std.proofs.lemmas.Bool.{cases_order}
 use Rattle.journal.specs.declared.event.Event.{Event}
 use Rattle.journal.specs.declared.event.Kind.{Kind}
 use Rattle.journal.specs.declared.event.Kind.TheVariants.{Load, Store}
-use Rattle.journal.specs.Did.{event}
+use Rattle.journal.specs.DidEvent.{event}
 use Rattle.journal.specs.Events.{address_of}
 use Rattle.journal.specs.WellFormed.{Does}
-use Rattle.journal.specs.Loads.{Explained}
+use Rattle.journal.specs.ExplainedAnswers.{Explained}
 use Rattle.journal.specs.Races.{Race, RaceFree}
-use Rattle.journal.specs.Flat.{flat_write, memory_after, Replays}
+use Rattle.journal.specs.FlatMemory.{flat_write, memory_after, Replays}
 use Rattle.journal.specs.Base.{Base, no_base}
-use Rattle.journal.specs.OrderFrom.{HappensBeforeFrom}
-use Rattle.journal.specs.LoadsFrom.{LatestStoreFrom, IsAnswerFrom, ExplainedFrom}
+use Rattle.journal.specs.HappensBeforeFrom.{HappensBeforeFrom}
+use Rattle.journal.specs.ExplainedAnswersFrom.{LatestStoreFrom, IsAnswerFrom, ExplainedFrom}
 use Rattle.journal.specs.RacesFrom.{RaceFrom, IsFirstRaceFrom, RaceFreeFrom}
-use Rattle.base.specs.Writes.{LastWrite, Unwritten}
-use Rattle.base.proofs.Places.{slice_get-take, slice_get-from_take, slice_get-take_within}
-use Rattle.base.proofs.LastWrites.{word_written, length-written}
-use Rattle.journal.proofs.Copies.Stores.{does_kind, store_same}
-use Rattle.journal.proofs.Flat.Stores.{flat_store, store_conflicts, not_unordered_from}
-use Rattle.journal.proofs.Bases.Order.{goes_forward_from}
-use Rattle.journal.proofs.Bases.Uncut.{uncut_race, uncut_explained}
+use Rattle.base.specs.LastWritten.{LastWrite, Unwritten}
+use Rattle.base.proofs.SlicesAndCounts.{slice_get-take, slice_get-from_take, slice_get-take_within}
+use Rattle.base.proofs.LastWritten.{word_written, length-written}
+use Rattle.journal.proofs.CopyOfPage.Stores.{does_kind, store_same}
+use Rattle.journal.proofs.Flat.StoresUnordered.{flat_store, store_conflicts, not_unordered_from}
+use Rattle.journal.proofs.FromBase.Order.{goes_forward_from}
+use Rattle.journal.proofs.FromBase.Uncut.{uncut_race, uncut_explained}
 
 -- what the last store before a load wrote is what the load answered
 pub answers_last : (b : Base) (j : List Event) (k i p a v w : ℕ) → ExplainedFrom b j

@@ -7,16 +7,16 @@ use Rattle.journal.specs.declared.event.Kind.{Kind}
 use Rattle.journal.specs.declared.event.Kind.TheVariants.{Store}
 use Rattle.journal.specs.Sizes.{Sizes}
 use Rattle.journal.specs.Events.{At, is_closing, count_of}
-use Rattle.journal.specs.Blocks.{write_in}
-use Rattle.journal.specs.Groups.{since, IsContent}
+use Rattle.journal.specs.Blocks.{block_write}
+use Rattle.journal.specs.ContentsSince.{since, IsContent}
 use Rattle.journal.specs.Dirty.{IsDirty}
-use Rattle.base.specs.Writes.{wrote, written}
-use Rattle.base.specs.Records.{mark, marked, harvest, IsRecordOf}
-use Rattle.base.proofs.LastWrites.{written-append, written_nothing, length-written}
-use Rattle.base.proofs.Harvests.{marked-append, marked_nothing, marked_written, harvest_is_record}
-use Rattle.base.proofs.Sets.{slice_get-replicate_found}
-use Rattle.journal.proofs.Intervals.Since.{since_under, since_closing, since_inner}
-use Rattle.journal.proofs.Intervals.Contents.{since_content}
+use Rattle.base.specs.LastWritten.{wrote, written}
+use Rattle.base.specs.MarkedRecords.{mark, marked, harvest, IsRecordOf}
+use Rattle.base.proofs.LastWritten.{written-append, written_nothing, length-written}
+use Rattle.base.proofs.MarkedHarvests.{marked-append, marked_nothing, marked_written, harvest_is_record}
+use Rattle.base.proofs.SliceSets.{slice_get-replicate_found}
+use Rattle.journal.proofs.Intervals.OpenSince.{since_under, since_closing, since_inner}
+use Rattle.journal.proofs.Intervals.StoreContents.{since_content}
 
 -- at the start no word is dirty
 pub dirty_start : (s : Sizes) (p n : ℕ) (page : List ℕ) → length page ≡ s.words
@@ -39,18 +39,18 @@ dirty_others s j es block p n page marks away dirty =
 -- an own event that closes no interval does what it stores, and marks it
 pub dirty_push : (s : Sizes) (j : List Event) (e : Event) (p n : ℕ) (page : List ℕ) (marks : List Bool)
     → e.processor ≡ p → is_closing e.kind ≡ false → IsDirty s j p n page marks
-    → IsDirty s (j ++ e ∷ []) p n (wrote page (write_in s n e.kind)) (mark marks (write_in s n e.kind))
+    → IsDirty s (j ++ e ∷ []) p n (wrote page (block_write s n e.kind)) (mark marks (block_write s n e.kind))
 dirty_push s j e p n page marks mine inner dirty =
     let same = since_inner j e p mine inner in
     record {
       clean = dirty.clean;
       long = dirty.long;
       page_is =
-          rw same (ap (λ (ws : List ℕ). wrote ws (write_in s n e.kind)) dirty.page_is
-          ∙ sym (written-append (λ (f : Event). write_in s n f.kind) dirty.clean (since j p) (e ∷ [])));
+          rw same (ap (λ (ws : List ℕ). wrote ws (block_write s n e.kind)) dirty.page_is
+          ∙ sym (written-append (λ (f : Event). block_write s n f.kind) dirty.clean (since j p) (e ∷ [])));
       marks_are =
-          rw same (ap (λ (ms : List Bool). mark ms (write_in s n e.kind)) dirty.marks_are
-          ∙ sym (marked-append (λ (f : Event). write_in s n f.kind) (replicate s.words false) (since j p)
+          rw same (ap (λ (ms : List Bool). mark ms (block_write s n e.kind)) dirty.marks_are
+          ∙ sym (marked-append (λ (f : Event). block_write s n f.kind) (replicate s.words false) (since j p)
           (e ∷ [])));
     }
 
@@ -63,7 +63,7 @@ dirty_closing s j e p n page marks mine closes dirty =
     record {
       clean = page;
       long =
-          ap length dirty.page_is ∙ length-written (λ (f : Event). write_in s n f.kind) dirty.clean (since j p)
+          ap length dirty.page_is ∙ length-written (λ (f : Event). block_write s n f.kind) dirty.clean (since j p)
           ∙ dirty.long;
       page_is = rw same;
       marks_are = rw same;
@@ -71,38 +71,38 @@ dirty_closing s j e p n page marks mine closes dirty =
 
 -- another page in place of one that nothing was stored in since
 dirty_fetched : (s : Sizes) (j : List Event) (p n : ℕ) (page : List ℕ) → length page ≡ s.words
-    → ((k : ℕ) (e : Event) → At (since j p) k e → write_in s n e.kind ≡ None)
+    → ((k : ℕ) (e : Event) → At (since j p) k e → block_write s n e.kind ≡ None)
     → IsDirty s j p n page (replicate s.words false)
 dirty_fetched s j p n page long nothing = record {
   clean = page;
   long = long;
-  page_is = sym (written_nothing (λ (e : Event). write_in s n e.kind) page (since j p) nothing);
-  marks_are = sym (marked_nothing (λ (e : Event). write_in s n e.kind) (replicate s.words false) (since j p) nothing);
+  page_is = sym (written_nothing (λ (e : Event). block_write s n e.kind) page (since j p) nothing);
+  marks_are = sym (marked_nothing (λ (e : Event). block_write s n e.kind) (replicate s.words false) (since j p) nothing);
 }
 
 -- what is stored in a page lies within it
-write_within : (s : Sizes) (n : ℕ) (k : Kind) (o v : ℕ) → 0 < s.words → write_in s n k ≡ Some (o, v) → o < s.words
-write_within s n (Store a w) o v some h = go (a / s.words == n) h
+dirty_write_within : (s : Sizes) (n : ℕ) (k : Kind) (o v : ℕ) → 0 < s.words → block_write s n k ≡ Some (o, v) → o < s.words
+dirty_write_within s n (Store a w) o v some h = go (a / s.words == n) h
   where
     go : (b : Bool) → ◌≡◌ {A = Option (ℕ × ℕ)} (cond b (Some (a % s.words, w)) None) (Some (o, v)) → o < s.words
     go true g = let e = (some_pair_parts (a % s.words) o w v g).0 in let below = mod-lt a some in omega arith
     go false g = absurd (none-some (o, v) g)
-write_within s n _ o v some h = absurd (none-some (o, v) h)
+dirty_write_within s n _ o v some h = absurd (none-some (o, v) h)
 
 -- a page without a dirty word had no store since
-pub nothing_since : (s : Sizes) (j : List Event) (p n : ℕ) (page : List ℕ) → 0 < s.words
+pub dirty_nothing_since : (s : Sizes) (j : List Event) (p n : ℕ) (page : List ℕ) → 0 < s.words
     → IsDirty s j p n page (replicate s.words false) → (k : ℕ) (e : Event) → At (since j p) k e
-    → write_in s n e.kind ≡ None
-nothing_since s j p n page some dirty k e at = go (write_in s n e.kind) refl
+    → block_write s n e.kind ≡ None
+dirty_nothing_since s j p n page some dirty k e at = go (block_write s n e.kind) refl
   where
     f : Event → Option (ℕ × ℕ)
-    f x = write_in s n x.kind
+    f x = block_write s n x.kind
 
-    go : (o : Option (ℕ × ℕ)) → write_in s n e.kind ≡ o → write_in s n e.kind ≡ None
+    go : (o : Option (ℕ × ℕ)) → block_write s n e.kind ≡ o → block_write s n e.kind ≡ None
     go None h = h
     go (Some w) h =
         let inside : w.0 < length (replicate s.words false) =
-        rw length-replicate (write_within s n e.kind w.0 w.1 some h) in
+        rw length-replicate (dirty_write_within s n e.kind w.0 w.1 some h) in
         let marked_there = marked_written f (replicate s.words false) (since j p) w.0 k w.1 e inside at h in
         absurd (true≢false (sym (slice_get-replicate_found s.words false true w.0
         (ap (λ (ms : List Bool). slice_get ms w.0) dirty.marks_are ∙ marked_there))))
@@ -111,18 +111,18 @@ nothing_since s j p n page some dirty k e at = go (write_in s n e.kind) refl
 pub dirty_replaced : (s : Sizes) (j : List Event) (p n : ℕ) (page new : List ℕ) → 0 < s.words → length new ≡ s.words
     → IsDirty s j p n page (replicate s.words false) → IsDirty s j p n new (replicate s.words false)
 dirty_replaced s j p n page new some long dirty =
-    dirty_fetched s j p n new long (nothing_since s j p n page some dirty)
+    dirty_fetched s j p n new long (dirty_nothing_since s j p n page some dirty)
 
 -- the harvest of the dirty words is what the open interval comes to in the page
 pub dirty_content : (s : Sizes) (j : List Event) (p n : ℕ) (page : List ℕ) (marks : List Bool) → 0 < s.words
     → IsDirty s j p n page marks → IsContent s j p (count_of is_closing j p) n (harvest 0 page marks)
 dirty_content s j p n page marks some dirty =
-    let f : Event → Option (ℕ × ℕ) = λ e. write_in s n e.kind in
+    let f : Event → Option (ℕ × ℕ) = λ e. block_write s n e.kind in
     let P : ℕ → Type 0 =
     λ words. IsRecordOf f (since j p)
     (harvest 0 (written f dirty.clean (since j p)) (marked f (replicate words false) (since j p))) in
     let record_of =
     subst P dirty.long (harvest_is_record f dirty.clean (since j p)
-    (λ e o v h. rw (dirty.long) (write_within s n e.kind o v some h)))
+    (λ e o v h. rw (dirty.long) (dirty_write_within s n e.kind o v some h)))
     in
     since_content s j p n (harvest 0 page marks) (rw (dirty.page_is, dirty.marks_are) record_of)

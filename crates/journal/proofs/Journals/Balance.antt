@@ -5,14 +5,14 @@ use Rattle.std.proofs.lemmas.Option.{none-some}
 use Rattle.journal.specs.declared.event.Event.{Event}
 use Rattle.journal.specs.declared.event.Kind.{Kind}
 use Rattle.journal.specs.declared.event.Kind.TheVariants.{Arrive, Depart}
-use Rattle.journal.specs.Did.{event}
+use Rattle.journal.specs.DidEvent.{event}
 use Rattle.journal.specs.Sizes.{Sizes}
 use Rattle.journal.specs.Events.{At, count_of, is_arrive, is_depart}
 use Rattle.journal.specs.WellFormed.{LastIs, Allowed, MayFollow, WellFormed}
-use Rattle.base.proofs.Places.{push_induction, push_cases}
-use Rattle.journal.proofs.Order.Places.{count_of-append}
+use Rattle.base.proofs.SlicesAndCounts.{push_induction, push_cases}
+use Rattle.journal.proofs.Order.CountedAndNumbered.{count_of-append}
 use Rattle.journal.proofs.Times.Times.{count_of-one}
-use Rattle.journal.proofs.Journals.WellFormed.{each_push, last_unique, last_now, last_longer, last_shorter}
+use Rattle.journal.proofs.Journals.WellFormedLast.{each_push, last_unique, last_now, last_longer, last_shorter}
 
 -- p's arrivals and departures
 pub record IsBalanced (j : List Event) (p : ℕ) : Type 0 where

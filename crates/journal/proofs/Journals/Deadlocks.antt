@@ -3,12 +3,12 @@ use Rattle.std.proofs.Common.{◌≡◌, IsTrue, Some, refl, subst, sym}
 use Rattle.journal.specs.declared.event.Kind.{Kind}
 use Rattle.journal.specs.declared.event.Kind.TheVariants.{Ask, Arrive, Watch}
 use Rattle.journal.specs.Events.{is_taking}
-use Rattle.journal.specs.WellFormed.{Answers}
+use Rattle.journal.specs.WellFormed.{AnswersCall}
 use Rattle.journal.specs.Waits.{awaited}
 use Rattle.journal.specs.Deadlocks.{DeadlockLaw}
 
 -- what answers a call that waits is an event of taking
-pub answers_taking : (a c k : Kind) → awaited a ≡ Some c → Answers a k → IsTrue (is_taking k)
+pub answers_taking : (a c k : Kind) → awaited a ≡ Some c → AnswersCall a k → IsTrue (is_taking k)
 answers_taking (Ask l) c k h r = subst (λ b. IsTrue (is_taking b)) (sym r) refl
 answers_taking Arrive c k h r = subst (λ b. IsTrue (is_taking b)) (sym r) refl
 answers_taking (Watch f) c k h r = subst (λ b. IsTrue (is_taking b)) (sym r) refl

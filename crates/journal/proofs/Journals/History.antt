@@ -5,12 +5,12 @@ use Rattle.journal.specs.declared.event.Event.{Event}
 use Rattle.journal.specs.Sizes.{addresses}
 use Rattle.journal.specs.WellFormed.{WellFormed}
 use Rattle.journal.specs.Base.{Base}
-use Rattle.journal.specs.Cuts.{EndsEpisode, IsBaseOf}
-use Rattle.journal.specs.Log.{Log, HoldsRest}
+use Rattle.journal.specs.EpisodeBases.{EndsEpisode, IsBaseOf}
+use Rattle.journal.specs.Log.{Log, HoldsRestOfHistory}
 use Rattle.journal.specs.HistoryLaws.{UncutHistoryLaw, HistoryLaw}
-use Rattle.journal.proofs.Journals.WellFormed.{well_formed_front}
-use Rattle.journal.proofs.Bases.Uncut.{uncut_base}
-use Rattle.journal.proofs.Bases.Cutting.{base_after}
+use Rattle.journal.proofs.Journals.WellFormedLast.{well_formed_front}
+use Rattle.journal.proofs.FromBase.Uncut.{uncut_base}
+use Rattle.journal.proofs.FromBase.CutAgain.{base_after}
 
 -- of a new journal nothing was cut off
 pub whole_law : UncutHistoryLaw
@@ -22,7 +22,7 @@ whole_law log h x = record {
 
 -- a cut leaves the history as it was
 pub history_law : HistoryLaw
-history_law s old new c h of well x was = subst (λ (l : Log). HoldsRest l (c ++ taken) h) (sym was.left) (record {
+history_law s old new c h of well x was = subst (λ (l : Log). HoldsRestOfHistory l (c ++ taken) h) (sym was.left) (record {
   history =
       x.history ∙ ap (λ (xs : List Event). c ++ xs) (sym (take-append-drop was.taken old.events))
       ∙ sym (append_assoc c taken (drop was.taken old.events));

@@ -5,18 +5,18 @@ use Rattle.std.proofs.lemmas.List.{take-append-le}
 use Rattle.std.proofs.Math.Seq.{take-append_seam}
 use Rattle.journal.specs.declared.event.Event.{Event}
 use Rattle.journal.specs.declared.event.Kind.TheVariants.{Fetch}
-use Rattle.journal.specs.Did.{event}
+use Rattle.journal.specs.DidEvent.{event}
 use Rattle.journal.specs.Sizes.{Sizes}
 use Rattle.journal.specs.Events.{At}
 use Rattle.journal.specs.WellFormed.{Does}
-use Rattle.journal.specs.Copies.{InGap, HasCount, StoredInGap, GapCounts}
+use Rattle.journal.specs.PageImages.{InGap, HasCount, StoredInGap, GapCounts}
 use Rattle.journal.specs.Blocks.{IsBlock}
 use Rattle.journal.specs.Counted.{AreCounted, BlockCounts}
-use Rattle.base.proofs.Places.{push_cases, push_induction}
-use Rattle.journal.proofs.Order.Places.{at_within, at_longer, at_shorter, at_last}
+use Rattle.base.proofs.SlicesAndCounts.{push_cases, push_induction}
+use Rattle.journal.proofs.Order.CountedAndNumbered.{at_within, at_longer, at_shorter, at_last}
 use Rattle.journal.proofs.Order.BlockPasts.{block_front, block_last}
-use Rattle.journal.proofs.Copies.Complete.{gap_block}
-use Rattle.journal.proofs.Missing.Gaps.{gap_others, stored_on}
+use Rattle.journal.proofs.CopyOfPage.CompleteBlocks.{gap_block}
+use Rattle.journal.proofs.Missing.GapsTaken.{gaps_of_others, stored_on}
 
 -- a count of other values that are the same
 pub count_of_same : {A : Type 0} (values others : A → Type 0) (n : ℕ) → ((x : A) → values x ↔ others x)
@@ -52,7 +52,7 @@ counts_on s j es p n w r d same c = record {
 -- so others' events
 pub counts_others : (s : Sizes) (j es : List Event) (p n w r d : ℕ)
     → ((k : ℕ) (e : Event) → At es k e → e.processor ≢ p) → GapCounts s j p n w r d → GapCounts s (j ++ es) p n w r d
-counts_others s j es p n w r d away = counts_on s j es p n w r d (λ i. gap_others s j es p n i away)
+counts_others s j es p n w r d away = counts_on s j es p n w r d (λ i. gaps_of_others s j es p n i away)
 
 -- a journal without events has no fetch
 pub counted_start : (s : Sizes) → AreCounted s []

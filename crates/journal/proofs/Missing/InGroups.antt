@@ -6,20 +6,20 @@ use Rattle.journal.specs.declared.event.Event.{Event}
 use Rattle.journal.specs.declared.event.Kind.TheVariants.{Store}
 use Rattle.journal.specs.Sizes.{Sizes}
 use Rattle.journal.specs.Events.{interval_at}
-use Rattle.journal.specs.Order.{HappensBefore}
+use Rattle.journal.specs.HappensBeforeEdges.{HappensBefore}
 use Rattle.journal.specs.Times.{ClosesAt}
-use Rattle.journal.specs.Intervals.{ClosedAt}
-use Rattle.journal.specs.Copies.{page_write, InGap}
-use Rattle.journal.specs.Groups.{StoresIn, IsContent}
-use Rattle.journal.specs.Missing.{IsPlaced, Missing, InClosingOrder, AreMissing}
-use Rattle.base.specs.Places.{Has, InOrder, IsOnce}
-use Rattle.base.specs.Records.{AreRecordsOf, none, more}
+use Rattle.journal.specs.ClosedIntervals.{ClosedAt}
+use Rattle.journal.specs.PageImages.{page_write, InGap}
+use Rattle.journal.specs.ContentsSince.{StoresInInterval, IsContent}
+use Rattle.journal.specs.MissingWords.{IsPlaced, Missing, MissingInOrder, AreMissing}
+use Rattle.base.specs.InOrderOnce.{Has, InOrder, IsOnce}
+use Rattle.base.specs.MarkedRecords.{AreRecordsOf, none, more}
 use Rattle.base.proofs.Joined.{has_concat, in_order_concat}
-use Rattle.journal.proofs.Order.HappensBefore.{goes_forward}
+use Rattle.journal.proofs.Order.HappensBefore.{before_goes_forward}
 use Rattle.journal.proofs.Times.Closing.{closing_extends, closed_once}
 use Rattle.journal.proofs.Times.IntervalNumbers.{closes_interval}
 use Rattle.journal.proofs.Missing.Placed.{placed_before}
-use Rattle.journal.proofs.Missing.Gaps.{gap_whole}
+use Rattle.journal.proofs.Missing.GapsTaken.{gaps_whole}
 
 -- these are the places of each interval's stores
 pub record AreGroups (s : Sizes) (j : List Event) (n : ℕ) (missing : List Missing) (groups : List (List ℕ)) : Type 0
@@ -28,7 +28,7 @@ pub record AreGroups (s : Sizes) (j : List Event) (n : ℕ) (missing : List Miss
         (map (λ (x : Missing). x.words) missing)
     pub group_of : (m : ℕ) (x : Missing) → slice_get missing m ≡ Some x → (g : List ℕ) × (slice_get groups m ≡ Some g)
     pub of : (m : ℕ) (g : List ℕ) → slice_get groups m ≡ Some g
-        → (x : Missing) × (slice_get missing m ≡ Some x) × ((i : ℕ) → Has g i ↔ StoresIn s j x.owner x.number n i)
+        → (x : Missing) × (slice_get missing m ≡ Some x) × ((i : ℕ) → Has g i ↔ StoresInInterval s j x.owner x.number n i)
         × InOrder (λ i k. i < k) g
 
 -- each list of contents has its groups
@@ -58,10 +58,10 @@ groups_of s j n (y ∷ missing) contents =
 
         of : (m : ℕ) (g : List ℕ) → slice_get (content.places ∷ rest.0) m ≡ Some g
             → (x : Missing) × (slice_get (y ∷ missing) m ≡ Some x)
-            × ((i : ℕ) → Has g i ↔ StoresIn s j x.owner x.number n i) × InOrder (λ i k. i < k) g
+            × ((i : ℕ) → Has g i ↔ StoresInInterval s j x.owner x.number n i) × InOrder (λ i k. i < k) g
         of zero g h =
             let P : List ℕ → Type 0 =
-            λ f. ((i : ℕ) → Has f i ↔ StoresIn s j y.owner y.number n i) × InOrder (λ i k. i < k) f in
+            λ f. ((i : ℕ) → Has f i ↔ StoresInInterval s j y.owner y.number n i) × InOrder (λ i k. i < k) f in
             let r = subst P (same_Some content.places g h) (content.each, content.rising) in
             (y, refl, r.0, r.1)
         of (suc m) g h = rest.1.of m g h
@@ -76,7 +76,7 @@ groups_gap s j p n missing groups are of i = (λ h. there ((has_concat groups i)
         let r = of.of h.1.0 h.0 h.1.1 in
         let x = (r.2 i).0 h.2 in
         let stored = (are.each r.0.owner r.0.number).0 (r.0, (h.1.0, r.1), refl, refl) in
-        gap_whole s j p n r.0.owner stored.1.0 i stored.0 x.0 stored.1.1 x.1 stored.1.3 stored.1.2 x.2 x.3
+        gaps_whole s j p n r.0.owner stored.1.0 i stored.0 x.0 stored.1.1 x.1 stored.1.3 stored.1.2 x.2 x.3
         (x.4 ∙ sym stored.1.4)
 
     back : InGap s j p n i → Has (concat groups) i
@@ -86,28 +86,28 @@ groups_gap s j p n missing groups are of i = (λ h. there ((has_concat groups i)
         let f = of.group_of m.1.0 m.0 m.1.1 in
         let r = of.of m.1.0 f.0 f.1 in
         let same : r.0 ≡ m.0 = same_Some r.0 m.0 (sym r.1 ∙ m.1.1) in
-        let P : Missing → Type 0 = λ x. StoresIn s j x.owner x.number n i in
-        let Q : ℕ → ℕ → Type 0 = λ q k. StoresIn s j q k n i in
-        let here : StoresIn s j m.0.owner m.0.number n i =
+        let P : Missing → Type 0 = λ x. StoresInInterval s j x.owner x.number n i in
+        let Q : ℕ → ℕ → Type 0 = λ q k. StoresInInterval s j q k n i in
+        let here : StoresInInterval s j m.0.owner m.0.number n i =
         subst₂ Q (sym m.2) (sym m.3) (w.address, w.value, w.does, w.in_page, refl) in
         (has_concat groups i).1 (f.0, (m.1.0, f.1), (r.2 i).1 (subst P (sym same) here))
 
 -- a store of a closed interval, with its closing event
-pub store_closed : (s : Sizes) (j : List Event) (q k n i c : ℕ) → StoresIn s j q k n i → ClosesAt j q c
+pub store_closed : (s : Sizes) (j : List Event) (q k n i c : ℕ) → StoresInInterval s j q k n i → ClosesAt j q c
     → interval_at j q c ≡ k → ClosedAt j i c
 store_closed s j q k n i c x closes number =
     closes_interval j q i c (Store x.0 x.1) x.2 (λ h. true≢false (sym h)) closes (x.4 ∙ sym number)
 
 -- of two intervals in closing order, the stores of the second don't happen before those of the first
 pub groups_extend : (s : Sizes) (j : List Event) (n : ℕ) (missing : List Missing) (groups : List (List ℕ))
-    → ((x : Missing) → Has missing x → IsPlaced j x.owner x.number x.place) → InClosingOrder missing
+    → ((x : Missing) → Has missing x → IsPlaced j x.owner x.number x.place) → MissingInOrder missing
     → AreGroups s j n missing groups → IsOnce (concat groups) × InOrder (λ i k. ¬ HappensBefore j k i) (concat groups)
 groups_extend s j n missing groups placed order of = (
   in_order_concat (λ (i k : ℕ). i ≢ k) groups
       (λ g h x y a b less at to same. let r = of.of h.0 g h.1 in let up = r.3 x y a b less at to in omega arith)
       apart,
   in_order_concat (λ i k. ¬ HappensBefore j k i) groups (λ g h x y a b less at to before. let r = of.of h.0 g h.1 in
-      let up = r.3 x y a b less at to in let down = goes_forward j before in omega arith)
+      let up = r.3 x y a b less at to in let down = before_goes_forward j before in omega arith)
       extends,
 )
   where

@@ -1,27 +1,27 @@
 -- What each kind of event does to the missing intervals.
 use Rattle.std.proofs.Common.{ℕ, ◌≡◌, ◌≢◌, ◌<◌, ◌≤◌, ◌⊎◌, ◌↔◌, ◌/◌, inl, inr, List, [], ◌∷◌, ◌++◌, true, arith, refl, sym, ap, ◌∙◌, le_of_lt, true≢false}
-use Rattle.base.proofs.Places.{push_cases}
+use Rattle.base.proofs.SlicesAndCounts.{push_cases}
 use Rattle.journal.specs.declared.event.Event.{Event}
 use Rattle.journal.specs.declared.event.Kind.{Kind}
 use Rattle.journal.specs.declared.event.Kind.TheVariants.{Store, Fetch}
-use Rattle.journal.specs.Did.{event}
+use Rattle.journal.specs.DidEvent.{event}
 use Rattle.journal.specs.Sizes.{Sizes}
 use Rattle.journal.specs.Events.{At, is_closing, is_taking, interval_at}
 use Rattle.journal.specs.WellFormed.{Does}
 use Rattle.journal.specs.Times.{IsTimeOf}
-use Rattle.journal.specs.Copies.{InGap, StoredInGap}
-use Rattle.journal.specs.Brought.{NoGap}
+use Rattle.journal.specs.PageImages.{InGap, StoredInGap}
+use Rattle.journal.specs.BroughtCopy.{NoGap}
 use Rattle.journal.specs.Blocks.{IsBlock}
-use Rattle.journal.specs.Groups.{StoresIn, IsContent}
-use Rattle.journal.specs.Missing.{Missing, AreMissing, AreMissingNotices}
-use Rattle.base.specs.Places.{Has}
+use Rattle.journal.specs.ContentsSince.{StoresInInterval, IsContent}
+use Rattle.journal.specs.MissingWords.{Missing, AreMissing, AreMissingNotices}
+use Rattle.base.specs.InOrderOnce.{Has}
 use Rattle.base.proofs.Joined.{has-nil, has-append}
-use Rattle.journal.proofs.Order.Places.{at_within, at_longer, count_of-front, count_of-within}
-use Rattle.journal.proofs.Copies.Stores.{store_same}
-use Rattle.journal.proofs.Copies.Complete.{gap_block}
+use Rattle.journal.proofs.Order.CountedAndNumbered.{at_within, at_longer, count_of-front, count_of-within}
+use Rattle.journal.proofs.CopyOfPage.Stores.{store_same}
+use Rattle.journal.proofs.CopyOfPage.CompleteBlocks.{gap_block}
 use Rattle.journal.proofs.Missing.Placed.{placed_longer}
-use Rattle.journal.proofs.Missing.Gaps.{gap_apart, gap_others, gap_taken, stored_on}
-use Rattle.journal.proofs.Intervals.Contents.{content_on, content_closed}
+use Rattle.journal.proofs.Missing.GapsTaken.{gaps_apart, gaps_of_others, gap_taken, stored_on}
+use Rattle.journal.proofs.Intervals.StoreContents.{content_on, content_closed}
 
 -- nothing is missing where there is no gap
 pub none_missing : (s : Sizes) (j : List Event) (p n : ℕ) → NoGap s j p n → AreMissing s j p n []
@@ -53,9 +53,9 @@ missing_same s j p n missing other same are = record {
 }
 
 -- what the missing intervals come to stays
-contents_on : (s : Sizes) (j es : List Event) (p n : ℕ) (missing : List Missing) → AreMissing s j p n missing
+missing_contents_on : (s : Sizes) (j es : List Event) (p n : ℕ) (missing : List Missing) → AreMissing s j p n missing
     → (x : Missing) → Has missing x → IsContent s (j ++ es) x.owner x.number n x.words
-contents_on s j es p n missing are x h =
+missing_contents_on s j es p n missing are x h =
     let c = are.placed x h in
     let inside = count_of-within is_closing j c.at x.owner c.closes.kind c.closes.does c.closes.closes in
     let number = c.number in
@@ -74,14 +74,14 @@ missing_on s j es p n missing same are = record {
             (g.0, (stored_on s j es p n same (q, k, g.0)).0 g.1),
       );
   placed = λ x h. placed_longer j es x.owner x.number x.place (are.placed x h);
-  contents = contents_on s j es p n missing are;
+  contents = missing_contents_on s j es p n missing are;
 }
 
 -- so others' events
 pub missing_others : (s : Sizes) (j es : List Event) (p n : ℕ) (missing : List Missing)
     → ((k : ℕ) (e : Event) → At es k e → e.processor ≢ p) → AreMissing s j p n missing
     → AreMissing s (j ++ es) p n missing
-missing_others s j es p n missing away = missing_on s j es p n missing (λ i. gap_others s j es p n i away)
+missing_others s j es p n missing away = missing_on s j es p n missing (λ i. gaps_of_others s j es p n i away)
 
 -- and a block that doesn't fetch the page
 pub missing_block : (s : Sizes) (j block : List Event) (p n : ℕ) (missing : List Missing) → IsBlock p block
@@ -100,7 +100,7 @@ missing_taken s j p n k t t' missing new takes time after news are =
       placed = λ x h. placed_longer j (e ∷ []) x.owner x.number x.place
           (elim ((has-append missing new x).0 h) [ inl old ↦ are.placed x old | inr now ↦ news.placed x now ]);
       contents = λ x h. elim ((has-append missing new x).0 h)
-          [ inl old ↦ contents_on s j (e ∷ []) p n missing are x old | inr now ↦ now_on x now ];
+          [ inl old ↦ missing_contents_on s j (e ∷ []) p n missing are x old | inr now ↦ now_on x now ];
     }
   where
     e : Event
@@ -127,7 +127,7 @@ missing_taken s j p n k t t' missing new takes time after news are =
         → (a : ℕ) × StoredInGap s (j ++ e ∷ []) p n (q, m, a)
     from_gap q m x =
         let g = x.1 in
-        let apart = gap_apart s j p n q g.0 x.0 g.1 g.3 g.2 in
+        let apart = gaps_apart s j p n q g.0 x.0 g.1 g.3 g.2 in
         let page : x.0 / s.words ≡ n =
         ap (λ (a : ℕ). a / s.words) (sym (store_same j g.0 g.3.store.by q g.3.store.address x.0 g.3.store.value
         g.1 g.3.store.does g.2).1)
@@ -144,7 +144,7 @@ missing_taken s j p n k t t' missing new takes time after news are =
           ),
         )
 
-    from_new : (q m : ℕ) → ((i : ℕ) × StoresIn s j q m n i × (q ≢ p) × (t q ≤ m) × (m < t' q))
+    from_new : (q m : ℕ) → ((i : ℕ) × StoresInInterval s j q m n i × (q ≢ p) × (t q ≤ m) × (m < t' q))
         → (a : ℕ) × StoredInGap s (j ++ e ∷ []) p n (q, m, a)
     from_new q m x =
         let w = x.1 in
@@ -181,7 +181,7 @@ missing_taken s j p n k t t' missing new takes time after news are =
         let g = x.1 in
         let w = g.3.store in
         let does : Does j g.0 q (Store x.0 g.1) = old q g.0 x.0 g.1 g.2 in
-        let apart = gap_apart s (j ++ e ∷ []) p n q g.0 x.0 g.1 g.3 g.2 in
+        let apart = gaps_apart s (j ++ e ∷ []) p n q g.0 x.0 g.1 g.3 g.2 in
         let page : x.0 / s.words ≡ n =
         ap (λ (a : ℕ). a / s.words)
         (sym (store_same (j ++ e ∷ []) g.0 w.by q w.address x.0 w.value g.1 w.does g.2).1)

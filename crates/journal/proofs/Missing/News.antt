@@ -2,11 +2,11 @@
 use Rattle.std.proofs.Common.{ℕ, ◌≡◌, ◌≢◌, ◌<◌, ◌≤◌, ◌↔◌, List, [], ◌∷◌, true, filter, refl, sym, ap, subst₂, true≢false, arith}
 use Rattle.journal.specs.declared.event.Event.{Event}
 use Rattle.journal.specs.Sizes.{Sizes}
-use Rattle.journal.specs.Groups.{StoresIn, IsContent}
-use Rattle.journal.specs.Missing.{IsPlaced, Missing, AreMissingNotices, some_words, has_words}
-use Rattle.base.specs.Places.{Has}
-use Rattle.base.proofs.Picked.{has-filter}
-use Rattle.journal.proofs.Intervals.Contents.{content_none, content_some}
+use Rattle.journal.specs.ContentsSince.{StoresInInterval, IsContent}
+use Rattle.journal.specs.MissingWords.{IsPlaced, Missing, AreMissingNotices, some_words, has_words}
+use Rattle.base.specs.InOrderOnce.{Has}
+use Rattle.base.proofs.FilteredInOrder.{has-filter}
+use Rattle.journal.proofs.Intervals.StoreContents.{content_none, content_some}
 
 -- with the contents of all intervals between p's timestamps, those with words are the news
 pub news_of : (s : Sizes) (j : List Event) (p n : ℕ) (t t' : ℕ → ℕ) (all : List Missing) → t p ≡ t' p
@@ -22,11 +22,11 @@ news_of s j p n t t' all own each placed contents =
     }
   where
     stores : (q k : ℕ) (words : List (ℕ × ℕ)) → some_words words ≡ true → IsContent s j q k n words
-        → (i : ℕ) × StoresIn s j q k n i
+        → (i : ℕ) × StoresInInterval s j q k n i
     stores q k [] h content = absurd (true≢false (sym h))
     stores q k (w ∷ words) h content = content_some s j q k n w words content
 
-    filled : (q k i : ℕ) (words : List (ℕ × ℕ)) → IsContent s j q k n words → StoresIn s j q k n i
+    filled : (q k i : ℕ) (words : List (ℕ × ℕ)) → IsContent s j q k n words → StoresInInterval s j q k n i
         → some_words words ≡ true
     filled q k i [] content x = absurd (content_none s j q k n i content x)
     filled q k i (w ∷ words) content x = refl
@@ -35,7 +35,7 @@ news_of s j p n t t' all own each placed contents =
     apart q m le less mine = let a : t q ≡ t p = ap t mine in let b : t' q ≡ t' p = ap t' mine in omega arith
 
     there : (q m : ℕ) → ((x : Missing) × Has (filter has_words all) x × (x.owner ≡ q) × (x.number ≡ m))
-        → (i : ℕ) × StoresIn s j q m n i × (q ≢ p) × (t q ≤ m) × (m < t' q)
+        → (i : ℕ) × StoresInInterval s j q m n i × (q ≢ p) × (t q ≤ m) × (m < t' q)
     there q m x =
         let h = (has-filter has_words all x.0).0 x.1 in
         let range = (each q m).0 (x.0, h.0, x.2, x.3) in
@@ -43,7 +43,7 @@ news_of s j p n t t' all own each placed contents =
         let found = stores q m x.0.words h.1 (subst₂ P x.2 x.3 (contents x.0 h.0)) in
         (found.0, found.1, apart q m range.0 range.1, range.0, range.1)
 
-    back : (q m : ℕ) → ((i : ℕ) × StoresIn s j q m n i × (q ≢ p) × (t q ≤ m) × (m < t' q))
+    back : (q m : ℕ) → ((i : ℕ) × StoresInInterval s j q m n i × (q ≢ p) × (t q ≤ m) × (m < t' q))
         → (x : Missing) × Has (filter has_words all) x × (x.owner ≡ q) × (x.number ≡ m)
     back q m x =
         let r = (each q m).1 (x.3, x.4) in

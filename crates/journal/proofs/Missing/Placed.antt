@@ -4,11 +4,11 @@ use Rattle.std.proofs.Math.Seq.{take-append_seam}
 use Rattle.std.proofs.lemmas.Bool.{cases_lt}
 use Rattle.std.proofs.lemmas.List.{take-append-le}
 use Rattle.journal.specs.declared.event.Event.{Event}
-use Rattle.journal.specs.Did.{event}
+use Rattle.journal.specs.DidEvent.{event}
 use Rattle.journal.specs.Events.{is_closing, count_of}
-use Rattle.journal.specs.Missing.{closed_count, IsPlaced}
-use Rattle.base.proofs.Places.{count_by-mono}
-use Rattle.journal.proofs.Order.Places.{at_within, at_longer, at_last, count_of-front}
+use Rattle.journal.specs.MissingWords.{closed_count, IsPlaced}
+use Rattle.base.proofs.SlicesAndCounts.{count_by-mono}
+use Rattle.journal.proofs.Order.CountedAndNumbered.{at_within, at_longer, at_last, count_of-front}
 use Rattle.journal.proofs.Times.IntervalNumbers.{same_closer}
 
 -- what comes later changes no front

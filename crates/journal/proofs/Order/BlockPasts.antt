@@ -3,13 +3,13 @@ use Rattle.std.proofs.Common.{◌≡◌, ℕ, ◌+◌, ◌<◌, ◌≤◌, ◌�
 use Rattle.std.proofs.lemmas.Bool.{cases_lt}
 use Rattle.journal.specs.declared.event.Event.{Event}
 use Rattle.journal.specs.Events.{is_taking}
-use Rattle.journal.specs.Order.{HappensBefore}
+use Rattle.journal.specs.HappensBeforeEdges.{HappensBefore}
 use Rattle.journal.specs.Pasts.{InPast}
 use Rattle.journal.specs.Blocks.{IsBlock}
-use Rattle.base.proofs.Places.{push_induction}
-use Rattle.journal.proofs.Order.Places.{at_longer, at_last}
-use Rattle.journal.proofs.Order.HappensBefore.{extension}
-use Rattle.journal.proofs.Order.Pasts.{own_past, reaches_new}
+use Rattle.base.proofs.SlicesAndCounts.{push_induction}
+use Rattle.journal.proofs.Order.CountedAndNumbered.{at_longer, at_last}
+use Rattle.journal.proofs.Order.HappensBefore.{before_extension}
+use Rattle.journal.proofs.Order.EdgesIntoPast.{own_past, reaches_new}
 
 -- a front of a block is one
 pub block_front : (p : ℕ) (block es : List Event) → IsBlock p (block ++ es) → IsBlock p block
@@ -105,7 +105,7 @@ block_reaches j block p i m =
         let one : length (e ∷ []) ≡ 1 = refl in
         let done : HappensBefore ((j ++ es) ++ e ∷ []) i (length j + m)
         ↔ (InPast j p i ⊎ ((length j ≤ i) × (i < length j + m))) = elim (cases_lt m (length es)) [
-          | inl lt ↦ (let same = extension (j ++ es) (e ∷ []) i (length j + m) (omega arith) in
+          | inl lt ↦ (let same = before_extension (j ++ es) (e ∷ []) i (length j + m) (omega arith) in
               let old = ih (block_front p es (e ∷ []) is) lt in
               ((λ b. old.0 (same.0 b)), (λ y. same.1 (old.1 y))))
           | inr le ↦ now es e is (omega arith)

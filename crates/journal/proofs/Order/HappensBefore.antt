@@ -2,29 +2,29 @@
 use Rattle.std.proofs.Common.{ℕ, ◌<◌, ◌≤◌, ◌↔◌, List, ◌++◌, length, sym, ◌∙◌, arith, lt_trans}
 use Rattle.journal.specs.declared.event.Event.{Event}
 use Rattle.journal.specs.Events.{is_arrive, is_depart}
-use Rattle.journal.specs.Order.{Link, Edge, HappensBefore}
-use Rattle.journal.specs.Order.Link.{same, lets, meets}
-use Rattle.journal.specs.Order.HappensBefore.{edge, on}
-use Rattle.journal.proofs.Order.Places.{at_within, at_longer, at_shorter, count_of-front}
+use Rattle.journal.specs.HappensBeforeEdges.{Link, Edge, HappensBefore}
+use Rattle.journal.specs.HappensBeforeEdges.Link.{same, lets, meets}
+use Rattle.journal.specs.HappensBeforeEdges.HappensBefore.{edge, on}
+use Rattle.journal.proofs.Order.CountedAndNumbered.{at_within, at_longer, at_shorter, count_of-front}
 
 -- happens-before goes forward
-pub goes_forward : (j : List Event) {i k : ℕ} → HappensBefore j i k → i < k
-goes_forward j (edge e) = e.before
-goes_forward j (on h e) = lt_trans (goes_forward j h) e.before
+pub before_goes_forward : (j : List Event) {i k : ℕ} → HappensBefore j i k → i < k
+before_goes_forward j (edge e) = e.before
+before_goes_forward j (on h e) = lt_trans (before_goes_forward j h) e.before
 
 -- what something happens before stands in the journal
-pub ends_within : (j : List Event) {i k : ℕ} → HappensBefore j i k → k < length j
-ends_within j (edge e) = at_within j _ e.to e.to_at
-ends_within j (on h e) = at_within j _ e.to e.to_at
+pub before_ends_within : (j : List Event) {i k : ℕ} → HappensBefore j i k → k < length j
+before_ends_within j (edge e) = at_within j _ e.to e.to_at
+before_ends_within j (on h e) = at_within j _ e.to e.to_at
 
 -- what happens before something stands in the journal
-pub begins_within : (j : List Event) {i k : ℕ} → HappensBefore j i k → i < length j
-begins_within j h = let a = goes_forward j h in let b = ends_within j h in omega arith
+pub before_begins_within : (j : List Event) {i k : ℕ} → HappensBefore j i k → i < length j
+before_begins_within j h = let a = before_goes_forward j h in let b = before_ends_within j h in omega arith
 
 -- happens-before is transitive
-pub transitive : (j : List Event) {i m k : ℕ} → HappensBefore j i m → HappensBefore j m k → HappensBefore j i k
-transitive j h (edge e) = on h e
-transitive j h (on g e) = on (transitive j h g) e
+pub before_transitive : (j : List Event) {i m k : ℕ} → HappensBefore j i m → HappensBefore j m k → HappensBefore j i k
+before_transitive j h (edge e) = on h e
+before_transitive j h (on g e) = on (before_transitive j h g) e
 
 link_longer : (j es : List Event) (i k : ℕ) (e f : Event) → i ≤ length j → k ≤ length j → Link j i k e f
     → Link (j ++ es) i k e f
@@ -79,16 +79,16 @@ edge_shorter j es {i} {k} h e =
     }
 
 -- happens-before stays
-pub longer : (j es : List Event) {i k : ℕ} → HappensBefore j i k → HappensBefore (j ++ es) i k
-longer j es (edge e) = edge (edge_longer j es e)
-longer j es (on h e) = on (longer j es h) (edge_longer j es e)
+pub before_longer : (j es : List Event) {i k : ℕ} → HappensBefore j i k → HappensBefore (j ++ es) i k
+before_longer j es (edge e) = edge (edge_longer j es e)
+before_longer j es (on h e) = on (before_longer j es h) (edge_longer j es e)
 
 -- and what happened before an old place did so before
-pub shorter : (j es : List Event) {i k : ℕ} → k < length j → HappensBefore (j ++ es) i k → HappensBefore j i k
-shorter j es lt (edge e) = edge (edge_shorter j es lt e)
-shorter j es lt (on h e) =
-    let before = e.before in on (shorter j es (lt_trans e.before lt) h) (edge_shorter j es lt e)
+pub before_shorter : (j es : List Event) {i k : ℕ} → k < length j → HappensBefore (j ++ es) i k → HappensBefore j i k
+before_shorter j es lt (edge e) = edge (edge_shorter j es lt e)
+before_shorter j es lt (on h e) =
+    let before = e.before in on (before_shorter j es (lt_trans e.before lt) h) (edge_shorter j es lt e)
 
 -- happens-before is the same in every journal that begins with this one
-pub extension : (j es : List Event) (i k : ℕ) → k < length j → HappensBefore (j ++ es) i k ↔ HappensBefore j i k
-extension j es i k h = (λ b. shorter j es h b, λ b. longer j es b)
+pub before_extension : (j es : List Event) (i k : ℕ) → k < length j → HappensBefore (j ++ es) i k ↔ HappensBefore j i k
+before_extension j es i k h = (λ b. before_shorter j es h b, λ b. before_longer j es b)

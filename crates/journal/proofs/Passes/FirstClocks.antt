@@ -3,10 +3,10 @@ use Rattle.std.proofs.Common.{◌≡◌, ℕ, ◌≤◌, ◌-◌, [], slice_inde
 use Rattle.std.proofs.lemmas.Option.{slice_get_within}
 use Rattle.base.specs.Limits.{most_processors}
 use Rattle.journal.specs.declared.clocks.Clocks.{Clocks}
-use Rattle.journal.specs.Did.{event}
-use Rattle.journal.specs.Numbered.{kept_entry}
+use Rattle.journal.specs.DidEvent.{event}
+use Rattle.journal.specs.Numbered.{numbered_entry}
 use Rattle.journal.specs.Times.{IsTimeIn}
-use Rattle.journal.specs.Entries.{entry}
+use Rattle.journal.specs.ClockEntry.{entry}
 use Rattle.journal.specs.Clocks.{AreClocks}
 
 -- before the first event each entry is 0
@@ -18,15 +18,15 @@ time_first among t zeros = record {
 
 -- timestamps and counts that are all 0 are those before the first event
 pub clocks_first : (c : Clocks) → vec_len c.processors ≡ 16 → c.present ≤ most_processors → c.gone ≡ 0
-    → ((p q : ℕ) → entry c.processors.items p q ≡ 0) → ((l q : ℕ) → kept_entry c.locks l q ≡ 0)
-    → ((f q : ℕ) → kept_entry c.flags f q ≡ 0) → ((n q : ℕ) → entry c.episodes.items n q ≡ 0)
+    → ((p q : ℕ) → entry c.processors.items p q ≡ 0) → ((l q : ℕ) → numbered_entry c.locks l q ≡ 0)
+    → ((f q : ℕ) → numbered_entry c.flags f q ≡ 0) → ((n q : ℕ) → entry c.episodes.items n q ≡ 0)
     → ((p : ℕ) → slice_index c.arrivals p ≡ 0) → ((p : ℕ) → slice_index c.departures p ≡ 0) → AreClocks [] c
 clocks_first c long few gone processors locks flags episodes arrivals departures = record {
   long = long;
   few = few;
   times = λ p h. time_first _ (entry c.processors.items p) (processors p);
-  locks = λ l. time_first _ (kept_entry c.locks l) (locks l);
-  flags = λ f. time_first _ (kept_entry c.flags f) (flags f);
+  locks = λ l. time_first _ (numbered_entry c.locks l) (locks l);
+  flags = λ f. time_first _ (numbered_entry c.flags f) (flags f);
   episodes = λ n le. time_first _ (entry c.episodes.items (n - c.gone)) (episodes (n - c.gone));
   left = λ p h. omega arith;
   arrivals = λ p h. arrivals p;

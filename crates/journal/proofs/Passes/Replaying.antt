@@ -3,14 +3,14 @@ use Rattle.std.proofs.Common.{◌≡◌, ◌<◌, ◌+◌, ◌∙◌, ℕ, List,
 use Rattle.std.specs.Prelude.{Some, slice_get}
 use Rattle.std.proofs.lemmas.Option.{same_Some}
 use Rattle.journal.specs.declared.event.Kind.{Kind}
-use Rattle.base.specs.Writes.{wrote}
-use Rattle.base.proofs.LastWrites.{written-append}
-use Rattle.base.proofs.Places.{take-suc_at}
+use Rattle.base.specs.LastWritten.{wrote}
+use Rattle.base.proofs.LastWritten.{written-append}
+use Rattle.base.proofs.SlicesAndCounts.{take-suc_at}
 use Rattle.journal.specs.declared.event.Event.{Event}
 use Rattle.journal.specs.declared.event.Kind.TheVariants.{Load}
-use Rattle.journal.specs.Did.{event}
+use Rattle.journal.specs.DidEvent.{event}
 use Rattle.journal.specs.WellFormed.{Does}
-use Rattle.journal.specs.Flat.{memory_after, flat_write, AnswersWord}
+use Rattle.journal.specs.FlatMemory.{memory_after, flat_write, AnswersWord}
 
 -- the memory is that after the first n events, and their loads answer its words
 pub record ReplaysSoFar (start memory : List ℕ) (events : List Event) (n : ℕ) : Type 0 where

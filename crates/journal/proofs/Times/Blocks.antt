@@ -4,10 +4,10 @@ use Rattle.journal.specs.declared.event.Event.{Event}
 use Rattle.journal.specs.Events.{At, is_closing}
 use Rattle.journal.specs.Times.{IsTimeOf}
 use Rattle.journal.specs.Blocks.{IsBlock}
-use Rattle.base.proofs.Places.{push_induction}
-use Rattle.journal.proofs.Order.Places.{at_longer, at_last}
+use Rattle.base.proofs.SlicesAndCounts.{push_induction}
+use Rattle.journal.proofs.Order.CountedAndNumbered.{at_longer, at_last}
 use Rattle.journal.proofs.Order.BlockPasts.{block_front, block_last}
-use Rattle.journal.proofs.Times.Pushes.{own_quiet}
+use Rattle.journal.proofs.Times.PushesCovered.{own_time_quiet}
 
 -- a block that closes nothing leaves its processor's timestamp
 pub block_time : (j block : List Event) (p : ℕ) (t : ℕ → ℕ) → IsBlock p block
@@ -25,4 +25,4 @@ block_time j block p t is inner time =
         let last = block_last p es e block_is in
         let old = ih (block_front p es (e ∷ []) block_is) (λ k f at. quiet k f (at_longer es (e ∷ []) k f at)) in
         let P : ℕ → Type 0 = λ q. IsTimeOf (j ++ es) q t → IsTimeOf ((j ++ es) ++ e ∷ []) q t in
-        rw append_assoc at (subst P last.0 (own_quiet (j ++ es) e t last.1 (quiet (length es) e (at_last es e))) old)
+        rw append_assoc at (subst P last.0 (own_time_quiet (j ++ es) e t last.1 (quiet (length es) e (at_last es e))) old)

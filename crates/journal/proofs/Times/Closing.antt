@@ -4,17 +4,17 @@ use Rattle.std.proofs.Common.{ℕ, ◌≡◌, ◌≢◌, ◌<◌, ◌≤◌, ◌
 use Rattle.std.proofs.lemmas.Bool.{cases_eq, cases_lt, cases_order}
 use Rattle.journal.specs.declared.event.Event.{Event}
 use Rattle.journal.specs.declared.event.Kind.{Kind}
-use Rattle.journal.specs.Did.{event}
+use Rattle.journal.specs.DidEvent.{event}
 use Rattle.journal.specs.Events.{At, is_closing}
 use Rattle.journal.specs.WellFormed.{Does}
-use Rattle.journal.specs.Order.{HappensBefore}
+use Rattle.journal.specs.HappensBeforeEdges.{HappensBefore}
 use Rattle.journal.specs.Pasts.{InPast}
-use Rattle.journal.specs.Intervals.{ClosedAt}
+use Rattle.journal.specs.ClosedIntervals.{ClosedAt}
 use Rattle.journal.specs.Times.{ClosesAt}
-use Rattle.journal.proofs.Order.Places.{at_same, does_at}
-use Rattle.journal.proofs.Order.HappensBefore.{goes_forward}
-use Rattle.journal.proofs.Order.Pasts.{past_back}
-use Rattle.journal.proofs.Times.Leaving.{LeavesAt, path_leaves, leaving, own_order}
+use Rattle.journal.proofs.Order.CountedAndNumbered.{at_same, does_at}
+use Rattle.journal.proofs.Order.HappensBefore.{before_goes_forward}
+use Rattle.journal.proofs.Order.EdgesIntoPast.{past_back}
+use Rattle.journal.proofs.Times.LeavingCloses.{LeavesAt, path_leaves, leaving, own_order}
 
 -- no earlier closing event of the processor closes the interval
 pub closer_least : (j : List Event) (i c m : ℕ) (x : ClosedAt j i c) → i ≤ m → ClosesAt j x.event.processor m → c ≤ m
@@ -44,7 +44,7 @@ pub closing_extends : (j : List Event) (i k c d : ℕ) → ClosedAt j i c → Cl
 closing_extends j i k c d x y order before = go (cases_eq y.event.processor x.event.processor)
   where
     forward : k < i
-    forward = goes_forward j before
+    forward = before_goes_forward j before
 
     late : d ≤ c → ⊥
     late le = omega (arith, order, le, forward)
@@ -58,7 +58,7 @@ closing_extends j i k c d x y order before = go (cases_eq y.event.processor x.ev
     go (inr apart) =
         let l = path_leaves j y.event.processor before y.event x.event y.at x.at refl (λ s. apart (sym s)) in
         let least = closer_least j k d l.close y l.from l.closes in
-        let up = goes_forward j l.inside in
+        let up = before_goes_forward j l.inside in
         let less = x.before in
         late (omega (arith, least, up, less))
 

@@ -3,14 +3,14 @@ use Rattle.std.proofs.Common.{ℕ, ◌≡◌, ◌≢◌, true, refl, ◌<◌, �
 use Rattle.std.proofs.lemmas.Bool.{cases_order}
 use Rattle.journal.specs.declared.event.Event.{Event}
 use Rattle.journal.specs.Events.{At, is_closing, interval_at}
-use Rattle.journal.specs.Intervals.{ClosedAt}
+use Rattle.journal.specs.ClosedIntervals.{ClosedAt}
 use Rattle.journal.specs.Times.{ClosesAt}
-use Rattle.journal.proofs.Order.Places.{count_of-mono, count_of-past, count_of-within, numbered, does_at, does_same}
-use Rattle.journal.proofs.Times.Leaving.{leaving}
+use Rattle.journal.proofs.Order.CountedAndNumbered.{count_of-mono, count_of-past, count_of-within, numbered, does_at, does_same}
+use Rattle.journal.proofs.Times.LeavingCloses.{leaving}
 use Rattle.journal.specs.WellFormed.{Does}
 use Rattle.journal.specs.Pasts.{InPast}
 use Rattle.journal.specs.declared.event.Kind.{Kind}
-use Rattle.journal.specs.Did.{event}
+use Rattle.journal.specs.DidEvent.{event}
 
 -- closing events of one processor with one number are one
 pub same_closer : (j : List Event) (q c d : ℕ) → ClosesAt j q c → ClosesAt j q d

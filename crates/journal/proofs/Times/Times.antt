@@ -4,10 +4,10 @@ use Rattle.std.proofs.lemmas.Bool.{cases_lt, eqb-true, and_parts}
 use Rattle.std.proofs.Math.Seq.{take-append_seam}
 use Rattle.journal.specs.declared.event.Event.{Event}
 use Rattle.journal.specs.declared.event.Kind.{Kind}
-use Rattle.journal.specs.Did.{event}
+use Rattle.journal.specs.DidEvent.{event}
 use Rattle.journal.specs.Events.{count_of, interval_at, is_closing}
 use Rattle.journal.specs.Times.{ClosesAt, IsTimeIn}
-use Rattle.journal.proofs.Order.Places.{at_shorter, count_of-append, count_of-front, count_of-mono, numbered}
+use Rattle.journal.proofs.Order.CountedAndNumbered.{at_shorter, count_of-append, count_of-front, count_of-mono, numbered}
 
 pub closes_shorter : (j es : List Event) (q i : ℕ) → i < length j → ClosesAt (j ++ es) q i → ClosesAt j q i
 closes_shorter j es q i lt c =

@@ -3,17 +3,17 @@ use Rattle.std.proofs.Common.{◌≡◌, ◌≢◌, ℕ, ◌<◌, ◌≤◌, ◌
 use Rattle.std.proofs.lemmas.List.{length-take-le}
 use Rattle.journal.specs.declared.event.Event.{Event}
 use Rattle.journal.specs.declared.event.Kind.{Kind}
-use Rattle.journal.specs.Did.{event}
+use Rattle.journal.specs.DidEvent.{event}
 use Rattle.journal.specs.Events.{count_of, interval_at, is_closing, is_taking}
-use Rattle.journal.specs.Order.{HappensBefore}
+use Rattle.journal.specs.HappensBeforeEdges.{HappensBefore}
 use Rattle.journal.specs.WellFormed.{Does}
 use Rattle.journal.specs.Pasts.{InPast}
 use Rattle.journal.specs.Times.{IsTimeOf}
-use Rattle.base.proofs.Places.{slice_get-take, take-suc_at}
-use Rattle.journal.proofs.Order.Places.{at_within, at_last}
-use Rattle.journal.proofs.Order.HappensBefore.{extension}
-use Rattle.journal.proofs.Order.Pasts.{reaches_new}
-use Rattle.journal.proofs.Times.Pushes.{covered}
+use Rattle.base.proofs.SlicesAndCounts.{slice_get-take, take-suc_at}
+use Rattle.journal.proofs.Order.CountedAndNumbered.{at_within, at_last}
+use Rattle.journal.proofs.Order.HappensBefore.{before_extension}
+use Rattle.journal.proofs.Order.EdgesIntoPast.{reaches_new}
+use Rattle.journal.proofs.Times.PushesCovered.{covered}
 
 -- what happens before an event that takes nothing is the past that its processor had
 pub reaches_at : (j : List Event) (k p i : ℕ) (b : Kind) → Does j k p b → is_taking b ≡ false
@@ -27,7 +27,7 @@ reaches_at j k p i b at quiet =
     let new = reaches_new (take k j) e i quiet in
     let within : length (take k j) < length (take k j ++ e ∷ []) =
     at_within (take k j ++ e ∷ []) (length (take k j)) e (at_last (take k j) e) in
-    let same = extension (take k j ++ e ∷ []) (drop (suc k) j) i (length (take k j)) within in
+    let same = before_extension (take k j ++ e ∷ []) (drop (suc k) j) i (length (take k j)) within in
     let P : List Event → ℕ → Type 0 = λ xs m. HappensBefore xs i m in
     let there : HappensBefore ((take k j ++ e ∷ []) ++ drop (suc k) j) i (length (take k j)) → HappensBefore j i k =
     λ h. subst (λ xs. P xs k) split (subst (λ m. P ((take k j ++ e ∷ []) ++ drop (suc k) j) m) long h) in

@@ -1,16 +1,16 @@
 -- The latest stores of a load are what it may answer.
 use Rattle.std.proofs.Common.{◌≡◌, ℕ, zero, suc, ◌+◌, ◌<◌, ◌≤◌, inl, inr, ◌↔◌, List, [], ◌∷◌, ◌++◌, length, subst, refl, ap, ◌∙◌, ◌≢◌, arith, take, drop, take-append-drop, sym}
 use Rattle.std.proofs.lemmas.List.{length-take-le}
-use Rattle.base.proofs.Places.{take-suc_at}
+use Rattle.base.proofs.SlicesAndCounts.{take-suc_at}
 use Rattle.journal.specs.declared.event.Event.{Event}
 use Rattle.journal.specs.declared.event.Kind.TheVariants.{Load, Store}
-use Rattle.journal.specs.Did.{did, event}
+use Rattle.journal.specs.DidEvent.{did, event}
 use Rattle.journal.specs.Events.{At}
-use Rattle.journal.specs.Order.{HappensBefore}
+use Rattle.journal.specs.HappensBeforeEdges.{HappensBefore}
 use Rattle.journal.specs.WellFormed.{Does}
-use Rattle.journal.specs.Loads.{IsAnswer, LatestStore, Untouched}
-use Rattle.journal.proofs.Order.Places.{at_last, at_longer, at_same, at_within, at_shorter, does_same}
-use Rattle.journal.proofs.Order.HappensBefore.{goes_forward}
+use Rattle.journal.specs.ExplainedAnswers.{IsAnswer, LatestStore, Untouched}
+use Rattle.journal.proofs.Order.CountedAndNumbered.{at_last, at_longer, at_same, at_within, at_shorter, does_same}
+use Rattle.journal.proofs.Order.HappensBefore.{before_goes_forward}
 use Rattle.judge.specs.Sources.Latest.{IsLatest}
 use Rattle.judge.specs.Sources.Answers.{IsValue}
 use Rattle.judge.proofs.sources.InRows.{latest_longer, latest_shorter}
@@ -18,7 +18,7 @@ use Rattle.judge.proofs.sources.InRows.{latest_longer, latest_shorter}
 -- a store of the past at most n places before the load, where none is the latest, can't be
 none_left : (j : List Event) (k a : ℕ) → ((q i : ℕ) → ¬ IsLatest j k a q i) → (n i q v : ℕ) → k ≤ i + n
     → Does j i q (Store a v) → HappensBefore j i k → ⊥
-none_left j k a none zero i q v near does before = let lt = goes_forward j before in absurd (omega arith)
+none_left j k a none zero i q v near does before = let lt = before_goes_forward j before in absurd (omega arith)
 none_left j k a none (suc n) i q v near does before =
     none q i (record {
       value = v;
@@ -27,7 +27,7 @@ none_left j k a none (suc n) i q v near does before =
         by = q;
         stores = does;
         before = before;
-        latest = λ m r w stores then_before follows. (let lt = goes_forward j follows in
+        latest = λ m r w stores then_before follows. (let lt = before_goes_forward j follows in
             none_left j k a none n m r w (omega arith) stores then_before);
       };
       place = refl;
@@ -63,7 +63,7 @@ answers_law j k a v = (there, back)
 pub latest_at : (j : List Event) (p a v q i : ℕ) (x : IsLatest (did j p (Load a v)) (length j) a q i)
     → Does j i q (Store a x.value)
 latest_at j p a v q i x =
-    let lt = goes_forward (did j p (Load a v)) x.store.before in
+    let lt = before_goes_forward (did j p (Load a v)) x.store.before in
     let is = x.place in
     at_shorter j (event p (Load a v) ∷ []) i (event q (Store a x.value)) (omega arith)
     (subst (λ n. Does (did j p (Load a v)) n q (Store a x.value)) x.place
@@ -124,7 +124,7 @@ stays_law j es k a v within = (there, back)
     there h = elim ((answers_law (j ++ es) k a v).0 h) [
       | inl x ↦ (answers_law j k a v).1 (inl (x.0, λ q i l. x.1 q i (latest_longer j es k a q i within l)))
       | inr x ↦ (let l = latest_shorter j es k a x.0 x.1 within x.2 in
-          let lt = goes_forward j l.store.before in
+          let lt = before_goes_forward j l.store.before in
           let is = l.place in
           (answers_law j k a v).1
           (inr (x.0, x.1, l, at_shorter j es x.1 (event x.0 (Store a v)) (omega arith) x.3)))

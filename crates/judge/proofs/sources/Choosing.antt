@@ -3,23 +3,23 @@ use Rattle.std.proofs.Common.{◌≡◌, ℕ, ◌+◌, ◌<◌, ◌≤◌, inl, 
 use Rattle.std.specs.Prelude.{None}
 use Rattle.std.proofs.lemmas.Bool.{cases_eq, cases_lt}
 use Rattle.std.proofs.lemmas.Option.{same_Some, slice_get-get_or}
-use Rattle.base.proofs.Places.{push_cases}
-use Rattle.base.proofs.Sets.{slice_get-set_found, slice_get-set_other, slice_get-set_same}
+use Rattle.base.proofs.SlicesAndCounts.{push_cases}
+use Rattle.base.proofs.SliceSets.{slice_get-set_found, slice_get-set_other, slice_get-set_same}
 use Rattle.journal.specs.declared.event.Event.{Event}
 use Rattle.journal.specs.declared.event.Kind.{Kind}
 use Rattle.journal.specs.declared.event.Kind.TheVariants.{Load, Store}
-use Rattle.journal.specs.Did.{did, event}
+use Rattle.journal.specs.DidEvent.{did, event}
 use Rattle.journal.specs.Events.{interval_at, is_closing, is_taking}
-use Rattle.journal.specs.Order.{HappensBefore}
+use Rattle.journal.specs.HappensBeforeEdges.{HappensBefore}
 use Rattle.journal.specs.WellFormed.{Does}
 use Rattle.journal.specs.Pasts.{InPast}
 use Rattle.journal.specs.Times.{IsTimeOf}
 use Rattle.journal.specs.InRange.{ProcessorsInRange}
-use Rattle.journal.specs.Entries.{entry}
-use Rattle.journal.proofs.Order.Places.{at_longer, count_of-mono}
-use Rattle.journal.proofs.Order.HappensBefore.{goes_forward, transitive, extension}
-use Rattle.journal.proofs.Order.Pasts.{reaches_new, past_within}
-use Rattle.journal.proofs.Times.Leaving.{own_order}
+use Rattle.journal.specs.ClockEntry.{entry}
+use Rattle.journal.proofs.Order.CountedAndNumbered.{at_longer, count_of-mono}
+use Rattle.journal.proofs.Order.HappensBefore.{before_goes_forward, before_transitive, before_extension}
+use Rattle.journal.proofs.Order.EdgesIntoPast.{reaches_new, past_within}
+use Rattle.journal.proofs.Times.LeavingCloses.{own_order}
 use Rattle.journal.proofs.Times.Uses.{ordered_before}
 use Rattle.judge.specs.declared.sources.stored.Stored.{Stored}
 use Rattle.judge.specs.Sources.Latest.{IsLatest}
@@ -36,7 +36,7 @@ ordered_at j k p q i a b t time does at quiet same = elim (cases_lt i k) [
   | inr le ↦
       (let top = time.within q in
       let up = count_of-mono is_closing j k i q le in
-      ((λ h. (let lt = goes_forward j h in absurd (omega arith))), (λ lt. absurd (omega arith))))
+      ((λ h. (let lt = before_goes_forward j h in absurd (omega arith))), (λ lt. absurd (omega arith))))
 ]
 
 -- the load doesn't store
@@ -105,14 +105,14 @@ load_past j p a v i = reaches_new j (event p (Load a v)) i refl
 -- up to there the order is the journal's
 load_order : (j : List Event) (p a v i k : ℕ) → k < length j
     → HappensBefore (did j p (Load a v)) i k ↔ HappensBefore j i k
-load_order j p a v i k lt = extension j (event p (Load a v) ∷ []) i k lt
+load_order j p a v i k lt = before_extension j (event p (Load a v) ∷ []) i k lt
 
 -- a store up to another one of its processor happens before what that happens before
 before_up_to : (j : List Event) (q i m k : ℕ) (a b : Kind) → Does j i q a → Does j m q b → i ≤ m → HappensBefore j m k
     → HappensBefore j i k
 before_up_to j q i m k a b does to le h = elim (cases_eq i m) [
   | inl is ↦ subst (λ x. HappensBefore j x k) (sym is) h
-  | inr isnt ↦ transitive j (own_order j q i m a b does to (omega arith)) h
+  | inr isnt ↦ before_transitive j (own_order j q i m a b does to (omega arith)) h
 ]
 
 -- what happens before a store happens before what that is up to
@@ -120,7 +120,7 @@ before_on : (j : List Event) (q i m k : ℕ) (a b : Kind) → Does j m q a → D
     → HappensBefore j i k
 before_on j q i m k a b does to le h = elim (cases_eq m k) [
   | inl is ↦ subst (λ x. HappensBefore j i x) is h
-  | inr isnt ↦ transitive j h (own_order j q m k a b does to (omega arith))
+  | inr isnt ↦ before_transitive j h (own_order j q m k a b does to (omega arith))
 ]
 
 -- a last store that no other follows is one that a load may answer that comes next

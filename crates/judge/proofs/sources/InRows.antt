@@ -3,16 +3,16 @@ use Rattle.std.proofs.Common.{◌≡◌, ◌≢◌, ℕ, ◌<◌, inl, inr, ◌�
 use Rattle.std.specs.Prelude.{None}
 use Rattle.std.proofs.lemmas.Option.{none-some, same_Some, slice_get_within}
 use Rattle.std.proofs.lemmas.List.{length-take-le}
-use Rattle.base.specs.Places.{Has, InOrder}
-use Rattle.base.proofs.Places.{push_cases, slice_get-append_left, slice_get-last, take-suc_at}
+use Rattle.base.specs.InOrderOnce.{Has, InOrder}
+use Rattle.base.proofs.SlicesAndCounts.{push_cases, slice_get-append_left, slice_get-last, take-suc_at}
 use Rattle.journal.specs.declared.event.Event.{Event}
 use Rattle.journal.specs.declared.event.Kind.TheVariants.{Load, Store}
-use Rattle.journal.specs.Did.{event}
+use Rattle.journal.specs.DidEvent.{event}
 use Rattle.journal.specs.Events.{At}
-use Rattle.journal.specs.Order.{HappensBefore}
+use Rattle.journal.specs.HappensBeforeEdges.{HappensBefore}
 use Rattle.journal.specs.WellFormed.{Does}
-use Rattle.journal.proofs.Order.Places.{at_within, at_longer, at_shorter, at_last, at_same}
-use Rattle.journal.proofs.Order.HappensBefore.{begins_within, goes_forward, longer, shorter}
+use Rattle.journal.proofs.Order.CountedAndNumbered.{at_within, at_longer, at_shorter, at_last, at_same}
+use Rattle.journal.proofs.Order.HappensBefore.{before_begins_within, before_goes_forward, before_longer, before_shorter}
 use Rattle.judge.specs.Sources.Latest.{IsLatest, AreLatest, IsReadableRow, AreMarked}
 
 -- what a load may answer stays as the journal goes on
@@ -24,7 +24,7 @@ latest_longer j es k a q i within x = record {
     place = x.store.place;
     by = x.store.by;
     stores = at_longer j es x.store.place (event x.store.by (Store a x.value)) x.store.stores;
-    before = longer j es x.store.before;
+    before = before_longer j es x.store.before;
     latest = latest;
   };
   place = x.place;
@@ -34,27 +34,27 @@ latest_longer j es k a q i within x = record {
     latest : (m r w : ℕ) → Does (j ++ es) m r (Store a w) → HappensBefore (j ++ es) m k
         → ¬ HappensBefore (j ++ es) x.store.place m
     latest m r w does before follows =
-        let lt = goes_forward (j ++ es) before in
+        let lt = before_goes_forward (j ++ es) before in
         let inside : m < length j = omega arith in
-        x.store.latest m r w (at_shorter j es m (event r (Store a w)) inside does) (shorter j es within before)
-        (shorter j es inside follows)
+        x.store.latest m r w (at_shorter j es m (event r (Store a w)) inside does) (before_shorter j es within before)
+        (before_shorter j es inside follows)
 
 pub latest_shorter : (j es : List Event) (k a q i : ℕ) → k < length j → IsLatest (j ++ es) k a q i
     → IsLatest j k a q i
 latest_shorter j es k a q i within x =
-    let before = shorter j es within x.store.before in
+    let before = before_shorter j es within x.store.before in
     record {
       value = x.value;
       store = record {
         place = x.store.place;
         by = x.store.by;
         stores =
-            at_shorter j es x.store.place (event x.store.by (Store a x.value)) (begins_within j before)
+            at_shorter j es x.store.place (event x.store.by (Store a x.value)) (before_begins_within j before)
             x.store.stores;
         before = before;
         latest =
             λ m r w does then_before follows. x.store.latest m r w (at_longer j es m (event r (Store a w)) does)
-            (longer j es then_before) (longer j es follows);
+            (before_longer j es then_before) (before_longer j es follows);
       };
       place = x.place;
       by = x.by;

@@ -5,20 +5,20 @@ use Rattle.std.proofs.lemmas.Bool.{cases_eq}
 use Rattle.std.proofs.lemmas.Option.{none-some, slice_get_within}
 use Rattle.std.proofs.lemmas.List.{take-append-le, get_or_append_left, get_or-set_same, get_or-set_other}
 use Rattle.std.proofs.Math.Seq.{take-append_seam, get_or-append_seam}
-use Rattle.base.specs.Places.{Has, InOrder}
-use Rattle.base.proofs.Places.{push_cases, slice_get-append_left, slice_get-last}
-use Rattle.base.proofs.Sets.{slice_get-set_found, slice_get-set_other}
+use Rattle.base.specs.InOrderOnce.{Has, InOrder}
+use Rattle.base.proofs.SlicesAndCounts.{push_cases, slice_get-append_left, slice_get-last}
+use Rattle.base.proofs.SliceSets.{slice_get-set_found, slice_get-set_other}
 use Rattle.journal.specs.declared.event.Event.{Event}
 use Rattle.journal.specs.declared.event.Kind.TheVariants.{Store}
-use Rattle.journal.specs.Did.{did, event}
+use Rattle.journal.specs.DidEvent.{did, event}
 use Rattle.journal.specs.Events.{At, count_of, is_closing, is_taking}
 use Rattle.journal.specs.WellFormed.{Does}
 use Rattle.journal.specs.Pasts.{InPast}
 use Rattle.journal.specs.Times.{IsTimeOf}
-use Rattle.journal.specs.Entries.{entry}
-use Rattle.journal.proofs.Order.Places.{at_within, at_longer, at_last, count_of-front}
+use Rattle.journal.specs.ClockEntry.{entry}
+use Rattle.journal.proofs.Order.CountedAndNumbered.{at_within, at_longer, at_last, count_of-front}
 use Rattle.journal.proofs.Times.Times.{time_equal}
-use Rattle.journal.proofs.Times.Pushes.{others_keep, own_quiet}
+use Rattle.journal.proofs.Times.PushesCovered.{others_keep_time, own_time_quiet}
 use Rattle.judge.specs.declared.sources.stored.Stored.{Stored}
 use Rattle.judge.specs.declared.sources.known.Known.{Known}
 use Rattle.judge.specs.Sources.Stored.{IsStoreOf, AreStored, IsRecent, AreKnown}
@@ -40,7 +40,7 @@ one_away e p isnt m f at is = elim (push_cases [] e m f at) [
 pub recent_other : (j : List Event) (e : Event) (times : List (List ℕ)) (p n : ℕ) → e.processor ≢ p
     → IsRecent j times p n → IsRecent (j ++ e ∷ []) times p n
 recent_other j e times p n isnt is there =
-    let old = is there in (old.0, others_keep j (e ∷ []) p (entry times (n - 1)) (one_away e p isnt) old.1)
+    let old = is there in (old.0, others_keep_time j (e ∷ []) p (entry times (n - 1)) (one_away e p isnt) old.1)
 
 -- and its own, where the event neither takes nor closes
 pub recent_quiet : (j : List Event) (e : Event) (times : List (List ℕ)) (p n : ℕ) → is_taking e.kind ≡ false
@@ -51,7 +51,7 @@ recent_quiet j e times p n quiet inner is = elim (cases_eq e.processor p) [
 ]
   where
     own : IsRecent j times e.processor n → IsRecent (j ++ e ∷ []) times e.processor n
-    own old there = let o = old there in (o.0, own_quiet j e (entry times (n - 1)) quiet inner o.1)
+    own old there = let o = old there in (o.0, own_time_quiet j e (entry times (n - 1)) quiet inner o.1)
 
 -- with more timestamps it stands where it stood
 pub recent_more : (j : List Event) (old new : List (List ℕ)) (p n : ℕ) → AreMore old new → IsRecent j old p n

@@ -3,19 +3,19 @@ use Rattle.std.proofs.Common.{◌≡◌, ◌≢◌, ℕ, ◌+◌, ◌<◌, ◌�
 use Rattle.std.specs.Prelude.{None}
 use Rattle.std.proofs.lemmas.Bool.{cases_eq, cases_lt, eq-eqb, ne_eqb}
 use Rattle.std.proofs.lemmas.Option.{same_Some}
-use Rattle.base.specs.Places.{InOrder}
-use Rattle.base.proofs.Sets.{slice_get-set_found, slice_get-set_other}
+use Rattle.base.specs.InOrderOnce.{InOrder}
+use Rattle.base.proofs.SliceSets.{slice_get-set_found, slice_get-set_other}
 use Rattle.journal.specs.declared.event.Event.{Event}
 use Rattle.journal.specs.declared.event.Kind.{Kind}
 use Rattle.journal.specs.declared.event.Kind.TheVariants.{Store}
-use Rattle.journal.specs.Did.{event}
+use Rattle.journal.specs.DidEvent.{event}
 use Rattle.journal.specs.Events.{count_of, interval_at, is_closing}
 use Rattle.journal.specs.WellFormed.{Does}
 use Rattle.journal.specs.Pasts.{InPast}
 use Rattle.journal.specs.Times.{IsTimeOf}
-use Rattle.journal.proofs.Order.Places.{count_of-mono, count_of-take-le}
-use Rattle.journal.proofs.Order.Pasts.{own_in_past}
-use Rattle.journal.proofs.Times.Pushes.{own_entry, covered}
+use Rattle.journal.proofs.Order.CountedAndNumbered.{count_of-mono, count_of-take-le}
+use Rattle.journal.proofs.Order.EdgesIntoPast.{own_in_past}
+use Rattle.journal.proofs.Times.PushesCovered.{own_time_entry, covered}
 use Rattle.judge.specs.declared.sources.stored.Stored.{Stored}
 use Rattle.judge.specs.Sources.Stored.{IsStoreOf, AreStored, IsLastBelow, NoneBelow}
 use Rattle.judge.specs.Sources.Last.{IsLastOf}
@@ -28,7 +28,7 @@ in_past j p q i k t time does = elim (cases_eq q p) [ inl is ↦ mine is | inr i
     mine : q ≡ p → InPast j p i ↔ (interval_at j q i < t q + cond (q == p) 1 0)
     mine is =
         let own : t q ≡ count_of is_closing j q =
-        subst (λ x. t x ≡ count_of is_closing j x) (sym is) (own_entry j p t time) in
+        subst (λ x. t x ≡ count_of is_closing j x) (sym is) (own_time_entry j p t time) in
         let front = count_of-take-le is_closing j i q in
         let one : cond {A = ℕ} (q == p) 1 0 ≡ 1 = rw (eq-eqb q p is) in
         ((λ x. omega arith), (λ lt. own_in_past j p i (event q k) does is))

@@ -2,7 +2,7 @@
 use Rattle.std.proofs.Common.{◌≡◌, ℕ, ◌<◌, List, [], Option, Some, length, slice_get, slice_index, slice_index_or, refl, ap, ◌∙◌}
 use Rattle.std.specs.Prelude.{None}
 use Rattle.std.proofs.lemmas.Option.{slice_get-get_or, slice_get_read, get_or_from_slice_get}
-use Rattle.journal.specs.Entries.{entry}
+use Rattle.journal.specs.ClockEntry.{entry}
 
 -- what is read within a list stands there
 pub option_at : {A : Type 0} (xs : List (Option A)) (q : ℕ) (o : Option A) → q < length xs

@@ -3,7 +3,7 @@ use Rattle.std.specs.Prelude.{ℕ, ◌≡◌, ◌<◌, ◌⊎◌, ◌↔◌, Lis
 use Rattle.journal.specs.declared.event.Event.{Event}
 use Rattle.journal.specs.declared.event.Kind.TheVariants.{Load, Store}
 use Rattle.journal.specs.WellFormed.{Does}
-use Rattle.journal.specs.Loads.{IsAnswer}
+use Rattle.journal.specs.ExplainedAnswers.{IsAnswer}
 use Rattle.judge.specs.Sources.Latest.{IsLatest}
 
 -- v is 0 and there is no latest store, or v is the value of one

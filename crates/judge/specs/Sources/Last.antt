@@ -4,7 +4,7 @@ use Rattle.journal.specs.declared.event.Event.{Event}
 use Rattle.journal.specs.declared.event.Kind.TheVariants.{Store}
 use Rattle.journal.specs.WellFormed.{Does}
 use Rattle.journal.specs.Pasts.{InPast}
-use Rattle.journal.specs.Entries.{entry}
+use Rattle.journal.specs.ClockEntry.{entry}
 use Rattle.judge.specs.declared.sources.stored.Stored.{Stored}
 use Rattle.judge.specs.Sources.Stored.{IsStoreOf}
 

@@ -1,11 +1,11 @@
 -- Which stores a load may answer, by processor and place.
 use Rattle.std.specs.Prelude.{ℕ, ◌≡◌, ◌<◌, ◌↔◌, List, [], Option, Some, slice_get}
 use Rattle.std.specs.Global.{Vec}
-use Rattle.base.specs.Places.{Has, InOrder}
+use Rattle.base.specs.InOrderOnce.{Has, InOrder}
 use Rattle.journal.specs.declared.event.Event.{Event}
 use Rattle.journal.specs.declared.event.Kind.TheVariants.{Load}
 use Rattle.journal.specs.WellFormed.{Does}
-use Rattle.journal.specs.Loads.{LatestStore}
+use Rattle.journal.specs.ExplainedAnswers.{LatestStore}
 
 -- processor q's store at place i is one that a load of a at place k may answer: a latest store of its past
 pub record IsLatest (j : List Event) (k a q i : ℕ) : Type 0 where

@@ -5,7 +5,7 @@ ghost use Rattle.std.specs.Global.{Vec};
 ghost use Rattle.base.specs.Prelude.{most_held, most_processors};
 ghost use Rattle.journal.specs.declared.event.Event.{Event};
 ghost use Rattle.journal.specs.declared.event.Kind.TheVariants.{Load, Store};
-ghost use Rattle.journal.specs.Loads.{IsAnswer};
+ghost use Rattle.journal.specs.ExplainedAnswers.{IsAnswer};
 ghost use Rattle.journal.specs.Prelude.{AddressInRange, AddressesInRange, ProcessorsInRange, did};
 ghost use Rattle.judge.specs.declared.sources.stored.Stored.{Stored};
 ghost use Rattle.judge.specs.Sources.Prelude.{StoresAreKept, AreLast, IsFollowed, IsLatest, IsUnfollowed, AreStoresOf};

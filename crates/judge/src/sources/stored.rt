@@ -1,6 +1,6 @@
 //! Stores that a past may have, in order.
 ghost use Rattle.std.specs.Prelude.{◌≤◌, MatchOption};
-ghost use Rattle.base.specs.Places.{InOrder};
+ghost use Rattle.base.specs.InOrderOnce.{InOrder};
 ghost use Rattle.judge.specs.Sources.Prelude.{IsLastBelow, NoneBelow};
 
 /// A store. It takes 12 bytes.

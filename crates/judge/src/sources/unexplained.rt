@@ -2,7 +2,7 @@
 ghost use Rattle.std.specs.Prelude.{◌≡◌, ◌↔◌, ℕ, ◌<◌, ◌≤◌, ◌+◌, ◌∷◌, ◌++◌, [], IsTrue, IfOk, MatchOption, length};
 ghost use Rattle.base.specs.Prelude.{most_held, most_processors};
 ghost use Rattle.journal.specs.declared.event.Kind.TheVariants.{Load};
-ghost use Rattle.journal.specs.Loads.{Explained, IsAnswer};
+ghost use Rattle.journal.specs.ExplainedAnswers.{Explained, IsAnswer};
 ghost use Rattle.journal.specs.Prelude.{AddressInRange, AddressesInRange, ProcessorsInRange};
 ghost use Rattle.judge.specs.Sources.Prelude.{IsFirstUnexplained, AreStoresOf};
 

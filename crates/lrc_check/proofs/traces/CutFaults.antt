@@ -5,10 +5,10 @@ use Rattle.std.specs.Fmt.{decimal}
 use Rattle.std.proofs.lemmas.List.{append_cancel_right}
 use Rattle.journal.specs.declared.event.Event.{Event}
 use Rattle.journal.specs.Sizes.{Sizes}
-use Rattle.lrc_script.specs.Lawful.{AreSizes}
-use Rattle.lrc_script.specs.Reading.{parts_of}
+use Rattle.lrc_script.specs.Lawful.{AreLawfulSizes}
+use Rattle.lrc_script.specs.LineReading.{parts_of_line}
 use Rattle.lrc_script.proofs.Reading.Lines.{decimal_has_no}
-use Rattle.lrc_script.proofs.Reading.Words.{HasNo, HasNo-append, parts_first, parts_none}
+use Rattle.lrc_script.proofs.Reading.Words.{HasNo, HasNo-append, parts_first_word, parts_one_word}
 use Rattle.lrc_report.specs.ReportText.{cut_line, event_lines, left_text}
 use Rattle.lrc_check.specs.declared.traces.fault.TraceFault.{TraceFault}
 use Rattle.lrc_check.specs.declared.traces.fault.TraceFault.TheVariants.{Truncated, Cut, BadLine, BadNumber, NoMemory}
@@ -36,17 +36,17 @@ told_cut : (n : ℕ) → 0 < n → n < 2 ^ 32 → IsCutLine (told n)
 told_cut n some small = (n, some, small, sym (cut_bytes n some))
 
 -- the first lines of what is left of a journal
-left_parts : (s : Sizes) (n : ℕ) (es : List Event) → AreSizes (head s) → 0 < n → n < 2 ^ 32
-    → parts_of 10 (head_line s ++ (cut_line n ++ event_lines n es))
-    ≡ head_bytes s ∷ told n ∷ parts_of 10 (event_lines n es)
+left_parts : (s : Sizes) (n : ℕ) (es : List Event) → AreLawfulSizes (head s) → 0 < n → n < 2 ^ 32
+    → parts_of_line 10 (head_line s ++ (cut_line n ++ event_lines n es))
+    ≡ head_bytes s ∷ told n ∷ parts_of_line 10 (event_lines n es)
 left_parts s n es h some small =
     let rest = event_lines n es in
     let left : cut_line n ++ rest ≡ told n ++ 10 ∷ rest =
     ap (λ (x : List ℕ). x ++ rest) (cut_bytes n some) ∙ append_assoc (told n) (10 ∷ []) rest in
-    ap (parts_of 10) (append_assoc (head_bytes s) (10 ∷ []) (cut_line n ++ rest))
-    ∙ parts_first 10 (head_bytes s) (cut_line n ++ rest) (head_read s h).one_line
+    ap (parts_of_line 10) (append_assoc (head_bytes s) (10 ∷ []) (cut_line n ++ rest))
+    ∙ parts_first_word 10 (head_bytes s) (cut_line n ++ rest) (head_read s h).one_line
     ∙ ap (λ (x : List (List ℕ)). head_bytes s ∷ x)
-    (ap (parts_of 10) left ∙ parts_first 10 (told n) rest (told_clean n small))
+    (ap (parts_of_line 10) left ∙ parts_first_word 10 (told n) rest (told_clean n small))
 
 -- lists that begin differently
 begin_alike : (a b : ℕ) (xs ys : List ℕ) → (a ∷ xs) ≡ (b ∷ ys) → a ≡ b
@@ -70,63 +70,63 @@ cut_said f t n some small says =
     (says.2.line_is ∙ line_words says.0 says.1)))
 
 bad_behind : (f : TraceFault) (t : Sizes) (n : ℕ) (rest : List ℕ) (more : List (List ℕ)) → 0 < n → n < 2 ^ 32
-    → parts_of 10 rest ≡ told n ∷ more → IsBadLine (trace_text t []) rest (LineSays f t []) → f ≡ Cut
+    → parts_of_line 10 rest ≡ told n ∷ more → IsBadLine (trace_text t []) rest (LineSays f t []) → f ≡ Cut
 bad_behind f t n rest more some small parts bad =
-    let lines : (bad.line ∷ parts_of 10 bad.more) ≡ (told n ∷ more) =
-    sym (parts_first 10 bad.line bad.more bad.cut.one_line) ∙ ap (parts_of 10) (sym bad.cut.bytes_are) ∙ parts in
+    let lines : (bad.line ∷ parts_of_line 10 bad.more) ≡ (told n ∷ more) =
+    sym (parts_first_word 10 bad.line bad.more bad.cut.one_line) ∙ ap (parts_of_line 10) (sym bad.cut.bytes_are) ∙ parts in
     let same : bad.line ≡ told n = cc in
     cut_said f t n some small (subst (LineSays f t []) same bad.holds)
 
 said_behind : (f : TraceFault) (t : Sizes) (n : ℕ) (rest : List ℕ) (more : List (List ℕ)) → 0 < n → n < 2 ^ 32
-    → 0 < length more → f ≢ NoMemory → parts_of 10 rest ≡ told n ∷ more → IsTraceFaultBehind f t [] rest → f ≡ Cut
+    → 0 < length more → f ≢ NoMemory → parts_of_line 10 rest ≡ told n ∷ more → IsTraceFaultBehind f t [] rest → f ≡ Cut
 said_behind NoMemory t n rest more some small few ne parts h = absurd (ne refl)
 said_behind Truncated t n rest more some small few ne parts h =
-    let lines : (rest ∷ []) ≡ (told n ∷ more) = sym (parts_none 10 rest h.0) ∙ parts in
+    let lines : (rest ∷ []) ≡ (told n ∷ more) = sym (parts_one_word 10 rest h.0) ∙ parts in
     absurd (omega (arith, few, ap (λ (x : List (List ℕ)). length x) lines))
 said_behind f t n rest more some small few ne parts h = bad_behind f t n rest more some small parts h
 
 -- the events before it are none
 among : (f : TraceFault) (s t : Sizes) (es : List Event) (bytes rest : List ℕ) (n i : ℕ) (more : List (List ℕ))
-    → 0 < n → n < 2 ^ 32 → 0 < length more → f ≢ NoMemory → parts_of 10 bytes ≡ head_bytes s ∷ told n ∷ more
-    → (head_bytes t ∷ (event_list 0 es ++ parts_of 10 rest)) ≡ parts_of 10 bytes → i ≡ length es + 2
+    → 0 < n → n < 2 ^ 32 → 0 < length more → f ≢ NoMemory → parts_of_line 10 bytes ≡ head_bytes s ∷ told n ∷ more
+    → (head_bytes t ∷ (event_list 0 es ++ parts_of_line 10 rest)) ≡ parts_of_line 10 bytes → i ≡ length es + 2
     → IsTraceFaultBehind f t es rest → (i ≡ 2) × (f ≡ Cut)
 among f s t [] bytes rest n i more some small few ne parts lines number behind =
-    let both : (head_bytes t ∷ parts_of 10 rest) ≡ (head_bytes s ∷ told n ∷ more) = lines ∙ parts in
-    let others : parts_of 10 rest ≡ told n ∷ more = cc in
+    let both : (head_bytes t ∷ parts_of_line 10 rest) ≡ (head_bytes s ∷ told n ∷ more) = lines ∙ parts in
+    let others : parts_of_line 10 rest ≡ told n ∷ more = cc in
     (omega (arith, number), said_behind f t n rest more some small few ne others behind)
 among f s t (e ∷ es) bytes rest n i more some small few ne parts lines number behind =
-    let both : (head_bytes t ∷ event_bytes 0 e ∷ (event_list 1 es ++ parts_of 10 rest))
+    let both : (head_bytes t ∷ event_bytes 0 e ∷ (event_list 1 es ++ parts_of_line 10 rest))
     ≡ (head_bytes s ∷ told n ∷ more) = lines ∙ parts in
     absurd (no_event n 0 e (let first : told n ≡ event_bytes 0 e = cc in first))
 
 -- ---- the first line has no fault
 
-bad_first : (f : TraceFault) (s : Sizes) (bytes : List ℕ) (more : List (List ℕ)) → AreSizes (head s)
-    → parts_of 10 bytes ≡ head_bytes s ∷ more → IsBadLine [] bytes (HeadSays f) → ⊥
+bad_first : (f : TraceFault) (s : Sizes) (bytes : List ℕ) (more : List (List ℕ)) → AreLawfulSizes (head s)
+    → parts_of_line 10 bytes ≡ head_bytes s ∷ more → IsBadLine [] bytes (HeadSays f) → ⊥
 bad_first f s bytes more h parts bad =
-    let lines : (bad.line ∷ parts_of 10 bad.more) ≡ (head_bytes s ∷ more) =
-    sym (parts_first 10 bad.line bad.more bad.cut.one_line) ∙ ap (parts_of 10) (sym bad.cut.bytes_are) ∙ parts in
+    let lines : (bad.line ∷ parts_of_line 10 bad.more) ≡ (head_bytes s ∷ more) =
+    sym (parts_first_word 10 bad.line bad.more bad.cut.one_line) ∙ ap (parts_of_line 10) (sym bad.cut.bytes_are) ∙ parts in
     let same : head_bytes s ≡ bad.line = cc in
     bad.never (s, [], no_events s h, [], ap (λ (x : List ℕ). (x ++ 10 ∷ []) ++ []) same)
 
-first_said : (f : TraceFault) (s : Sizes) (bytes line : List ℕ) (more : List (List ℕ)) → AreSizes (head s)
-    → f ≢ NoMemory → parts_of 10 bytes ≡ head_bytes s ∷ line ∷ more → IsHeadFault f bytes → ⊥
+first_said : (f : TraceFault) (s : Sizes) (bytes line : List ℕ) (more : List (List ℕ)) → AreLawfulSizes (head s)
+    → f ≢ NoMemory → parts_of_line 10 bytes ≡ head_bytes s ∷ line ∷ more → IsHeadFault f bytes → ⊥
 first_said NoMemory s bytes line more h ne parts said = ne refl
 first_said Truncated s bytes line more h ne parts said =
-    let lines : (bytes ∷ []) ≡ (head_bytes s ∷ line ∷ more) = sym (parts_none 10 bytes said) ∙ parts in
+    let lines : (bytes ∷ []) ≡ (head_bytes s ∷ line ∷ more) = sym (parts_one_word 10 bytes said) ∙ parts in
     omega (arith, ap (λ (x : List (List ℕ)). length x) lines)
 first_said f s bytes line more h ne parts said = bad_first f s bytes (line ∷ more) h parts said
 
-told_fault : (f : TraceFault) (s : Sizes) (n i : ℕ) (es : List Event) (bytes : List ℕ) → AreSizes (head s) → 0 < n
+told_fault : (f : TraceFault) (s : Sizes) (n i : ℕ) (es : List Event) (bytes : List ℕ) → AreLawfulSizes (head s) → 0 < n
     → n < 2 ^ 32 → f ≢ NoMemory → bytes ≡ head_line s ++ (cut_line n ++ event_lines n es) → IsTraceFault bytes i f
     → (i ≡ 2) × (f ≡ Cut)
 told_fault f s n i es bytes h some small ne whole (inl said) =
     absurd
-    (first_said f s bytes (told n) _ h ne (ap (parts_of 10) whole ∙ left_parts s n es h some small) said.1)
+    (first_said f s bytes (told n) _ h ne (ap (parts_of_line 10) whole ∙ left_parts s n es h some small) said.1)
 told_fault f s n i es bytes h some small ne whole (inr (t, at)) =
-    among f s t at.events bytes at.rest n i (parts_of 10 (event_lines n es)) some small
-    (parts_some (event_lines n es)) ne (ap (parts_of 10) whole ∙ left_parts s n es h some small)
-    (sym (trace_parts t at.events at.rest at.begun) ∙ ap (parts_of 10) (sym at.whole)) at.number at.behind
+    among f s t at.events bytes at.rest n i (parts_of_line 10 (event_lines n es)) some small
+    (parts_some (event_lines n es)) ne (ap (parts_of_line 10) whole ∙ left_parts s n es h some small)
+    (sym (trace_parts t at.events at.rest at.begun) ∙ ap (parts_of_line 10) (sym at.whole)) at.number at.behind
 
 pub cut_told : CutRefusedLaw
 cut_told s j i f h some few ne at =

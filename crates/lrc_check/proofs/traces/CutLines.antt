@@ -4,9 +4,9 @@ use Rattle.std.specs.Prelude.{codes}
 use Rattle.std.specs.Fmt.{decimal}
 use Rattle.std.proofs.lemmas.Bool.{lt-ltb, ltb-true}
 use Rattle.std.proofs.lemmas.List.{append_cancel_right}
-use Rattle.lrc_script.specs.Reading.{number_of, parts_of}
+use Rattle.lrc_script.specs.LineReading.{number_read, parts_of_line}
 use Rattle.lrc_script.proofs.Reading.Numbers.{number_again, number_takes}
-use Rattle.lrc_script.proofs.Reading.Words.{joined, parts_joined, parts_none, parts_whole}
+use Rattle.lrc_script.proofs.Reading.Words.{joined_words, parts_of_joined_words, parts_one_word, parts_words_whole}
 use Rattle.lrc_script.proofs.Reading.Lines.{decimal_has_no}
 use Rattle.lrc_report.specs.ReportText.{cut_line}
 use Rattle.lrc_check.specs.Traces.Lines.{IsCutLine}
@@ -18,25 +18,25 @@ cut_bytes n some = let test = lt-ltb 0 n some in rw test refl
 
 -- its words
 pub cut_parts : (line : List ℕ) (n : ℕ) → 0 < n → n < 2 ^ 32 → line ++ 10 ∷ [] ≡ cut_line n
-    → parts_of 32 line ≡ codes "cut" ∷ decimal n ∷ []
+    → parts_of_line 32 line ≡ codes "cut" ∷ decimal n ∷ []
 cut_parts line n some small same =
-    let bytes : line ≡ joined 32 (codes "cut") (decimal n ∷ []) =
+    let bytes : line ≡ joined_words 32 (codes "cut") (decimal n ∷ []) =
     append_cancel_right line (codes "cut " ++ decimal n) (10 ∷ []) (same ∙ cut_bytes n some)
     ∙ ap (λ (t : List ℕ). codes "cut " ++ t) (sym (append-nil (decimal n))) in
-    ap (parts_of 32) bytes
-    ∙ parts_joined 32 (codes "cut") (decimal n ∷ []) (plain_word (codes "cut") refl).0.no_space
+    ap (parts_of_line 32) bytes
+    ∙ parts_of_joined_words 32 (codes "cut") (decimal n ∷ []) (plain_word (codes "cut") refl).0.no_space
     (decimal_has_no 32 n (omega arith) small, tt)
 
 -- a line of these words
-pub cut_from : (line w rest : List ℕ) (n : ℕ) → parts_of 32 line ≡ w ∷ parts_of 32 rest → w ≡ codes "cut"
-    → number_of rest ≡ Some n → 0 < n → IsCutLine line
+pub cut_from : (line w rest : List ℕ) (n : ℕ) → parts_of_line 32 line ≡ w ∷ parts_of_line 32 rest → w ≡ codes "cut"
+    → number_read rest ≡ Some n → 0 < n → IsCutLine line
 cut_from line w rest n parts first number some =
     let t = number_takes rest n number in
-    let alone : parts_of 32 rest ≡ decimal n ∷ [] =
-    ap (parts_of 32) t.0 ∙ parts_none 32 (decimal n) (decimal_has_no 32 n (omega arith) t.1) in
-    let whole : line ≡ joined 32 (codes "cut") (decimal n ∷ []) =
-    parts_whole 32 line (codes "cut") (decimal n ∷ [])
-    (parts ∙ ap (λ (x : List ℕ). x ∷ parts_of 32 rest) first
+    let alone : parts_of_line 32 rest ≡ decimal n ∷ [] =
+    ap (parts_of_line 32) t.0 ∙ parts_one_word 32 (decimal n) (decimal_has_no 32 n (omega arith) t.1) in
+    let whole : line ≡ joined_words 32 (codes "cut") (decimal n ∷ []) =
+    parts_words_whole 32 line (codes "cut") (decimal n ∷ [])
+    (parts ∙ ap (λ (x : List ℕ). x ∷ parts_of_line 32 rest) first
     ∙ ap (λ (x : List (List ℕ)). codes "cut" ∷ x) alone) in (
       n,
       some,
@@ -47,26 +47,26 @@ cut_from line w rest n parts first number some =
     )
 
 -- other first words
-pub uncut_first : (line w : List ℕ) (ws : List (List ℕ)) → parts_of 32 line ≡ w ∷ ws → w ≢ codes "cut"
+pub uncut_first : (line w : List ℕ) (ws : List (List ℕ)) → parts_of_line 32 line ≡ w ∷ ws → w ≢ codes "cut"
     → ¬ IsCutLine line
 uncut_first line w ws parts ne h =
     ne (let same : (w ∷ ws) ≡ (codes "cut" ∷ decimal h.0 ∷ []) = sym parts ∙ cut_parts line h.0 h.1 h.2 h.3 in cc)
 
 -- no more words
-pub uncut_alone : (line w : List ℕ) → parts_of 32 line ≡ w ∷ [] → ¬ IsCutLine line
+pub uncut_alone : (line w : List ℕ) → parts_of_line 32 line ≡ w ∷ [] → ¬ IsCutLine line
 uncut_alone line w parts h =
     let same : (w ∷ []) ≡ (codes "cut" ∷ decimal h.0 ∷ []) = sym parts ∙ cut_parts line h.0 h.1 h.2 h.3 in absurd cc
 
 -- the number behind the first word
-pub cut_number : (line w rest : List ℕ) → parts_of 32 line ≡ w ∷ parts_of 32 rest → (h : IsCutLine line)
-    → number_of rest ≡ Some h.0
+pub cut_number : (line w rest : List ℕ) → parts_of_line 32 line ≡ w ∷ parts_of_line 32 rest → (h : IsCutLine line)
+    → number_read rest ≡ Some h.0
 cut_number line w rest parts h =
-    let same : (w ∷ parts_of 32 rest) ≡ (codes "cut" ∷ decimal h.0 ∷ []) =
+    let same : (w ∷ parts_of_line 32 rest) ≡ (codes "cut" ∷ decimal h.0 ∷ []) =
     sym parts ∙ cut_parts line h.0 h.1 h.2 h.3 in
-    let alone : parts_of 32 rest ≡ decimal h.0 ∷ [] = cc in
+    let alone : parts_of_line 32 rest ≡ decimal h.0 ∷ [] = cc in
     let bytes : rest ≡ decimal h.0 =
-    parts_whole 32 rest (decimal h.0) [] alone ∙ append-nil (decimal h.0) in
-    ap number_of bytes ∙ number_again h.0 h.2
+    parts_words_whole 32 rest (decimal h.0) [] alone ∙ append-nil (decimal h.0) in
+    ap number_read bytes ∙ number_again h.0 h.2
 
 -- what the reader says of such a line, and of another
 abbrev pub Tells : Bool → List ℕ → Type 0
@@ -75,8 +75,8 @@ Tells answer line = (IsTrue answer → IsCutLine line) × (IsCutLine line → Is
 pub uncut_told : (line : List ℕ) → ¬ IsCutLine line → Tells false line
 uncut_told line none = (λ h. absurd cc, λ h. absurd (none h))
 
-pub count_told : (line w rest : List ℕ) (n : ℕ) → parts_of 32 line ≡ w ∷ parts_of 32 rest → w ≡ codes "cut"
-    → number_of rest ≡ Some n → Tells (ltb 0 n) line
+pub count_told : (line w rest : List ℕ) (n : ℕ) → parts_of_line 32 line ≡ w ∷ parts_of_line 32 rest → w ≡ codes "cut"
+    → number_read rest ≡ Some n → Tells (ltb 0 n) line
 count_told line w rest n parts first number = (
   λ h. cut_from line w rest n parts first number (ltb-true 0 n h),
   λ h.
@@ -85,7 +85,7 @@ count_told line w rest n parts first number = (
       lt-ltb 0 n (omega (arith, count, h.1)),
 )
 
-pub uncounted_told : (line w rest : List ℕ) → parts_of 32 line ≡ w ∷ parts_of 32 rest → number_of rest ≡ None
+pub uncounted_told : (line w rest : List ℕ) → parts_of_line 32 line ≡ w ∷ parts_of_line 32 rest → number_read rest ≡ None
     → Tells false line
 uncounted_told line w rest parts number =
     uncut_told line (λ h. let same : None ≡ Some h.0 = sym number ∙ cut_number line w rest parts h in absurd cc)

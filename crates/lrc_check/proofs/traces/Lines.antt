@@ -8,11 +8,11 @@ use Rattle.std.proofs.lemmas.List.{length-map}
 use Rattle.journal.specs.declared.event.Event.{Event}
 use Rattle.journal.specs.declared.event.Kind.{Kind}
 use Rattle.journal.specs.declared.event.Kind.TheVariants as kind
-use Rattle.lrc_script.specs.Faults.{IsWord, IsSplit}
-use Rattle.lrc_script.specs.Reading.{number_of, numbers_after}
-use Rattle.lrc_script.proofs.Reading.Numbers.{AreWords, number_again, numbers_again}
-use Rattle.lrc_script.proofs.Reading.Words.{HasNo, HasNo-append, joined, parts_from_split}
-use Rattle.lrc_script.proofs.Reading.Lines.{decimal_has_no, decimals_words, is_plain, line_split, plain_bytes}
+use Rattle.lrc_script.specs.LineFaults.{IsWordOfLine, IsLineSplit}
+use Rattle.lrc_script.specs.LineReading.{number_read, numbers_read_after}
+use Rattle.lrc_script.proofs.Reading.Numbers.{AreWordNumbers, number_again, numbers_again}
+use Rattle.lrc_script.proofs.Reading.Words.{HasNo, HasNo-append, joined_words, words_from_split}
+use Rattle.lrc_script.proofs.Reading.Lines.{decimal_has_no, line_numbers_are_words, is_plain, line_split, plain_bytes}
 use Rattle.lrc_report.specs.ReportText.{event_line, kind_text}
 use Rattle.lrc_check.specs.declared.traces.names.Name.{Name}
 use Rattle.lrc_check.specs.declared.traces.names.Name.TheVariants.{Load, Store, Fetch, Ask, Acquire, Release, Arrive, Depart, Set, Watch, Await}
@@ -26,7 +26,7 @@ words_for i e = decimal i ∷ decimal e.processor ∷ word_of (name_for e.kind) 
 
 -- the line without its line feed
 abbrev pub event_bytes : ℕ → Event → List ℕ
-event_bytes i e = joined 32 (codes "event") (words_for i e)
+event_bytes i e = joined_words 32 (codes "event") (words_for i e)
 
 -- two, with a space between them
 glued : (a b : List ℕ) → (a ++ 32 ∷ []) ++ b ≡ a ++ 32 ∷ b
@@ -85,7 +85,7 @@ line_words i e =
 -- ---- its words
 
 -- a plain word
-pub plain_word : (w : List ℕ) → is_plain w ≡ true → IsWord w × HasNo 10 w
+pub plain_word : (w : List ℕ) → is_plain w ≡ true → IsWordOfLine w × HasNo 10 w
 plain_word w plain =
     let both = and_parts (ltb 0 (length w)) (list_all (λ b. not (eqb b 32) && not (eqb b 10)) w) plain in
     ((line_split w [] plain tt).first, (plain_bytes w both.1).1)
@@ -105,9 +105,9 @@ name_plain Await = refl
 
 -- words of which each has bytes, and none a space or a line feed
 abbrev pub AreClean : List (List ℕ) → Type 0
-AreClean ws = AllByRecursion (λ w. IsWord w × HasNo 10 w) ws
+AreClean ws = AllByRecursion (λ w. IsWordOfLine w × HasNo 10 w) ws
 
-clean_words : (ws : List (List ℕ)) → AreClean ws → AllByRecursion IsWord ws
+clean_words : (ws : List (List ℕ)) → AreClean ws → AllByRecursion IsWordOfLine ws
 clean_words [] h = tt
 clean_words (w ∷ ws) h = (h.0.0, clean_words ws h.1)
 
@@ -116,15 +116,15 @@ clean_line [] h = tt
 clean_line (w ∷ ws) h =
     HasNo-append 10 (32 ∷ w) (flat_map (λ v. 32 ∷ v) ws) (λ e. absurd (omega (arith, e)), h.0.1) (clean_line ws h.1)
 
-decimals_clean : (ns : List ℕ) → AreWords ns → AreClean (map decimal ns)
+decimals_clean : (ns : List ℕ) → AreWordNumbers ns → AreClean (map decimal ns)
 decimals_clean [] small = tt
 decimals_clean (n ∷ ns) small =
-    let word = decimals_words (n ∷ []) (small.0, tt) in
+    let word = line_numbers_are_words (n ∷ []) (small.0, tt) in
     ((word.0, decimal_has_no 10 n (omega arith) small.0), decimals_clean ns small.1)
 
 -- the numbers of an event and its place are below 2 ^ 32
 abbrev pub AreSmall : ℕ → Event → Type 0
-AreSmall i e = AreWords (i ∷ e.processor ∷ numbers_of e.kind)
+AreSmall i e = AreWordNumbers (i ∷ e.processor ∷ numbers_of e.kind)
 
 words_clean : (i : ℕ) (e : Event) → AreSmall i e → AreClean (words_for i e)
 words_clean i e small =
@@ -133,7 +133,7 @@ words_clean i e small =
     (place.0, (processor.0, (plain_word _ (name_plain (name_for e.kind)), decimals_clean _ small.1.1)))
 
 -- the line is split into the words
-pub event_split : (i : ℕ) (e : Event) → AreSmall i e → IsSplit (event_bytes i e) (codes "event") (words_for i e)
+pub event_split : (i : ℕ) (e : Event) → AreSmall i e → IsLineSplit (event_bytes i e) (codes "event") (words_for i e)
 event_split i e small = record {
   first = (plain_word (codes "event") refl).0;
   others = clean_words (words_for i e) (words_clean i e small);
@@ -156,10 +156,10 @@ event_shaped i e small = record {
 
 -- ---- a line is split in one way
 
-pub splits_agree : (line w v : List ℕ) (ws vs : List (List ℕ)) → IsSplit line w ws → IsSplit line v vs
+pub splits_agree : (line w v : List ℕ) (ws vs : List (List ℕ)) → IsLineSplit line w ws → IsLineSplit line v vs
     → (w ≡ v) × (ws ≡ vs)
 splits_agree line w v ws vs h k =
-    let same : (w ∷ ws) ≡ (v ∷ vs) = sym (parts_from_split line w ws h).0 ∙ (parts_from_split line v vs k).0 in
+    let same : (w ∷ ws) ≡ (v ∷ vs) = sym (words_from_split line w ws h).0 ∙ (words_from_split line v vs k).0 in
     (cc, cc)
 
 -- what two shapes of one line have in common: all
@@ -179,13 +179,13 @@ shapes_agree line a b n ws c d m vs h k =
 
 decimal_same : (i j : ℕ) → i < 2 ^ 32 → j < 2 ^ 32 → decimal i ≡ decimal j → i ≡ j
 decimal_same i j small less e =
-    let first = number_again i small in let second = number_again j less in let both = ap number_of e in
+    let first = number_again i small in let second = number_again j less in let both = ap number_read e in
     let same : Some i ≡ Some j = cc in cc
 
-decimals_same : (ns ms : List ℕ) → AreWords ns → AreWords ms → map decimal ns ≡ map decimal ms → ns ≡ ms
+decimals_same : (ns ms : List ℕ) → AreWordNumbers ns → AreWordNumbers ms → map decimal ns ≡ map decimal ms → ns ≡ ms
 decimals_same ns ms small less e =
     let first = numbers_again [] ns small in let second = numbers_again [] ms less in
-    let both = ap (numbers_after []) e in
+    let both = ap (numbers_read_after []) e in
     let same : ns ≡ ms = cc in same
 
 kinds_same : (j k : Kind) → name_for j ≡ name_for k → numbers_of j ≡ numbers_of k → j ≡ k

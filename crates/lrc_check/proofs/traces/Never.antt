@@ -11,8 +11,8 @@ use Rattle.journal.specs.declared.event.Kind.{Kind}
 use Rattle.journal.specs.declared.event.Kind.TheVariants as kind
 use Rattle.journal.specs.Sizes.{Sizes}
 use Rattle.journal.specs.WellFormed.{KindInRange}
-use Rattle.lrc_script.specs.Lawful.{AreSizes}
-use Rattle.lrc_script.proofs.Reading.Numbers.{AreWords}
+use Rattle.lrc_script.specs.Lawful.{AreLawfulSizes}
+use Rattle.lrc_script.proofs.Reading.Numbers.{AreWordNumbers}
 use Rattle.lrc_script.proofs.Reading.Words.{HasNo}
 use Rattle.lrc_check.specs.declared.traces.fault.TraceFault.{TraceFault}
 use Rattle.lrc_check.specs.declared.traces.fault.TraceFault.TheVariants.{Cut, BadLine, BadNumber, BadPlace, BadProcessor, OutOfRange, BadLock, BadFlag, TooLong}
@@ -29,13 +29,13 @@ use Rattle.lrc_check.proofs.traces.Called.{name_for}
 use Rattle.lrc_check.proofs.traces.Texts.{IsNextLine, event_small, next_due}
 
 -- the words that numbers are
-decimals_all : (ns : List ℕ) → AreWords ns
+decimals_all : (ns : List ℕ) → AreWordNumbers ns
     → AllByRecursion (λ w. (n : ℕ) × (n < 2 ^ 32) × (w ≡ decimal n)) (map decimal ns)
 decimals_all [] small = tt
 decimals_all (n ∷ ns) small = ((n, small.0, refl), decimals_all ns small.1)
 
 -- none of them is no number
-no_bad : (ns : List ℕ) (w : List ℕ) → AreWords ns → Contains (map decimal ns) w → IsNoNumber w → ⊥
+no_bad : (ns : List ℕ) (w : List ℕ) → AreWordNumbers ns → Contains (map decimal ns) w → IsNoNumber w → ⊥
 no_bad ns w small within none =
     let P : List ℕ → Type 0 = λ v. (n : ℕ) × (n < 2 ^ 32) × (v ≡ decimal n) in
     let n =
@@ -67,7 +67,7 @@ event_never f s count place e g within room there same says =
 
 -- what was said of an event's line
 events_never : (f : TraceFault) (s : Sizes) (es : List Event) (line : List ℕ) (place : ℕ) (e : Event)
-    → AreSizes (head s) → IsNextLine s es line → IsEventLine line place e → EventSays f s (length es) place e → ⊥
+    → AreLawfulSizes (head s) → IsNextLine s es line → IsEventLine line place e → EventSays f s (length es) place e → ⊥
 events_never f s es line place e h next here says =
     let small = event_small s (length es) next.event h (omega (arith, next.room)) next.within in
     let bytes : line ≡ event_bytes place e =
@@ -77,7 +77,7 @@ events_never f s es line place e h next here says =
     event_never f s (length es) place e next.event next.within next.room agree.0 agree.1 says
 
 -- the shape of the next line
-next_shaped : (s : Sizes) (es : List Event) (line : List ℕ) → AreSizes (head s) → (n : IsNextLine s es line)
+next_shaped : (s : Sizes) (es : List Event) (line : List ℕ) → AreLawfulSizes (head s) → (n : IsNextLine s es line)
     → IsShaped line (decimal (length es)) (decimal n.event.processor) (name_for n.event.kind)
     (map decimal (numbers_of n.event.kind))
 next_shaped s es line h n =
@@ -87,13 +87,13 @@ next_shaped s es line h n =
     (sym n.line_is)
     (event_shaped (length es) e (event_small s (length es) e h (omega (arith, n.room)) n.within))
 
-cut_never : (s : Sizes) (es : List Event) (line : List ℕ) → AreSizes (head s) → IsNextLine s es line → IsCutLine line → ⊥
+cut_never : (s : Sizes) (es : List Event) (line : List ℕ) → AreLawfulSizes (head s) → IsNextLine s es line → IsCutLine line → ⊥
 cut_never s es line h next cut =
     let parts = cut_parts line cut.0 cut.1 cut.2 cut.3 in
     unshaped_first line (codes "cut") (decimal cut.0 ∷ []) parts
     (λ e. omega (arith, ap (λ (x : List ℕ). length x) e)) _ _ _ _ (next_shaped s es line h next)
 
-number_never : (s : Sizes) (es : List Event) (line : List ℕ) → AreSizes (head s) → IsNextLine s es line
+number_never : (s : Sizes) (es : List Event) (line : List ℕ) → AreLawfulSizes (head s) → IsNextLine s es line
     → HasBadNumber line → ⊥
 number_never s es line h next b =
     let e = next.event in
@@ -108,7 +108,7 @@ number_never s es line h next b =
     (subst (λ (x : List (List ℕ)). Contains x b.bad) words b.within) b.no_number
 
 -- a line of which a fault says what is wrong isn't due
-says_never : (f : TraceFault) (s : Sizes) (es : List Event) (line : List ℕ) → AreSizes (head s) → IsNextLine s es line
+says_never : (f : TraceFault) (s : Sizes) (es : List Event) (line : List ℕ) → AreLawfulSizes (head s) → IsNextLine s es line
     → LineSays f s es line → ⊥
 says_never Cut s es line h next says = cut_never s es line h next says.1
 says_never BadLine s es line h next says = says.0 _ _ _ _ (next_shaped s es line h next)

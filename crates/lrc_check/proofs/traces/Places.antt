@@ -4,9 +4,9 @@ use Rattle.std.proofs.lemmas.List.{length-append}
 use Rattle.std.proofs.lemmas.List.Elements.{All-nil, All-push}
 use Rattle.journal.specs.declared.event.Event.{Event}
 use Rattle.journal.specs.Sizes.{Sizes}
-use Rattle.lrc_script.specs.Lawful.{AreSizes}
-use Rattle.lrc_script.specs.Faults.{HasLine}
-use Rattle.lrc_script.specs.Reading.{IsCut}
+use Rattle.lrc_script.specs.Lawful.{AreLawfulSizes}
+use Rattle.lrc_script.specs.LineFaults.{HasLine}
+use Rattle.lrc_script.specs.LineReading.{IsLineCut}
 use Rattle.lrc_script.proofs.Reading.Words.{HasNo}
 use Rattle.lrc_report.specs.ReportText.{event_line, event_lines}
 use Rattle.lrc_report.proofs.Lines.{lines_append}
@@ -23,7 +23,7 @@ use Rattle.lrc_check.proofs.traces.Never.{never_begins}
 use Rattle.lrc_check.proofs.traces.Texts.{first_due, text_ends, text_feeds}
 
 -- the sizes alone
-pub no_events : (s : Sizes) → AreSizes (head s) → IsTrace s []
+pub no_events : (s : Sizes) → AreLawfulSizes (head s) → IsTrace s []
 no_events s h = record { sizes = h; few = omega arith; events = All-nil (IsWithin s) }
 
 -- one event more
@@ -49,14 +49,14 @@ added_text s es fs line a =
     ∙ sym (append_assoc (head_line s) (event_lines 0 es) (line ++ 10 ∷ []))
 
 -- a line among the bytes, and what stands behind it
-pub line_among : (before bytes line after : List ℕ) → IsCut bytes line after
+pub line_among : (before bytes line after : List ℕ) → IsLineCut bytes line after
     → before ++ bytes ≡ (before ++ (line ++ 10 ∷ [])) ++ after
 line_among before bytes line after cut =
     ap (λ (x : List ℕ). before ++ x) (cut.bytes_are ∙ sym (append_assoc line (10 ∷ []) after))
     ∙ sym (append_assoc before (line ++ 10 ∷ []) after)
 
 -- a line that begins before these bytes
-pub line_joined : (before kept piece line after : List ℕ) → IsCut piece line after
+pub line_joined : (before kept piece line after : List ℕ) → IsLineCut piece line after
     → (before ++ kept) ++ piece ≡ (before ++ ((kept ++ line) ++ 10 ∷ [])) ++ after
 line_joined before kept piece line after cut =
     line_among (before ++ kept) piece line after cut
@@ -78,7 +78,7 @@ nothing_behind (x ∷ xs) (y ∷ ys) rest clean same =
     nothing_behind xs ys rest clean (let others : xs ++ rest ≡ ys ++ 10 ∷ [] = cc in others)
 
 -- where that line was read, what is read and what stands behind it are all the bytes
-pub joined_read : (before kept piece line after now left : List ℕ) → IsCut piece line after → HasNo 10 left
+pub joined_read : (before kept piece line after now left : List ℕ) → IsLineCut piece line after → HasNo 10 left
     → now ++ left ≡ before ++ ((kept ++ line) ++ 10 ∷ []) → now ++ after ≡ (before ++ kept) ++ piece
 joined_read before kept piece line after now left cut clean same =
     let none : left ≡ [] =
@@ -91,7 +91,7 @@ joined_read before kept piece line after now left cut clean same =
 -- ---- a line that adds no event
 
 bad_line : (f : TraceFault) (s : Sizes) (es : List Event) (rest line more : List ℕ) → IsTrace s es
-    → IsCut rest line more → LineSays f s es line → IsBadLine (trace_text s es) rest (LineSays f s es)
+    → IsLineCut rest line more → LineSays f s es line → IsBadLine (trace_text s es) rest (LineSays f s es)
 bad_line f s es rest line more h cut says = record {
   line = line;
   more = more;
@@ -100,12 +100,12 @@ bad_line f s es rest line more h cut says = record {
   never = never_begins f s es line h cut.one_line says;
 }
 
-has_line : (rest line more : List ℕ) → IsCut rest line more → HasLine rest
+has_line : (rest line more : List ℕ) → IsLineCut rest line more → HasLine rest
 has_line rest line more cut =
     record { line = line; more = more; rest_is = cut.bytes_are; one_line = cut.one_line }
 
 pub refused_behind : (f : TraceFault) (s : Sizes) (es : List Event) (rest line more : List ℕ) → IsTrace s es
-    → IsCut rest line more → Refuses f s es line → IsTraceFaultBehind f s es rest
+    → IsLineCut rest line more → Refuses f s es line → IsTraceFaultBehind f s es rest
 refused_behind NoMemory s es rest line more h cut says = has_line rest line more cut
 refused_behind Truncated s es rest line more h cut says = absurd says.3
 refused_behind f s es rest line more h cut says = bad_line f s es rest line more h cut says
@@ -117,12 +117,12 @@ sizeless line clean none begins =
     let due = first_due line clean begins in
     none due.0 (record { sizes = due.1; line_is = ap (λ (x : List ℕ). x ++ 10 ∷ []) due.2 })
 
-bad_head : (f : TraceFault) (bytes line more : List ℕ) → IsCut bytes line more
+bad_head : (f : TraceFault) (bytes line more : List ℕ) → IsLineCut bytes line more
     → HeadSays f line × ((s : Sizes) → ¬ LineHasSizes line s) → IsBadLine [] bytes (HeadSays f)
 bad_head f bytes line more cut h =
     record { line = line; more = more; cut = cut; holds = h.0; never = sizeless line cut.one_line h.1 }
 
-pub head_fault : (f : TraceFault) (bytes line more : List ℕ) → IsCut bytes line more → HasNoSizes f line
+pub head_fault : (f : TraceFault) (bytes line more : List ℕ) → IsLineCut bytes line more → HasNoSizes f line
     → IsHeadFault f bytes
 head_fault NoMemory bytes line more cut h = has_line bytes line more cut
 head_fault Truncated bytes line more cut h = absurd h.0
@@ -164,7 +164,7 @@ fault_only f bytes n (inr h) ne = behind_only f h.0 h.1.events h.1.rest bytes ne
 
 -- ---- a fault that lasts, however the bytes go on
 
-cut_off : (line more : List ℕ) → HasNo 10 line → IsCut ((line ++ 10 ∷ []) ++ more) line more
+cut_off : (line more : List ℕ) → HasNo 10 line → IsLineCut ((line ++ 10 ∷ []) ++ more) line more
 cut_off line more clean = record { bytes_are = append_assoc line (10 ∷ []) more; one_line = clean }
 
 pub first_fault : (f : TraceFault) (line : List ℕ) → HasNo 10 line → HasNoSizes f line

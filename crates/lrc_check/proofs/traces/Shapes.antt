@@ -11,9 +11,9 @@ use Rattle.journal.specs.declared.event.Event.{Event}
 use Rattle.journal.specs.declared.event.Kind.{Kind}
 use Rattle.lrc_script.specs.declared.fault.ScriptFault.{ScriptFault}
 use Rattle.lrc_script.specs.declared.fault.ScriptFault.TheVariants as script
-use Rattle.lrc_script.specs.Reading.{Fails, has_bytes, number_of, numbers_after, parts_of}
-use Rattle.lrc_script.proofs.Reading.Numbers.{AreWords, number_again, number_takes, numbers_refused, numbers_take}
-use Rattle.lrc_script.proofs.Reading.Words.{joined, parts_from_split, parts_whole, split_from_parts}
+use Rattle.lrc_script.specs.LineReading.{ReadFails, has_bytes, number_read, numbers_read_after, parts_of_line}
+use Rattle.lrc_script.proofs.Reading.Numbers.{AreWordNumbers, number_again, number_takes, numbers_refused, numbers_take}
+use Rattle.lrc_script.proofs.Reading.Words.{joined_words, words_from_split, parts_words_whole, words_split_from_parts}
 use Rattle.lrc_check.specs.declared.traces.fault.TraceFault.{TraceFault}
 use Rattle.lrc_check.specs.declared.traces.names.Name.{Name}
 use Rattle.lrc_check.specs.Traces.Names.{operand_count, kind_from, name_of, numbers_of, word_of}
@@ -23,8 +23,8 @@ use Rattle.lrc_check.proofs.traces.Called.{kind_counted, kind_takes, name_again,
 use Rattle.lrc_check.proofs.traces.Lines.{event_bytes, line_words}
 
 -- the first four words, and what is left
-pub four_words : (line : List ℕ) (w a b x : List ℕ) (l m n o : List (List ℕ)) → parts_of 32 line ≡ w ∷ l → l ≡ a ∷ m
-    → m ≡ b ∷ n → n ≡ x ∷ o → parts_of 32 line ≡ w ∷ a ∷ b ∷ x ∷ o
+pub four_words : (line : List ℕ) (w a b x : List ℕ) (l m n o : List (List ℕ)) → parts_of_line 32 line ≡ w ∷ l → l ≡ a ∷ m
+    → m ≡ b ∷ n → n ≡ x ∷ o → parts_of_line 32 line ≡ w ∷ a ∷ b ∷ x ∷ o
 four_words line w a b x l m n o first second third fourth =
     first ∙ ap (λ (t : List (List ℕ)). w ∷ t) second ∙ ap (λ (t : List (List ℕ)). w ∷ a ∷ t) third
     ∙ ap (λ (t : List (List ℕ)). w ∷ a ∷ b ∷ t) fourth
@@ -44,42 +44,42 @@ words_same a text b r test is same =
 
 -- the words of a line that has a shape
 shape_parts : (line a b : List ℕ) (n : Name) (ns : List (List ℕ)) → IsShaped line a b n ns
-    → (parts_of 32 line ≡ codes "event" ∷ a ∷ b ∷ word_of n ∷ ns) × (list_all has_bytes (parts_of 32 line) ≡ true)
+    → (parts_of_line 32 line ≡ codes "event" ∷ a ∷ b ∷ word_of n ∷ ns) × (list_all has_bytes (parts_of_line 32 line) ≡ true)
 shape_parts line a b n ns h =
-    let p = parts_from_split line _ _ h.split in (p.0, ap (list_all has_bytes) p.0 ∙ p.1)
+    let p = words_from_split line _ _ h.split in (p.0, ap (list_all has_bytes) p.0 ∙ p.1)
 
 -- words with the shape
 pub shaped_from : (line w a b x : List ℕ) (n : Name) (ns : List (List ℕ))
-    → parts_of 32 line ≡ w ∷ a ∷ b ∷ x ∷ ns → list_all has_bytes (parts_of 32 line) ≡ true → w ≡ codes "event"
+    → parts_of_line 32 line ≡ w ∷ a ∷ b ∷ x ∷ ns → list_all has_bytes (parts_of_line 32 line) ≡ true → w ≡ codes "event"
     → name_of x ≡ Some n → length ns ≡ operand_count n → IsShaped line a b n ns
 shaped_from line w a b x n ns parts have event name count =
     let word = name_written x n name in
-    let parts' : parts_of 32 line ≡ codes "event" ∷ a ∷ b ∷ word_of n ∷ ns =
+    let parts' : parts_of_line 32 line ≡ codes "event" ∷ a ∷ b ∷ word_of n ∷ ns =
     parts ∙ ap (λ (t : List ℕ). t ∷ a ∷ b ∷ x ∷ ns) event
     ∙ ap (λ (t : List ℕ). codes "event" ∷ a ∷ b ∷ t ∷ ns) word in
     record {
-      split = split_from_parts line (codes "event") (a ∷ b ∷ word_of n ∷ ns) parts'
+      split = words_split_from_parts line (codes "event") (a ∷ b ∷ word_of n ∷ ns) parts'
           (ap (list_all has_bytes) (sym parts') ∙ have);
       count = count;
     }
 
 -- words without it
-pub unshaped_words : (line : List ℕ) → list_all has_bytes (parts_of 32 line) ≡ false → HasNoShape line
+pub unshaped_words : (line : List ℕ) → list_all has_bytes (parts_of_line 32 line) ≡ false → HasNoShape line
 unshaped_words line have a b n ns h =
     let p = shape_parts line a b n ns h in let same : false ≡ true = sym have ∙ p.1 in absurd cc
 
-pub unshaped_first : (line w : List ℕ) (ws : List (List ℕ)) → parts_of 32 line ≡ w ∷ ws → w ≢ codes "event"
+pub unshaped_first : (line w : List ℕ) (ws : List (List ℕ)) → parts_of_line 32 line ≡ w ∷ ws → w ≢ codes "event"
     → HasNoShape line
 unshaped_first line w ws parts ne a b n ns h =
     let p = (shape_parts line a b n ns h).0 in
     ne (let same : (w ∷ ws) ≡ (codes "event" ∷ a ∷ b ∷ word_of n ∷ ns) = sym parts ∙ p in cc)
 
-pub unshaped_short : (line : List ℕ) (ws : List (List ℕ)) → parts_of 32 line ≡ ws → length ws ≤ 3 → HasNoShape line
+pub unshaped_short : (line : List ℕ) (ws : List (List ℕ)) → parts_of_line 32 line ≡ ws → length ws ≤ 3 → HasNoShape line
 unshaped_short line ws parts short a b n ns h =
     let p = (shape_parts line a b n ns h).0 in
     omega (arith, ap (λ (t : List (List ℕ)). length t) (sym parts ∙ p), short)
 
-pub unshaped_name : (line w a b x : List ℕ) (ns : List (List ℕ)) → parts_of 32 line ≡ w ∷ a ∷ b ∷ x ∷ ns
+pub unshaped_name : (line w a b x : List ℕ) (ns : List (List ℕ)) → parts_of_line 32 line ≡ w ∷ a ∷ b ∷ x ∷ ns
     → name_of x ≡ None → HasNoShape line
 unshaped_name line w a b x ns parts none a' b' n ms h =
     let p = (shape_parts line a' b' n ms h).0 in
@@ -88,7 +88,7 @@ unshaped_name line w a b x ns parts none a' b' n ms h =
     let again : Some n ≡ None = sym (name_again n) ∙ ap name_of (sym word) ∙ none in
     absurd cc
 
-pub unshaped_count : (line w a b x : List ℕ) (m : Name) (ns : List (List ℕ)) → parts_of 32 line ≡ w ∷ a ∷ b ∷ x ∷ ns
+pub unshaped_count : (line w a b x : List ℕ) (m : Name) (ns : List (List ℕ)) → parts_of_line 32 line ≡ w ∷ a ∷ b ∷ x ∷ ns
     → name_of x ≡ Some m → length ns ≢ operand_count m → HasNoShape line
 unshaped_count line w a b x m ns parts some ne a' b' n ms h =
     let p = (shape_parts line a' b' n ms h).0 in
@@ -101,11 +101,11 @@ unshaped_count line w a b x m ns parts some ne a' b' n ms h =
 
 -- ---- numbers
 
-no_number : (w : List ℕ) → number_of w ≡ None → (n : ℕ) → n < 2 ^ 32 → w ≢ decimal n
+no_number : (w : List ℕ) → number_read w ≡ None → (n : ℕ) → n < 2 ^ 32 → w ≢ decimal n
 no_number w none n small same =
-    let again : None ≡ Some n = sym none ∙ ap number_of same ∙ number_again n small in cc
+    let again : None ≡ Some n = sym none ∙ ap number_read same ∙ number_again n small in cc
 
-pub bad_place : (line a b : List ℕ) (n : Name) (ns : List (List ℕ)) → IsShaped line a b n ns → number_of a ≡ None
+pub bad_place : (line a b : List ℕ) (n : Name) (ns : List (List ℕ)) → IsShaped line a b n ns → number_read a ≡ None
     → HasBadNumber line
 bad_place line a b n ns h none = record {
   place = a;
@@ -119,7 +119,7 @@ bad_place line a b n ns h none = record {
 }
 
 pub bad_processor : (line a b : List ℕ) (n : Name) (ns : List (List ℕ)) → IsShaped line a b n ns
-    → number_of b ≡ None → HasBadNumber line
+    → number_read b ≡ None → HasBadNumber line
 bad_processor line a b n ns h none = record {
   place = a;
   processor = b;
@@ -132,7 +132,7 @@ bad_processor line a b n ns h none = record {
 }
 
 bad_others : (line a b : List ℕ) (n : Name) (ns : List (List ℕ)) (e : ScriptFault) → IsShaped line a b n ns
-    → numbers_after [] ns ≡ Err e → (e ≡ script.BadNumber) × HasBadNumber line
+    → numbers_read_after [] ns ≡ Err e → (e ≡ script.BadNumber) × HasBadNumber line
 bad_others line a b n ns e h read =
     let refused = numbers_refused [] ns e read in (
       refused.fault_is,
@@ -150,7 +150,7 @@ bad_others line a b n ns e h read =
 
 -- why the numbers behind the name weren't read
 pub numbers_fault : (line a b : List ℕ) (n : Name) (ns : List (List ℕ)) (e : ScriptFault) (f : TraceFault)
-    → IsShaped line a b n ns → Fails e (numbers_after [] ns) → f ≡ fault_from e → IsNoEvent f line
+    → IsShaped line a b n ns → ReadFails e (numbers_read_after [] ns) → f ≡ fault_from e → IsNoEvent f line
 numbers_fault line a b n ns script.NoMemory f h read same =
     subst (λ (x : TraceFault). IsNoEvent x line) (sym same) tt
 numbers_fault line a b n ns e f h read same =
@@ -161,7 +161,7 @@ numbers_fault line a b n ns e f h read same =
 
 -- as many numbers as stand behind the name make a kind
 pub kind_read : (line a b : List ℕ) (n : Name) (ns : List (List ℕ)) (ms : List ℕ) → IsShaped line a b n ns
-    → numbers_after [] ns ≡ Ok ms → kind_from n ms ≡ None → ⊥
+    → numbers_read_after [] ns ≡ Ok ms → kind_from n ms ≡ None → ⊥
 kind_read line a b n ns ms h read none =
     let t = numbers_take [] ns ms read in
     let long : length ms ≡ operand_count n =
@@ -171,8 +171,8 @@ kind_read line a b n ns ms h read none =
 
 -- what is read of an event's words
 event_whole : (line a b : List ℕ) (n : Name) (ns : List (List ℕ)) (i p : ℕ) (ms : List ℕ) (k : Kind)
-    → line ≡ joined 32 (codes "event") (a ∷ b ∷ word_of n ∷ ns) → number_of a ≡ Some i → number_of b ≡ Some p
-    → numbers_after [] ns ≡ Ok ms → kind_from n ms ≡ Some k
+    → line ≡ joined_words 32 (codes "event") (a ∷ b ∷ word_of n ∷ ns) → number_read a ≡ Some i → number_read b ≡ Some p
+    → numbers_read_after [] ns ≡ Ok ms → kind_from n ms ≡ Some k
     → IsEventLine line i (record { processor = p; kind = k })
 event_whole line a b n ns i p ms k whole place processor read kind =
     let e : Event = record { processor = p; kind = k } in
@@ -192,23 +192,23 @@ event_whole line a b n ns i p ms k whole place processor read kind =
     whole ∙ ap (λ (x : List (List ℕ)). codes "event" ++ flat_map (λ v. 32 ∷ v) x) words in
     record {
       line_is = ap (λ (x : List ℕ). x ++ 10 ∷ []) bytes ∙ sym (line_words i e);
-      small = (a-is.1, (b-is.1, subst AreWords (sym numbers) t.small));
+      small = (a-is.1, (b-is.1, subst AreWordNumbers (sym numbers) t.small));
     }
 
 -- what is read of an event's line
 pub event_found : (line a b : List ℕ) (n : Name) (ns : List (List ℕ)) (i p : ℕ) (ms : List ℕ) (k : Kind)
-    → IsShaped line a b n ns → number_of a ≡ Some i → number_of b ≡ Some p → numbers_after [] ns ≡ Ok ms
+    → IsShaped line a b n ns → number_read a ≡ Some i → number_read b ≡ Some p → numbers_read_after [] ns ≡ Ok ms
     → kind_from n ms ≡ Some k → IsEventLine line i (record { processor = p; kind = k })
 event_found line a b n ns i p ms k h place processor read kind =
     event_whole line a b n ns i p ms k h.split.whole place processor read kind
 
 -- what is read of its words, whose shape the numbers show
 pub event_quick : (line w a b x : List ℕ) (n : Name) (ns : List (List ℕ)) (i p : ℕ) (k : Kind)
-    → parts_of 32 line ≡ w ∷ a ∷ b ∷ x ∷ ns → w ≡ codes "event" → name_of x ≡ Some n → number_of a ≡ Some i
-    → number_of b ≡ Some p → GivesKind n ns k → IsEventLine line i (record { processor = p; kind = k })
+    → parts_of_line 32 line ≡ w ∷ a ∷ b ∷ x ∷ ns → w ≡ codes "event" → name_of x ≡ Some n → number_read a ≡ Some i
+    → number_read b ≡ Some p → GivesKind n ns k → IsEventLine line i (record { processor = p; kind = k })
 event_quick line w a b x n ns i p k parts event name place processor gives =
-    let parts' : parts_of 32 line ≡ codes "event" ∷ a ∷ b ∷ word_of n ∷ ns =
+    let parts' : parts_of_line 32 line ≡ codes "event" ∷ a ∷ b ∷ word_of n ∷ ns =
     parts ∙ ap (λ (t : List ℕ). t ∷ a ∷ b ∷ x ∷ ns) event
     ∙ ap (λ (t : List ℕ). codes "event" ∷ a ∷ b ∷ t ∷ ns) (name_written x n name) in
     event_whole line a b n ns i p gives.numbers k
-    (parts_whole 32 line (codes "event") (a ∷ b ∷ word_of n ∷ ns) parts') place processor gives.read gives.kind
+    (parts_words_whole 32 line (codes "event") (a ∷ b ∷ word_of n ∷ ns) parts') place processor gives.read gives.kind

@@ -10,15 +10,15 @@ use Rattle.journal.specs.declared.event.Kind.{Kind}
 use Rattle.journal.specs.declared.event.Kind.TheVariants as kind
 use Rattle.journal.specs.Sizes.{Sizes}
 use Rattle.journal.specs.WellFormed.{KindInRange}
-use Rattle.lrc_script.specs.Lawful.{AreSizes}
+use Rattle.lrc_script.specs.Lawful.{AreLawfulSizes}
 use Rattle.lrc_script.specs.Text.{cluster_line, line_bytes}
 use Rattle.lrc_script.specs.Front.{Headed, Nothing}
-use Rattle.lrc_script.specs.Reading.{after, parts_of}
+use Rattle.lrc_script.specs.LineReading.{read_after, parts_of_line}
 use Rattle.lrc_script.proofs.Lawful.{sizes_small}
-use Rattle.lrc_script.proofs.Reading.Lines.{Goes}
-use Rattle.lrc_script.proofs.Reading.Numbers.{AreWords}
-use Rattle.lrc_script.proofs.Reading.Words.{HasNo, parts_first, parts_none}
-use Rattle.lrc_script.proofs.Front.Passes.{head_goes}
+use Rattle.lrc_script.proofs.Reading.Lines.{LinePasses}
+use Rattle.lrc_script.proofs.Reading.Numbers.{AreWordNumbers}
+use Rattle.lrc_script.proofs.Reading.Words.{HasNo, parts_first_word, parts_one_word}
+use Rattle.lrc_script.proofs.Front.PassedLines.{head_passes}
 use Rattle.lrc_report.specs.ReportText.{event_line, event_lines}
 use Rattle.lrc_check.specs.Traces.Sizes.{head}
 use Rattle.lrc_check.specs.Traces.Text.{head_line, trace_text}
@@ -33,14 +33,14 @@ use Rattle.lrc_check.proofs.traces.Lines.{AreSmall, event_bytes, event_clean, ev
 abbrev pub head_bytes : Sizes → List ℕ
 head_bytes s = line_bytes (cluster_line (head s))
 
-pub head_read : (s : Sizes) → AreSizes (head s) → Goes Nothing (cluster_line (head s)) (Headed (head s))
-head_read s h = head_goes (head s) (record { sizes = h; no_sections = refl; none_shown = refl })
+pub head_read : (s : Sizes) → AreLawfulSizes (head s) → LinePasses Nothing (cluster_line (head s)) (Headed (head s))
+head_read s h = head_passes (head s) (record { sizes = h; no_sections = refl; none_shown = refl })
 
-heads_differ : (s t : Sizes) → AreSizes (head s) → AreSizes (head t) → head_bytes s ≡ head_bytes t → s ≡ t
+heads_differ : (s t : Sizes) → AreLawfulSizes (head s) → AreLawfulSizes (head t) → head_bytes s ≡ head_bytes t → s ≡ t
 heads_differ s t h k e =
     let first = (head_read s h).after_is in let second = (head_read t k).after_is in
     let both : Headed (head s) ≡ Headed (head t) =
-    let reads : Ok (Headed (head s)) ≡ Ok (Headed (head t)) = sym first ∙ ap (after Nothing) e ∙ second in cc in
+    let reads : Ok (Headed (head s)) ≡ Ok (Headed (head t)) = sym first ∙ ap (read_after Nothing) e ∙ second in cc in
     let plans : head s ≡ head t = cc in
     ap (λ p. record {
       processors = p.processors;
@@ -52,7 +52,7 @@ heads_differ s t h k e =
 
 -- ---- the numbers of events within the sizes
 
-kind_small : (s : Sizes) (k : Kind) → AreSizes (head s) → KindInRange s k → HasWords k → AreWords (numbers_of k)
+kind_small : (s : Sizes) (k : Kind) → AreLawfulSizes (head s) → KindInRange s k → HasWords k → AreWordNumbers (numbers_of k)
 kind_small s (kind.Load a v) h range words =
     (omega (arith, (sizes_small (head s) h).addresses_fit, range), (words, tt))
 kind_small s (kind.Store a v) h range words =
@@ -68,7 +68,7 @@ kind_small s (kind.Set f) h range words = (omega (arith, h.flags, range), tt)
 kind_small s (kind.Watch f) h range words = (omega (arith, h.flags, range), tt)
 kind_small s (kind.Await f) h range words = (omega (arith, h.flags, range), tt)
 
-pub event_small : (s : Sizes) (i : ℕ) (e : Event) → AreSizes (head s) → i ≤ most_held → IsWithin s e → AreSmall i e
+pub event_small : (s : Sizes) (i : ℕ) (e : Event) → AreLawfulSizes (head s) → i ≤ most_held → IsWithin s e → AreSmall i e
 event_small s i e h le within = (
   omega (arith, le),
   (omega (arith, within.processor, h.most_processors), kind_small s e.kind h within.kind within.words),
@@ -79,7 +79,7 @@ abbrev pub AreSmallFrom : ℕ → List Event → Type 0
 AreSmallFrom i [] = Unit {0}
 AreSmallFrom i (e ∷ es) = AreSmall i e × AreSmallFrom (i + 1) es
 
-events_small : (s : Sizes) (i : ℕ) (es : List Event) → AreSizes (head s) → i + length es ≤ most_held
+events_small : (s : Sizes) (i : ℕ) (es : List Event) → AreLawfulSizes (head s) → i + length es ≤ most_held
     → AllByRecursion (IsWithin s) es → AreSmallFrom i es
 events_small s i [] h le within = tt
 events_small s i (e ∷ es) h le within =
@@ -97,7 +97,7 @@ event_list i [] = []
 event_list i (e ∷ es) = event_bytes i e ∷ event_list (i + 1) es
 
 events_parts : (i : ℕ) (es : List Event) (more : List ℕ) → AreSmallFrom i es
-    → parts_of 10 (event_lines i es ++ more) ≡ event_list i es ++ parts_of 10 more
+    → parts_of_line 10 (event_lines i es ++ more) ≡ event_list i es ++ parts_of_line 10 more
 events_parts i [] more small = refl
 events_parts i (e ∷ es) more small =
     let rest = event_lines (i + 1) es in
@@ -105,22 +105,22 @@ events_parts i (e ∷ es) more small =
     append_assoc (event_line i e) rest more
     ∙ ap (λ (t : List ℕ). t ++ (rest ++ more)) (line_words i e)
     ∙ append_assoc (event_bytes i e) (10 ∷ []) (rest ++ more) in
-    ap (parts_of 10) bytes ∙ parts_first 10 (event_bytes i e) (rest ++ more) (event_clean i e small.0)
+    ap (parts_of_line 10) bytes ∙ parts_first_word 10 (event_bytes i e) (rest ++ more) (event_clean i e small.0)
     ∙ ap (λ (t : List (List ℕ)). event_bytes i e ∷ t) (events_parts (i + 1) es more small.1)
 
 -- all lines of a trace, and what stands behind them
 pub trace_parts : (s : Sizes) (es : List Event) (more : List ℕ) → IsTrace s es
-    → parts_of 10 (trace_text s es ++ more) ≡ head_bytes s ∷ (event_list 0 es ++ parts_of 10 more)
+    → parts_of_line 10 (trace_text s es ++ more) ≡ head_bytes s ∷ (event_list 0 es ++ parts_of_line 10 more)
 trace_parts s es more h =
     let events = event_lines 0 es in
     let bytes : (head_line s ++ events) ++ more ≡ head_bytes s ++ 10 ∷ (events ++ more) =
     append_assoc (head_line s) events more ∙ append_assoc (head_bytes s) (10 ∷ []) (events ++ more) in
-    ap (parts_of 10) bytes ∙ parts_first 10 (head_bytes s) (events ++ more) (head_read s h.sizes).one_line
+    ap (parts_of_line 10) bytes ∙ parts_first_word 10 (head_bytes s) (events ++ more) (head_read s h.sizes).one_line
     ∙ ap (λ (t : List (List ℕ)). head_bytes s ∷ t) (events_parts 0 es more (trace_small s es h))
 
 text_parts : (s : Sizes) (es : List Event) → IsTrace s es
-    → parts_of 10 (trace_text s es) ≡ head_bytes s ∷ (event_list 0 es ++ [] ∷ [])
-text_parts s es h = ap (parts_of 10) (sym (append-nil (trace_text s es))) ∙ trace_parts s es [] h
+    → parts_of_line 10 (trace_text s es) ≡ head_bytes s ∷ (event_list 0 es ++ [] ∷ [])
+text_parts s es h = ap (parts_of_line 10) (sym (append-nil (trace_text s es))) ∙ trace_parts s es [] h
 
 -- ---- one text, one trace
 
@@ -140,7 +140,7 @@ pub text_injective : (s t : Sizes) (es fs : List Event) → IsTrace s es → IsT
     → (s ≡ t) × (es ≡ fs)
 text_injective s t es fs h k e =
     let lines : (head_bytes s ∷ (event_list 0 es ++ [] ∷ [])) ≡ (head_bytes t ∷ (event_list 0 fs ++ [] ∷ [])) =
-    sym (text_parts s es h) ∙ ap (parts_of 10) e ∙ text_parts t fs k in
+    sym (text_parts s es h) ∙ ap (parts_of_line 10) e ∙ text_parts t fs k in
     let heads : head_bytes s ≡ head_bytes t = cc in
     let others : event_list 0 es ++ [] ∷ [] ≡ event_list 0 fs ++ [] ∷ [] = cc in (
       heads_differ s t h.sizes k.sizes heads,
@@ -212,7 +212,7 @@ among : (P : Event → Type 0) (front : List Event) (e : Event) (back : List Eve
 among P [] e back h = h.0
 among P (f ∷ front) e back h = among P front e back h.1
 
-pub parts_some : (bytes : List ℕ) → 0 < length (parts_of 10 bytes)
+pub parts_some : (bytes : List ℕ) → 0 < length (parts_of_line 10 bytes)
 parts_some bytes = omega (arith, length-slice_split (λ b. eqb b 10) bytes)
 
 next_from : (s t : Sizes) (es fs : List Event) (line : List ℕ) → IsTrace t fs → t ≡ s → IsAmong 0 es fs line
@@ -245,24 +245,24 @@ next_due s es line h clean b =
     b.4 ∙ append_assoc (trace_text s es) (line ++ 10 ∷ []) more
     ∙ ap (λ (x : List ℕ). trace_text s es ++ x) (append_assoc line (10 ∷ []) more) in
     let lines : (head_bytes t ∷ (event_list 0 fs ++ [] ∷ []))
-    ≡ (head_bytes s ∷ (event_list 0 es ++ line ∷ parts_of 10 more)) =
-    sym (text_parts t fs k) ∙ ap (parts_of 10) bytes ∙ trace_parts s es (line ++ 10 ∷ more) h
-    ∙ ap (λ (x : List (List ℕ)). head_bytes s ∷ (event_list 0 es ++ x)) (parts_first 10 line more clean) in
+    ≡ (head_bytes s ∷ (event_list 0 es ++ line ∷ parts_of_line 10 more)) =
+    sym (text_parts t fs k) ∙ ap (parts_of_line 10) bytes ∙ trace_parts s es (line ++ 10 ∷ more) h
+    ∙ ap (λ (x : List (List ℕ)). head_bytes s ∷ (event_list 0 es ++ x)) (parts_first_word 10 line more clean) in
     let heads : head_bytes t ≡ head_bytes s = cc in
-    let others : event_list 0 fs ++ [] ∷ [] ≡ event_list 0 es ++ line ∷ parts_of 10 more = cc in
+    let others : event_list 0 fs ++ [] ∷ [] ≡ event_list 0 es ++ line ∷ parts_of_line 10 more = cc in
     next_from s t es fs line k (heads_differ t s k.sizes h.sizes heads)
-    (walk 0 es fs line (parts_of 10 more) (parts_some more) others)
+    (walk 0 es fs line (parts_of_line 10 more) (parts_some more) others)
 
 -- ---- the first line, and the last
 
 -- a trace's text begins with its sizes
 pub first_due : (line : List ℕ) → HasNo 10 line → BeginsTraceText (line ++ 10 ∷ [])
-    → (s : Sizes) × AreSizes (head s) × (line ≡ head_bytes s)
+    → (s : Sizes) × AreLawfulSizes (head s) × (line ≡ head_bytes s)
 first_due line clean b =
     let t = b.0 in let fs = b.1 in let k = b.2 in let more = b.3 in
-    let lines : (head_bytes t ∷ (event_list 0 fs ++ [] ∷ [])) ≡ (line ∷ parts_of 10 more) =
-    sym (text_parts t fs k) ∙ ap (parts_of 10) (b.4 ∙ append_assoc line (10 ∷ []) more)
-    ∙ parts_first 10 line more clean in
+    let lines : (head_bytes t ∷ (event_list 0 fs ++ [] ∷ [])) ≡ (line ∷ parts_of_line 10 more) =
+    sym (text_parts t fs k) ∙ ap (parts_of_line 10) (b.4 ∙ append_assoc line (10 ∷ []) more)
+    ∙ parts_first_word 10 line more clean in
     (t, k.sizes, cc)
 
 last_same : (xs ys : List (List ℕ)) (a b : List ℕ) → xs ++ a ∷ [] ≡ ys ++ b ∷ [] → a ≡ b
@@ -282,8 +282,8 @@ pub text_ends : (s t : Sizes) (es fs : List Event) (rest : List ℕ) → IsTrace
     → trace_text t fs ≡ trace_text s es ++ rest → rest ≡ []
 text_ends s t es fs rest h k clean e =
     let lines : (head_bytes t ∷ (event_list 0 fs ++ [] ∷ [])) ≡ (head_bytes s ∷ (event_list 0 es ++ rest ∷ [])) =
-    sym (text_parts t fs k) ∙ ap (parts_of 10) e ∙ trace_parts s es rest h
-    ∙ ap (λ (x : List (List ℕ)). head_bytes s ∷ (event_list 0 es ++ x)) (parts_none 10 rest clean) in
+    sym (text_parts t fs k) ∙ ap (parts_of_line 10) e ∙ trace_parts s es rest h
+    ∙ ap (λ (x : List (List ℕ)). head_bytes s ∷ (event_list 0 es ++ x)) (parts_one_word 10 rest clean) in
     let others : event_list 0 es ++ rest ∷ [] ≡ event_list 0 fs ++ [] ∷ [] = cc in
     last_same (event_list 0 es) (event_list 0 fs) rest [] others
 
@@ -291,6 +291,6 @@ text_ends s t es fs rest h k clean e =
 pub text_feeds : (t : Sizes) (fs : List Event) → IsTrace t fs → HasNo 10 (trace_text t fs) → ⊥
 text_feeds t fs k clean =
     let lines : (head_bytes t ∷ (event_list 0 fs ++ [] ∷ [])) ≡ (trace_text t fs ∷ []) =
-    sym (text_parts t fs k) ∙ parts_none 10 (trace_text t fs) clean in
+    sym (text_parts t fs k) ∙ parts_one_word 10 (trace_text t fs) clean in
     let none : event_list 0 fs ++ [] ∷ [] ≡ [] = cc in
     omega (arith, ap (λ (x : List (List ℕ)). length x) none, length-append (event_list 0 fs) ([] ∷ []))

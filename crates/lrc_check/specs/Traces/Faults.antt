@@ -7,10 +7,10 @@ use Rattle.journal.specs.declared.event.Kind.TheVariants as kind
 use Rattle.journal.specs.Sizes.{Sizes, addresses}
 use Rattle.lrc_script.specs.declared.fault.ScriptFault.{ScriptFault}
 use Rattle.lrc_script.specs.declared.fault.ScriptFault.TheVariants as script
-use Rattle.lrc_script.specs.Lawful.{AreSizes}
+use Rattle.lrc_script.specs.Lawful.{AreLawfulSizes}
 use Rattle.lrc_script.specs.Front.{Nothing}
-use Rattle.lrc_script.specs.Faults.{HasLine, HasNoLineFeed, Says}
-use Rattle.lrc_script.specs.Reading.{IsCut}
+use Rattle.lrc_script.specs.LineFaults.{HasLine, HasNoLineFeed, SaysOfLine}
+use Rattle.lrc_script.specs.LineReading.{IsLineCut}
 use Rattle.lrc_check.specs.declared.traces.fault.TraceFault.{TraceFault}
 use Rattle.lrc_check.specs.declared.traces.fault.TraceFault.TheVariants.{Truncated, Cut, BadLine, BadNumber, BadSize, BadPlace, BadProcessor, OutOfRange, BadLock, BadFlag, TooLong, NoMemory}
 use Rattle.lrc_check.specs.Traces.Sizes.{head}
@@ -27,9 +27,9 @@ fault_from _ = BadLine
 
 -- what a fault says of the line of the sizes: the same as of a script's first line
 abbrev pub HeadSays : TraceFault → List ℕ → Type 0
-HeadSays BadLine line = Says script.BadLine Nothing line
-HeadSays BadNumber line = Says script.BadNumber Nothing line
-HeadSays BadSize line = Says script.BadSize Nothing line
+HeadSays BadLine line = SaysOfLine script.BadLine Nothing line
+HeadSays BadNumber line = SaysOfLine script.BadNumber Nothing line
+HeadSays BadSize line = SaysOfLine script.BadSize Nothing line
 HeadSays _ line = ⊥
 
 -- the kind names an address, a page, a lock or a flag past the sizes, and this is its fault
@@ -74,7 +74,7 @@ Refuses fault s es line = LineSays fault s es line
 
 -- the line has sizes that a script may have
 pub record LineHasSizes (line : List ℕ) (s : Sizes) : Type 0 where
-  pub sizes : AreSizes (head s)
+  pub sizes : AreLawfulSizes (head s)
   pub line_is : line ++ 10 ∷ [] ≡ head_line s
 
 -- why a line has no such sizes, unless memory ran out
@@ -90,7 +90,7 @@ BeginsTraceText bytes = (s : Sizes) × (es : List Event) × IsTrace s es × (mor
 pub record IsBadLine (before rest : List ℕ) (Holds : List ℕ → Type 0) : Type 0 where
   pub line : List ℕ
   pub more : List ℕ
-  pub cut : IsCut rest line more
+  pub cut : IsLineCut rest line more
   pub holds : Holds line
   pub never : ¬ BeginsTraceText (before ++ (line ++ 10 ∷ []))
 

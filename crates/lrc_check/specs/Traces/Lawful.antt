@@ -6,7 +6,7 @@ use Rattle.journal.specs.declared.event.Kind.{Kind}
 use Rattle.journal.specs.declared.event.Kind.TheVariants.{Load, Store, Fetch}
 use Rattle.journal.specs.Sizes.{Sizes}
 use Rattle.journal.specs.WellFormed.{KindInRange}
-use Rattle.lrc_script.specs.Lawful.{AreSizes}
+use Rattle.lrc_script.specs.Lawful.{AreLawfulSizes}
 use Rattle.lrc_check.specs.Traces.Sizes.{head}
 use Rattle.lrc_check.specs.Traces.Text.{trace_text}
 
@@ -25,7 +25,7 @@ pub record IsWithin (s : Sizes) (e : Event) : Type 0 where
 
 -- these are sizes that a script may have, and events within them, no more than a journal can hold
 pub record IsTrace (s : Sizes) (es : List Event) : Type 0 where
-  pub sizes : AreSizes (head s)
+  pub sizes : AreLawfulSizes (head s)
   pub few : length es ≤ most_held
   pub events : All (IsWithin s) es
 

@@ -7,8 +7,8 @@ use Rattle.journal.specs.declared.event.Event.{Event}
 use Rattle.journal.specs.declared.event.Kind.{Kind}
 use Rattle.journal.specs.Sizes.{Sizes}
 use Rattle.journal.specs.WellFormed.{KindInRange}
-use Rattle.lrc_script.specs.Faults.{IsSplit}
-use Rattle.lrc_script.specs.Reading.{numbers_after}
+use Rattle.lrc_script.specs.LineFaults.{IsLineSplit}
+use Rattle.lrc_script.specs.LineReading.{numbers_read_after}
 use Rattle.lrc_report.specs.ReportText.{cut_line, event_line}
 use Rattle.lrc_check.specs.declared.traces.names.Name.{Name}
 use Rattle.lrc_check.specs.Traces.Lawful.{IsWithin}
@@ -17,13 +17,13 @@ use Rattle.lrc_check.specs.Traces.Names.{operand_count, kind_from, numbers_of, w
 -- the line is the word `event` and others, with one space before each: a place, a processor, a name, and as many
 -- words as the name has numbers
 pub record IsShaped (line place processor : List ℕ) (name : Name) (numbers : List (List ℕ)) : Type 0 where
-  pub split : IsSplit line (codes "event") (place ∷ processor ∷ word_of name ∷ numbers)
+  pub split : IsLineSplit line (codes "event") (place ∷ processor ∷ word_of name ∷ numbers)
   pub count : length numbers ≡ operand_count name
 
 -- the words are numbers, and with these an event of this name did what k says
 pub record GivesKind (name : Name) (words : List (List ℕ)) (k : Kind) : Type 0 where
   pub numbers : List ℕ
-  pub read : numbers_after [] words ≡ Ok numbers
+  pub read : numbers_read_after [] words ≡ Ok numbers
   pub kind : kind_from name numbers ≡ Some k
 
 -- no words make the line such a one

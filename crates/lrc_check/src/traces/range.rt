@@ -2,7 +2,7 @@
 ghost use Rattle.std.specs.Prelude.{IfSome, IfNone};
 ghost use Rattle.lrc_check.specs.Traces.Prelude.{EventSays, IsDueEvent, IsPast, head, sizes_of};
 ghost use Rattle.journal.specs.WellFormed.{KindInRange};
-ghost use Rattle.lrc_script.specs.Prelude.{AreSizes};
+ghost use Rattle.lrc_script.specs.Prelude.{AreLawfulSizes};
 
 use crate::traces::fault::TraceFault;
 use crate::traces::trace::Sizes;
@@ -10,7 +10,7 @@ use journal::{Event, Kind, MOST_HELD};
 
 /// The fault of a kind that names an address, a page, a lock or a flag past the sizes.
 fn kind_fault(sizes: &Sizes, kind: Kind) -> Option<TraceFault>
-    requires { AreSizes (head (sizes_of sizes.now)) }
+    requires { AreLawfulSizes (head (sizes_of sizes.now)) }
     ensures none { IfNone result (KindInRange (sizes_of sizes.now) kind) }
     ensures some { IfSome result (λ f. IsPast f (sizes_of sizes.now) kind) }
 {
@@ -31,7 +31,7 @@ fn kind_fault(sizes: &Sizes, kind: Kind) -> Option<TraceFault>
 
 /// Why the event of a line that gives this place can't stand behind `count` others.
 pub fn event_fault(sizes: &Sizes, count: usize, place: usize, event: &Event) -> Option<TraceFault>
-    requires { AreSizes (head (sizes_of sizes.now)) }
+    requires { AreLawfulSizes (head (sizes_of sizes.now)) }
     ensures none { IfNone result (IsDueEvent (sizes_of sizes.now) count place event.now) }
     ensures some { IfSome result (λ f. EventSays f (sizes_of sizes.now) count place event.now) }
 {

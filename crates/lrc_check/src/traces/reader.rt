@@ -22,7 +22,7 @@ pub struct Reader {
 
 impl Model for Reader {
     ghost use Rattle.std.specs.Prelude.{ℕ, List, ◌++◌};
-    ghost use Rattle.lrc_script.specs.Faults.{HasNoLineFeed};
+    ghost use Rattle.lrc_script.specs.LineFaults.{HasNoLineFeed};
     ghost use Rattle.lrc_check.specs.Traces.Begun.{IsTraceBegun, begun_text};
 
     ghost Value = { List ℕ };

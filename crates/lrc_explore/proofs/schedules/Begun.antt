@@ -7,29 +7,29 @@ use Rattle.std.proofs.lemmas.Bool.{cond-true}
 use Rattle.std.proofs.lemmas.List.{map-append, length-replicate}
 use Rattle.std.proofs.lemmas.List.Elements.{filter-append}
 use Rattle.std.proofs.lemmas.Option.{slice_get-get_or}
-use Rattle.base.proofs.LastWrites.{length-written}
-use Rattle.base.proofs.Places.{take-suc_at}
+use Rattle.base.proofs.LastWritten.{length-written}
+use Rattle.base.proofs.SlicesAndCounts.{take-suc_at}
 use Rattle.journal.specs.declared.event.Event.{Event}
 use Rattle.journal.specs.declared.event.Kind.{Kind}
 use Rattle.journal.specs.declared.event.Kind.TheVariants.{Load}
-use Rattle.journal.specs.Did.{did, event}
-use Rattle.journal.specs.Flat.{flat_write, memory_after, AnswersWord, Replays}
-use Rattle.journal.specs.Loads.{Explained}
+use Rattle.journal.specs.DidEvent.{did, event}
+use Rattle.journal.specs.FlatMemory.{flat_write, memory_after, AnswersWord, Replays}
+use Rattle.journal.specs.ExplainedAnswers.{Explained}
 use Rattle.journal.specs.Races.{Race, RaceFree}
 use Rattle.journal.specs.WellFormed.{KindInRange, Does, MayFollow, WellFormed}
 use Rattle.journal.proofs.Flat.FlatMemory.{flat_memory, flat_up_to}
-use Rattle.journal.proofs.Journals.WellFormed.{each_push, well_formed_take}
+use Rattle.journal.proofs.Journals.WellFormedLast.{each_push, well_formed_take}
 use Rattle.lrc_script.specs.declared.script.Instruction.{Instruction}
 use Rattle.lrc_script.specs.Plan.{Plan}
-use Rattle.lrc_script.specs.Lawful.{addresses}
+use Rattle.lrc_script.specs.Lawful.{plan_addresses}
 use Rattle.conformance.specs.Begins.{BeginsScript, BeginsSection}
 use Rattle.conformance.specs.Follows.{plan_sizes, calls_of, is_fetch}
 use Rattle.conformance.specs.Like.{valueless, without_value, SameButValues}
 use Rattle.conformance.proofs.Calls.{calls_of-own}
-use Rattle.conformance.proofs.Fetchless.Embeds.{fetchless, fetchless_of}
-use Rattle.conformance.proofs.Fetchless.Order.{access_calls, race_back}
-use Rattle.conformance.proofs.Fetchless.Runs.{calls_same, no_fetch_in, replays_back}
-use Rattle.conformance.proofs.Fetchless.WellFormed.{well_formed_back}
+use Rattle.conformance.proofs.WithoutFetches.Embeds.{without_fetches, without_fetches_of}
+use Rattle.conformance.proofs.WithoutFetches.Order.{access_no_fetch, race_without_fetches}
+use Rattle.conformance.proofs.WithoutFetches.Runs.{calls_without_fetches, no_fetch_in, replays_without_fetches}
+use Rattle.conformance.proofs.WithoutFetches.WellFormed.{well_formed_without_fetches}
 use Rattle.conformance.proofs.Like.Order.{race_like}
 use Rattle.conformance.proofs.Like.WellFormed.{well_formed_like}
 use Rattle.conformance.proofs.Recomputing.Replaying.{fetch_like}
@@ -43,22 +43,22 @@ use Rattle.lrc_explore.specs.Schedules.Laws.{BegunLaw}
 
 -- what replays and begins the script does so on one flat memory, its fetches aside
 pub flat_part : (s : Plan) (h : List Event) → WellFormed (plan_sizes s) h → BeginsScript s h
-    → Replays (replicate (addresses s) 0) h → IsFlatBeginning s (fetchless h)
+    → Replays (replicate (plan_addresses s) 0) h → IsFlatBeginning s (without_fetches h)
 flat_part s h well begins replays =
     record {
-      well_formed = well_formed_back (plan_sizes s) (fetchless h) h (fetchless_of h) well;
+      well_formed = well_formed_without_fetches (plan_sizes s) (without_fetches h) h (without_fetches_of h) well;
       begins = λ p section at.
-          subst (BeginsSection section (shown_by s p)) (sym (calls_same p h)) (begins p section at);
-      replays = replays_back h (replicate (addresses s) 0) replays;
+          subst (BeginsSection section (shown_by s p)) (sym (calls_without_fetches p h)) (begins p section at);
+      replays = replays_without_fetches h (replicate (plan_addresses s) 0) replays;
       no_fetch = no_fetch_in h;
     }
 
 -- a call at the end stays there
 pub fetchless_push : (h : List Event) (p : ℕ) (k : Kind) → is_fetch k ≡ false
-    → fetchless (did h p k) ≡ did (fetchless h) p k
+    → without_fetches (did h p k) ≡ did (without_fetches h) p k
 fetchless_push h p k call =
     filter-append (λ (e : Event). not (is_fetch e.kind)) h (event p k ∷ [])
-    ∙ ap (λ es. fetchless h ++ es) (cond-true (not (is_fetch k)) (event p k ∷ []) [] (ap not call))
+    ∙ ap (λ es. without_fetches h ++ es) (cond-true (not (is_fetch k)) (event p k ∷ []) [] (ap not call))
 
 -- the call with the word of this memory is the same but for its value
 replied_like : (memory : List ℕ) (k : Kind) → valueless k ≡ valueless (replied memory k)
@@ -71,47 +71,47 @@ like_push g p k l same =
     ∙ sym (map-append without_value g (event p l ∷ []))
 
 -- and it answers its word
-word_replied : (s : Plan) (memory : List ℕ) (k : Kind) → length memory ≡ addresses s → KindInRange (plan_sizes s) k
+word_replied : (s : Plan) (memory : List ℕ) (k : Kind) → length memory ≡ plan_addresses s → KindInRange (plan_sizes s) k
     → AnswersWord memory (replied memory k)
 word_replied s memory (Load a v) long inside = slice_get-get_or memory a 0 (subst (λ n. a < n) (sym long) inside)
 word_replied s memory _ long inside = tt
 
 -- a call after what replays makes its flat part longer, with the reply that it has there
-module _ (s : Plan) (h : List Event) (p : ℕ) (k : Kind) (replays : Replays (replicate (addresses s) 0) h)
+module _ (s : Plan) (h : List Event) (p : ℕ) (k : Kind) (replays : Replays (replicate (plan_addresses s) 0) h)
     (well : WellFormed (plan_sizes s) (did h p k)) (begins : BeginsScript s (did h p k)) (call : is_fetch k ≡ false) where
   abbrev pub memory : List ℕ
-  memory = memory_after (replicate (addresses s) 0) (fetchless h)
+  memory = memory_after (replicate (plan_addresses s) 0) (without_fetches h)
 
-  long : length memory ≡ addresses s
-  long = length-written (λ (e : Event). flat_write e.kind) (replicate (addresses s) 0) (fetchless h)
-      ∙ length-replicate (addresses s) 0
+  long : length memory ≡ plan_addresses s
+  long = length-written (λ (e : Event). flat_write e.kind) (replicate (plan_addresses s) 0) (without_fetches h)
+      ∙ length-replicate (plan_addresses s) 0
 
-  before : IsFlatBeginning s (fetchless h)
+  before : IsFlatBeginning s (without_fetches h)
   before =
       flat_part s h ((each_push (plan_sizes s) h (event p k)).0 well).0 (script_front s h (event p k ∷ []) begins) replays
 
-  may : MayFollow (plan_sizes s) (fetchless h) (event p (replied memory k))
+  may : MayFollow (plan_sizes s) (without_fetches h) (event p (replied memory k))
   may =
-      let there = well_formed_back (plan_sizes s) (fetchless (did h p k)) (did h p k) (fetchless_of (did h p k)) well in
+      let there = well_formed_without_fetches (plan_sizes s) (without_fetches (did h p k)) (did h p k) (without_fetches_of (did h p k)) well in
       let here = subst (WellFormed (plan_sizes s)) (fetchless_push h p k call) there in
-      let like = like_push (fetchless h) p k (replied memory k) (replied_like memory k) in
-      let same = well_formed_like (plan_sizes s) (did (fetchless h) p k) (did (fetchless h) p (replied memory k)) like here in
-      ((each_push (plan_sizes s) (fetchless h) (event p (replied memory k))).0 same).1
+      let like = like_push (without_fetches h) p k (replied memory k) (replied_like memory k) in
+      let same = well_formed_like (plan_sizes s) (did (without_fetches h) p k) (did (without_fetches h) p (replied memory k)) like here in
+      ((each_push (plan_sizes s) (without_fetches h) (event p (replied memory k))).0 same).1
 
   called : (section : List Instruction) → slice_get s.sections p ≡ Some section
-      → IsCalledNext (section_steps section (shown_by s p)) (calls_of (fetchless h) p) (replied memory k)
+      → IsCalledNext (section_steps section (shown_by s p)) (calls_of (without_fetches h) p) (replied memory k)
   called section at =
       let own = subst (BeginsSection section (shown_by s p)) (calls_of-own h p k call) (begins p section at) in
       let is = ((begins_push section (shown_by s p) (calls_of h p) k).0 own).1 in
-      subst (λ calls. IsCalledNext (section_steps section (shown_by s p)) calls (replied memory k)) (sym (calls_same p h))
+      subst (λ calls. IsCalledNext (section_steps section (shown_by s p)) calls (replied memory k)) (sym (calls_without_fetches p h))
       (record { step = is.step; at = is.at; is = step_replied (last_reply (calls_of h p)) is.step k memory is.is })
 
   pub call_replied : is_fetch (replied memory k) ≡ false
   call_replied = sym (fetch_like k (replied memory k) (replied_like memory k)) ∙ call
 
-  pub longer : IsFlatBeginning s (did (fetchless h) p (replied memory k))
+  pub longer : IsFlatBeginning s (did (without_fetches h) p (replied memory k))
   longer =
-      (next_begins s (fetchless h) p (replied memory k)).1 (
+      (next_begins s (without_fetches h) p (replied memory k)).1 (
         before,
         record {
           may_follow = may;
@@ -123,12 +123,12 @@ module _ (s : Plan) (h : List Event) (p : ℕ) (k : Kind) (replays : Replays (re
 -- a history of a script of which no flat beginning races
 module _ (s : Plan) (free : IsFlatRaceFree s) (h : List Event) (well : WellFormed (plan_sizes s) h)
     (explained : Explained h) (begins : BeginsScript s h) where
-  in_range : (i p a v : ℕ) → Does h i p (Load a v) → a < addresses s
+  in_range : (i p a v : ℕ) → Does h i p (Load a v) → a < plan_addresses s
   in_range i p a v does = (well i (event p (Load a v)) does).in_range
 
   -- no race is the first
   race_at : (m k : ℕ) → Race h m k → ((i n : ℕ) → n < k → ¬ Race h i n) → ⊥
-  race_at m k race none = free (fetchless now) (subst (IsFlatBeginning s) (sym pushed) flat) again.0 again.1 again.2
+  race_at m k race none = free (without_fetches now) (subst (IsFlatBeginning s) (sym pushed) flat) again.0 again.1 again.2
     where
       p : ℕ
       p = race.second.processor
@@ -136,8 +136,8 @@ module _ (s : Plan) (free : IsFlatRaceFree s) (h : List Event) (well : WellForme
       c : Kind
       c = race.second.kind
 
-      replays : Replays (replicate (addresses s) 0) (take k h)
-      replays = flat_up_to (addresses s) h k in_range explained none
+      replays : Replays (replicate (plan_addresses s) 0) (take k h)
+      replays = flat_up_to (plan_addresses s) h k in_range explained none
 
       front : take (suc k) h ≡ did (take k h) p c
       front = take-suc_at h k race.second race.second_at
@@ -152,7 +152,7 @@ module _ (s : Plan) (free : IsFlatRaceFree s) (h : List Event) (well : WellForme
           (subst (BeginsScript s) (sym (take-append-drop (suc k) h)) begins))
 
       call : is_fetch c ≡ false
-      call = access_calls c race.conflict.address race.conflict.second
+      call = access_no_fetch c race.conflict.address race.conflict.second
 
       reply : Kind
       reply = replied (memory s (take k h) p c replays well_now begins_now call) c
@@ -160,10 +160,10 @@ module _ (s : Plan) (free : IsFlatRaceFree s) (h : List Event) (well : WellForme
       now : List Event
       now = did (take k h) p reply
 
-      flat : IsFlatBeginning s (did (fetchless (take k h)) p reply)
+      flat : IsFlatBeginning s (did (without_fetches (take k h)) p reply)
       flat = longer s (take k h) p c replays well_now begins_now call
 
-      pushed : fetchless now ≡ did (fetchless (take k h)) p reply
+      pushed : without_fetches now ≡ did (without_fetches (take k h)) p reply
       pushed = fetchless_push (take k h) p reply (call_replied s (take k h) p c replays well_now begins_now call)
 
       race_now : Race now m k
@@ -173,8 +173,8 @@ module _ (s : Plan) (free : IsFlatRaceFree s) (h : List Event) (well : WellForme
           (race_like (did (take k h) p c) now m k like).0
           (subst (λ es. Race es m k) front (race_take h m k race))
 
-      again : (i n : ℕ) × Race (fetchless now) i n
-      again = race_back (fetchless now) now (fetchless_of now) m k race_now
+      again : (i n : ℕ) × Race (without_fetches now) i n
+      again = race_without_fetches (without_fetches now) now (without_fetches_of now) m k race_now
 
   no_race : (n m k : ℕ) → k < n → ¬ Race h m k
   no_race zero m k less race = absurd (omega (arith, less))
@@ -183,8 +183,8 @@ module _ (s : Plan) (free : IsFlatRaceFree s) (h : List Event) (well : WellForme
   pub race_free : RaceFree h
   race_free m k race = no_race (suc k) m k (omega arith) race
 
-  pub replays_whole : Replays (replicate (addresses s) 0) h
-  replays_whole = flat_memory (addresses s) h in_range explained race_free
+  pub replays_whole : Replays (replicate (plan_addresses s) 0) h
+  replays_whole = flat_memory (plan_addresses s) h in_range explained race_free
 
 pub begun_law : BegunLaw
 begun_law s h free well explained begins =

@@ -6,11 +6,11 @@ use Rattle.std.proofs.lemmas.Option.{none-some, same_Some}
 use Rattle.journal.specs.declared.event.Event.{Event}
 use Rattle.journal.specs.declared.event.Kind.{Kind}
 use Rattle.journal.specs.declared.event.Kind.TheVariants.{Load, Store, Fetch, Ask, Acquire, Release, Arrive, Depart, Set, Watch, Await}
-use Rattle.journal.specs.Did.{event}
+use Rattle.journal.specs.DidEvent.{event}
 use Rattle.journal.specs.Events.{At, count_of, is_arrive, is_depart}
 use Rattle.journal.specs.Sizes.{Sizes, addresses}
-use Rattle.journal.specs.WellFormed.{AllArrived, Allowed, Answers, Does, Holds, KindInRange, LastIs, MayBeGranted, MayFollow}
-use Rattle.journal.proofs.Order.Places.{at_within}
+use Rattle.journal.specs.WellFormed.{AllArrived, Allowed, AnswersCall, Does, Holds, KindInRange, LastIs, MayBeGranted, MayFollow}
+use Rattle.journal.proofs.Order.CountedAndNumbered.{at_within}
 
 -- it is so, or it isn't
 abbrev pub Decided : Type 0 → Type 0
@@ -208,17 +208,17 @@ module _ (j : List Event) where
       (some j (λ i e. e.kind ≡ Set f) (λ i e at. is_set f e.kind)))
   decided_allowed s p _ = inl tt
 
-  decided_answers : (a k : Kind) → Decided (Answers a k)
+  decided_answers : (a k : Kind) → Decided (AnswersCall a k)
   decided_answers (Ask l) k = is_acquire l k
   decided_answers Arrive k = is_departure k
   decided_answers (Watch f) k = is_await f k
   decided_answers _ k = inl tt
 
-  decided_turn : (p : ℕ) (k : Kind) → Decided ((i : ℕ) (b : Kind) → LastIs j p i b → Answers b k)
+  decided_turn : (p : ℕ) (k : Kind) → Decided ((i : ℕ) (b : Kind) → LastIs j p i b → AnswersCall b k)
   decided_turn p k =
-      moved (λ (all : (i : ℕ) (e : Event) → At j i e → LastIs j p i e.kind → Answers e.kind k).
+      moved (λ (all : (i : ℕ) (e : Event) → At j i e → LastIs j p i e.kind → AnswersCall e.kind k).
       λ i b last. all i (event p b) last.does last) (λ all i e at last. all i e.kind last)
-      (every j (λ i e. LastIs j p i e.kind → Answers e.kind k) (λ i e at.
+      (every j (λ i e. LastIs j p i e.kind → AnswersCall e.kind k) (λ i e at.
       decided_if (mine i e at (cases_eq e.processor p)) (decided_answers e.kind k)))
     where
       mine : (i : ℕ) (e : Event) → At j i e → Decided (e.processor ≡ p) → Decided (LastIs j p i e.kind)
@@ -239,7 +239,7 @@ decided_range s _ = inl tt
 
 pub decided_follow : (s : Sizes) (j : List Event) (p : ℕ) (k : Kind) → Decided (MayFollow s j (event p k))
 decided_follow s j p k =
-    moved (λ (all : (p < s.processors) × (KindInRange s k × (((i : ℕ) (b : Kind) → LastIs j p i b → Answers b k) × Allowed s j p k))).
+    moved (λ (all : (p < s.processors) × (KindInRange s k × (((i : ℕ) (b : Kind) → LastIs j p i b → AnswersCall b k) × Allowed s j p k))).
     record { processor = all.0; in_range = all.1.0; answers = all.1.1.0; allowed = all.1.1.1 })
     (λ may. (may.processor, (may.in_range, (may.answers, may.allowed))))
     (decided_and (decided_lt p s.processors) (decided_and (decided_range s k) (decided_and (decided_turn j p k)

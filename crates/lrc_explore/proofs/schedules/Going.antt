@@ -3,15 +3,15 @@
 use Rattle.std.proofs.Common.{ℕ, ◌≡◌, ◌<◌, inl, inr, List, false, None, length, sym, ap, subst, ◌∙◌}
 use Rattle.journal.specs.declared.event.Event.{Event}
 use Rattle.journal.specs.declared.event.Kind.{Kind}
-use Rattle.journal.specs.Did.{did, event}
+use Rattle.journal.specs.DidEvent.{did, event}
 use Rattle.journal.specs.WellFormed.{WellFormed}
-use Rattle.journal.proofs.Journals.WellFormed.{each_push}
-use Rattle.journal.proofs.Order.Places.{at_last}
+use Rattle.journal.proofs.Journals.WellFormedLast.{each_push}
+use Rattle.journal.proofs.Order.CountedAndNumbered.{at_last}
 use Rattle.lrc_script.specs.Plan.{Plan}
 use Rattle.conformance.specs.Begins.{BeginsScript, BeginsSection}
 use Rattle.conformance.specs.Follows.{plan_sizes, calls_of, is_fetch, Follows, FollowsSection}
-use Rattle.conformance.proofs.Fetchless.Embeds.{fetchless, fetchless_of}
-use Rattle.conformance.proofs.Fetchless.Runs.{calls_same}
+use Rattle.conformance.proofs.WithoutFetches.Embeds.{without_fetches, without_fetches_of}
+use Rattle.conformance.proofs.WithoutFetches.Runs.{calls_without_fetches}
 use Rattle.explore.specs.Prefixes.Beginnings.{IsFlatBeginning, IsFlatRaceFree}
 use Rattle.explore.specs.Prefixes.Calling.{shown_by}
 use Rattle.explore.specs.Explored.{IsRaceFreeWith}
@@ -26,38 +26,38 @@ use Rattle.lrc_explore.proofs.schedules.Waiting.{follow_there}
 
 -- what may come next on one flat memory, where fetches are left out, may come next
 module _ (s : Plan) (h : List Event) (well : WellFormed (plan_sizes s) h) (p : ℕ) (k : Kind)
-    (flat : IsFlatBeginning s (did (fetchless h) p k)) where
+    (flat : IsFlatBeginning s (did (without_fetches h) p k)) where
   call : is_fetch k ≡ false
-  call = flat.no_fetch (length (fetchless h)) (event p k) (at_last (fetchless h) (event p k))
+  call = flat.no_fetch (length (without_fetches h)) (event p k) (at_last (without_fetches h) (event p k))
 
   well_longer : WellFormed (plan_sizes s) (did h p k)
   well_longer =
-      let may = ((each_push (plan_sizes s) (fetchless h) (event p k)).0 flat.well_formed).1 in
+      let may = ((each_push (plan_sizes s) (without_fetches h) (event p k)).0 flat.well_formed).1 in
       (each_push (plan_sizes s) h (event p k)).1 (
         well,
-        follow_there (plan_sizes s) (fetchless h) h (fetchless_of h).embeds well (event p k) (counts_same h) may,
+        follow_there (plan_sizes s) (without_fetches h) h (without_fetches_of h).embeds well (event p k) (counts_same h) may,
       )
 
   begins_longer : BeginsScript s (did h p k)
   begins_longer q section at =
       subst (BeginsSection section (shown_by s q))
-      (ap (λ es. calls_of es q) (sym (fetchless_push h p k call)) ∙ calls_same q (did h p k))
+      (ap (λ es. calls_of es q) (sym (fetchless_push h p k call)) ∙ calls_without_fetches q (did h p k))
       (flat.begins q section at)
 
 -- without its fetches a history that isn't whole has begun the script on one flat memory, and isn't whole there
 module _ (s : Plan) (h : List Event) (begun : IsUnfinished s h) (free : IsFlatRaceFree s) where
-  flat : IsFlatBeginning s (fetchless h)
+  flat : IsFlatBeginning s (without_fetches h)
   flat =
       flat_part s h begun.well_formed begun.begins
       (replays_whole s free h begun.well_formed begun.explained begun.begins)
 
-  unfinished : ¬ Follows s (fetchless h)
+  unfinished : ¬ Follows s (without_fetches h)
   unfinished follows =
       begun.unfinished (λ p section at.
-      subst (FollowsSection section (shown_by s p)) (calls_same p h) (follows p section at))
+      subst (FollowsSection section (shown_by s p)) (calls_without_fetches p h) (follows p section at))
 
 pub never_stuck : NeverStuckLaw
-never_stuck s outcomes h f stuck = free.hangs (fetchless h) (record {
+never_stuck s outcomes h f stuck = free.hangs (without_fetches h) (record {
   beginning = flat s h stuck.begun free.race_free;
   unfinished = unfinished s h stuck.begun free.race_free;
   stuck = λ p k next.
@@ -78,17 +78,17 @@ goes_on s outcomes h lawful f begun = elim some [
     well_formed = well_longer s h begun.well_formed next.0 next.2.0 next.2.1;
     begins = begins_longer s h begun.well_formed next.0 next.2.0 next.2.1;
   }
-  | inr none ↦ absurd (free.hangs (fetchless h) (record {
+  | inr none ↦ absurd (free.hangs (without_fetches h) (record {
     beginning = flat s h begun free.race_free;
     unfinished = unfinished s h begun free.race_free;
-    stuck = λ p k next. none (p, next_within s (fetchless h) p k next, (k, next));
+    stuck = λ p k next. none (p, next_within s (without_fetches h) p k next, (k, next));
   }))
 ]
   where
     free : IsRaceFreeWith s outcomes.items None
     free = found s outcomes None f
 
-    some : Decided ((p : ℕ) × (p < s.processors) × ((k : Kind) × IsFlatBeginning s (did (fetchless h) p k)))
+    some : Decided ((p : ℕ) × (p < s.processors) × ((k : Kind) × IsFlatBeginning s (did (without_fetches h) p k)))
     some =
-        decided_some (λ p. (k : Kind) × IsFlatBeginning s (did (fetchless h) p k)) (λ p.
-        decided_next s (fetchless h) p (flat s h begun free.race_free) lawful.but_uneven.one_each) s.processors
+        decided_some (λ p. (k : Kind) × IsFlatBeginning s (did (without_fetches h) p k)) (λ p.
+        decided_next s (without_fetches h) p (flat s h begun free.race_free) lawful.but_uneven.one_each) s.processors

@@ -6,14 +6,14 @@ use Rattle.std.proofs.lemmas.Option.{none-some, same_Some}
 use Rattle.journal.specs.declared.event.Event.{Event}
 use Rattle.journal.specs.declared.event.Kind.{Kind}
 use Rattle.journal.specs.declared.event.Kind.TheVariants as kind
-use Rattle.journal.specs.Did.{did, event}
-use Rattle.journal.specs.Flat.{AnswersWord, memory_after}
+use Rattle.journal.specs.DidEvent.{did, event}
+use Rattle.journal.specs.FlatMemory.{AnswersWord, memory_after}
 use Rattle.journal.specs.WellFormed.{MayFollow}
 use Rattle.lrc_script.specs.declared.script.Instruction.{Instruction}
 use Rattle.lrc_script.specs.Plan.{Plan}
-use Rattle.lrc_script.specs.Lawful.{addresses}
+use Rattle.lrc_script.specs.Lawful.{plan_addresses}
 use Rattle.conformance.specs.Follows.{plan_sizes, calls_of, is_fetch}
-use Rattle.conformance.proofs.Script.Sections.{told_load}
+use Rattle.conformance.proofs.Script.SectionSteps.{told_load}
 use Rattle.explore.specs.declared.prefixes.script_call.ScriptCall.{ScriptCall}
 use Rattle.explore.specs.declared.prefixes.script_call.ScriptCall.TheVariants.{Call, Adds}
 use Rattle.explore.specs.Prefixes.Beginnings.{IsFlatBeginning}
@@ -49,7 +49,7 @@ no_fetch k = elim (cases_Bool (is_fetch k)) [ inl is ↦ inr (λ isnt. false≢t
 
 module _ (s : Plan) (g : List Event) (p : ℕ) (flat : IsFlatBeginning s g) where
   abbrev memory : List ℕ
-  memory = memory_after (replicate (addresses s) 0) g
+  memory = memory_after (replicate (plan_addresses s) 0) g
 
   abbrev reply : ℕ
   reply = last_reply (calls_of g p)

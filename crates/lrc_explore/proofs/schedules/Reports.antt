@@ -11,12 +11,12 @@ use Rattle.journal.specs.declared.event.Kind.TheVariants as kind
 use Rattle.lrc_script.specs.Plan.{Plan}
 use Rattle.conformance.specs.Begins.{BeginsScript}
 use Rattle.conformance.specs.Follows.{calls_of, load_of, FollowsSection}
-use Rattle.conformance.proofs.Fetchless.Embeds.{fetchless}
-use Rattle.conformance.proofs.Fetchless.Runs.{calls_same}
+use Rattle.conformance.proofs.WithoutFetches.Embeds.{without_fetches}
+use Rattle.conformance.proofs.WithoutFetches.Runs.{calls_without_fetches}
 use Rattle.explore.specs.Prefixes.Beginnings.{IsWhole}
 use Rattle.explore.proofs.prefixes.Beginnings.{follows_begins}
 use Rattle.explore.specs.Prefixes.Calling.{shown_by}
-use Rattle.conformance.specs.Reports.{AreLastReplies}
+use Rattle.conformance.specs.Reports.{AreReportedReplies}
 use Rattle.explore.specs.declared.explored.Hang.{Hang}
 use Rattle.explore.specs.declared.explored.Outcome.{Outcome}
 use Rattle.explore.specs.Explored.{IsRaceFreeWith, IsVerdictOn}
@@ -46,10 +46,10 @@ shows s h =
 
 -- and without its fetches the same
 shows_fetchless : (s : Plan) (h : List Event) (replies : List (List ℕ)) → AreReplies s h replies
-    → AreReplies s (fetchless h) replies
+    → AreReplies s (without_fetches h) replies
 shows_fetchless s h replies are = record {
   long = are.long;
-  each = λ p less. are.each p less ∙ ap (λ ks. Some (replies_in ks)) (sym (calls_same p h));
+  each = λ p less. are.each p less ∙ ap (λ ks. Some (replies_in ks)) (sym (calls_without_fetches p h));
 }
 
 -- the last loads answered what is shown
@@ -60,7 +60,7 @@ replies_end [] (x ∷ shown) = ap (λ words. x.1 ∷ words) (replies_end [] show
 replies_end (kind.Load a v ∷ front) shown = ap (λ words. v ∷ words) (replies_end front shown)
 replies_end (k ∷ front) shown = replies_end front shown
 
-ends_shown : (calls : List Kind) (shown : List (ℕ × ℕ)) → AreLastReplies calls shown
+ends_shown : (calls : List Kind) (shown : List (ℕ × ℕ)) → AreReportedReplies calls shown
     → EndsWith (replies_in calls) (map (λ (x : ℕ × ℕ). x.1) shown)
 ends_shown calls shown last = record {
   front = replies_in last.front;
@@ -80,7 +80,7 @@ report_law s outcomes hang r f is = record {
   listed = record {
     replies = shown.0;
     are = shown.1;
-    listed = (free.shows.each shown.0).1 (fetchless h, whole, shows_fetchless s h shown.0 shown.1);
+    listed = (free.shows.each shown.0).1 (without_fetches h, whole, shows_fetchless s h shown.0 shown.1);
     shown = ends;
   };
 }
@@ -94,13 +94,13 @@ report_law s outcomes hang r f is = record {
     begins : BeginsScript s h
     begins = follows_begins s h is.tells.follows
 
-    whole : IsWhole s (fetchless h)
+    whole : IsWhole s (without_fetches h)
     whole = record {
       beginning =
           flat_part s h is.tells.well_formed begins
           (replays_whole s free.race_free h is.tells.well_formed is.tells.explained begins);
       follows = λ p section at.
-          subst (FollowsSection section (shown_by s p)) (sym (calls_same p h)) (is.tells.follows p section at);
+          subst (FollowsSection section (shown_by s p)) (sym (calls_without_fetches p h)) (is.tells.follows p section at);
     }
 
     shown : (replies : List (List ℕ)) × AreReplies s h replies

@@ -4,29 +4,29 @@ use Rattle.std.proofs.Common.{ℕ, ◌≡◌, ◌+◌, List, refl, arith}
 use Rattle.journal.specs.declared.event.Event.{Event}
 use Rattle.journal.specs.declared.event.Kind.{Kind}
 use Rattle.journal.specs.declared.event.Kind.TheVariants.{Ask, Acquire, Release, Arrive, Depart, Set, Watch, Await}
-use Rattle.journal.specs.Did.{event}
+use Rattle.journal.specs.DidEvent.{event}
 use Rattle.journal.specs.Events.{count_of, is_arrive, is_depart}
 use Rattle.journal.specs.Sizes.{Sizes}
-use Rattle.journal.specs.WellFormed.{LastIs, MayBeGranted, AllArrived, Answers, Allowed, MayFollow, WellFormed}
-use Rattle.conformance.proofs.Fetchless.Embeds.{Embeds, CountsSame, rises_back}
-use Rattle.conformance.proofs.Fetchless.Order.{no_arrival, no_departure}
-use Rattle.conformance.proofs.Fetchless.WellFormed.{holds_back, holds_there, last_back, last_there}
+use Rattle.journal.specs.WellFormed.{LastIs, MayBeGranted, AllArrived, AnswersCall, Allowed, MayFollow, WellFormed}
+use Rattle.conformance.proofs.WithoutFetches.Embeds.{Embeds, CountsSame, embeds_rising}
+use Rattle.conformance.proofs.WithoutFetches.Order.{no_arrival, no_departure}
+use Rattle.conformance.proofs.WithoutFetches.WellFormed.{holds_without_fetches, holds_with_fetches, last_without_fetches, last_with_fetches}
 
 -- g is h without fetches
 module _ (s : Sizes) (g h : List Event) (x : Embeds g h) (well : WellFormed s h) where
   granted_there : (i l : ℕ) → MayBeGranted g i l → MayBeGranted h (x.place i) l
   granted_there i l m = record {
-    free = λ q held. m.free q (holds_back g h x q l held);
+    free = λ q held. m.free q (holds_without_fetches g h x q l held);
     first = λ k q before last.
-        let b = last_back g h x q k (Ask l) refl last in
+        let b = last_without_fetches g h x q k (Ask l) refl last in
         let place : x.place b.0 ≡ k = b.1 in
-        m.first b.0 q (rises_back g h x b.0 i (omega (arith, place, before))) b.2;
+        m.first b.0 q (embeds_rising g h x b.0 i (omega (arith, place, before))) b.2;
   }
 
   allowed_there : (p : ℕ) (k : Kind) → CountsSame g h → Allowed s g p k → Allowed s h p k
-  allowed_there p (Ask l) counts a = λ held. a (holds_back g h x p l held)
-  allowed_there p (Acquire l) counts a = (x.place a.0, last_there s g h x p a.0 (Ask l) well refl a.1, granted_there a.0 l a.2)
-  allowed_there p (Release l) counts a = holds_there g h x p l a
+  allowed_there p (Ask l) counts a = λ held. a (holds_without_fetches g h x p l held)
+  allowed_there p (Acquire l) counts a = (x.place a.0, last_with_fetches s g h x p a.0 (Ask l) well refl a.1, granted_there a.0 l a.2)
+  allowed_there p (Release l) counts a = holds_with_fetches g h x p l a
   allowed_there p Depart counts a =
       let all : AllArrived s h (count_of is_depart h p + 1) =
       λ q inside.
@@ -34,18 +34,18 @@ module _ (s : Sizes) (g h : List Event) (x : Embeds g h) (well : WellFormed s h)
       let departures = counts is_depart no_departure p in
       let enough = a.2 q inside in
       omega (arith, arrivals, departures, enough)) in
-      (x.place a.0, last_there s g h x p a.0 Arrive well refl a.1, all)
+      (x.place a.0, last_with_fetches s g h x p a.0 Arrive well refl a.1, all)
   allowed_there p (Await f) counts a =
-      (x.place a.0, x.place a.1, a.2, last_there s g h x p a.0 (Watch f) well refl a.3, x.there a.1 (event a.2 (Set f)) a.4)
+      (x.place a.0, x.place a.1, a.2, last_with_fetches s g h x p a.0 (Watch f) well refl a.3, x.there a.1 (event a.2 (Set f)) a.4)
   allowed_there p _ counts a = tt
 
-  answers_there : (p n : ℕ) (c k : Kind) → ((i : ℕ) (b : Kind) → LastIs g p i b → Answers b k) → LastIs h p n c
-      → Answers c k
+  answers_there : (p n : ℕ) (c k : Kind) → ((i : ℕ) (b : Kind) → LastIs g p i b → AnswersCall b k) → LastIs h p n c
+      → AnswersCall c k
   answers_there p n (Ask l) k answers last =
-      let b = last_back g h x p n (Ask l) refl last in answers b.0 (Ask l) b.2
-  answers_there p n Arrive k answers last = let b = last_back g h x p n Arrive refl last in answers b.0 Arrive b.2
+      let b = last_without_fetches g h x p n (Ask l) refl last in answers b.0 (Ask l) b.2
+  answers_there p n Arrive k answers last = let b = last_without_fetches g h x p n Arrive refl last in answers b.0 Arrive b.2
   answers_there p n (Watch f) k answers last =
-      let b = last_back g h x p n (Watch f) refl last in answers b.0 (Watch f) b.2
+      let b = last_without_fetches g h x p n (Watch f) refl last in answers b.0 (Watch f) b.2
   answers_there p n _ k answers last = tt
 
   pub follow_there : (e : Event) → CountsSame g h → MayFollow s g e → MayFollow s h e

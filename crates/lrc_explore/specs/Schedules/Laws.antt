@@ -1,16 +1,16 @@
 -- What is promised of the runs of a script whose schedules were searched.
 use Rattle.std.specs.Prelude.{ℕ, ◌≡◌, ◌++◌, false, Option, Some, None, List, map, replicate, slice_get}
 use Rattle.std.specs.Global.{Vec}
-use Rattle.base.specs.Places.{Has}
+use Rattle.base.specs.InOrderOnce.{Has}
 use Rattle.journal.specs.declared.event.Event.{Event}
 use Rattle.journal.specs.declared.event.Kind.{Kind}
-use Rattle.journal.specs.Did.{did}
-use Rattle.journal.specs.Flat.{Replays}
-use Rattle.journal.specs.Loads.{Explained}
+use Rattle.journal.specs.DidEvent.{did}
+use Rattle.journal.specs.FlatMemory.{Replays}
+use Rattle.journal.specs.ExplainedAnswers.{Explained}
 use Rattle.journal.specs.Races.{RaceFree}
 use Rattle.journal.specs.WellFormed.{WellFormed}
 use Rattle.lrc_script.specs.Plan.{Plan}
-use Rattle.lrc_script.specs.Lawful.{IsLawful, addresses}
+use Rattle.lrc_script.specs.Lawful.{IsLawful, plan_addresses}
 use Rattle.lrc_report.specs.declared.report.Report.{Report}
 use Rattle.conformance.specs.Begins.{BeginsScript}
 use Rattle.conformance.specs.Follows.{plan_sizes, is_fetch, Follows}
@@ -26,7 +26,7 @@ use Rattle.explore.specs.Outcomes.{AreReplies}
 -- an explained history that only begins a script, of which no beginning on one flat memory races, has no race and replays
 abbrev pub BegunLaw : Type 0
 BegunLaw = (s : Plan) (h : List Event) → IsFlatRaceFree s → WellFormed (plan_sizes s) h → Explained h → BeginsScript s h
-    → RaceFree h × Replays (replicate (addresses s) 0) h
+    → RaceFree h × Replays (replicate (plan_addresses s) 0) h
 
 -- a search has found the script race-free, with these outcomes
 pub record IsFoundRaceFree (s : Plan) (outcomes : Vec Outcome) (hang : Option Hang) : Type 0 where

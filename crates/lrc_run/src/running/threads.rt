@@ -1,9 +1,9 @@
 //! Processors on threads.
 ghost use Rattle.std.specs.Prelude.{◌≡◌, ◌≤◌, [], IfOk, IfSome, length, vec_len, vec_capacity};
 ghost use Rattle.std.specs.Thread.{IsSend, IsSync};
-ghost use Rattle.lrc_script.specs.Prelude.{items_of};
-ghost use Rattle.cluster.specs.Prelude.{AreNew};
-ghost use Rattle.lrc_run.specs.Prelude.{AreThreadResults, AreThreadResultsOf, AreStarted, IsThreadResultOf, Walks};
+ghost use Rattle.lrc_script.specs.Prelude.{plan_sections};
+ghost use Rattle.cluster.specs.Prelude.{IsNewCluster};
+ghost use Rattle.lrc_run.specs.Prelude.{AreThreadResults, AreThreadResultsOf, AreThreadsStarted, IsThreadResultOf, Walks};
 
 use crate::course::Course;
 use crate::gate::Gate;
@@ -29,7 +29,7 @@ struct SectionWalked<T: BookTurn> {
 
 impl<T: BookTurn> Promise<Result<Processor<T>, Cause>> for SectionWalked<T> {
     ghost use Rattle.std.specs.Prelude.{IfOk};
-    ghost use Rattle.lrc_run.specs.Walks.{Walks};
+    ghost use Rattle.lrc_run.specs.MakesCalls.{Walks};
 
     ghost kept_by = { λ p r. IfOk r (λ m. Walks p.was.value m p.section.value.items) };
 }
@@ -43,9 +43,9 @@ struct Thread<T: BookTurn> {
 impl<T: BookTurn> Model for Thread<T> {
     ghost use Rattle.std.specs.Prelude.{Option};
     ghost use Rattle.std.specs.Option.{option_map};
-    ghost use Rattle.lrc_run.specs.Threads.{Errand};
+    ghost use Rattle.lrc_run.specs.Threads.{ThreadErrand};
 
-    ghost Value = { Option Errand };
+    ghost Value = { Option ThreadErrand };
 
     ghost view = { λ t. option_map (λ h. record {
       processor = h.promise.was.value;
@@ -88,7 +88,7 @@ fn walked<T: BookTurn, R: Wait, G: Gate>(
 }
 
 /// Waits for all threads, and answers what came of their processors.
-fn join_all<T: BookTurn + Drop, R: Threads>(
+fn join_threads<T: BookTurn + Drop, R: Threads>(
     rt: &R,
     threads: Vec<Thread<T>>,
     mut outcomes: Vec<ThreadResult<T>>,
@@ -136,7 +136,7 @@ fn start<'s, 'x: 's, T: BookTurn + Send + Drop, R: Threads + Wait + Sync, G: Gat
 }
 
 /// Moves each processor into a thread of its own, which walks the processor's section.
-fn start_all<'s, 'x: 's, T: BookTurn + Send + Drop, R: Threads + Wait + Sync, G: Gate + Sync>(
+fn start_threads<'s, 'x: 's, T: BookTurn + Send + Drop, R: Threads + Wait + Sync, G: Gate + Sync>(
     scope: &'s Scope<'s, &'x ()>,
     rt: &'x R,
     cluster: &'x Cluster<T>,
@@ -145,10 +145,10 @@ fn start_all<'s, 'x: 's, T: BookTurn + Send + Drop, R: Threads + Wait + Sync, G:
     sections: &'x [Vec<Instruction>],
     mut threads: Vec<Thread<T>>,
 ) -> Vec<Thread<T>>
-    requires new { AreNew cluster.now processors.items }
+    requires new { IsNewCluster cluster.now processors.items }
     requires sections { length sections.now ≡ vec_len processors }
     requires room { (threads.items ≡ []) × (vec_len processors ≤ vec_capacity threads) }
-    ensures { AreStarted processors.items (items_of sections.now) result.items }
+    ensures { AreThreadsStarted processors.items (plan_sections sections.now) result.items }
 {
     for processor in processors {
         let section = &sections[threads.len()];
@@ -169,9 +169,9 @@ pub(super) fn walk_all<'x, T: BookTurn + Send + Drop, R: Threads + Wait + Sync, 
     course: &'x Course<'x, G>,
     sections: &'x [Vec<Instruction>],
 ) -> Result<Vec<ThreadResult<T>>, AllocError>
-    requires new { AreNew cluster.now processors.items }
+    requires new { IsNewCluster cluster.now processors.items }
     requires sections { length sections.now ≡ vec_len processors }
-    ensures { IfOk result (λ outcomes. AreThreadResults cluster.now (items_of sections.now)
+    ensures { IfOk result (λ outcomes. AreThreadResults cluster.now (plan_sections sections.now)
         outcomes.items) }
 {
     let threads = Vec::with_capacity(alloc, processors.len())?;
@@ -181,15 +181,15 @@ pub(super) fn walk_all<'x, T: BookTurn + Send + Drop, R: Threads + Wait + Sync, 
         rt,
         move |scope| -> Vec<ThreadResult<T>>
             requires bounds { IsSend T.row × IsSync T.row × IsSync R.row × IsSync G.row }
-            requires new { AreNew cluster.now processors.items }
+            requires new { IsNewCluster cluster.now processors.items }
             requires sections { length sections.now ≡ vec_len processors }
             requires threads { (threads.items ≡ []) × (vec_len processors ≤ vec_capacity threads) }
             requires outcomes { (outcomes.items ≡ [])
                 × (vec_len processors ≤ vec_capacity outcomes) }
-            ensures { AreThreadResults cluster.entry.now (items_of sections.entry.now) result.items }
+            ensures { AreThreadResults cluster.entry.now (plan_sections sections.entry.now) result.items }
         {
-            let threads = start_all(scope, rt, cluster, processors, course, sections, threads);
-            join_all(rt, threads, outcomes)
+            let threads = start_threads(scope, rt, cluster, processors, course, sections, threads);
+            join_threads(rt, threads, outcomes)
         },
     ))
 }

@@ -2,8 +2,8 @@
 ghost use Rattle.std.specs.Prelude.{◌≡◌, ◌≢◌, ◌<◌, ◌≤◌, ◌^◌, ◌++◌, ◌∷◌, [], IfErr, IfOk, IfSome, OnOk, length, slice_index_or, vec_len};
 ghost use Rattle.lrc_script.specs.Prelude.{IsLawful, plan_of};
 ghost use Rattle.conformance.specs.declared.cause.Cause.TheVariants as cause;
-ghost use Rattle.conformance.specs.Prelude.{IsEndBy, plan_sizes, scheduled};
-ghost use Rattle.lrc_run.specs.Prelude.{AreOnTheirWay, AreProcessors, AreTaken, chosen};
+ghost use Rattle.conformance.specs.Prelude.{IsEndByTurns, plan_sizes, scheduled};
+ghost use Rattle.lrc_run.specs.Prelude.{AreAtSteps, AreOrderedProcessors, AreTaken, chosen};
 
 use super::pace::Pace;
 use super::{beginnings, end_run, go_round, new_cluster, outside, turn_at};
@@ -26,7 +26,7 @@ pub fn step_drawn<R: Wait>(
     seed: u64,
 ) -> Result<DrawnRun, RunFault>
     requires { IsLawful (plan_of script.now) }
-    ensures end { IfOk result (λ run. IsEndBy (plan_of script.now)
+    ensures end { IfOk result (λ run. IsEndByTurns (plan_of script.now)
         (scheduled (plan_of script.now) run.schedule.turns.items) run.ended) }
     ensures err { IfErr result (λ fault. fault.cause ≢ cause.Stuck) }
 {
@@ -42,7 +42,7 @@ pub fn step_drawn_with<T: BookTurn + Drop, R: Wait>(
 ) -> Result<DrawnRun, RunFault>
     requires entries { T.ENTRIES ≤ 2 ^ 40 }
     requires lawful { IsLawful (plan_of script.now) }
-    ensures end { IfOk result (λ run. IsEndBy (plan_of script.now)
+    ensures end { IfOk result (λ run. IsEndByTurns (plan_of script.now)
         (scheduled (plan_of script.now) run.schedule.turns.items) run.ended) }
     ensures err { IfErr result (λ fault. fault.cause ≢ cause.Stuck) }
 {
@@ -69,9 +69,9 @@ fn wander<T: BookTurn, R: Wait>(
 ) -> Result<Vec<usize>, RunFault>
     requires lawful { IsLawful (plan_of script.now) }
     requires sizes { cluster.now.sizes ≡ plan_sizes (plan_of script.now) }
-    requires way { AreOnTheirWay cluster.now (plan_of script.now).sections processors.old.items
+    requires way { AreAtSteps cluster.now (plan_of script.now).sections processors.old.items
         all.old.items }
-    ensures way { OnOk result (AreOnTheirWay cluster.now (plan_of script.now).sections processors.new.items
+    ensures way { OnOk result (AreAtSteps cluster.now (plan_of script.now).sections processors.new.items
         all.new.items) }
     ensures taken { IfOk result (λ turns. AreTaken (plan_of script.now).sections turns.items
         processors.old.items processors.new.items all.old.items all.new.items) }
@@ -148,10 +148,10 @@ fn first_on<T: BookTurn, R: Wait>(
 ) -> Result<Option<usize>, RunFault>
     requires lawful { IsLawful (plan_of script.now) }
     requires sizes { cluster.now.sizes ≡ plan_sizes (plan_of script.now) }
-    requires order { AreProcessors (vec_len processors.old) order.now }
-    requires way { AreOnTheirWay cluster.now (plan_of script.now).sections processors.old.items
+    requires order { AreOrderedProcessors (vec_len processors.old) order.now }
+    requires way { AreAtSteps cluster.now (plan_of script.now).sections processors.old.items
         all.old.items }
-    ensures way { OnOk result (AreOnTheirWay cluster.now (plan_of script.now).sections processors.new.items
+    ensures way { OnOk result (AreAtSteps cluster.now (plan_of script.now).sections processors.new.items
         all.new.items) }
     ensures taken { IfOk result (λ place. AreTaken (plan_of script.now).sections (chosen order.now place)
         processors.old.items processors.new.items all.old.items all.new.items) }

@@ -1,9 +1,9 @@
 //! All processors by turns on one thread, as a schedule has them.
 ghost use Rattle.std.specs.Prelude.{◌≡◌, ◌≢◌, ◌<◌, ◌≤◌, ◌^◌, IfErr, IfOk, OnOk, vec_len};
 ghost use Rattle.lrc_script.specs.Prelude.{IsLawful, plan_of};
-ghost use Rattle.conformance.specs.Prelude.{IsEndBy, IsScheduleFault, plan_sizes, scheduled};
+ghost use Rattle.conformance.specs.Prelude.{IsEndByTurns, IsScheduleFault, plan_sizes, scheduled};
 ghost use Rattle.conformance.specs.declared.schedule.Misfit.TheVariants as misfit;
-ghost use Rattle.lrc_run.specs.Prelude.{AreOnTheirWay, AreTaken, IsTurnFault, IsTurnOf};
+ghost use Rattle.lrc_run.specs.Prelude.{AreAtSteps, AreTaken, IsTurnFault, IsTurnOfRun};
 
 use super::{beginnings, end_run, go_round, have_passed, new_cluster, turn_at};
 use cluster::{BookLock, BookTurn, Cluster, Processor};
@@ -25,7 +25,7 @@ pub fn step_by<R: Wait>(
 ) -> Result<Ended, ScheduleFault>
     requires { IsLawful (plan_of script.now) }
     ensures end { IfOk result
-        (IsEndBy (plan_of script.now) (scheduled (plan_of script.now) schedule.now.turns.items)) }
+        (IsEndByTurns (plan_of script.now) (scheduled (plan_of script.now) schedule.now.turns.items)) }
     ensures fault { IfErr result (IsScheduleFault (plan_of script.now) schedule.now.turns.items) }
 {
     step_by_with::<BookLock, R>(rt, alloc, script, schedule)
@@ -41,7 +41,7 @@ pub fn step_by_with<T: BookTurn + Drop, R: Wait>(
     requires entries { T.ENTRIES ≤ 2 ^ 40 }
     requires lawful { IsLawful (plan_of script.now) }
     ensures end { IfOk result
-        (IsEndBy (plan_of script.now) (scheduled (plan_of script.now) schedule.now.turns.items)) }
+        (IsEndByTurns (plan_of script.now) (scheduled (plan_of script.now) schedule.now.turns.items)) }
     ensures fault { IfErr result (IsScheduleFault (plan_of script.now) schedule.now.turns.items) }
 {
     let (cluster, mut processors) = new_cluster::<T>(alloc, script)?;
@@ -69,9 +69,9 @@ fn follow<T: BookTurn, R: Wait>(
 ) -> Result<(), ScheduleFault>
     requires lawful { IsLawful (plan_of script.now) }
     requires sizes { cluster.now.sizes ≡ plan_sizes (plan_of script.now) }
-    requires way { AreOnTheirWay cluster.now (plan_of script.now).sections processors.old.items
+    requires way { AreAtSteps cluster.now (plan_of script.now).sections processors.old.items
         all.old.items }
-    ensures way { OnOk result (AreOnTheirWay cluster.now (plan_of script.now).sections processors.new.items
+    ensures way { OnOk result (AreAtSteps cluster.now (plan_of script.now).sections processors.new.items
         all.new.items) }
     ensures taken { OnOk result (AreTaken (plan_of script.now).sections turns.now
         processors.old.items processors.new.items all.old.items all.new.items) }
@@ -98,11 +98,11 @@ fn follow_at<T: BookTurn, R: Wait>(
 ) -> Result<(), ScheduleFault>
     requires lawful { IsLawful (plan_of script.now) }
     requires sizes { cluster.now.sizes ≡ plan_sizes (plan_of script.now) }
-    requires way { AreOnTheirWay cluster.now (plan_of script.now).sections processors.old.items
+    requires way { AreAtSteps cluster.now (plan_of script.now).sections processors.old.items
         all.old.items }
     requires few { place < 2 ^ 63 }
     ensures long { vec_len processors.new ≡ vec_len processors.old }
-    ensures turn { OnOk result (IsTurnOf (plan_of script.now).sections p
+    ensures turn { OnOk result (IsTurnOfRun (plan_of script.now).sections p
         processors.old.items processors.new.items all.old.items all.new.items) }
     ensures fault { IfErr result (IsTurnFault (vec_len processors.old) place p) }
 {

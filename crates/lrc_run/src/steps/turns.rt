@@ -1,7 +1,7 @@
 //! A processor's turn.
 ghost use Rattle.std.specs.Prelude.{◌≡◌, IfOk, false};
-ghost use Rattle.cluster.specs.Taking.{IsLate};
-ghost use Rattle.lrc_run.specs.Prelude.{IsOnItsWay, SeesOn, TakesTurn, instruction_at, progress_after};
+ghost use Rattle.cluster.specs.Taking.{IsTakeLate};
+ghost use Rattle.lrc_run.specs.Prelude.{IsOnItsWay, SeesOnlyMore, TakesTurn, instruction_at_turn, progress_after_turn};
 
 use crate::walk::{begin, end};
 use book::Refused;
@@ -11,8 +11,8 @@ use lrc_script::script::Instruction;
 use std::sync::Wait;
 
 /// The instruction at this place of the section, or the closing barrier after the last.
-fn instruction_at(section: &[Instruction], n: usize) -> Instruction
-    ensures { result ≡ instruction_at section.now n }
+fn instruction_at_turn(section: &[Instruction], n: usize) -> Instruction
+    ensures { result ≡ instruction_at_turn section.now n }
 {
     match section.get(n) {
         Some(instruction) => *instruction,
@@ -21,8 +21,8 @@ fn instruction_at(section: &[Instruction], n: usize) -> Instruction
 }
 
 /// Where the processor is after its instruction `n` was done, or begun.
-fn progress_after(section: &[Instruction], n: usize, done: bool) -> TurnProgress
-    ensures { result ≡ progress_after section.now n done }
+fn progress_after_turn(section: &[Instruction], n: usize, done: bool) -> TurnProgress
+    ensures { result ≡ progress_after_turn section.now n done }
 {
     if !done {
         TurnProgress::Waits(n)
@@ -44,23 +44,23 @@ pub(crate) fn take_turn<T: BookTurn, R: Wait>(
 ) -> Result<(TurnProgress, bool), Refused>
     requires own { processor.old.lock ≡ cluster.now.lock }
     ensures turn { IfOk result (λ r. TakesTurn section.now processor.old progress processor.new r.0) }
-    ensures vain { IfOk result (λ r. r.1 ≡ false → SeesOn processor.old processor.new × (r.0 ≡ progress)) }
+    ensures vain { IfOk result (λ r. r.1 ≡ false → SeesOnlyMore processor.old processor.new × (r.0 ≡ progress)) }
 {
     match progress {
         TurnProgress::Next(n) => {
-            let done = go_on(rt, cluster, processor, instruction_at(section, n))?;
-            Ok((progress_after(section, n, done), true))
+            let done = go_on_with_turn(rt, cluster, processor, instruction_at_turn(section, n))?;
+            Ok((progress_after_turn(section, n, done), true))
         }
         TurnProgress::Waits(n) => {
             let done = end(rt, cluster, processor)?;
-            Ok((progress_after(section, n, done), done))
+            Ok((progress_after_turn(section, n, done), done))
         }
         TurnProgress::Passed => Ok((TurnProgress::Passed, false)),
     }
 }
 
 /// Does the instruction, or begins it and looks once for what it waits for: whether it is done.
-fn go_on<T: BookTurn, R: Wait>(
+fn go_on_with_turn<T: BookTurn, R: Wait>(
     rt: &R,
     cluster: &Cluster<T>,
     processor: &mut Processor<T>,
@@ -68,7 +68,7 @@ fn go_on<T: BookTurn, R: Wait>(
 ) -> Result<bool, Refused>
     requires own { processor.old.lock ≡ cluster.now.lock }
     ensures way { IfOk result (λ done. IsOnItsWay processor.old processor.new instruction done) }
-    ensures late { IfOk result (λ done. done ≡ false → IsLate processor.new) }
+    ensures late { IfOk result (λ done. done ≡ false → IsTakeLate processor.new) }
 {
     if begin(rt, cluster, processor, instruction)? {
         return Ok(true);

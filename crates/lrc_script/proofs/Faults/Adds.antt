@@ -12,38 +12,38 @@ use Rattle.lrc_script.specs.declared.script.Instruction.TheVariants as instructi
 use Rattle.lrc_script.specs.declared.line.Keyword.{Keyword}
 use Rattle.lrc_script.specs.declared.line.Keyword.TheVariants as keyword
 use Rattle.lrc_script.specs.Plan.{Plan, head_plan}
-use Rattle.lrc_script.specs.Lawful.{addresses, AreSizes, IsInRange, MayStandAfter, IsSection, instruction_address, lock_of, flag_of}
-use Rattle.lrc_script.specs.Text.{Line, cluster_line, section_line, instruction_line, show_line, section_lines}
-use Rattle.lrc_script.specs.Front.{Front, Nothing, Headed, Within, Whole, IsBegun, IsHeaded, LawfulSoFar, lines_before}
-use Rattle.lrc_script.specs.Reading.{are_sizes, is_due, sized, headed, first_section, next_section, ended, is_past, takes_held, gives_unheld, refusal, instruction_read, section_closed, step}
-use Rattle.lrc_script.proofs.Reading.Numbers.{AreWords}
-use Rattle.lrc_script.proofs.Lawful.{sizes_from_test, sizes_small, section_with, sizes_with, section_over, sizes_over, nothing_stands}
+use Rattle.lrc_script.specs.Lawful.{plan_addresses, AreLawfulSizes, IsInstructionInRange, IsLawfulAfter, IsLawfulSection, instruction_address, instruction_lock, instruction_flag}
+use Rattle.lrc_script.specs.Text.{ScriptLine, cluster_line, section_line, instruction_line, show_line, section_lines}
+use Rattle.lrc_script.specs.Front.{Front, Nothing, Headed, Within, Whole, IsLawfulFront, IsHeadedFront, LawfulSoFar, front_lines}
+use Rattle.lrc_script.specs.LineReading.{are_read_sizes, is_line_due, sizes_read, head_read, first_section_read, next_section_read, show_read, is_past, takes_held, gives_unheld, line_refusal, instruction_read, section_closed, read_step}
+use Rattle.lrc_script.proofs.Reading.Numbers.{AreWordNumbers}
+use Rattle.lrc_script.proofs.Lawful.{sizes_from_test, sizes_small, lawful_section_with, sizes_with, lawful_section_over, sizes_over, lawful_section_none}
 use Rattle.lrc_script.proofs.Text.{section_lines-append}
-use Rattle.lrc_script.proofs.Reading.Keywords.{spelled}
+use Rattle.lrc_script.proofs.Reading.Keywords.{keyword_bytes}
 
-guard_ok : {A : Type 0} (b : Bool) (x y : A) (fault : ScriptFault) → cond b (Ok x) (Err fault) ≡ Ok y
+no_fault_if_true : {A : Type 0} (b : Bool) (x y : A) (fault : ScriptFault) → cond b (Ok x) (Err fault) ≡ Ok y
     → (b ≡ true) × (x ≡ y)
-guard_ok true x y fault e = (refl, cc)
-guard_ok false x y fault e = absurd cc
+no_fault_if_true true x y fault e = (refl, cc)
+no_fault_if_true false x y fault e = absurd cc
 
-refuse_ok : {A : Type 0} (b : Bool) (r : Result A ScriptFault) (y : A) (fault : ScriptFault)
+no_fault_if_false : {A : Type 0} (b : Bool) (r : Result A ScriptFault) (y : A) (fault : ScriptFault)
     → cond b (Err fault) r ≡ Ok y → (b ≡ false) × (r ≡ Ok y)
-refuse_ok true r y fault e = absurd cc
-refuse_ok false r y fault e = (refl, e)
+no_fault_if_false true r y fault e = absurd cc
+no_fault_if_false false r y fault e = (refl, e)
 
 -- the line stands behind the lines before it, and the lines begin a script's text
-pub record Adds (f : Front) (l : Line) (g : Front) : Type 0 where
-  pub lines_are : lines_before g ≡ lines_before f ++ l ∷ []
-  pub begun : IsBegun g
+pub record Adds (f : Front) (l : ScriptLine) (g : Front) : Type 0 where
+  pub lines_are : front_lines g ≡ front_lines f ++ l ∷ []
+  pub begun : IsLawfulFront g
 
 -- ---- the cluster line
 
-sized_adds : (s : Plan) (are : Bool) (l : Line) (g : Front) → (are ≡ true → AreSizes s) → s.sections ≡ []
-    → s.shown ≡ [] → cluster_line s ≡ l → sized are s ≡ Ok g → Adds Nothing l g
+sized_adds : (s : Plan) (are : Bool) (l : ScriptLine) (g : Front) → (are ≡ true → AreLawfulSizes s) → s.sections ≡ []
+    → s.shown ≡ [] → cluster_line s ≡ l → sizes_read are s ≡ Ok g → Adds Nothing l g
 sized_adds s are l g sizes none unshown line e =
-    let t = guard_ok are (Headed s) g _ e in
+    let t = no_fault_if_true are (Headed s) g _ e in
     subst (λ (x : Front). Adds Nothing l x) t.1 (record {
-      lines_are = ap (λ (x : Line). x ∷ []) line;
+      lines_are = ap (λ (x : ScriptLine). x ∷ []) line;
       begun = record { sizes = sizes t.0; no_sections = none; none_shown = unshown };
     })
 
@@ -52,43 +52,43 @@ cluster_of_five : (p n w l g : ℕ) → eqb g 0 ≡ false
 cluster_of_five p n w l g e =
     ap (λ (b : Bool). record { word = codes "cluster"; numbers = p ∷ n ∷ w ∷ l ∷ cond b [] (g ∷ []) }) e
 
-headed_adds : (ns : List ℕ) (g : Front) → headed ns ≡ Ok g
+headed_adds : (ns : List ℕ) (g : Front) → head_read ns ≡ Ok g
     → Adds Nothing (record { word = codes "cluster"; numbers = ns }) g
 headed_adds [] g e = absurd cc
 headed_adds (p ∷ []) g e = absurd cc
 headed_adds (p ∷ n ∷ []) g e = absurd cc
 headed_adds (p ∷ n ∷ w ∷ []) g e = absurd cc
 headed_adds (p ∷ n ∷ w ∷ l ∷ []) g e =
-    sized_adds (head_plan p n w l 0) (are_sizes (head_plan p n w l 0)) _ g (sizes_from_test (head_plan p n w l 0))
+    sized_adds (head_plan p n w l 0) (are_read_sizes (head_plan p n w l 0)) _ g (sizes_from_test (head_plan p n w l 0))
     refl refl refl e
 headed_adds (p ∷ n ∷ w ∷ l ∷ k ∷ []) g e =
     let s = head_plan p n w l k in
-    let both = guard_ok (ltb 0 k && are_sizes s) (Headed s) g _ e in
-    let parts = and_parts (ltb 0 k) (are_sizes s) both.0 in
+    let both = no_fault_if_true (ltb 0 k && are_read_sizes s) (Headed s) g _ e in
+    let parts = and_parts (ltb 0 k) (are_read_sizes s) both.0 in
     let some = parts.0 in
     let other : eqb k 0 ≡ false = grind (arith, nat_tests, some) in
-    sized_adds s (ltb 0 k && are_sizes s) _ g (λ t. sizes_from_test s (and_parts (ltb 0 k) (are_sizes s) t).1) refl
+    sized_adds s (ltb 0 k && are_read_sizes s) _ g (λ t. sizes_from_test s (and_parts (ltb 0 k) (are_read_sizes s) t).1) refl
     refl (cluster_of_five p n w l k other) e
 headed_adds (p ∷ n ∷ w ∷ l ∷ k ∷ m ∷ ns) g e = absurd cc
 
 -- ---- a section line
 
-first_adds : (s : Plan) (ns : List ℕ) (g : Front) → IsHeaded s → first_section s ns ≡ Ok g
+first_adds : (s : Plan) (ns : List ℕ) (g : Front) → IsHeadedFront s → first_section_read s ns ≡ Ok g
     → Adds (Headed s) (record { word = codes "p"; numbers = ns }) g
 first_adds s [] g h e = absurd cc
 first_adds s (k ∷ []) g h e =
-    let t = guard_ok (eqb k 0) (Within s []) g _ e in
+    let t = no_fault_if_true (eqb k 0) (Within s []) g _ e in
     let test = t.0 in
     let zero-is : 0 ≡ k = grind (arith, nat_tests, test) in
-    let lines : lines_before (Within s []) ≡ cluster_line s ∷ section_line k ∷ [] =
+    let lines : front_lines (Within s []) ≡ cluster_line s ∷ section_line k ∷ [] =
     ap (λ (xs : List (List Instruction)). cluster_line s ∷ section_lines 0 (xs ++ [] ∷ [])) h.no_sections
     ∙ ap (λ (n : ℕ). cluster_line s ∷ section_line n ∷ []) zero-is in
     subst (λ (x : Front). Adds (Headed s) (section_line k) x) t.1 (record {
       lines_are = lines;
       begun = record {
         sizes = h.sizes;
-        sections = subst (All (IsSection s)) (sym h.no_sections) (All-nil (IsSection s));
-        last = nothing_stands s;
+        sections = subst (All (IsLawfulSection s)) (sym h.no_sections) (All-nil (IsLawfulSection s));
+        last = lawful_section_none s;
         one_each = omega (
           arith,
           ap (λ (xs : List (List Instruction)). length xs) h.no_sections,
@@ -99,11 +99,11 @@ first_adds s (k ∷ []) g h e =
     })
 first_adds s (k ∷ m ∷ ns) g h e = absurd cc
 
-next_adds : (s : Plan) (is : List Instruction) (ns : List ℕ) (g : Front) → LawfulSoFar s is → next_section s is ns ≡ Ok g
+next_adds : (s : Plan) (is : List Instruction) (ns : List ℕ) (g : Front) → LawfulSoFar s is → next_section_read s is ns ≡ Ok g
     → Adds (Within s is) (record { word = codes "p"; numbers = ns }) g
 next_adds s is [] g h e = absurd cc
 next_adds s is (k ∷ []) g h e =
-    let t = guard_ok (eqb k (length s.sections + 1) && ltb k s.processors) (Within (section_closed s is) []) g _ e in
+    let t = no_fault_if_true (eqb k (length s.sections + 1) && ltb k s.processors) (Within (section_closed s is) []) g _ e in
     let both = and_parts (eqb k (length s.sections + 1)) (ltb k s.processors) t.0 in
     let test = both.0 in
     let room = both.1 in
@@ -114,13 +114,13 @@ next_adds s is (k ∷ []) g h e =
     section_lines-append 0 sections ([] ∷ [])
     ∙ ap (λ (n : ℕ). section_lines 0 sections ++ section_line n ∷ []) count in
     subst (λ (x : Front). Adds (Within s is) (section_line k) x) t.1 (record {
-      lines_are = ap (λ (ls : List Line). cluster_line s ∷ ls) lines;
+      lines_are = ap (λ (ls : List ScriptLine). cluster_line s ∷ ls) lines;
       begun = record {
         sizes = sizes_with s sections h.sizes;
         sections =
-            All-weaker (IsSection s) (IsSection (section_closed s is)) (section_with s sections) sections
-            (All-push (IsSection s) s.sections is h.sections h.last);
-        last = nothing_stands (section_closed s is);
+            All-weaker (IsLawfulSection s) (IsLawfulSection (section_closed s is)) (lawful_section_with s sections) sections
+            (All-push (IsLawfulSection s) s.sections is h.sections h.last);
+        last = lawful_section_none (section_closed s is);
         one_each = grind (arith, nat_tests, test, room, length-append s.sections (is ∷ []));
         none_shown = h.none_shown;
       };
@@ -129,9 +129,9 @@ next_adds s is (k ∷ m ∷ ns) g h e = absurd cc
 
 -- ---- the show line
 
-none_past : (n : ℕ) (xs : List ℕ) → list_any (λ a. leb n a) xs ≡ false → AllByRecursion (λ a. a < n) xs
-none_past n [] e = tt
-none_past n (x ∷ xs) e = past_cases n x xs (leb n x) refl e (none_past n xs)
+adds_none_past : (n : ℕ) (xs : List ℕ) → list_any (λ a. leb n a) xs ≡ false → AllByRecursion (λ a. a < n) xs
+adds_none_past n [] e = tt
+adds_none_past n (x ∷ xs) e = past_cases n x xs (leb n x) refl e (adds_none_past n xs)
   where
     past_cases : (n x : ℕ) (xs : List ℕ) (b : Bool) → leb n x ≡ b → (b || list_any (λ a. leb n a) xs) ≡ false
         → (list_any (λ a. leb n a) xs ≡ false → AllByRecursion (λ a. a < n) xs)
@@ -140,31 +140,31 @@ none_past n (x ∷ xs) e = past_cases n x xs (leb n x) refl e (none_past n xs)
     past_cases n x xs false t e rest = (grind (arith, nat_tests, t), rest e)
 
 show_adds : (s : Plan) (is : List Instruction) (ns : List ℕ) (g : Front) → LawfulSoFar s is
-    → (leb 1 (length ns) && eqb (length s.sections + 1) s.processors) ≡ true → ended s is ns ≡ Ok g
+    → (leb 1 (length ns) && eqb (length s.sections + 1) s.processors) ≡ true → show_read s is ns ≡ Ok g
     → Adds (Within s is) (show_line ns) g
 show_adds s is ns g h due e =
     let whole = record (section_closed s is) { shown = ns } in
-    let near = refuse_ok (list_any (λ a. leb (addresses s) a) ns) _ g _ e in
-    let few = refuse_ok (ltb 64 (length ns)) (Ok (Whole whole)) g _ near.1 in
+    let near = no_fault_if_false (list_any (λ a. leb (plan_addresses s) a) ns) _ g _ e in
+    let few = no_fault_if_false (ltb 64 (length ns)) (Ok (Whole whole)) g _ near.1 in
     let same : Whole whole ≡ g = let last = few.1 in cc in
     let both = and_parts (leb 1 (length ns)) (eqb (length s.sections + 1) s.processors) due in
     let some = both.0 in
     let all = both.1 in
     let short = few.0 in
     let sections = s.sections ++ is ∷ [] in
-    let as_whole : (is : List Instruction) → IsSection s is → IsSection whole is =
-    λ js k. section_over s sections ns js k in
+    let as_whole : (is : List Instruction) → IsLawfulSection s is → IsLawfulSection whole is =
+    λ js k. lawful_section_over s sections ns js k in
     subst (λ (x : Front). Adds (Within s is) (show_line ns) x) same (record {
       lines_are = refl;
       begun = record {
         sizes = sizes_over s sections ns h.sizes;
         one_each = grind (arith, nat_tests, all, length-append s.sections (is ∷ []));
         sections =
-            All-weaker (IsSection s) (IsSection whole) as_whole sections
-            (All-push (IsSection s) s.sections is h.sections h.last);
+            All-weaker (IsLawfulSection s) (IsLawfulSection whole) as_whole sections
+            (All-push (IsLawfulSection s) s.sections is h.sections h.last);
         some_shown = grind (arith, nat_tests, some);
         most_shown = grind (arith, nat_tests, short);
-        shown = All-from_recursion (λ a. a < addresses s) ns (none_past (addresses s) ns near.0);
+        shown = All-from_recursion (λ a. a < plan_addresses s) ns (adds_none_past (plan_addresses s) ns near.0);
       };
     })
 
@@ -186,40 +186,40 @@ snoc_cases (x ∷ xs) (b ∷ bs) i j after e =
     ]
 
 -- no test refuses the instruction
-pub record Passed (s : Plan) (is : List Instruction) (i : Instruction) : Type 0 where
-  pub address : is_past (instruction_address i) (addresses s) ≡ false
-  pub lock : is_past (lock_of i) s.locks ≡ false
-  pub flag : is_past (flag_of i) s.flags ≡ false
+pub record HasNoFault (s : Plan) (is : List Instruction) (i : Instruction) : Type 0 where
+  pub address : is_past (instruction_address i) (plan_addresses s) ≡ false
+  pub lock : is_past (instruction_lock i) s.locks ≡ false
+  pub flag : is_past (instruction_flag i) s.flags ≡ false
   pub held : takes_held is i ≡ false
   pub unheld : gives_unheld is i ≡ false
   pub room : leb 10000 (length is) ≡ false
 
-none_if : {A : Type 0} (b : Bool) (x : A) (rest : Option A) → cond b (Some x) rest ≡ None
+no_fault_rest : {A : Type 0} (b : Bool) (x : A) (rest : Option A) → cond b (Some x) rest ≡ None
     → (b ≡ false) × (rest ≡ None)
-none_if true x rest e = absurd cc
-none_if false x rest e = (refl, e)
+no_fault_rest true x rest e = absurd cc
+no_fault_rest false x rest e = (refl, e)
 
-passed : (s : Plan) (is : List Instruction) (i : Instruction) → refusal s is i ≡ None → Passed s is i
-passed s is i e =
-    let a = none_if (is_past (instruction_address i) (addresses s)) _ _ e in
-    let b = none_if (is_past (lock_of i) s.locks) _ _ a.1 in
-    let c = none_if (is_past (flag_of i) s.flags) _ _ b.1 in
-    let d = none_if (takes_held is i) _ _ c.1 in
-    let f = none_if (gives_unheld is i) _ _ d.1 in
-    let g = none_if (leb 10000 (length is)) _ _ f.1 in
+has_no_fault : (s : Plan) (is : List Instruction) (i : Instruction) → line_refusal s is i ≡ None → HasNoFault s is i
+has_no_fault s is i e =
+    let a = no_fault_rest (is_past (instruction_address i) (plan_addresses s)) _ _ e in
+    let b = no_fault_rest (is_past (instruction_lock i) s.locks) _ _ a.1 in
+    let c = no_fault_rest (is_past (instruction_flag i) s.flags) _ _ b.1 in
+    let d = no_fault_rest (takes_held is i) _ _ c.1 in
+    let f = no_fault_rest (gives_unheld is i) _ _ d.1 in
+    let g = no_fault_rest (leb 10000 (length is)) _ _ f.1 in
     record { address = a.0; lock = b.0; flag = c.0; held = d.0; unheld = f.0; room = g.0 }
 
-may_from : (s : Plan) (is : List Instruction) (i : Instruction) → Passed s is i → MayStandAfter is i
-may_from s is (instruction.Acquire l) p = p.held
-may_from s is (instruction.Release l) p = not-false _ p.unheld
-may_from s is _ p = tt
+no_fault_may_stand : (s : Plan) (is : List Instruction) (i : Instruction) → HasNoFault s is i → IsLawfulAfter is i
+no_fault_may_stand s is (instruction.Acquire l) p = p.held
+no_fault_may_stand s is (instruction.Release l) p = not-false _ p.unheld
+no_fault_may_stand s is _ p = tt
 
 entered_adds : (s : Plan) (is : List Instruction) (i : Instruction) (g : Front) (o : Option ScriptFault)
-    → refusal s is i ≡ o → LawfulSoFar s is → (Passed s is i → IsInRange s i) → instruction_read s is i o ≡ Ok g
+    → line_refusal s is i ≡ o → LawfulSoFar s is → (HasNoFault s is i → IsInstructionInRange s i) → instruction_read s is i o ≡ Ok g
     → Adds (Within s is) (instruction_line i) g
 entered_adds s is i g (Some fault) refused h ranges e = absurd cc
 entered_adds s is i g None refused h ranges e =
-    let p = passed s is i refused in
+    let p = has_no_fault s is i refused in
     let room = p.room in
     let same : Within s (is ++ i ∷ []) ≡ g = cc in
     let start = section_lines-append 0 s.sections (is ∷ []) in
@@ -227,25 +227,25 @@ entered_adds s is i g None refused h ranges e =
     let lines : section_lines 0 (s.sections ++ (is ++ i ∷ []) ∷ [])
     ≡ section_lines 0 (s.sections ++ is ∷ []) ++ instruction_line i ∷ [] =
     section_lines-append 0 s.sections ((is ++ i ∷ []) ∷ [])
-    ∙ ap (λ (ls : List Line). section_lines 0 s.sections ++ (section_line n ∷ ls)) (append-nil
+    ∙ ap (λ (ls : List ScriptLine). section_lines 0 s.sections ++ (section_line n ∷ ls)) (append-nil
     (map instruction_line (is ++ i ∷ []))
     ∙ map_push instruction_line is i
-    ∙ ap (λ (ls : List Line). ls ++ instruction_line i ∷ []) (sym (append-nil (map instruction_line is))))
+    ∙ ap (λ (ls : List ScriptLine). ls ++ instruction_line i ∷ []) (sym (append-nil (map instruction_line is))))
     ∙ sym (append_assoc (section_lines 0 s.sections) (section_line n ∷ map instruction_line is ++ [])
     (instruction_line i ∷ []))
-    ∙ ap (λ (ls : List Line). ls ++ instruction_line i ∷ []) (sym start) in
-    let may = may_from s is i p in
-    let section : IsSection s (is ++ i ∷ []) = record {
+    ∙ ap (λ (ls : List ScriptLine). ls ++ instruction_line i ∷ []) (sym start) in
+    let may = no_fault_may_stand s is i p in
+    let section : IsLawfulSection s (is ++ i ∷ []) = record {
       most = grind (arith, nat_tests, room, length-append is (i ∷ []));
-      in_range = All-push (IsInRange s) is i h.last.in_range (ranges p);
+      in_range = All-push (IsInstructionInRange s) is i h.last.in_range (ranges p);
       holding = λ before j after e. elim (snoc_cases is before i j after e) [
-        | inl q ↦ subst (λ (k : Instruction). MayStandAfter before k) (sym q.1)
-            (subst (λ (ks : List Instruction). MayStandAfter ks i) (sym q.0) may)
+        | inl q ↦ subst (λ (k : Instruction). IsLawfulAfter before k) (sym q.1)
+            (subst (λ (ks : List Instruction). IsLawfulAfter ks i) (sym q.0) may)
         | inr q ↦ h.last.holding before j q.0 q.1
       ];
     } in
     subst (λ (x : Front). Adds (Within s is) (instruction_line i) x) same (record {
-      lines_are = ap (λ (ls : List Line). cluster_line s ∷ ls) lines;
+      lines_are = ap (λ (ls : List ScriptLine). cluster_line s ∷ ls) lines;
       begun =
           record {
             sizes = h.sizes;
@@ -257,9 +257,9 @@ entered_adds s is i g None refused h ranges e =
     })
 
 -- what a keyword and its numbers add
-pub command_adds : (f : Front) (k : Keyword) (ns : List ℕ) (g : Front) → IsBegun f → is_due f k (length ns) ≡ true
-    → AreWords ns → step f k ns ≡ Ok g → Adds f (record { word = spelled k; numbers = ns }) g
-unfolding step
+pub command_adds : (f : Front) (k : Keyword) (ns : List ℕ) (g : Front) → IsLawfulFront f → is_line_due f k (length ns) ≡ true
+    → AreWordNumbers ns → read_step f k ns ≡ Ok g → Adds f (record { word = keyword_bytes k; numbers = ns }) g
+unfolding read_step
 command_adds Nothing keyword.Cluster ns g h due small e = headed_adds ns g e
 command_adds Nothing _ ns g h due small e = absurd cc
 command_adds (Headed s) keyword.Section ns g h due small e = first_adds s ns g h e
@@ -267,13 +267,13 @@ command_adds (Headed s) _ ns g h due small e = absurd cc
 command_adds (Within s is) keyword.Section ns g h due small e = next_adds s is ns g h e
 command_adds (Within s is) keyword.Show ns g h due small e = show_adds s is ns g h due e
 command_adds (Within s is) keyword.Load (a ∷ []) g h due small e =
-    entered_adds s is (instruction.Load a) g _ refl h (λ p. leb-false (addresses s) a p.address) e
+    entered_adds s is (instruction.Load a) g _ refl h (λ p. leb-false (plan_addresses s) a p.address) e
 command_adds (Within s is) keyword.Load _ g h due small e = absurd cc
 command_adds (Within s is) keyword.Store (a ∷ v ∷ []) g h due small e =
-    entered_adds s is (instruction.Store a v) g _ refl h (λ p. (leb-false (addresses s) a p.address, small.1.0)) e
+    entered_adds s is (instruction.Store a v) g _ refl h (λ p. (leb-false (plan_addresses s) a p.address, small.1.0)) e
 command_adds (Within s is) keyword.Store _ g h due small e = absurd cc
 command_adds (Within s is) keyword.Add (a ∷ v ∷ []) g h due small e =
-    entered_adds s is (instruction.Add a v) g _ refl h (λ p. (leb-false (addresses s) a p.address, small.1.0)) e
+    entered_adds s is (instruction.Add a v) g _ refl h (λ p. (leb-false (plan_addresses s) a p.address, small.1.0)) e
 command_adds (Within s is) keyword.Add _ g h due small e = absurd cc
 command_adds (Within s is) keyword.Acquire (l ∷ []) g h due small e =
     entered_adds s is (instruction.Acquire l) g _ refl h (λ p. leb-false s.locks l p.lock) e

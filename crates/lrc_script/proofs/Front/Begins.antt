@@ -7,25 +7,25 @@ use Rattle.std.proofs.lemmas.List.Concat.{flat_map-append}
 use Rattle.std.proofs.lemmas.List.Elements.{All-from_recursion, All-append, All-replicate, All-weaker, All-push, All-nil}
 use Rattle.lrc_script.specs.declared.script.Instruction.{Instruction}
 use Rattle.lrc_script.specs.Plan.{Plan}
-use Rattle.lrc_script.specs.Lawful.{addresses, AreSizes, IsSection, IsLawfulButUneven}
-use Rattle.lrc_script.specs.Text.{Line, line_text, cluster_line, section_lines, show_line, lines_of, text}
-use Rattle.lrc_script.specs.Front.{Front, Nothing, Headed, Within, Whole, IsBegun, lines_before, text_before}
-use Rattle.lrc_script.specs.Faults.{BeginsText}
-use Rattle.lrc_script.proofs.Lawful.{sizes_small, sizes_over, section_over, nothing_stands}
+use Rattle.lrc_script.specs.Lawful.{plan_addresses, AreLawfulSizes, IsLawfulSection, IsLawfulButUneven}
+use Rattle.lrc_script.specs.Text.{ScriptLine, line_text, cluster_line, section_lines, show_line, lines_of, text}
+use Rattle.lrc_script.specs.Front.{Front, Nothing, Headed, Within, Whole, IsLawfulFront, front_lines, front_text}
+use Rattle.lrc_script.specs.LineFaults.{BeginsText}
+use Rattle.lrc_script.proofs.Lawful.{sizes_small, sizes_over, lawful_section_over, lawful_section_none}
 use Rattle.lrc_script.proofs.Text.{section_lines-append}
 
 -- the same sizes with these sections, then empty ones, and one address shown
-abbrev filled : Plan → List (List Instruction) → Plan
-filled s sections = record s { sections = sections ++ replicate (s.processors - length sections) []; shown = 0 ∷ [] }
+abbrev front_filled : Plan → List (List Instruction) → Plan
+front_filled s sections = record s { sections = sections ++ replicate (s.processors - length sections) []; shown = 0 ∷ [] }
 
-filled_lawful : (s : Plan) (sections : List (List Instruction)) → AreSizes s → length sections ≤ s.processors
-    → All (IsSection s) sections → IsLawfulButUneven (filled s sections)
-filled_lawful s sections sizes fit each =
-    let whole = filled s sections in
+front_filled_lawful : (s : Plan) (sections : List (List Instruction)) → AreLawfulSizes s → length sections ≤ s.processors
+    → All (IsLawfulSection s) sections → IsLawfulButUneven (front_filled s sections)
+front_filled_lawful s sections sizes fit each =
+    let whole = front_filled s sections in
     let small = sizes_small s sizes in
     let blanks = replicate (s.processors - length sections) [] in
-    let as_whole : (is : List Instruction) → IsSection s is → IsSection whole is =
-    λ is k. section_over s (sections ++ blanks) (0 ∷ []) is k in
+    let as_whole : (is : List Instruction) → IsLawfulSection s is → IsLawfulSection whole is =
+    λ is k. lawful_section_over s (sections ++ blanks) (0 ∷ []) is k in
     record {
       sizes = sizes_over s (sections ++ blanks) (0 ∷ []) sizes;
       one_each =
@@ -37,27 +37,27 @@ filled_lawful s sections sizes fit each =
             fit,
           );
       sections =
-          All-weaker (IsSection s) (IsSection whole) as_whole (sections ++ blanks) (All-append (IsSection s) sections
-          blanks each (All-replicate (IsSection s) (s.processors - length sections) [] (nothing_stands s)));
+          All-weaker (IsLawfulSection s) (IsLawfulSection whole) as_whole (sections ++ blanks) (All-append (IsLawfulSection s) sections
+          blanks each (All-replicate (IsLawfulSection s) (s.processors - length sections) [] (lawful_section_none s)));
       some_shown = omega arith;
       most_shown = omega arith;
-      shown = All-from_recursion (λ a. a < addresses s) (0 ∷ []) (small.address, tt);
+      shown = All-from_recursion (λ a. a < plan_addresses s) (0 ∷ []) (small.address, tt);
     }
 
-begins_from : (f : Front) (t : Plan) (ls : List Line) → IsLawfulButUneven t → lines_of t ≡ lines_before f ++ ls
-    → BeginsText (text_before f)
+begins_from : (f : Front) (t : Plan) (ls : List ScriptLine) → IsLawfulButUneven t → lines_of t ≡ front_lines f ++ ls
+    → BeginsText (front_text f)
 begins_from f t ls lawful e =
-    (t, lawful, flat_map line_text ls, ap (flat_map line_text) e ∙ flat_map-append line_text (lines_before f) ls)
+    (t, lawful, flat_map line_text ls, ap (flat_map line_text) e ∙ flat_map-append line_text (front_lines f) ls)
 
 filled_begins : (s : Plan) (sections : List (List Instruction))
-    → lines_of (filled s sections)
+    → lines_of (front_filled s sections)
     ≡ (cluster_line s ∷ section_lines 0 sections)
     ++ (section_lines (0 + length sections) (replicate (s.processors - length sections) [])
     ++ show_line (0 ∷ []) ∷ [])
 filled_begins s sections =
     let blanks = replicate (s.processors - length sections) [] in
     let show = show_line (0 ∷ []) ∷ [] in
-    ap (λ (ls : List Line). cluster_line s ∷ ls) (ap (λ (ls : List Line). ls ++ show)
+    ap (λ (ls : List ScriptLine). cluster_line s ∷ ls) (ap (λ (ls : List ScriptLine). ls ++ show)
     (section_lines-append 0 sections blanks)
     ∙ append_assoc (section_lines 0 sections) (section_lines (0 + length sections) blanks) show)
 
@@ -79,21 +79,21 @@ least_lawful = record {
         flags = omega arith;
       };
   one_each = refl;
-  sections = All-from_recursion (IsSection least) ([] ∷ []) (nothing_stands least, tt);
+  sections = All-from_recursion (IsLawfulSection least) ([] ∷ []) (lawful_section_none least, tt);
   some_shown = omega arith;
   most_shown = omega arith;
-  shown = All-from_recursion (λ a. a < addresses least) (0 ∷ []) (omega arith, tt);
+  shown = All-from_recursion (λ a. a < plan_addresses least) (0 ∷ []) (omega arith, tt);
 }
 
-pub front_begins : (f : Front) → IsBegun f → BeginsText (text_before f)
+pub front_begins : (f : Front) → IsLawfulFront f → BeginsText (front_text f)
 front_begins Nothing h = begins_from Nothing least (lines_of least) least_lawful refl
 front_begins (Headed s) h =
-    begins_from (Headed s) (filled s []) _ (filled_lawful s [] h.sizes (omega arith) (All-nil (IsSection s)))
+    begins_from (Headed s) (front_filled s []) _ (front_filled_lawful s [] h.sizes (omega arith) (All-nil (IsLawfulSection s)))
     (filled_begins s [])
 front_begins (Within s is) h =
     let sections = s.sections ++ is ∷ [] in
-    begins_from (Within s is) (filled s sections) _ (filled_lawful s sections h.sizes
+    begins_from (Within s is) (front_filled s sections) _ (front_filled_lawful s sections h.sizes
     (omega (arith, h.one_each, length-append s.sections (is ∷ [])))
-    (All-push (IsSection s) s.sections is h.sections h.last))
+    (All-push (IsLawfulSection s) s.sections is h.sections h.last))
     (filled_begins s sections)
 front_begins (Whole s) h = (s, h, [], sym (append-nil (text s)))

@@ -7,12 +7,12 @@ use Rattle.std.proofs.lemmas.Bool.{and_parts}
 use Rattle.std.proofs.lemmas.Bool.Decides.{nat_tests}
 use Rattle.std.proofs.lemmas.List.{length-map}
 use Rattle.lrc_script.specs.declared.line.Keyword.{Keyword}
-use Rattle.lrc_script.specs.Text.{Line, spaced, line_bytes}
+use Rattle.lrc_script.specs.Text.{ScriptLine, spaced, line_bytes}
 use Rattle.lrc_script.specs.Front.{Front}
-use Rattle.lrc_script.specs.Faults.{IsWord, IsSplit}
-use Rattle.lrc_script.specs.Reading.{◌>>=◌, keyword_of, is_due, numbers_after, step, after, after_words, after_keyword}
-use Rattle.lrc_script.proofs.Reading.Numbers.{AreWords, numbers_again, Decimal-decimal}
-use Rattle.lrc_script.proofs.Reading.Words.{HasNo, HasNo-append, parts_from_split}
+use Rattle.lrc_script.specs.LineFaults.{IsWordOfLine, IsLineSplit}
+use Rattle.lrc_script.specs.LineReading.{◌>>=◌, keyword_read, is_line_due, numbers_read_after, read_step, read_after, read_after_words, read_after_keyword}
+use Rattle.lrc_script.proofs.Reading.Numbers.{AreWordNumbers, numbers_again, decimal_number_of}
+use Rattle.lrc_script.proofs.Reading.Words.{HasNo, HasNo-append, words_from_split}
 
 -- a first word: bytes, none of them a space or a line feed
 abbrev pub is_plain : List ℕ → Bool
@@ -35,63 +35,63 @@ digits_have_no c (b ∷ w) lt h =
     (λ e. grind (arith, nat_tests, test, e), digits_have_no c w lt both.1)
 
 pub decimal_has_no : (c n : ℕ) → c < 48 → n < 2 ^ 32 → HasNo c (decimal n)
-decimal_has_no c n lt small = digits_have_no c (decimal n) lt (Decimal-decimal n (omega arith)).digits
+decimal_has_no c n lt small = digits_have_no c (decimal n) lt (decimal_number_of n (omega arith)).digits
 
-pub decimals_words : (ns : List ℕ) → AreWords ns → AllByRecursion IsWord (map decimal ns)
-decimals_words [] small = tt
-decimals_words (n ∷ ns) small = (
+pub line_numbers_are_words : (ns : List ℕ) → AreWordNumbers ns → AllByRecursion IsWordOfLine (map decimal ns)
+line_numbers_are_words [] small = tt
+line_numbers_are_words (n ∷ ns) small = (
   record {
-    some = (Decimal-decimal n (omega (arith, small.0))).some;
+    some = (decimal_number_of n (omega (arith, small.0))).some;
     no_space = decimal_has_no 32 n (omega arith) small.0;
   },
-  decimals_words ns small.1,
+  line_numbers_are_words ns small.1,
 )
 
-spaced_has_no : (ns : List ℕ) → AreWords ns → HasNo 10 (flat_map spaced ns)
-spaced_has_no [] small = tt
-spaced_has_no (n ∷ ns) small =
+line_numbers_have_no : (ns : List ℕ) → AreWordNumbers ns → HasNo 10 (flat_map spaced ns)
+line_numbers_have_no [] small = tt
+line_numbers_have_no (n ∷ ns) small =
     HasNo-append 10 (spaced n) (flat_map spaced ns)
-    (λ e. absurd (omega (arith, e)), decimal_has_no 10 n (omega arith) small.0) (spaced_has_no ns small.1)
+    (λ e. absurd (omega (arith, e)), decimal_has_no 10 n (omega arith) small.0) (line_numbers_have_no ns small.1)
 
-pub flat_spaced : (ns : List ℕ) → flat_map spaced ns ≡ flat_map (λ v. 32 ∷ v) (map decimal ns)
-flat_spaced [] = refl
-flat_spaced (n ∷ ns) = ap (λ (t : List ℕ). spaced n ++ t) (flat_spaced ns)
+pub line_numbers_flat : (ns : List ℕ) → flat_map spaced ns ≡ flat_map (λ v. 32 ∷ v) (map decimal ns)
+line_numbers_flat [] = refl
+line_numbers_flat (n ∷ ns) = ap (λ (t : List ℕ). spaced n ++ t) (line_numbers_flat ns)
 
 -- a line of a plain word and numbers is split into them
-pub line_split : (word : List ℕ) (ns : List ℕ) → is_plain word ≡ true → AreWords ns
-    → IsSplit (line_bytes (record { word = word; numbers = ns })) word (map decimal ns)
+pub line_split : (word : List ℕ) (ns : List ℕ) → is_plain word ≡ true → AreWordNumbers ns
+    → IsLineSplit (line_bytes (record { word = word; numbers = ns })) word (map decimal ns)
 line_split word ns plain small =
     let both = and_parts (ltb 0 (length word)) (list_all (λ b. not (eqb b 32) && not (eqb b 10)) word) plain in
     let some = both.0 in
     record {
       first = record { some = grind (arith, nat_tests, some); no_space = (plain_bytes word both.1).0 };
-      others = decimals_words ns small;
-      whole = ap (λ (t : List ℕ). word ++ t) (flat_spaced ns);
+      others = line_numbers_are_words ns small;
+      whole = ap (λ (t : List ℕ). word ++ t) (line_numbers_flat ns);
     }
 
 -- what reading does once the keyword is due
-pub after_due : (f : Front) (line word : List ℕ) (ws : List (List ℕ)) (k : Keyword) → IsSplit line word ws
-    → keyword_of word ≡ Some k → is_due f k (length ws) ≡ true → after f line ≡ (numbers_after [] ws >>= step f k)
-unfolding after_keyword
-after_due f line word ws k split key due =
-    let parts = parts_from_split line word ws split in
-    ap (after_words f) parts.0 ∙ rw (parts.1, key, due) refl
+pub line_due_after : (f : Front) (line word : List ℕ) (ws : List (List ℕ)) (k : Keyword) → IsLineSplit line word ws
+    → keyword_read word ≡ Some k → is_line_due f k (length ws) ≡ true → read_after f line ≡ (numbers_read_after [] ws >>= read_step f k)
+unfolding read_after_keyword
+line_due_after f line word ws k split key due =
+    let parts = words_from_split line word ws split in
+    ap (read_after_words f) parts.0 ∙ rw (parts.1, key, due) refl
 
 -- the line leads from what stands before it to what stands behind it
-pub record Goes (f : Front) (l : Line) (g : Front) : Type 0 where
-  pub after_is : after f (line_bytes l) ≡ Ok g
+pub record LinePasses (f : Front) (l : ScriptLine) (g : Front) : Type 0 where
+  pub after_is : read_after f (line_bytes l) ≡ Ok g
   pub one_line : HasNo 10 (line_bytes l)
 
-pub goes : (f g : Front) (k : Keyword) (word ns : List ℕ) → keyword_of word ≡ Some k → is_plain word ≡ true
-    → AreWords ns → is_due f k (length ns) ≡ true → step f k ns ≡ Ok g
-    → Goes f (record { word = word; numbers = ns }) g
-goes f g k word ns key plain small due stepped =
+pub line_passes : (f g : Front) (k : Keyword) (word ns : List ℕ) → keyword_read word ≡ Some k → is_plain word ≡ true
+    → AreWordNumbers ns → is_line_due f k (length ns) ≡ true → read_step f k ns ≡ Ok g
+    → LinePasses f (record { word = word; numbers = ns }) g
+line_passes f g k word ns key plain small due stepped =
     let both = and_parts (ltb 0 (length word)) (list_all (λ b. not (eqb b 32) && not (eqb b 10)) word) plain in
-    let due' : is_due f k (length (map decimal ns)) ≡ true = rw length-map due in
+    let due' : is_line_due f k (length (map decimal ns)) ≡ true = rw length-map due in
     record {
       after_is =
-          after_due f (line_bytes (record { word = word; numbers = ns })) word (map decimal ns) k
+          line_due_after f (line_bytes (record { word = word; numbers = ns })) word (map decimal ns) k
           (line_split word ns plain small) key due'
           ∙ rw (numbers_again [] ns small) stepped;
-      one_line = HasNo-append 10 word (flat_map spaced ns) (plain_bytes word both.1).1 (spaced_has_no ns small);
+      one_line = HasNo-append 10 word (flat_map spaced ns) (plain_bytes word both.1).1 (line_numbers_have_no ns small);
     }

@@ -14,28 +14,28 @@ use Rattle.std.proofs.lemmas.List.{append-nil}
 use Rattle.std.proofs.lemmas.List.Elements.{Contains-append_right}
 use Rattle.lrc_script.specs.declared.fault.ScriptFault.{ScriptFault}
 use Rattle.lrc_script.specs.declared.fault.ScriptFault.TheVariants.{BadNumber}
-use Rattle.lrc_script.specs.Reading.{is_decimal, number_of, numbers_after}
+use Rattle.lrc_script.specs.LineReading.{is_read_as_decimal, number_read, numbers_read_after}
 
 -- our test for digits is std's
 pub own : IsNumeralModel (λ ds. list_all is_ascii_digit ds ≡ true) (digits_value 10)
 own = numerals_by_value _ (search rules)
 
 -- what the test for a decimal says
-pub record Decimal (w : List ℕ) : Type 0 where
+pub record IsDecimalNumber (w : List ℕ) : Type 0 where
   pub digits : list_all is_ascii_digit w ≡ true
   pub some : 0 < length w
   pub alone : get_or w 0 0 ≡ 48 → length w ≡ 1
 
-pub decimal_parts : (w : List ℕ) → is_decimal w ≡ true → Decimal w
-decimal_parts w e =
+pub decimal_number_parts : (w : List ℕ) → is_read_as_decimal w ≡ true → IsDecimalNumber w
+decimal_number_parts w e =
     let a =
     and_parts (not (eqb (length w) 0) && not (eqb (get_or w 0 0) 48 && ltb 1 (length w)))
     (list_all is_ascii_digit w) e in
     let b = and_parts (not (eqb (length w) 0)) (not (eqb (get_or w 0 0) 48 && ltb 1 (length w))) a.0 in
     record { digits = a.1; some = grind (arith, nat_tests, b.0); alone = λ z. grind (arith, nat_tests, b.0, b.1, z) }
 
-pub decimal_whole : (w : List ℕ) → Decimal w → is_decimal w ≡ true
-decimal_whole w d =
+pub decimal_number_whole : (w : List ℕ) → IsDecimalNumber w → is_read_as_decimal w ≡ true
+decimal_number_whole w d =
     let some = d.some in
     let front : (not (eqb (length w) 0) && not (eqb (get_or w 0 0) 48 && ltb 1 (length w)))
     ≡ true = elim (eqb (get_or w 0 0) 48) as
@@ -46,17 +46,17 @@ decimal_whole w d =
     rw (front, d.digits) refl
 
 -- what is read as a number is its decimal digits
-pub number_takes : (w : List ℕ) (n : ℕ) → number_of w ≡ Some n → (w ≡ decimal n) × (n < 2 ^ 32)
+pub number_takes : (w : List ℕ) (n : ℕ) → number_read w ≡ Some n → (w ≡ decimal n) × (n < 2 ^ 32)
 number_takes w n e =
-    let s = cond_some (is_decimal w && ltb (digits_value 10 w) (2 ^ 32)) (digits_value 10 w) n e in
-    let t = and_parts (is_decimal w) (ltb (digits_value 10 w) (2 ^ 32)) s.0 in
-    let d = decimal_parts w t.0 in
+    let s = cond_some (is_read_as_decimal w && ltb (digits_value 10 w) (2 ^ 32)) (digits_value 10 w) n e in
+    let t = and_parts (is_read_as_decimal w) (ltb (digits_value 10 w) (2 ^ 32)) s.0 in
+    let d = decimal_number_parts w t.0 in
     let below : digits_value 10 w < 2 ^ 32 = ltb-true _ _ t.1 in
     (rw (← s.1) (sym (decimal-digits_value own w d.digits d.some d.alone (omega arith))), rw (← s.1) below)
 
 -- decimal digits are read as their number
-pub Decimal-decimal : (n : ℕ) → n < 2 ^ 64 → Decimal (decimal n)
-Decimal-decimal n lt = record {
+pub decimal_number_of : (n : ℕ) → n < 2 ^ 64 → IsDecimalNumber (decimal n)
+decimal_number_of n lt = record {
   digits = digits_decimal own n lt;
   some = decimal_nonempty n lt;
   alone = elim n as (λ k. k < 2 ^ 64 → get_or (decimal k) 0 0 ≡ 48 → length (decimal k) ≡ 1) [
@@ -65,24 +65,24 @@ Decimal-decimal n lt = record {
   ] lt;
 }
 
-pub number_again : (n : ℕ) → n < 2 ^ 32 → number_of (decimal n) ≡ Some n
+pub number_again : (n : ℕ) → n < 2 ^ 32 → number_read (decimal n) ≡ Some n
 number_again n lt =
     let big : n < 2 ^ 64 = omega arith in
     let same : digits_value 10 (decimal n) ≡ n = digits_value-decimal own n big in
     let small : ltb n (2 ^ 32) ≡ true = lt-ltb _ _ lt in
-    rw (decimal_whole (decimal n) (Decimal-decimal n big), same, small) refl
+    rw (decimal_number_whole (decimal n) (decimal_number_of n big), same, small) refl
 
-abbrev pub AreWords : List ℕ → Type 0
-AreWords ns = AllByRecursion (λ n. n < 2 ^ 32) ns
+abbrev pub AreWordNumbers : List ℕ → Type 0
+AreWordNumbers ns = AllByRecursion (λ n. n < 2 ^ 32) ns
 
 -- the words of a list are decimals
 pub record Reads (front : List ℕ) (words : List (List ℕ)) (all : List ℕ) : Type 0 where
   pub numbers : List ℕ
   pub all_is : all ≡ front ++ numbers
   pub words_are : words ≡ map decimal numbers
-  pub small : AreWords numbers
+  pub small : AreWordNumbers numbers
 
-pub numbers_take : (front : List ℕ) (words : List (List ℕ)) (all : List ℕ) → numbers_after front words ≡ Ok all
+pub numbers_take : (front : List ℕ) (words : List (List ℕ)) (all : List ℕ) → numbers_read_after front words ≡ Ok all
     → Reads front words all
 numbers_take front [] all e =
     record {
@@ -92,17 +92,17 @@ numbers_take front [] all e =
       small = tt;
     }
 numbers_take front (w ∷ ws) all e =
-    first_taken front w ws all (number_of w) refl e (numbers_take (front ++ unwrap_or (number_of w) 0 ∷ []) ws all)
+    first_taken front w ws all (number_read w) refl e (numbers_take (front ++ unwrap_or (number_read w) 0 ∷ []) ws all)
   where
-    first_taken : (front w : List ℕ) (ws : List (List ℕ)) (all : List ℕ) (o : Option ℕ) → number_of w ≡ o
-        → cond (is_some o) (numbers_after (front ++ unwrap_or o 0 ∷ []) ws) (Err BadNumber) ≡ Ok all
-        → (numbers_after (front ++ unwrap_or (number_of w) 0 ∷ []) ws ≡ Ok all
-        → Reads (front ++ unwrap_or (number_of w) 0 ∷ []) ws all)
+    first_taken : (front w : List ℕ) (ws : List (List ℕ)) (all : List ℕ) (o : Option ℕ) → number_read w ≡ o
+        → cond (is_some o) (numbers_read_after (front ++ unwrap_or o 0 ∷ []) ws) (Err BadNumber) ≡ Ok all
+        → (numbers_read_after (front ++ unwrap_or (number_read w) 0 ∷ []) ws ≡ Ok all
+        → Reads (front ++ unwrap_or (number_read w) 0 ∷ []) ws all)
         → Reads front (w ∷ ws) all
     first_taken front w ws all None n e rest = absurd cc
     first_taken front w ws all (Some k) n e rest =
         let r : Reads (front ++ k ∷ []) ws all =
-        subst (λ (o : Option ℕ). numbers_after (front ++ unwrap_or o 0 ∷ []) ws ≡ Ok all
+        subst (λ (o : Option ℕ). numbers_read_after (front ++ unwrap_or o 0 ∷ []) ws ≡ Ok all
         → Reads (front ++ unwrap_or o 0 ∷ []) ws all)
         n rest e in
         let t = number_takes w k n in
@@ -113,8 +113,8 @@ numbers_take front (w ∷ ws) all e =
           small = (t.1, r.small);
         }
 
-pub numbers_again : (front numbers : List ℕ) → AreWords numbers
-    → numbers_after front (map decimal numbers) ≡ Ok (front ++ numbers)
+pub numbers_again : (front numbers : List ℕ) → AreWordNumbers numbers
+    → numbers_read_after front (map decimal numbers) ≡ Ok (front ++ numbers)
 numbers_again front [] small = ap (λ (ns : List ℕ). Ok ns) (sym (append-nil front))
 numbers_again front (n ∷ ns) small =
     rw (number_again n small.0)
@@ -128,15 +128,15 @@ pub record NotNumber (words : List (List ℕ)) (fault : ScriptFault) : Type 0 wh
   pub none : (n : ℕ) → n < 2 ^ 32 → word ≢ decimal n
 
 pub numbers_refused : (front : List ℕ) (words : List (List ℕ)) (fault : ScriptFault)
-    → numbers_after front words ≡ Err fault → NotNumber words fault
+    → numbers_read_after front words ≡ Err fault → NotNumber words fault
 numbers_refused front [] fault e = absurd cc
 numbers_refused front (w ∷ ws) fault e =
-    first_refused front w ws fault (number_of w) refl e
-    (numbers_refused (front ++ unwrap_or (number_of w) 0 ∷ []) ws fault)
+    first_refused front w ws fault (number_read w) refl e
+    (numbers_refused (front ++ unwrap_or (number_read w) 0 ∷ []) ws fault)
   where
-    first_refused : (front w : List ℕ) (ws : List (List ℕ)) (fault : ScriptFault) (o : Option ℕ) → number_of w ≡ o
-        → cond (is_some o) (numbers_after (front ++ unwrap_or o 0 ∷ []) ws) (Err BadNumber) ≡ Err fault
-        → (numbers_after (front ++ unwrap_or (number_of w) 0 ∷ []) ws ≡ Err fault → NotNumber ws fault)
+    first_refused : (front w : List ℕ) (ws : List (List ℕ)) (fault : ScriptFault) (o : Option ℕ) → number_read w ≡ o
+        → cond (is_some o) (numbers_read_after (front ++ unwrap_or o 0 ∷ []) ws) (Err BadNumber) ≡ Err fault
+        → (numbers_read_after (front ++ unwrap_or (number_read w) 0 ∷ []) ws ≡ Err fault → NotNumber ws fault)
         → NotNumber (w ∷ ws) fault
     first_refused front w ws fault None n e rest =
         record {
@@ -147,7 +147,7 @@ numbers_refused front (w ∷ ws) fault e =
         }
     first_refused front w ws fault (Some k) n e rest =
         let r : NotNumber ws fault =
-        subst (λ (o : Option ℕ). numbers_after (front ++ unwrap_or o 0 ∷ []) ws ≡ Err fault → NotNumber ws fault)
+        subst (λ (o : Option ℕ). numbers_read_after (front ++ unwrap_or o 0 ∷ []) ws ≡ Err fault → NotNumber ws fault)
         n rest e in
         record {
           fault_is = r.fault_is;

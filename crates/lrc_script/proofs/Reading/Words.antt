@@ -6,8 +6,8 @@ use Rattle.std.proofs.lemmas.Bool.Decides.{nat_tests}
 use Rattle.std.proofs.lemmas.List.Splits.{slice_split_at, slice_split_none, join_with_byte-slice_split}
 use Rattle.std.proofs.lemmas.List.{append-nil}
 use Rattle.std.proofs.lemmas.List.Elements.{All-from_recursion}
-use Rattle.lrc_script.specs.Faults.{IsWord, IsSplit}
-use Rattle.lrc_script.specs.Reading.{parts_of, has_bytes}
+use Rattle.lrc_script.specs.LineFaults.{IsWordOfLine, IsLineSplit}
+use Rattle.lrc_script.specs.LineReading.{parts_of_line, has_bytes}
 
 -- none of these bytes is the separator
 abbrev pub HasNo : ℕ → List ℕ → Type 0
@@ -22,15 +22,15 @@ tests_false c [] h = tt
 tests_false c (b ∷ bytes) h = (ne_eqb b c h.0, tests_false c bytes h.1)
 
 -- the first part ends at the first separator
-pub parts_first : (c : ℕ) (bytes rest : List ℕ) → HasNo c bytes
-    → parts_of c (bytes ++ c ∷ rest) ≡ bytes ∷ parts_of c rest
-parts_first c bytes rest h =
+pub parts_first_word : (c : ℕ) (bytes rest : List ℕ) → HasNo c bytes
+    → parts_of_line c (bytes ++ c ∷ rest) ≡ bytes ∷ parts_of_line c rest
+parts_first_word c bytes rest h =
     slice_split_at (λ b. eqb b c) bytes c rest
     (All-from_recursion (λ b. eqb b c ≡ false) bytes (tests_false c bytes h)) (eq-eqb c c refl)
 
 -- where there is none, the bytes are the one part
-pub parts_none : (c : ℕ) (bytes : List ℕ) → HasNo c bytes → parts_of c bytes ≡ bytes ∷ []
-parts_none c bytes h =
+pub parts_one_word : (c : ℕ) (bytes : List ℕ) → HasNo c bytes → parts_of_line c bytes ≡ bytes ∷ []
+parts_one_word c bytes h =
     slice_split_none (λ b. eqb b c) bytes (All-from_recursion (λ b. eqb b c ≡ false) bytes (tests_false c bytes h))
 
 -- each part is without separators
@@ -39,63 +39,63 @@ onto_first_has : (c x : ℕ) (parts : List (List ℕ)) → x ≢ c → AllByRecu
 onto_first_has c x [] ne h = ((ne, tt), tt)
 onto_first_has c x (part ∷ parts) ne h = ((ne, h.0), h.1)
 
-parts_have : (c x : ℕ) (xs : List ℕ) (b : Bool) → eqb x c ≡ b → AllByRecursion (HasNo c) (parts_of c xs)
-    → AllByRecursion (HasNo c) (cond b ([] ∷ parts_of c xs) (onto_first x (parts_of c xs)))
-parts_have c x xs true e h = (tt, h)
-parts_have c x xs false e h = onto_first_has c x (parts_of c xs) (λ same. grind (arith, nat_tests, e, same)) h
+parts_of_words_have : (c x : ℕ) (xs : List ℕ) (b : Bool) → eqb x c ≡ b → AllByRecursion (HasNo c) (parts_of_line c xs)
+    → AllByRecursion (HasNo c) (cond b ([] ∷ parts_of_line c xs) (onto_first x (parts_of_line c xs)))
+parts_of_words_have c x xs true e h = (tt, h)
+parts_of_words_have c x xs false e h = onto_first_has c x (parts_of_line c xs) (λ same. grind (arith, nat_tests, e, same)) h
 
-pub parts_clean : (c : ℕ) (bytes : List ℕ) → AllByRecursion (HasNo c) (parts_of c bytes)
-parts_clean c [] = (tt, tt)
-parts_clean c (x ∷ xs) = parts_have c x xs (eqb x c) refl (parts_clean c xs)
+pub parts_of_words_clean : (c : ℕ) (bytes : List ℕ) → AllByRecursion (HasNo c) (parts_of_line c bytes)
+parts_of_words_clean c [] = (tt, tt)
+parts_of_words_clean c (x ∷ xs) = parts_of_words_have c x xs (eqb x c) refl (parts_of_words_clean c xs)
 
 -- a word and others with the separator before each
-abbrev pub joined : ℕ → List ℕ → List (List ℕ) → List ℕ
-joined c w ws = w ++ flat_map (λ v. c ∷ v) ws
+abbrev pub joined_words : ℕ → List ℕ → List (List ℕ) → List ℕ
+joined_words c w ws = w ++ flat_map (λ v. c ∷ v) ws
 
-joined_is : (c : ℕ) (w : List ℕ) (ws : List (List ℕ)) → join_with_byte c (w ∷ ws) ≡ joined c w ws
-joined_is c w [] = sym (append-nil w)
-joined_is c w (v ∷ ws) = ap (λ (t : List ℕ). w ++ c ∷ t) (joined_is c v ws)
+joined_words_are : (c : ℕ) (w : List ℕ) (ws : List (List ℕ)) → join_with_byte c (w ∷ ws) ≡ joined_words c w ws
+joined_words_are c w [] = sym (append-nil w)
+joined_words_are c w (v ∷ ws) = ap (λ (t : List ℕ). w ++ c ∷ t) (joined_words_are c v ws)
 
 -- the parts with the separator between them are the bytes
-pub parts_whole : (c : ℕ) (bytes w : List ℕ) (ws : List (List ℕ)) → parts_of c bytes ≡ w ∷ ws → bytes ≡ joined c w ws
-parts_whole c bytes w ws e = sym (join_with_byte-slice_split c bytes) ∙ ap (join_with_byte c) e ∙ joined_is c w ws
+pub parts_words_whole : (c : ℕ) (bytes w : List ℕ) (ws : List (List ℕ)) → parts_of_line c bytes ≡ w ∷ ws → bytes ≡ joined_words c w ws
+parts_words_whole c bytes w ws e = sym (join_with_byte-slice_split c bytes) ∙ ap (join_with_byte c) e ∙ joined_words_are c w ws
 
 -- what is joined is cut into the same parts
-pub parts_joined : (c : ℕ) (w : List ℕ) (ws : List (List ℕ)) → HasNo c w → AllByRecursion (HasNo c) ws
-    → parts_of c (joined c w ws) ≡ w ∷ ws
-parts_joined c w [] h hs = ap (parts_of c) (append-nil w) ∙ parts_none c w h
-parts_joined c w (v ∷ ws) h hs =
-    parts_first c w (joined c v ws) h ∙ ap (λ (vs : List (List ℕ)). w ∷ vs) (parts_joined c v ws hs.0 hs.1)
+pub parts_of_joined_words : (c : ℕ) (w : List ℕ) (ws : List (List ℕ)) → HasNo c w → AllByRecursion (HasNo c) ws
+    → parts_of_line c (joined_words c w ws) ≡ w ∷ ws
+parts_of_joined_words c w [] h hs = ap (parts_of_line c) (append-nil w) ∙ parts_one_word c w h
+parts_of_joined_words c w (v ∷ ws) h hs =
+    parts_first_word c w (joined_words c v ws) h ∙ ap (λ (vs : List (List ℕ)). w ∷ vs) (parts_of_joined_words c v ws hs.0 hs.1)
 
 words_from : (ws : List (List ℕ)) → list_all has_bytes ws ≡ true → AllByRecursion (HasNo 32) ws
-    → AllByRecursion IsWord ws
+    → AllByRecursion IsWordOfLine ws
 words_from [] h clean = tt
 words_from (w ∷ ws) h clean =
     let both = and_parts (has_bytes w) (list_all has_bytes ws) h in
     (record { some = ltb-true _ _ both.0; no_space = clean.0 }, words_from ws both.1 clean.1)
 
-pub words_have : (ws : List (List ℕ)) → AllByRecursion IsWord ws → list_all has_bytes ws ≡ true
+pub words_have : (ws : List (List ℕ)) → AllByRecursion IsWordOfLine ws → list_all has_bytes ws ≡ true
 words_have [] h = refl
 words_have (w ∷ ws) h = let some = lt-ltb _ _ h.0.some in rw (some, words_have ws h.1) refl
 
-words_clean : (ws : List (List ℕ)) → AllByRecursion IsWord ws → AllByRecursion (HasNo 32) ws
+words_clean : (ws : List (List ℕ)) → AllByRecursion IsWordOfLine ws → AllByRecursion (HasNo 32) ws
 words_clean [] h = tt
 words_clean (w ∷ ws) h = (h.0.no_space, words_clean ws h.1)
 
 -- a line is cut into the words that it is split into
-pub parts_from_split : (line w : List ℕ) (ws : List (List ℕ)) → IsSplit line w ws
-    → (parts_of 32 line ≡ w ∷ ws) × (list_all has_bytes (w ∷ ws) ≡ true)
-parts_from_split line w ws h = (
-  ap (parts_of 32) h.whole
-      ∙ parts_joined 32 w ws h.first.no_space (words_clean ws h.others),
+pub words_from_split : (line w : List ℕ) (ws : List (List ℕ)) → IsLineSplit line w ws
+    → (parts_of_line 32 line ≡ w ∷ ws) × (list_all has_bytes (w ∷ ws) ≡ true)
+words_from_split line w ws h = (
+  ap (parts_of_line 32) h.whole
+      ∙ parts_of_joined_words 32 w ws h.first.no_space (words_clean ws h.others),
   words_have (w ∷ ws)
       (h.first, h.others),
 )
 
-pub split_from_parts : (line w : List ℕ) (ws : List (List ℕ)) → parts_of 32 line ≡ w ∷ ws
-    → list_all has_bytes (w ∷ ws) ≡ true → IsSplit line w ws
-split_from_parts line w ws e h =
+pub words_split_from_parts : (line w : List ℕ) (ws : List (List ℕ)) → parts_of_line 32 line ≡ w ∷ ws
+    → list_all has_bytes (w ∷ ws) ≡ true → IsLineSplit line w ws
+words_split_from_parts line w ws e h =
     let clean : AllByRecursion (HasNo 32) (w ∷ ws) =
-    subst (λ (ps : List (List ℕ)). AllByRecursion (HasNo 32) ps) e (parts_clean 32 line) in
+    subst (λ (ps : List (List ℕ)). AllByRecursion (HasNo 32) ps) e (parts_of_words_clean 32 line) in
     let words = words_from (w ∷ ws) h clean in
-    record { first = words.0; others = words.1; whole = parts_whole 32 line w ws e }
+    record { first = words.0; others = words.1; whole = parts_words_whole 32 line w ws e }

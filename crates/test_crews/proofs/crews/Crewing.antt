@@ -4,16 +4,16 @@ use Rattle.std.proofs.lemmas.Bool.{cases_eq}
 use Rattle.std.proofs.lemmas.List.{length-set, length-map}
 use Rattle.std.proofs.lemmas.Option.{same_Some, slice_get_within, get_or_from_slice_get, slice_get_read}
 use Rattle.std.specs.Result.{result_err}
-use Rattle.base.proofs.Sets.{slice_get-set_found, slice_get-set_other}
-use Rattle.turn.proofs.Lists.{at_unmap}
+use Rattle.base.proofs.SliceSets.{slice_get-set_found, slice_get-set_other}
+use Rattle.turn.proofs.ListItems.{item_of_unmap}
 use Rattle.book.specs.declared.refused.Refused.{Refused}
 use Rattle.cluster.specs.Copies.Local.{Local, calls}
-use Rattle.cluster.specs.Clusters.{Shared}
-use Rattle.cluster.specs.Finishing.{AreAllOf}
+use Rattle.cluster.specs.Clusters.{SharedCluster}
+use Rattle.cluster.specs.Finishing.{AreAllToFinish}
 use Rattle.test_crews.specs.Crews.Crews.{IsOf, IsMember, AreMembers, HaveSameCalls}
 
 -- the processors, where one of them is another
-pub members_set : (c : Shared) (ms : List Local) (p : ℕ) (m : Local) → AreMembers c ms → IsMember c p m
+pub members_set : (c : SharedCluster) (ms : List Local) (p : ℕ) (m : Local) → AreMembers c ms → IsMember c p m
     → AreMembers c (slice_set ms p m)
 members_set c ms p m all own = record { all = length-set ms p m ∙ all.all; each = each }
   where
@@ -46,7 +46,7 @@ same_calls (Err e) ms p old new found same = each
     ]
 
 -- the same of results and jobs that are read by their places
-pub all_back : {A : Type 0} (c : Shared) (jobs : List Local) (results : List (Local × A))
+pub all_back : {A : Type 0} (c : SharedCluster) (jobs : List Local) (results : List (Local × A))
     → AreMembers c jobs → length results ≡ length jobs
     → ((k : ℕ) (r : Local × A) → k < length jobs → (job : Local) × (job ≡ get_or jobs k job)
     × IsOf c (get_or results k r).0 × ((get_or results k r).0.number ≡ job.number))
@@ -54,7 +54,7 @@ pub all_back : {A : Type 0} (c : Shared) (jobs : List Local) (results : List (Lo
 all_back {A} c jobs results all long gives = record {
   all = length-map results (λ r. r.0) ∙ (long ∙ all.all);
   each = λ p m e.
-      let r = at_unmap (λ (x : Local × A). x.0) results p m e in
+      let r = item_of_unmap (λ (x : Local × A). x.0) results p m e in
       let within = slice_get_within results p r.0 r.1 in
       let less : p < length jobs = omega arith in
       let job = gives p r.0 less in
@@ -65,7 +65,7 @@ all_back {A} c jobs results all long gives = record {
 }
 
 -- what finishing asks of them
-pub all_of : (c : Shared) (ms : List Local) → AreMembers c ms → AreAllOf c ms
+pub all_of : (c : SharedCluster) (ms : List Local) → AreMembers c ms → AreAllToFinish c ms
 all_of c ms all = record {
   all = all.all;
   each = λ p m at.

@@ -4,11 +4,11 @@ use Rattle.std.specs.Result.{result_err}
 use Rattle.journal.specs.declared.event.Event.{Event}
 use Rattle.journal.specs.declared.event.Kind.TheVariants.{Load}
 use Rattle.book.specs.declared.refused.Refused.{Refused}
-use Rattle.cluster.specs.Copies.Copies.{Copied}
+use Rattle.cluster.specs.Copies.PageReplica.{Copied}
 use Rattle.cluster.specs.Copies.Local.{Local, calls, noted}
 use Rattle.cluster.specs.Accesses.{FetchDone}
 use Rattle.cluster.specs.Calls.{IsCall}
-use Rattle.cluster.specs.Clusters.{Shared}
+use Rattle.cluster.specs.Clusters.{SharedCluster}
 use Rattle.cluster.specs.Covers.{HasCoverage, IsAllowed}
 use Rattle.cluster.specs.Cutting.{IsCuttingCall}
 use Rattle.cluster.specs.Waiting.{IsWaitingCall}
@@ -16,7 +16,7 @@ use Rattle.cluster.specs.declared.waited.Waited.{Waited}
 use Rattle.test_crews.specs.Crews.Crews.{IsOf, StaysItself}
 
 -- and of a call that enters the book it is what that promises
-pub by_call : (c : Shared) (first : Option Refused) (many : ℕ) (absent : Local → Type 0) (done : Local → Local → Type 0)
+pub by_call : (c : SharedCluster) (first : Option Refused) (many : ℕ) (absent : Local → Type 0) (done : Local → Local → Type 0)
     (added : List Event) (old new : Local) (refused : Option Refused)
     → IsOf c old → IsCall first many absent done added old new refused → StaysItself c old new refused
 by_call c first many absent done added old new refused own call = record {
@@ -31,7 +31,7 @@ by_call c first many absent done added old new refused own call = record {
 }
 
 -- and so of a cut
-pub by_cut : (c : Shared) (old new : Local) (refused : Option Refused)
+pub by_cut : (c : SharedCluster) (old new : Local) (refused : Option Refused)
     → IsOf c old → IsCuttingCall old new refused → StaysItself c old new refused
 by_cut c old new refused own call = record {
   own = record {
@@ -45,7 +45,7 @@ by_cut c old new refused own call = record {
 }
 
 -- and so of a wait
-pub by_wait : (c : Shared) (old new : Local) (answer : Result Waited Refused)
+pub by_wait : (c : SharedCluster) (old new : Local) (answer : Result Waited Refused)
     → IsOf c old → IsWaitingCall old new answer → StaysItself c old new (result_err answer)
 by_wait c old new answer own call = record {
   own = record {
@@ -59,7 +59,7 @@ by_wait c old new answer own call = record {
 }
 
 -- what it does by itself leaves which books are allowed
-by_itself : (c : Shared) (old new : Local) (block : List Event) (copies : List Copied) (stored : List Bool)
+by_itself : (c : SharedCluster) (old new : Local) (block : List Event) (copies : List Copied) (stored : List Bool)
     → IsOf c old → new ≡ record old { block = block; copies = copies; stored = stored } → HasCoverage new → IsOf c new
 by_itself c old new block copies stored own is covers = record {
   lock_is = ap (λ (m : Local). m.lock) is ∙ own.lock_is;
@@ -78,7 +78,7 @@ by_itself c old new block copies stored own is covers = record {
 }
 
 -- a refused access leaves it as it was
-by_refusal : (c : Shared) (old new : Local) (refused : Option Refused) → IsOf c old → new ≡ old
+by_refusal : (c : SharedCluster) (old new : Local) (refused : Option Refused) → IsOf c old → new ≡ old
     → StaysItself c old new refused
 by_refusal c old new refused own is = record {
   own = subst (IsOf c) (sym is) own;
@@ -87,7 +87,7 @@ by_refusal c old new refused own is = record {
 }
 
 -- a load
-pub by_load : (c : Shared) (old new : Local) (a : ℕ) (r : Result ℕ Refused) → IsOf c old → OnErr r (new ≡ old)
+pub by_load : (c : SharedCluster) (old new : Local) (a : ℕ) (r : Result ℕ Refused) → IsOf c old → OnErr r (new ≡ old)
     → IfOk r (λ v. new ≡ noted old (Load a v)) → HasCoverage new → StaysItself c old new (result_err r)
 by_load c old new a (Ok v) own err ok covers = record {
   own = by_itself c old new (noted old (Load a v)).block old.copies old.stored own ok covers;
@@ -97,7 +97,7 @@ by_load c old new a (Ok v) own err ok covers = record {
 by_load c old new a (Err e) own err ok covers = by_refusal c old new (result_err {T = ℕ} (Err e)) own err
 
 -- a fetch
-pub by_fetch : {A : Type 0} (c : Shared) (old new : Local) (n : ℕ) (r : Result A Refused) → IsOf c old
+pub by_fetch : {A : Type 0} (c : SharedCluster) (old new : Local) (n : ℕ) (r : Result A Refused) → IsOf c old
     → OnErr r (new ≡ old) → OnOk r (FetchDone old n new) → HasCoverage new → StaysItself c old new (result_err r)
 by_fetch c old new n (Ok x) own err ok covers = record {
   own = by_itself c old new _ _ old.stored own ok.after covers;

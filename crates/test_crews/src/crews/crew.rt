@@ -1,7 +1,7 @@
 //! A cluster with its processors.
 ghost use Rattle.std.specs.Prelude.{◌≡◌, ◌^◌, ◌≤◌, IfOk, OnErr, length, slice_get, slice_index};
 ghost use Rattle.std.specs.Option.{option_map};
-ghost use Rattle.cluster.specs.Prelude.{AreNew, IsFinished};
+ghost use Rattle.cluster.specs.Prelude.{IsNewCluster, IsFinished};
 ghost use Rattle.test_crews.specs.Crews.Crews.{IsTurnOf, HaveSameCalls};
 
 use crate::crews::calls::{Answer, Call, make};
@@ -40,7 +40,7 @@ impl<T: BookTurn> Crew<T> {
           locks = slice_index sizes 3;
           flags = slice_index sizes 4;
         }) }
-        ensures new { IfOk result (λ c. AreNew c.cluster c.all) }
+        ensures new { IfOk result (λ c. IsNewCluster c.cluster c.all) }
     {
         let [processors, pages, words, locks, flags] = sizes;
         let (cluster, processors) = Cluster::new(alloc, processors, pages, words, locks, flags)?;

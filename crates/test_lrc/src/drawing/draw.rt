@@ -1,7 +1,7 @@
 //! Scripts drawn from a generator, to run under many schedules.
 ghost use Rattle.std.specs.Prelude.{◌≡◌, ◌+◌, ◌*◌, ◌<◌, ◌≤◌, ◌++◌, IfOk, OnOk};
 ghost use Rattle.std.specs.List.{range_with_len};
-ghost use Rattle.lrc_script.specs.Prelude.{items_of, plan_of, IsLawful};
+ghost use Rattle.lrc_script.specs.Prelude.{plan_sections, plan_of, IsLawful};
 ghost use Rattle.test_lrc.specs.Drawing.Prelude.{below, shape, group, access, item, piece};
 ghost use Rattle.test_lrc.specs.Drawing.Prelude.{pieces, most_pieces, phase, more_phases, section, drawn_sections, drawn};
 ghost use Rattle.test_lrc.specs.Drawing.Prelude.{seeded, IsShape};
@@ -173,7 +173,7 @@ fn sections(
     shape: DrawSizes,
 ) -> Result<Vec<Vec<Instruction>>, AllocError>
     requires { IsShape shape }
-    ensures { IfOk result (λ v. items_of v.items
+    ensures { IfOk result (λ v. plan_sections v.items
         ≡ (drawn_sections shape.processors style shape rng.old).0) }
 {
     let mut sections = Vec::new(alloc);

@@ -2,7 +2,7 @@
 ghost use Rattle.std.specs.Prelude.{◌≢◌, ◌<◌, IfErr, IfOk};
 ghost use Rattle.std.specs.Thread.{IsSync};
 ghost use Rattle.lrc_script.specs.Prelude.{IsLawful, plan_of};
-ghost use Rattle.conformance.specs.Prelude.{IsEndBy, IsEndOf, IsReportBy, IsReportOf, IsScheduleFault, orders_of, scheduled};
+ghost use Rattle.conformance.specs.Prelude.{IsEndByTurns, IsEndOf, IsReportByTurns, IsReportOf, IsScheduleFault, turn_orders, scheduled};
 ghost use Rattle.conformance.specs.declared.cause.Cause.TheVariants as cause;
 
 use conformance::{Cause, DrawnRun, Ended, LockChoice, RunFault, Runs, Schedule, ScheduleFault};

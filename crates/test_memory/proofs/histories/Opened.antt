@@ -4,26 +4,26 @@ use Rattle.std.specs.declared.alloc.AllocError.{AllocError}
 use Rattle.std.proofs.lemmas.Bool.{cases_lt}
 use Rattle.std.proofs.lemmas.List.{length-replicate, map-append}
 use Rattle.std.proofs.Math.Nat.{div-lt_iff_lt-mul}
-use Rattle.base.specs.Places.{Has}
-use Rattle.base.specs.Writes.{wrote, written}
-use Rattle.base.specs.Records.{mark, marked, harvest}
-use Rattle.base.proofs.Places.{take-suc_at, push_cases}
+use Rattle.base.specs.InOrderOnce.{Has}
+use Rattle.base.specs.LastWritten.{wrote, written}
+use Rattle.base.specs.MarkedRecords.{mark, marked, harvest}
+use Rattle.base.proofs.SlicesAndCounts.{take-suc_at, push_cases}
 use Rattle.base.proofs.Joined.{has-nil, has-append, has-cons, in_order-nil, in_order-append, in_order_single}
-use Rattle.base.proofs.LastWrites.{written-append, length-written}
-use Rattle.base.proofs.Harvests.{marked-append, length-marked}
+use Rattle.base.proofs.LastWritten.{written-append, length-written}
+use Rattle.base.proofs.MarkedHarvests.{marked-append, length-marked}
 use Rattle.journal.specs.declared.event.Event.{Event}
 use Rattle.journal.specs.declared.event.Kind.TheVariants.{Store}
 use Rattle.journal.specs.Sizes.{Sizes}
 use Rattle.journal.specs.Events.{count_of, is_closing}
-use Rattle.journal.specs.Blocks.{write_in}
-use Rattle.journal.specs.Groups.{since, IsContent}
+use Rattle.journal.specs.Blocks.{block_write}
+use Rattle.journal.specs.ContentsSince.{since, IsContent}
 use Rattle.journal.specs.WellFormed.{WellFormed}
 use Rattle.journal.proofs.Intervals.Dirty.{dirty_content}
-use Rattle.journal.proofs.Intervals.Contents.{content_none}
-use Rattle.page.specs.Changes.{Changes}
+use Rattle.journal.proofs.Intervals.StoreContents.{content_none}
+use Rattle.page.specs.RisingChanges.{Changes}
 use Rattle.page.specs.Contents.{Contents, IsClean}
-use Rattle.page.specs.Carries.{IsHarvest}
-use Rattle.book.specs.ClosedIntervals.{AreContents}
+use Rattle.page.specs.CarriedHarvests.{IsHarvest}
+use Rattle.book.specs.ClosedIntervals.{AreIntervalContents}
 use Rattle.test_memory.specs.Histories.Records.{StoresOpen, IsOpenRecord, IsOpenIn, AreOpenBelow}
 
 -- what one more item writes and marks
@@ -52,21 +52,21 @@ harvest-nothing i (w ∷ words) (false ∷ marks) long none =
 
 -- a zero page after the stores of p's open interval
 pub record IsStoredIn (s : Sizes) (n : ℕ) (events : List Event) (c : Contents) : Type 0 where
-  pub words : c.words ≡ written (λ (e : Event). write_in s n e.kind) (replicate s.words 0) events
-  pub dirty : c.dirty ≡ marked (λ (e : Event). write_in s n e.kind) (replicate s.words false) events
+  pub words : c.words ≡ written (λ (e : Event). block_write s n e.kind) (replicate s.words 0) events
+  pub dirty : c.dirty ≡ marked (λ (e : Event). block_write s n e.kind) (replicate s.words false) events
 
 -- has as many words and marks as a page
 pub stored_long : (s : Sizes) (n : ℕ) (events : List Event) (c : Contents) → IsStoredIn s n events c
     → length c.words ≡ s.words
 stored_long s n events c is =
-    ap length is.words ∙ length-written (λ (e : Event). write_in s n e.kind) (replicate s.words 0) events
+    ap length is.words ∙ length-written (λ (e : Event). block_write s n e.kind) (replicate s.words 0) events
     ∙ length-replicate s.words 0
 
 stored_marks : (s : Sizes) (n : ℕ) (events : List Event) (c : Contents) → IsStoredIn s n events c
     → length c.words ≡ length c.dirty
 stored_marks s n events c is =
     stored_long s n events c is
-    ∙ sym (ap length is.dirty ∙ length-marked (λ (e : Event). write_in s n e.kind) (replicate s.words false) events
+    ∙ sym (ap length is.dirty ∙ length-marked (λ (e : Event). block_write s n e.kind) (replicate s.words false) events
     ∙ length-replicate s.words false)
 
 pub stored_start : (s : Sizes) (n : ℕ) (events : List Event) (c : Contents) → c.words ≡ replicate s.words 0
@@ -81,13 +81,13 @@ stored_start s n events c blank clean =
 -- one more event
 pub stored_next : (s : Sizes) (n : ℕ) (events : List Event) (i : ℕ) (e : Event) (old new : Contents)
     → slice_get events i ≡ Some e → IsStoredIn s n (take i events) old
-    → new.words ≡ wrote old.words (write_in s n e.kind) → new.dirty ≡ mark old.dirty (write_in s n e.kind)
+    → new.words ≡ wrote old.words (block_write s n e.kind) → new.dirty ≡ mark old.dirty (block_write s n e.kind)
     → IsStoredIn s n (take (i + 1) events) new
 stored_next s n events i e old new at is words dirty = rw add-one (record {
-  words = words ∙ ap (λ ws. wrote ws (write_in s n e.kind)) is.words
-      ∙ sym (written_next (λ (f : Event). write_in s n f.kind) (replicate s.words 0) events i e at);
-  dirty = dirty ∙ ap (λ ms. mark ms (write_in s n e.kind)) is.dirty
-      ∙ sym (marked_next (λ (f : Event). write_in s n f.kind) (replicate s.words false) events i e at);
+  words = words ∙ ap (λ ws. wrote ws (block_write s n e.kind)) is.words
+      ∙ sym (written_next (λ (f : Event). block_write s n f.kind) (replicate s.words 0) events i e at);
+  dirty = dirty ∙ ap (λ ms. mark ms (block_write s n e.kind)) is.dirty
+      ∙ sym (marked_next (λ (f : Event). block_write s n f.kind) (replicate s.words false) events i e at);
 })
 
 -- and its dirty words are what the interval comes to
@@ -194,7 +194,7 @@ open_pushed value s h p m old new x r before now is pushed =
 
 -- all pages: what the interval comes to
 pub open_contents : (s : Sizes) (h : List Event) (p : ℕ) (records : List Changes) → 0 < s.words → WellFormed s h
-    → AreOpenBelow s h p s.pages records → AreContents s h p (count_of is_closing h p) records
+    → AreOpenBelow s h p s.pages records → AreIntervalContents s h p (count_of is_closing h p) records
 open_contents s h p records some well x = record {
   each = λ r has. (x.each r has).content;
   all = λ n i stores. x.all n i (within n i stores) stores;

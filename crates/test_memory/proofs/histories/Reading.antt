@@ -4,15 +4,15 @@ use Rattle.std.proofs.lemmas.Option.{none-some}
 use Rattle.journal.specs.declared.event.Event.{Event}
 use Rattle.journal.specs.declared.event.Kind.{Kind}
 use Rattle.journal.specs.Events.{At, is_closing}
-use Rattle.journal.specs.Groups.{since}
+use Rattle.journal.specs.ContentsSince.{since}
 use Rattle.journal.specs.WellFormed.{LastIs, Holds}
 use Rattle.journal.specs.Waits.{awaited}
-use Rattle.base.proofs.Places.{push_induction}
-use Rattle.journal.proofs.Order.Places.{at_last, at_longer}
-use Rattle.journal.proofs.Journals.WellFormed.{last_unique, holds_now, holds_longer, holds_cases}
-use Rattle.journal.proofs.Intervals.Since.{since_inner}
+use Rattle.base.proofs.SlicesAndCounts.{push_induction}
+use Rattle.journal.proofs.Order.CountedAndNumbered.{at_last, at_longer}
+use Rattle.journal.proofs.Journals.WellFormedLast.{last_unique, holds_now, holds_longer, holds_cases}
+use Rattle.journal.proofs.Intervals.OpenSince.{since_inner}
 use Rattle.book.specs.Stamps.{IsAwaited}
-use Rattle.book.proofs.Parts.Each.{item_at}
+use Rattle.book.proofs.Parts.Each.{each_item_at}
 use Rattle.test_memory.specs.Histories.Telling.{Telling, IsTelling}
 use Rattle.test_memory.specs.Histories.Reading.{IsHeldAfter}
 
@@ -88,5 +88,5 @@ pub awaits_now : (t : Telling) (h : List Event) (p : ℕ) (w : Option Kind) → 
     → p < t.sizes.processors → IsAwaited h p w → slice_get t.book.awaits p ≡ Some w
 awaits_now t h p w telling same less is =
     let told = telling.told.awaits in
-    let at = item_at t.sizes.processors (IsAwaited t.history) t.book.awaits p None told less in
+    let at = each_item_at t.sizes.processors (IsAwaited t.history) t.book.awaits p None told less in
     at ∙ ap (λ x. Some x) (awaited_same t.history p _ w (told.each p _ at) (subst (λ es. IsAwaited es p w) same is))

@@ -2,9 +2,9 @@
 use Rattle.std.proofs.Common.{◌≡◌, ◌↔◌, ◌⊎◌, ◌∙◌, ℕ, ◌+◌, ◌<◌, inl, inr, zero, suc, List, [], ◌∷◌, length, slice_index_or, Bool, true, false, IsTrue, ◌||◌, ◌==◌, refl, sym, subst, arith}
 use Rattle.std.proofs.lemmas.Bool.{cases_lt, eq-eqb, eqb-true}
 use Rattle.journal.specs.declared.event.Event.{Event}
-use Rattle.journal.specs.Order.{Edge, HappensBefore}
+use Rattle.journal.specs.HappensBeforeEdges.{Edge, HappensBefore}
 use Rattle.journal.specs.Pasts.{UpTo}
-use Rattle.journal.proofs.Order.Pasts.{edge_on, last_step}
+use Rattle.journal.proofs.Order.EdgesIntoPast.{edge_on, last_step}
 
 -- place i reaches this place by an edge from one of the first n places
 pub record Reaches (j : List Event) (place n i : ℕ) : Type 0 where

@@ -3,14 +3,14 @@ use Rattle.std.specs.Prelude.{ℕ, ◌≡◌, ◌≢◌, ◌<◌, Option, Some, 
 use Rattle.journal.specs.declared.event.Event.{Event}
 use Rattle.journal.specs.Sizes.{Sizes}
 use Rattle.journal.specs.Events.{count_of, is_closing}
-use Rattle.journal.specs.Groups.{StoresIn, IsContent}
-use Rattle.base.specs.Places.{Has}
-use Rattle.page.specs.Changes.{Changes}
-use Rattle.interval.specs.Intervals.{HasRisingPages}
+use Rattle.journal.specs.ContentsSince.{StoresInInterval, IsContent}
+use Rattle.base.specs.InOrderOnce.{Has}
+use Rattle.page.specs.RisingChanges.{Changes}
+use Rattle.interval.specs.SentIntervals.{HasRisingPages}
 
 -- place i has a store to page n in p's open interval
 abbrev pub StoresOpen : Sizes → List Event → ℕ → ℕ → ℕ → Type 0
-StoresOpen s h p n i = StoresIn s h p (count_of is_closing h p) n i
+StoresOpen s h p n i = StoresInInterval s h p (count_of is_closing h p) n i
 
 -- the record has what the stores of p's open interval come to in its page, and that is something
 pub record IsOpenRecord (s : Sizes) (h : List Event) (p : ℕ) (r : Changes) : Type 0 where

@@ -3,7 +3,7 @@ use Rattle.std.specs.Prelude.{ℕ, ◌≡◌, ◌↔◌, Bool, false, IsTrue, Li
 use Rattle.std.specs.Global.{Vec}
 use Rattle.journal.specs.declared.event.Event.{Event}
 use Rattle.test_memory.specs.declared.reaching.reach_table.ReachTable.{ReachTable}
-use Rattle.journal.specs.Order.{HappensBefore}
+use Rattle.journal.specs.HappensBeforeEdges.{HappensBefore}
 
 -- of each place, the row has a mark exactly where it happens before place k
 pub record IsRow (j : List Event) (k : ℕ) (row : Vec Bool) : Type 0 where

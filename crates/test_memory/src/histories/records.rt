@@ -2,7 +2,7 @@
 ghost use Rattle.std.specs.Prelude.{◌≡◌, ◌<◌, ◌≤◌, ℕ, List, IfOk, length, map};
 ghost use Rattle.std.specs.Arc.{arc_value};
 ghost use Rattle.base.specs.Prelude.{wrote, mark};
-ghost use Rattle.journal.specs.Prelude.{Sizes, write_in, since};
+ghost use Rattle.journal.specs.Prelude.{Sizes, block_write, since};
 ghost use Rattle.journal.specs.declared.event.Event.{Event as AnEvent};
 ghost use Rattle.test_memory.specs.Histories.Prelude.{IsOpenIn, AreOpenBelow};
 
@@ -49,9 +49,9 @@ fn store_in(copy: &mut Page, words: usize, page: usize, event: &Event)
     requires long { length copy.old.words ≡ words }
     requires valid { copy.old.access ≡ Access.Valid }
     ensures words { (s : Sizes) → s.words ≡ words
-        → copy.new.words ≡ wrote copy.old.words (write_in s page event.now.kind) }
+        → copy.new.words ≡ wrote copy.old.words (block_write s page event.now.kind) }
     ensures dirty { (s : Sizes) → s.words ≡ words
-        → copy.new.dirty ≡ mark copy.old.dirty (write_in s page event.now.kind) }
+        → copy.new.dirty ≡ mark copy.old.dirty (block_write s page event.now.kind) }
     ensures access { copy.new.access ≡ copy.old.access }
 {
     if let Kind::Store(address, word) = event.kind {

@@ -5,7 +5,7 @@ ghost use Rattle.std.specs.Arc.{arc_value};
 ghost use Rattle.journal.specs.Prelude.{event, did, WasCut, IsCutFault, IsDeadlock};
 ghost use Rattle.journal.specs.declared.event.Kind.{Kind as AKind};
 ghost use Rattle.interval.specs.Prelude.{HasRisingPages, is_of_page};
-ghost use Rattle.book.specs.Prelude.{IsInner, MayHandIn, MayGive, AreOpenRecords, brought, HoldsSome};
+ghost use Rattle.book.specs.Prelude.{IsInner, AllowsIdleBlock, AllowsBlock, AreOpenRecords, brought, HoldsSome};
 ghost use Rattle.test_memory.specs.Histories.Prelude.{MadeFrom, MayCloseHere};
 
 use crate::histories::history::{awaited_by, holds, note, note_closing, open_of};
@@ -125,7 +125,7 @@ impl Told {
 
     /// Whether `p` waits for nothing, and the block is one that it may hand in.
     fn may_hand_in(&self, p: usize, block: &[Event]) -> Result<(), Refused>
-        ensures { OnOk result (MayHandIn self.now.sizes self.now.book p block.now
+        ensures { OnOk result (AllowsIdleBlock self.now.sizes self.now.book p block.now
             × (length block.now ≤ 256)) }
     {
         if p >= self.processors {
@@ -147,7 +147,7 @@ impl Told {
 
     /// Whether `p` may hand the block in, which is empty where it waits.
     fn may_give(&self, p: usize, block: &[Event]) -> Result<(), Refused>
-        ensures { OnOk result (MayGive self.now.sizes self.now.book p block.now
+        ensures { OnOk result (AllowsBlock self.now.sizes self.now.book p block.now
             × (length block.now ≤ 256)) }
     {
         if !block.is_empty() {

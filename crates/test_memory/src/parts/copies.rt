@@ -1,6 +1,6 @@
 //! Copies of pages: what is harvested, learned and fetched.
 ghost use Rattle.std.specs.Prelude.{◌≡◌, ◌<◌, ◌≤◌, IfOk, OnOk, length, replicate};
-ghost use Rattle.cluster.specs.Copies.Prelude.{zeros};
+ghost use Rattle.cluster.specs.Copies.Prelude.{zero_replica};
 ghost use Rattle.test_memory.specs.Prelude.{AreNotices, AreOpen, IsNotice, IsStale};
 
 use cluster::copies::{Marks, MissingCounts, Replica, clean, harvest, learn, make_room};
@@ -15,7 +15,7 @@ use std::test::Fail;
 fn copies(alloc: Global, pages: usize, words: usize) -> Result<Vec<Replica>, AllocError>
     requires some { 0 < words }
     requires few { words ≤ 64 }
-    ensures { IfOk result (λ all. all.items ≡ replicate pages (zeros words)) }
+    ensures { IfOk result (λ all. all.items ≡ replicate pages (zero_replica words)) }
 {
     let mut replicas = Vec::with_capacity(alloc, pages)?;
     for _ in 0..pages {
@@ -124,7 +124,7 @@ fn three(alloc: Global) -> Result<Vec<Sent>, AllocError>
 
 /// Makes room in the one copy, and then learns.
 fn learn_with_room(replicas: &mut [Replica], notices: Vec<Sent>) -> Result<(), AllocError>
-    requires zeros { replicas.old ≡ replicate 1 (zeros 4) }
+    requires zeros { replicas.old ≡ replicate 1 (zero_replica 4) }
     requires notices { AreNotices 4 notices.items }
     requires few { length notices.items ≤ 100 }
     ensures { OnOk result (IsStale replicas.new) }

@@ -2,7 +2,7 @@
 ghost use Rattle.std.specs.Prelude.{◌≡◌, ℕ, ◌+◌, ◌<◌, ◌≤◌, Some, IfOk, OnOk, OnErr, length, map};
 ghost use Rattle.std.specs.Prelude.{slice_get, slice_index, slice_set};
 ghost use Rattle.std.specs.Arc.{arc_value};
-ghost use Rattle.interval.specs.Prelude.{HasRisingPages, KeepsBetween};
+ghost use Rattle.interval.specs.Prelude.{HasRisingPages, KeepsClosingsBetween};
 
 use interval::{Closed, Interval, Notice, Sent};
 use page::Record;
@@ -118,7 +118,7 @@ fn times(
     new: [u64; 2],
 ) -> (VTime, VTime)
     requires { length closed.now.first ≡ 2 }
-    ensures { KeepsBetween closed.now result.0 result.1 }
+    ensures { KeepsClosingsBetween closed.now result.0 result.1 }
 {
     let old = stamp(rt.alloc(), old);
     let new = stamp(rt.alloc(), new);
@@ -193,7 +193,7 @@ type Counts<'a> = ([u64; 2], [u64; 2], &'a [usize]);
 
 /// Whether that many notices of each page lie between the timestamps, counted page by page.
 fn has_each(closed: &Closed, old: &VTime, new: &VTime, counts: &[usize]) -> bool
-    requires { KeepsBetween closed.now old.now new.now }
+    requires { KeepsClosingsBetween closed.now old.now new.now }
 {
     for (page, count) in counts.iter().enumerate() {
         if closed.news_of(page, old, new) != *count {

@@ -1,6 +1,6 @@
 //! Lines of processors at distributed locks.
 ghost use Rattle.std.specs.Prelude.{◌≡◌, ◌<◌, Some, [], length};
-ghost use Rattle.lockq.specs.Lock.{lock_at};
+ghost use Rattle.lockq.specs.LockQueues.{lock_at};
 
 use lockq::Locks;
 use std::test::Fail;

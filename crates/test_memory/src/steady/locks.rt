@@ -1,6 +1,6 @@
 //! Distributed locks.
 ghost use Rattle.std.specs.Prelude.{◌≡◌, None, [], length};
-ghost use Rattle.lockq.specs.Lock.{lock_at};
+ghost use Rattle.lockq.specs.LockQueues.{lock_at};
 
 use lockq::Locks;
 use std::alloc::{AllocError, Global};

@@ -1,10 +1,10 @@
 ghost use Rattle.std.specs.Prelude.{◌≡◌, ◌*◌, ◌^◌, ◌<◌, ◌≤◌, IfOk};
-ghost use Rattle.turn.specs.Prelude.{entries, lock, lock_id, IsOutside, IsSameChair, AreAll};
+ghost use Rattle.turn.specs.Prelude.{entries, lock, lock_id, IsOutside, IsSameChair, AreAllChairs};
 
 use super::{ArrayLock, TicketLock, TurnLock};
 use crate::chair::{Chair, Spent};
 use crate::contract::{Keeper, Outcome, Turn};
-use crate::lock_words::{Board, Counter, Row};
+use crate::lock_words::{ArrayBoard, Board, TicketBoard};
 use std::alloc::{AllocError, Global};
 use std::process::Abort;
 use std::sync::{Arc, Wait};
@@ -73,9 +73,9 @@ fn enter_at<B, T: Turn<B, Anything>, R: Wait>(
     chairs: &mut Vec<Chair<B, Anything>>,
     place: usize,
 ) -> Result<(), Spent>
-    requires all { AreAll (T.id turn.now) (T.size turn.now) chairs.old.items }
+    requires all { AreAllChairs (T.id turn.now) (T.size turn.now) chairs.old.items }
     requires place { place < T.size turn.now }
-    ensures { AreAll (T.id turn.now) (T.size turn.now) chairs.new.items }
+    ensures { AreAllChairs (T.id turn.now) (T.size turn.now) chairs.new.items }
 {
     pass_through(rt, turn, &mut chairs[place])
 }
@@ -90,9 +90,9 @@ fn goes<W: Board + Sync, R: Wait>(
     chairs: &mut Vec<Chair<u64, Anything>>,
     step: &Step,
 ) -> bool
-    requires { AreAll (lock_id turn.now.table.shared.table_id 3) turn.now.layout.seats
+    requires { AreAllChairs (lock_id turn.now.table.shared.table_id 3) turn.now.layout.seats
         chairs.old.items }
-    ensures { AreAll (lock_id turn.now.table.shared.table_id 3) turn.now.layout.seats
+    ensures { AreAllChairs (lock_id turn.now.table.shared.table_id 3) turn.now.layout.seats
         chairs.new.items }
 {
     let (place, enters, words) = *step;
@@ -122,14 +122,14 @@ fn makes<W: Board + Sync, R: Wait + Abort>(
 #[test]
 fn the_words_of_the_row(rt: HostRuntime) -> Result<(), Fail> {
     let steps = [(0, true, [0, 1]), (1, true, [2, 1]), (0, true, [2, 3])];
-    makes::<Row, _>(&rt, rt.alloc(), 2, &steps)?;
-    makes::<Row, _>(&rt, rt.alloc(), 1, &[(0, true, [1, 0]), (0, true, [2, 0])])?;
+    makes::<ArrayBoard, _>(&rt, rt.alloc(), 2, &steps)?;
+    makes::<ArrayBoard, _>(&rt, rt.alloc(), 1, &[(0, true, [1, 0]), (0, true, [2, 0])])?;
     Ok(())
 }
 
 #[test]
 fn the_word_of_the_counter(rt: HostRuntime) -> Result<(), Fail> {
-    makes::<Counter, _>(&rt, rt.alloc(), 2, &[(0, true, [1, 0]), (1, true, [2, 0])])?;
+    makes::<TicketBoard, _>(&rt, rt.alloc(), 2, &[(0, true, [1, 0]), (1, true, [2, 0])])?;
     Ok(())
 }
 
@@ -144,7 +144,7 @@ fn a_chair_is_spent_after_its_entries(rt: HostRuntime) -> Result<(), Fail> {
         (1, true, [4, 0]),
         (0, false, [4, 0]),
     ];
-    makes::<Counter, _>(&rt, rt.alloc(), 2, &steps)?;
+    makes::<TicketBoard, _>(&rt, rt.alloc(), 2, &steps)?;
     let steps = [
         (0, true, [0, 1]),
         (0, true, [2, 1]),
@@ -153,7 +153,7 @@ fn a_chair_is_spent_after_its_entries(rt: HostRuntime) -> Result<(), Fail> {
         (1, true, [4, 3]),
         (0, false, [4, 3]),
     ];
-    makes::<Row, _>(&rt, rt.alloc(), 2, &steps)?;
+    makes::<ArrayBoard, _>(&rt, rt.alloc(), 2, &steps)?;
     Ok(())
 }
 
@@ -234,8 +234,8 @@ fn books_found<W: Board + Sync, R: Threads + Wait + Clock + Sync>(
 #[test]
 fn chairs_that_sleep_get_in(rt: HostRuntime) -> Result<(), Fail> {
     let each_once = [0, 1, 2, 3, 4, 5, 6, 7, 8, 9, 10, 11, 12, 13, 14, 15];
-    assert!(rt; books_found::<Counter, _>(&rt, rt.alloc())?.as_slice() == each_once.as_slice());
-    assert!(rt; books_found::<Row, _>(&rt, rt.alloc())?.as_slice() == each_once.as_slice());
+    assert!(rt; books_found::<TicketBoard, _>(&rt, rt.alloc())?.as_slice() == each_once.as_slice());
+    assert!(rt; books_found::<ArrayBoard, _>(&rt, rt.alloc())?.as_slice() == each_once.as_slice());
     Ok(())
 }
 
@@ -268,8 +268,8 @@ fn found_asleep<W: Board + Sync, R: Wait>(rt: &R, alloc: Global) -> Result<u64, 
 
 #[test]
 fn a_thread_looks_again_before_it_sleeps(rt: HostRuntime) -> Result<(), Fail> {
-    assert!(rt; found_asleep::<Counter, _>(&rt, rt.alloc())? == 7);
-    assert!(rt; found_asleep::<Row, _>(&rt, rt.alloc())? == 7);
+    assert!(rt; found_asleep::<TicketBoard, _>(&rt, rt.alloc())? == 7);
+    assert!(rt; found_asleep::<ArrayBoard, _>(&rt, rt.alloc())? == 7);
     Ok(())
 }
 

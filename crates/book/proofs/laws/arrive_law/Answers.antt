@@ -1,4 +1,4 @@
-use Rattle.book.proofs.Keeps.Whole.{arrive_law}
+use Rattle.book.proofs.Told.Whole.{arrive_law}
 use Rattle.book.proofs.laws.arrive_law.Goals as goal
 
 pub returns : goal.returns

@@ -1,4 +1,4 @@
-use Rattle.book.proofs.Keeps.Whole.{cut_law}
+use Rattle.book.proofs.Told.Whole.{cut_law}
 use Rattle.book.proofs.laws.cut_law.Goals as goal
 
 pub returns : goal.returns

@@ -1,4 +1,4 @@
-use Rattle.book.proofs.Keeps.Whole.{last_law}
+use Rattle.book.proofs.Told.Whole.{last_law}
 use Rattle.book.proofs.laws.last_law.Goals as goal
 
 pub returns : goal.returns

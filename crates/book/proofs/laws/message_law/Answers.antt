@@ -1,4 +1,4 @@
-use Rattle.book.proofs.Keeps.Whole.{message_law}
+use Rattle.book.proofs.Told.Whole.{message_law}
 use Rattle.book.proofs.laws.message_law.Goals as goal
 
 pub returns : goal.returns

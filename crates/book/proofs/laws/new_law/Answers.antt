@@ -1,4 +1,4 @@
-use Rattle.book.proofs.Keeps.Whole.{new_law}
+use Rattle.book.proofs.Told.Whole.{new_law}
 use Rattle.book.proofs.laws.new_law.Goals as goal
 
 pub returns : goal.returns

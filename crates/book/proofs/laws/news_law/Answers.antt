@@ -1,4 +1,4 @@
-use Rattle.book.proofs.Keeps.Whole.{news_law, news_order_law}
+use Rattle.book.proofs.Told.Whole.{news_law, news_order_law}
 use Rattle.book.proofs.laws.news_law.Goals as goal
 
 pub returns-clause-news : goal.returns-clause-news

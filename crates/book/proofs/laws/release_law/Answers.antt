@@ -1,4 +1,4 @@
-use Rattle.book.proofs.Keeps.Whole.{release_law}
+use Rattle.book.proofs.Told.Whole.{release_law}
 use Rattle.book.proofs.laws.release_law.Goals as goal
 
 pub returns : goal.returns

@@ -1,4 +1,4 @@
-use Rattle.book.proofs.Keeps.Whole.{set_law}
+use Rattle.book.proofs.Told.Whole.{set_law}
 use Rattle.book.proofs.laws.set_law.Goals as goal
 
 pub returns : goal.returns

@@ -1,4 +1,4 @@
-use Rattle.book.proofs.Keeps.Whole.{take_law}
+use Rattle.book.proofs.Told.Whole.{take_law}
 use Rattle.book.proofs.laws.take_law.Goals as goal
 
 pub returns : goal.returns

@@ -1,4 +1,4 @@
-use Rattle.book.proofs.Keeps.Whole.{watch_law}
+use Rattle.book.proofs.Told.Whole.{watch_law}
 use Rattle.book.proofs.laws.watch_law.Goals as goal
 
 pub returns : goal.returns

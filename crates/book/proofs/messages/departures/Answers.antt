@@ -1,11 +1,11 @@
 use Rattle.std.proofs.Common.{◌≡◌, ℕ, List, map, slice_index_or, slice_set, [], ap, ◌∙◌, sym, subst, arith}
 use Rattle.std.proofs.lemmas.List.{length-set, map-append}
-use Rattle.interval.specs.Intervals.{ClosedInterval, SentRecord}
-use Rattle.interval.specs.Closings.{KeepsBetween, pushed, between}
+use Rattle.interval.specs.SentIntervals.{ClosedInterval, SentRecord}
+use Rattle.interval.specs.Closings.{KeepsClosingsBetween, pushed, closings_between}
 use Rattle.transit.specs.Letters.{Letter, letter}
 use Rattle.book.specs.Transitions.{departure_to}
 use Rattle.transit.specs.Letters.Kind.{departure}
-use Rattle.book.proofs.Calling.Arrivals.{IsTimeAfter, read_after, IsDeparting, departing_step}
+use Rattle.book.proofs.Calling.Arriving.{IsTimeAfterArriving, read_after_arriving, IsDeparting, departing_step}
 use Rattle.book.proofs.messages.departures.Goals.{After-time_after-old}
 use Rattle.book.proofs.messages.departures.Goals as goal
 
@@ -18,7 +18,7 @@ read : (c : After-time_after-old) → c.time_after-old.result.now
     ≡ slice_index_or (slice_set c.args.times.now c.args.interval.now.owner c.args.own.now) c.loop-q.q []
 read c =
     let owner = ap (λ (i : ClosedInterval). i.owner) c.interval.view_is in
-    let after : IsTimeAfter c.args.times.now c.args.interval.now.owner c.loop-q.q c.args.own.now
+    let after : IsTimeAfterArriving c.args.times.now c.args.interval.now.owner c.loop-q.q c.args.own.now
     c.time_after-old.result.now = record {
       t = c.index-times-q.result;
       closer = c.requires.processor;
@@ -27,13 +27,13 @@ read c =
       mine = λ is. c.time_after-old.ensures.owner (is ∙ sym owner);
       others = λ apart. c.time_after-old.ensures.others (λ is. apart (is ∙ owner));
     } in
-    read_after after
+    read_after_arriving after
 
 pub between_after-requires-clause-kept : goal.between_after-requires-clause-kept
 between_after-requires-clause-kept c =
     let is = read (goal.at.between_after-requires-clause-kept c).After-time_after-old in
     let may = c.requires.all c.loop-q.q c.loop-q-test.true in
-    subst (λ t. KeepsBetween c.args.closed.now t c.args.time.now) (sym is)
+    subst (λ t. KeepsClosingsBetween c.args.closed.now t c.args.time.now) (sym is)
     (record { old_long = may.long; new_long = c.requires.long; none_trimmed = may.kept })
 
 pub loop-q-preserved : goal.loop-q-preserved
@@ -46,7 +46,7 @@ loop-q-preserved c =
     c.args.time.now c.time_after-old.result.now =
     ap (λ (ns : List SentRecord). departs ns c.copy-time.result) c.in_ok-notices.ensures.value
     ∙ ap (λ (t : List ℕ). departs
-    (between (pushed c.args.closed.now c.args.interval.now) c.time_after-old.result.now c.args.time.now) t)
+    (closings_between (pushed c.args.closed.now c.args.interval.now) c.time_after-old.result.now c.args.time.now) t)
     c.copy-time.ensures in
     let more = ap (map letter) c.in_ok-push.ensures.items ∙ map-append letter c.loop-q.departures.items _ in
     let step : IsDeparting (pushed c.args.closed.now c.args.interval.now) c.args.time.now

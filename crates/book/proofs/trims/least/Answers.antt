@@ -1,7 +1,7 @@
 use Rattle.std.proofs.Common.{◌≡◌, ℕ, List, [], length, take, fold, slice_get, slice_index, slice_index_or, min, suc, ◌+◌, ◌<◌, Some, ap, ◌∙◌, sym, arith}
 use Rattle.std.proofs.lemmas.Option.{get_or_from_slice_get, slice_get-get_or}
 use Rattle.std.proofs.lemmas.List.Sums.{fold_push}
-use Rattle.base.proofs.Places.{take-suc_at}
+use Rattle.base.proofs.SlicesAndCounts.{take-suc_at}
 use Rattle.book.specs.Transitions.{lesser}
 use Rattle.book.proofs.trims.least.Goals as goal
 

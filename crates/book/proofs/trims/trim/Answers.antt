@@ -2,10 +2,10 @@ use Rattle.std.proofs.Common.{◌≡◌, ℕ, List, suc, ◌+◌, ◌<◌, ◌�
 use Rattle.std.proofs.lemmas.Option.{get_or_from_slice_get, slice_get-get_or}
 use Rattle.interval.specs.Closings.{Closings, trimmed}
 use Rattle.book.specs.Transitions.{trimmed_by}
-use Rattle.book.specs.Calls.{MayTrim}
+use Rattle.book.specs.Calls.{AllowsTrim}
 use Rattle.book.proofs.Parts.ClosedIntervals.{length-trimmed_by}
-use Rattle.book.proofs.Parts.Tight.{trim_spared}
-use Rattle.book.proofs.trims.trim.Goals.{then-has_risen, else-has_risen+else-owner-p}
+use Rattle.book.proofs.Parts.Trimmed.{trimmed_spared}
+use Rattle.book.proofs.trims.trim.Goals.{then-has_risen, else-has_risen+else-owner-processor}
 use Rattle.book.proofs.trims.trim.Goals as goal
 
 pub trim-requires : goal.trim-requires
@@ -17,7 +17,7 @@ trim-requires c =
 
 -- of another owner, whose entry stands as it was, nothing is left to trim
 spared : (c : Closings) (times : List (List ℕ)) (p owner one two : ℕ) (before own : List ℕ)
-    → MayTrim c times p before → owner < length times → own ≡ slice_index_or times p own
+    → AllowsTrim c times p before → owner < length times → own ≡ slice_index_or times p own
     → slice_get own owner ≡ Some one → slice_get before owner ≡ Some two → one ≤ two → ¬ (owner ≡ p)
     → trimmed_by c times owner ≡ trimmed_by c times (owner + 1)
 spared c times p owner one two before own may lt is now old le apart =
@@ -28,7 +28,7 @@ spared c times p owner one two before own may lt is now old le apart =
     let was = get_or_from_slice_get before owner two 0 old in
     let more : 1 < length times = omega arith in
     let next : suc owner ≡ owner + 1 = omega arith in
-    sym (trim_spared c times p owner before own (omega arith) at (omega arith) (may.tight more) may.from)
+    sym (trimmed_spared c times p owner before own (omega arith) at (omega arith) (may.tight more) may.from)
     ∙ ap (λ (m : ℕ). trimmed_by c times m) next
 
 pub loop-owner-preserved : goal.loop-owner-preserved
@@ -41,8 +41,8 @@ loop-owner-preserved c =
           ∙ ap (λ (n : ℕ). trimmed (trimmed_by c.args.closed.now c.args.times.now c.loop-owner.owner)
           c.loop-owner.owner n) w.least.ensures
           ∙ ap (λ (m : ℕ). trimmed_by c.args.closed.now c.args.times.now m) next
-      | else-has_risen+else-owner-p w ↦ w.closed-is ∙ c.loop-owner.invariant
-          ∙ spared c.args.closed.now c.args.times.now c.args.p c.loop-owner.owner c.entry-in-loop-owner.result
-          c.entry.result c.args.before.now c.index-times-p.result c.requires c.loop-owner-test.true
-          c.index-times-p.is c.entry-in-loop-owner.ensures c.entry.ensures w.if-has_risen.false w.if-owner-p.false
+      | else-has_risen+else-owner-processor w ↦ w.closed-is ∙ c.loop-owner.invariant
+          ∙ spared c.args.closed.now c.args.times.now c.args.processor c.loop-owner.owner c.entry-in-loop-owner.result
+          c.entry.result c.args.before.now c.index-times-processor.result c.requires c.loop-owner-test.true
+          c.index-times-processor.is c.entry-in-loop-owner.ensures c.entry.ensures w.if-has_risen.false w.if-owner-processor.false
     ]

@@ -1,11 +1,11 @@
 -- Those before p wait for what has not come.
 use Rattle.std.proofs.Common.{◌≡◌, ℕ, ◌<◌, Some, false, slice_get}
-use Rattle.book.specs.Brought.{has_come}
-use Rattle.book.specs.Awaiting.{kind_of}
+use Rattle.book.specs.Messages.{message_has_come}
+use Rattle.book.specs.Awaiting.{awaited_kind}
 use Rattle.book.specs.declared.awaited.Awaited.{Awaited}
 use Rattle.book.proofs.waiting.all_wait_in_vain.Given as goal
 
 abbrev pub invariant-loop-p : goal.invariant-loop-p
 invariant-loop-p l =
     (k : ℕ) → k < l.p
-    → (a : Awaited) × (slice_get l.awaits k ≡ Some (Some a)) × (has_come l.flags l.mail k (kind_of a) ≡ false)
+    → (a : Awaited) × (slice_get l.awaits k ≡ Some (Some a)) × (message_has_come l.flags l.mail k (awaited_kind a) ≡ false)

@@ -2,8 +2,8 @@ use Rattle.std.proofs.Common.{◌≡◌, ◌∙◌, ℕ, ◌<◌, ◌⊎◌, ◌
 use Rattle.std.proofs.lemmas.Bool.{true≢false}
 use Rattle.std.proofs.lemmas.Option.{slice_get_within}
 use Rattle.base.specs.Limits.{most_processors}
-use Rattle.base.specs.Places.{Has}
-use Rattle.book.proofs.Calling.Waiting.{MayBeNamed, one_found, not_found}
+use Rattle.base.specs.InOrderOnce.{Has}
+use Rattle.book.proofs.Calling.WaitingPlaces.{MayBeNamed, one_found, not_found}
 use Rattle.book.proofs.waiting.all_who_may_go_on.Goals.{then-may_go_on, else-may_go_on}
 use Rattle.book.proofs.waiting.all_who_may_go_on.Goals as goal
 

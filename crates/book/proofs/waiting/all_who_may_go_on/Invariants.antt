@@ -1,5 +1,5 @@
 -- Of those before p just those are found for whom it has come.
-use Rattle.book.proofs.Calling.Waiting.{AreFound, MayBeNamed}
+use Rattle.book.proofs.Calling.WaitingPlaces.{AreFound, MayBeNamed}
 use Rattle.book.proofs.waiting.all_who_may_go_on.Given as goal
 
 abbrev pub invariant-loop-p : goal.invariant-loop-p

@@ -1,8 +1,8 @@
 use Rattle.std.proofs.Common.{◌+◌, subst, sym, refl, length, arith}
 use Rattle.std.proofs.lemmas.Bool.{false≢true}
 use Rattle.std.proofs.lemmas.Option.{slice_get_read, slice_get_within}
-use Rattle.journal.specs.Did.{event}
-use Rattle.journal.proofs.Order.Places.{at_within}
+use Rattle.journal.specs.DidEvent.{event}
+use Rattle.journal.proofs.Order.CountedAndNumbered.{at_within}
 use Rattle.causes.proofs.Entering.{LastNewBelow, last_all, last_now, last_other}
 use Rattle.causes.proofs.Fresh.{closing_read, number_within}
 use Rattle.causes.proofs.entrances.last_news.Goals as goal

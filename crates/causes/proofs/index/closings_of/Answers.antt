@@ -2,7 +2,7 @@ use Rattle.std.proofs.Common.{ℕ, ◌+◌, slice_index_or, subst, sym, arith}
 use Rattle.std.specs.Global.{Vec}
 use Rattle.std.proofs.lemmas.Option.{slice_get-get_or}
 use Rattle.journal.specs.declared.event.Kind.TheVariants.{Load}
-use Rattle.journal.specs.Did.{event}
+use Rattle.journal.specs.DidEvent.{event}
 use Rattle.causes.proofs.LookedUp.{AreClosingsBelow, closings_all, closings_next, closings_other}
 use Rattle.causes.proofs.index.closings_of.Goals as goal
 use Rattle.causes.proofs.index.closings_of.Goals.{then-closes+in_ok-push, else-closes}

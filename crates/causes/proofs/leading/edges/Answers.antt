@@ -4,9 +4,9 @@ use Rattle.std.proofs.lemmas.List.{length-set}
 use Rattle.std.proofs.lemmas.Option.{slice_get-get_or}
 use Rattle.journal.specs.declared.event.Event.{Event}
 use Rattle.journal.specs.declared.event.Kind.TheVariants.{Load}
-use Rattle.journal.specs.Did.{event}
+use Rattle.journal.specs.DidEvent.{event}
 use Rattle.journal.specs.Events.{count_of, is_arrive, is_depart}
-use Rattle.journal.proofs.Passes.Entries.{zeros_at}
+use Rattle.journal.proofs.Passes.ClockEntry.{zeros_at}
 use Rattle.journal.specs.InRange.{ProcessorsInRange}
 use Rattle.causes.specs.Edges.{EdgeFromOther, LetsOn}
 use Rattle.causes.proofs.LetsOn.{AreEdgesBelow, count_within, counts_next, edges_all, edges_none, edges_next, edges_other, leads, led, one_or_none}

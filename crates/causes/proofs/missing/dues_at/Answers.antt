@@ -4,11 +4,11 @@ use Rattle.std.specs.Global.{Vec}
 use Rattle.std.proofs.lemmas.Option.{slice_get-get_or}
 use Rattle.journal.specs.declared.event.Event.{Event}
 use Rattle.journal.specs.declared.event.Kind.TheVariants.{Load}
-use Rattle.journal.specs.Did.{event}
+use Rattle.journal.specs.DidEvent.{event}
 use Rattle.journal.specs.Events.{At, is_taking}
 use Rattle.journal.specs.Times.{IsTimeOf}
 use Rattle.journal.specs.WellFormed.{KindInRange}
-use Rattle.journal.proofs.Order.Places.{at_same}
+use Rattle.journal.proofs.Order.CountedAndNumbered.{at_same}
 use Rattle.judge.specs.declared.sizes.Sizes.{Sizes as Given}
 use Rattle.judge.specs.Miscounted.{IsWithin}
 use Rattle.judge.specs.Sizes.{sizes_of}

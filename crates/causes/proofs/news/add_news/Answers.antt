@@ -2,8 +2,8 @@ use Rattle.std.proofs.Common.{ℕ, ◌+◌, length, subst, sym, refl, arith}
 use Rattle.std.specs.Global.{Vec}
 use Rattle.std.proofs.lemmas.Bool.{false≢true}
 use Rattle.std.proofs.lemmas.Option.{slice_get_read, slice_get_within}
-use Rattle.journal.specs.Did.{event}
-use Rattle.journal.proofs.Order.Places.{at_within}
+use Rattle.journal.specs.DidEvent.{event}
+use Rattle.journal.proofs.Order.CountedAndNumbered.{at_within}
 use Rattle.causes.proofs.Fresh.{HasBelow, IsOnceIf, below_all, below_next, below_other, closing_read, number_within, once_push}
 use Rattle.causes.proofs.news.add_news.Goals as goal
 use Rattle.causes.proofs.news.add_news.Goals.{then-leads+in_ok-push, else-leads}

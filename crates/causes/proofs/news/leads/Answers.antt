@@ -2,7 +2,7 @@ use Rattle.std.proofs.Common.{ℕ, List, slice_index_or, arith}
 use Rattle.std.proofs.lemmas.Option.{slice_get-get_or}
 use Rattle.journal.specs.declared.event.Event.{Event}
 use Rattle.journal.specs.declared.event.Kind.TheVariants.{Load}
-use Rattle.journal.specs.Did.{event}
+use Rattle.journal.specs.DidEvent.{event}
 use Rattle.causes.specs.declared.index.Turn.{Turn}
 use Rattle.causes.proofs.Fresh.{leads_by_turns}
 use Rattle.causes.proofs.news.leads.Goals as goal

@@ -1,8 +1,8 @@
 use Rattle.std.proofs.Common.{slice_index_or, arith}
 use Rattle.std.proofs.lemmas.Option.{slice_get-get_or}
 use Rattle.journal.specs.declared.event.Kind.TheVariants.{Load}
-use Rattle.journal.specs.Did.{event}
-use Rattle.journal.specs.Entries.{entry}
+use Rattle.journal.specs.DidEvent.{event}
+use Rattle.journal.specs.ClockEntry.{entry}
 use Rattle.causes.proofs.Fresh.{is_step}
 use Rattle.causes.proofs.news.take_step.Goals as goal
 

@@ -2,10 +2,10 @@ use Rattle.std.proofs.Common.{◌≡◌, slice_index_or, take, subst, ap, arith,
 use Rattle.std.proofs.lemmas.Option.{slice_get-get_or, slice_get_within}
 use Rattle.journal.specs.declared.event.Event.{Event}
 use Rattle.journal.specs.declared.event.Kind.TheVariants.{Load}
-use Rattle.journal.specs.Did.{event}
+use Rattle.journal.specs.DidEvent.{event}
 use Rattle.journal.specs.Times.{IsTimeOf}
-use Rattle.journal.specs.Entries.{entry}
-use Rattle.journal.proofs.Order.Places.{at_same}
+use Rattle.journal.specs.ClockEntry.{entry}
+use Rattle.journal.proofs.Order.CountedAndNumbered.{at_same}
 use Rattle.journal.proofs.Times.Uses.{ordered_before}
 use Rattle.journal.specs.InRange.{ProcessorsInRange}
 use Rattle.causes.proofs.racing.heard.Goals as goal

@@ -4,10 +4,10 @@ use Rattle.std.proofs.lemmas.Option.{slice_get-get_or}
 use Rattle.journal.specs.declared.event.Event.{Event}
 use Rattle.journal.specs.declared.event.Kind.TheVariants.{Load}
 use Rattle.journal.specs.Base.{no_base}
-use Rattle.journal.specs.Did.{event}
+use Rattle.journal.specs.DidEvent.{event}
 use Rattle.journal.specs.InRange.{AddressInRange}
 use Rattle.journal.specs.Log.{Log}
-use Rattle.journal.proofs.Passes.ClockSteps.{front_next}
+use Rattle.journal.proofs.Passes.NextClocks.{front_next}
 use Rattle.causes.proofs.racing.journal_of.Goals as goal
 
 -- the event at this place

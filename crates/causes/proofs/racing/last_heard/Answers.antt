@@ -3,12 +3,12 @@ use Rattle.std.proofs.lemmas.Option.{slice_get-get_or}
 use Rattle.journal.specs.declared.event.Event.{Event}
 use Rattle.journal.specs.declared.event.Kind.{Kind}
 use Rattle.journal.specs.declared.event.Kind.TheVariants.{Load}
-use Rattle.journal.specs.Did.{event}
+use Rattle.journal.specs.DidEvent.{event}
 use Rattle.journal.specs.Events.{is_closing}
-use Rattle.journal.specs.Order.{HappensBefore}
+use Rattle.journal.specs.HappensBeforeEdges.{HappensBefore}
 use Rattle.journal.specs.WellFormed.{Does}
-use Rattle.journal.proofs.Order.Places.{at_same, does_at}
-use Rattle.journal.proofs.Passes.RaceSteps.{count_next}
+use Rattle.journal.proofs.Order.CountedAndNumbered.{at_same, does_at}
+use Rattle.journal.proofs.Passes.ReachedNextRaces.{count_next}
 use Rattle.causes.proofs.Heard.{IsHeardBelow, heard_all, heard_next, heard_other}
 use Rattle.causes.proofs.racing.last_heard.Goals as goal
 use Rattle.causes.proofs.racing.last_heard.Goals.{then-event-by+then-closed-limit, else-event-by, else-event-by-via-then-event-by+else-closed-limit, else-event-by-via-else-event-by}

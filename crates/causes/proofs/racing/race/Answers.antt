@@ -2,10 +2,10 @@ use Rattle.std.proofs.Common.{ℕ, ◌<◌, List, length, slice_index_or, subst,
 use Rattle.std.proofs.lemmas.Option.{slice_get-get_or}
 use Rattle.journal.specs.declared.event.Event.{Event}
 use Rattle.journal.specs.declared.event.Kind.TheVariants.{Load}
-use Rattle.journal.specs.Did.{event}
+use Rattle.journal.specs.DidEvent.{event}
 use Rattle.journal.specs.Events.{At}
 use Rattle.journal.specs.Races.{IsFirstRace}
-use Rattle.journal.proofs.Order.Places.{at_same}
+use Rattle.journal.proofs.Order.CountedAndNumbered.{at_same}
 use Rattle.causes.specs.Heard.{IsHeard}
 use Rattle.causes.proofs.Heard.{are_apart}
 use Rattle.causes.proofs.racing.race.Goals as goal

@@ -2,10 +2,10 @@ use Rattle.std.proofs.Common.{◌+◌, List, length, slice_index, slice_index_or
 use Rattle.std.proofs.lemmas.Option.{slice_get-get_or, slice_get_read, slice_get_within}
 use Rattle.journal.specs.declared.event.Event.{Event}
 use Rattle.journal.specs.declared.event.Kind.TheVariants.{Load}
-use Rattle.journal.specs.Did.{event}
+use Rattle.journal.specs.DidEvent.{event}
 use Rattle.journal.specs.Events.{At}
 use Rattle.journal.specs.Times.{IsTimeOf}
-use Rattle.journal.proofs.Order.Places.{at_same}
+use Rattle.journal.proofs.Order.CountedAndNumbered.{at_same}
 use Rattle.causes.specs.declared.news.Step.{Step}
 use Rattle.causes.specs.declared.takings.Taking.{Taking}
 use Rattle.causes.specs.News.{TimesAround}

@@ -3,7 +3,7 @@ use Rattle.std.proofs.lemmas.Bool.{cases_eq, le-leb, leb-false, leb-true}
 use Rattle.std.proofs.lemmas.Option.{slice_get-get_or, slice_get_within, get_or_from_slice_get}
 use Rattle.std.proofs.lemmas.List.Sorted.{IsPartitionPoint-from_clause}
 use Rattle.std.specs.List.Sorted.{IsPartitionedBy, IsPartitionPoint}
-use Rattle.base.specs.Places.{InOrder}
+use Rattle.base.specs.InOrderOnce.{InOrder}
 use Rattle.causes.specs.declared.takings.Taking.{Taking}
 use Rattle.causes.specs.Takings.{IsFirstAbove}
 use Rattle.causes.proofs.takings.first_above.Goals as goal

@@ -1,6 +1,6 @@
 use Rattle.std.proofs.Common.{◌≡◌, ℕ, inl, inr, [], ◌∷◌, ◌++◌, List, Some, slice_get, subst, sym, ap, ◌∙◌, arith}
 use Rattle.std.specs.Global.{Vec}
-use Rattle.base.proofs.Places.{push_cases}
+use Rattle.base.proofs.SlicesAndCounts.{push_cases}
 use Rattle.causes.specs.declared.takings.Taking.{Taking}
 use Rattle.causes.proofs.Takes.{takings_none}
 use Rattle.causes.proofs.takings.no_takings.Goals as goal

@@ -3,10 +3,10 @@ use Rattle.std.proofs.lemmas.List.{length-set}
 use Rattle.std.proofs.lemmas.Option.{slice_get-get_or, slice_get_within}
 use Rattle.journal.specs.declared.event.Event.{Event}
 use Rattle.journal.specs.declared.event.Kind.TheVariants.{Load}
-use Rattle.journal.specs.Did.{event}
+use Rattle.journal.specs.DidEvent.{event}
 use Rattle.journal.specs.Events.{is_closing}
 use Rattle.journal.specs.InRange.{ProcessorsInRange}
-use Rattle.journal.proofs.Passes.Entries.{zeros_at}
+use Rattle.journal.proofs.Passes.ClockEntry.{zeros_at}
 use Rattle.causes.proofs.LetsOn.{count_within, counts_next, one_or_none}
 use Rattle.causes.proofs.Takes.{numbers_next}
 use Rattle.causes.proofs.takings.numbers_of.Goals as goal

@@ -3,9 +3,9 @@ use Rattle.std.proofs.lemmas.Bool.{cases_eq, false≢true}
 use Rattle.std.proofs.lemmas.Option.{slice_get-get_or, slice_get_within}
 use Rattle.journal.specs.declared.event.Event.{Event}
 use Rattle.journal.specs.declared.event.Kind.TheVariants.{Load, Set}
-use Rattle.journal.specs.Did.{event}
+use Rattle.journal.specs.DidEvent.{event}
 use Rattle.journal.specs.Events.{At}
-use Rattle.journal.proofs.Order.Places.{at_same}
+use Rattle.journal.proofs.Order.CountedAndNumbered.{at_same}
 use Rattle.causes.proofs.waiting.is_set.Goals as goal
 
 -- the event at this place

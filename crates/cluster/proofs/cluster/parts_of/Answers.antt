@@ -1,7 +1,7 @@
 use Rattle.std.proofs.Common.{◌≡◌, List, slice_get, Some, inl, inr, subst, arith}
-use Rattle.base.proofs.Places.{push_cases}
+use Rattle.base.proofs.SlicesAndCounts.{push_cases}
 use Rattle.cluster.specs.declared.processor.Parts.{Parts}
-use Rattle.cluster.specs.Clusters.{AreParts}
+use Rattle.cluster.specs.Clusters.{AreClusterParts}
 use Rattle.cluster.proofs.cluster.parts_of.Goals as goal
 
 pub loop-preserved : goal.loop-preserved
@@ -11,6 +11,6 @@ loop-preserved c = record {
       λ p x at. elim (push_cases c.loop.all.items c.in_ok-new.field-0 p x
       (subst (λ (xs : List Parts). slice_get xs p ≡ Some x) c.in_ok-push.ensures.items at)) [
         | inl h ↦ c.loop.invariant.each p x h.1
-        | inr h ↦ subst (AreParts c.args.shape) h.1 c.in_ok-new.ensures
+        | inr h ↦ subst (AreClusterParts c.args.shape) h.1 c.in_ok-new.ensures
       ];
 }

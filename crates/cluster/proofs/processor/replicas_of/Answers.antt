@@ -1,6 +1,6 @@
 use Rattle.std.proofs.Common.{ap, ap₂, ◌∙◌, ◌++◌, ◌∷◌, [], List}
 use Rattle.std.proofs.lemmas.List.{replicate_more}
-use Rattle.cluster.specs.Copies.Copies.{Copied}
+use Rattle.cluster.specs.Copies.PageReplica.{Copied}
 use Rattle.cluster.specs.Copies.Local.{blank}
 use Rattle.cluster.proofs.processor.replicas_of.Goals as goal
 

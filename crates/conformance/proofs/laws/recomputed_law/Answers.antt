@@ -1,5 +1,5 @@
 use Rattle.conformance.proofs.Recomputing.Recomputed.{recomputed_law}
-use Rattle.conformance.proofs.Recomputing.Only.{only_law}
+use Rattle.conformance.proofs.Recomputing.OnlySameCalls.{only_law}
 use Rattle.conformance.proofs.laws.recomputed_law.Goals as goal
 
 pub returns-clause-exists : goal.returns-clause-exists

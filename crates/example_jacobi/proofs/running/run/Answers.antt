@@ -1,5 +1,5 @@
 use Rattle.std.proofs.Common.{subst}
-use Rattle.base.proofs.Sets.{slice_get-set_same}
+use Rattle.base.proofs.SliceSets.{slice_get-set_same}
 use Rattle.example_jacobi.specs.Runs.{IsRun}
 use Rattle.example_jacobi.proofs.Calling.{loaded, works_load}
 use Rattle.example_jacobi.proofs.Ending.{all_of, first_set, run_is, some_at_work, where_none}

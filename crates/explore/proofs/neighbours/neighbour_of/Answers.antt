@@ -3,7 +3,7 @@ use Rattle.std.specs.Prelude.{None}
 use Rattle.std.proofs.lemmas.Bool.{cases_eq, cases_lt, false≢true}
 use Rattle.std.proofs.lemmas.List.{get_or_past}
 use Rattle.std.proofs.lemmas.Option.{none-some, same_Some}
-use Rattle.journal.specs.Did.{event}
+use Rattle.journal.specs.DidEvent.{event}
 use Rattle.journal.specs.Races.{Conflict}
 use Rattle.explore.specs.Nexts.{IsConflict}
 use Rattle.explore.proofs.neighbours.neighbour_of.Goals.{in-Some+else-other-processor, else-other-processor-via-then-other-processor+else-conflicts, else-other-processor-via-else-other-processor, in_default}

@@ -3,7 +3,7 @@ use Rattle.std.specs.Prelude.{None}
 use Rattle.std.proofs.Math.ListN.{length-set}
 use Rattle.std.proofs.lemmas.Bool.{cases_eq, cases_lt}
 use Rattle.std.proofs.lemmas.Option.{none-some}
-use Rattle.journal.specs.Did.{did}
+use Rattle.journal.specs.DidEvent.{did}
 use Rattle.explore.specs.Prefixes.Beginnings.{IsFlatBeginning}
 use Rattle.explore.proofs.Machines.{next_within, rows_few, rows_many}
 use Rattle.explore.proofs.neighbours.nexts_of.Goals as goal

@@ -2,7 +2,7 @@ use Rattle.std.proofs.Common.{ℕ, ◌≡◌, ◌<◌, ◌≤◌, ◌↔◌, Lis
 use Rattle.std.specs.Prelude.{None}
 use Rattle.journal.specs.declared.event.Event.{Event}
 use Rattle.journal.specs.declared.event.Kind.{Kind}
-use Rattle.journal.specs.Did.{did}
+use Rattle.journal.specs.DidEvent.{did}
 use Rattle.lrc_script.specs.Plan.{Plan}
 use Rattle.explore.specs.Prefixes.Beginnings.{IsFlatBeginning}
 use Rattle.explore.specs.Machines.{AreLawfulSteps, Knows}

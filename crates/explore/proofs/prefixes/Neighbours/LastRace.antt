@@ -5,12 +5,12 @@ use Rattle.std.proofs.lemmas.Option.{none-some, same_Some}
 use Rattle.std.specs.Prelude.{Some, slice_get}
 use Rattle.journal.specs.declared.event.Event.{Event}
 use Rattle.journal.specs.Events.{At}
-use Rattle.journal.specs.Order.{HappensBefore}
-use Rattle.journal.specs.Order.HappensBefore.{edge, on}
+use Rattle.journal.specs.HappensBeforeEdges.{HappensBefore}
+use Rattle.journal.specs.HappensBeforeEdges.HappensBefore.{edge, on}
 use Rattle.journal.specs.Races.{Race, RaceFree}
-use Rattle.journal.proofs.Order.Places.{at_within}
-use Rattle.journal.proofs.Order.HappensBefore.{goes_forward, ends_within, transitive, longer}
-use Rattle.base.proofs.Places.{slice_get-take}
+use Rattle.journal.proofs.Order.CountedAndNumbered.{at_within}
+use Rattle.journal.proofs.Order.HappensBefore.{before_goes_forward, before_ends_within, before_transitive, before_longer}
+use Rattle.base.proofs.SlicesAndCounts.{slice_get-take}
 use Rattle.lrc_script.specs.Plan.{Plan}
 use Rattle.explore.specs.Prefixes.Beginnings.{IsFlatBeginning}
 use Rattle.explore.proofs.prefixes.Beginnings.{front_begins}
@@ -43,7 +43,7 @@ race_take g i k race =
       apart = race.apart;
       conflict = race.conflict;
       unordered = λ h. race.unordered (subst (λ es. HappensBefore es i k) (take-append-drop (suc k) g)
-          (longer (take (suc k) g) (drop (suc k) g) h));
+          (before_longer (take (suc k) g) (drop (suc k) g) h));
     }
 
 -- g's last event, at this place, races with that at i and with none between them, and no shorter beginning races
@@ -72,7 +72,7 @@ nearest s a b x i last r before reached none =
     (subst (Race (a ++ x ∷ b) i) (sym low.1) r.race)))
   where
     forward : i < length a
-    forward = goes_forward (a ++ x ∷ b) reached
+    forward = before_goes_forward (a ++ x ∷ b) reached
 
     low : (k : ℕ) × (lift (length a) k ≡ last)
     low = lowered (length a) last (λ is. absurd (omega arith))
@@ -86,10 +86,10 @@ nearest s a b x i last r before reached none =
 
     unreached : (m : ℕ) → ¬ HappensBefore (a ++ x ∷ b) (length a) m
     unreached m h =
-        let ahead = goes_forward (a ++ x ∷ b) h in
-        let within = ends_within (a ++ x ∷ b) h in
+        let ahead = before_goes_forward (a ++ x ∷ b) h in
+        let within = before_ends_within (a ++ x ∷ b) h in
         let long = r.long in
-        let on_to = transitive (a ++ x ∷ b) reached h in
+        let on_to = before_transitive (a ++ x ∷ b) reached h in
         elim (cases_order m last) [
           | inl is ↦ r.race.unordered (subst (HappensBefore (a ++ x ∷ b) i) is on_to)
           | inr apart ↦ elim apart [ inl lt ↦ none m ahead lt on_to | inr lt ↦ absurd (omega arith) ]
@@ -130,7 +130,7 @@ unreached_between s g i last r (suc c) m lt le h =
 -- and nothing at all
 pub unreached : (s : Plan) (g : List Event) (i last : ℕ) → RacesLast s g i last → (m : ℕ) → ¬ HappensBefore g i m
 unreached s g i last r m h =
-    let within = ends_within g h in
+    let within = before_ends_within g h in
     let long = r.long in
     elim (cases_order m last) [
       | inl is ↦ r.race.unordered (subst (HappensBefore g i) is h)

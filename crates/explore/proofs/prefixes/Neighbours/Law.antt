@@ -1,16 +1,16 @@
 -- Without neighbours no beginning races.
 use Rattle.std.proofs.Common.{ℕ, zero, suc, ◌≡◌, ◌+◌, ◌≤◌, List, [], ◌∷◌, ◌++◌, length, take, replicate, sym, ap, subst, ◌∙◌, append_assoc, length-append, length-take-le, le_refl, arith}
 use Rattle.journal.specs.declared.event.Event.{Event}
-use Rattle.journal.specs.Did.{event}
+use Rattle.journal.specs.DidEvent.{event}
 use Rattle.journal.specs.Events.{At}
-use Rattle.journal.specs.Flat.{memory_after}
-use Rattle.journal.specs.Order.{HappensBefore}
+use Rattle.journal.specs.FlatMemory.{memory_after}
+use Rattle.journal.specs.HappensBeforeEdges.{HappensBefore}
 use Rattle.journal.specs.Races.{Conflict, Race, RaceFree}
-use Rattle.journal.proofs.Order.Places.{at_within, at_same, at_last, at_behind}
-use Rattle.journal.proofs.Order.HappensBefore.{longer}
-use Rattle.base.proofs.Places.{push_induction}
+use Rattle.journal.proofs.Order.CountedAndNumbered.{at_within, at_same, at_last, at_behind}
+use Rattle.journal.proofs.Order.HappensBefore.{before_longer}
+use Rattle.base.proofs.SlicesAndCounts.{push_induction}
 use Rattle.lrc_script.specs.Plan.{Plan}
-use Rattle.lrc_script.specs.Lawful.{addresses}
+use Rattle.lrc_script.specs.Lawful.{plan_addresses}
 use Rattle.conformance.specs.Follows.{plan_sizes}
 use Rattle.explore.specs.Prefixes.Beginnings.{IsFlatBeginning}
 use Rattle.explore.specs.Prefixes.Laws.{MayComeNext, HasNoNeighbours, NeighboursLaw}
@@ -43,7 +43,7 @@ module _ (s : Plan) (a b : List Event) (x e : Event) (last : ℕ)
 
   reaches_none : (m : ℕ) → ¬ HappensBefore (a ++ x ∷ b) (length a) m
   reaches_none m h =
-      nothing m (subst (λ es. HappensBefore es (length a) m) whole (longer (a ++ x ∷ b) (e ∷ []) h))
+      nothing m (subst (λ es. HappensBefore es (length a) m) whole (before_longer (a ++ x ∷ b) (e ∷ []) h))
 
   without : IsFlatBeginning s (a ++ b)
   without =
@@ -52,7 +52,7 @@ module _ (s : Plan) (a b : List Event) (x e : Event) (last : ℕ)
 
   -- the memory then
   abbrev memory : List ℕ
-  memory = memory_after (replicate (addresses s) 0) (a ++ b)
+  memory = memory_after (replicate (plan_addresses s) 0) (a ++ b)
 
   first_is : r.race.first ≡ x
   first_is = at_same (a ++ x ∷ (b ++ e ∷ [])) (length a) r.race.first x r.race.first_at (item_out a (b ++ e ∷ []) x)

@@ -4,17 +4,17 @@ use Rattle.std.proofs.lemmas.Option.{none-some}
 use Rattle.journal.specs.declared.event.Event.{Event}
 use Rattle.journal.specs.declared.event.Kind.{Kind}
 use Rattle.journal.specs.declared.event.Kind.TheVariants.{Release, Set}
-use Rattle.journal.specs.Did.{did, event}
+use Rattle.journal.specs.DidEvent.{did, event}
 use Rattle.journal.specs.Events.{At, address_of}
-use Rattle.journal.specs.Flat.{memory_after}
-use Rattle.journal.specs.Order.{LetsThrough, Link, Edge, HappensBefore}
-use Rattle.journal.specs.Order.Link.{same, lets, meets}
-use Rattle.journal.specs.Order.HappensBefore.{edge, on}
+use Rattle.journal.specs.FlatMemory.{memory_after}
+use Rattle.journal.specs.HappensBeforeEdges.{LetsThrough, Link, Edge, HappensBefore}
+use Rattle.journal.specs.HappensBeforeEdges.Link.{same, lets, meets}
+use Rattle.journal.specs.HappensBeforeEdges.HappensBefore.{edge, on}
 use Rattle.journal.specs.Races.{Conflict}
-use Rattle.journal.proofs.Order.Places.{at_same, at_last, at_longer}
-use Rattle.journal.proofs.Order.HappensBefore.{goes_forward}
-use Rattle.base.proofs.Places.{push_cases}
-use Rattle.lrc_script.specs.Lawful.{addresses}
+use Rattle.journal.proofs.Order.CountedAndNumbered.{at_same, at_last, at_longer}
+use Rattle.journal.proofs.Order.HappensBefore.{before_goes_forward}
+use Rattle.base.proofs.SlicesAndCounts.{push_cases}
+use Rattle.lrc_script.specs.Lawful.{plan_addresses}
 use Rattle.explore.specs.Prefixes.Laws.{MayComeNext, RacingLaw}
 use Rattle.explore.proofs.prefixes.Beginnings.{next_begins}
 use Rattle.explore.proofs.prefixes.Neighbours.Replies.{replied, replied_replyless, conflict_second, access_over}
@@ -45,7 +45,7 @@ no_order j i none h = go (i + 1) (omega arith) none h
   where
     go : (k : ℕ) → k ≡ i + 1 → ¬ Edge j i k → ¬ HappensBefore j i k
     go k is without (edge d) = without d
-    go k is without (on h d) = let lt = goes_forward j h in let less = d.before in absurd (omega arith)
+    go k is without (on h d) = let lt = before_goes_forward j h in let less = d.before in absurd (omega arith)
 
 pub racing : RacingLaw
 racing s g p q a b first second apart conflict = record {
@@ -67,7 +67,7 @@ racing s g p q a b first second apart conflict = record {
 }
   where
     memory : List ℕ
-    memory = memory_after (replicate (addresses s) 0) (did g p a)
+    memory = memory_after (replicate (plan_addresses s) 0) (did g p a)
 
     kind : Kind
     kind = replied memory b

@@ -1,19 +1,19 @@
 -- An access after others' events: its processor may still make it, a load with the reply that it then has.
 use Rattle.std.proofs.Common.{ℕ, suc, ◌≡◌, ◌≢◌, inl, inr, List, [], ◌∷◌, ◌++◌, replicate, Option, Some, get_or, refl, sym, ap, subst, ◌∙◌, append-nil, arith}
 use Rattle.std.proofs.lemmas.Option.{none-some, slice_get_within, slice_get-get_or}
-use Rattle.base.proofs.LastWrites.{length-written}
+use Rattle.base.proofs.LastWritten.{length-written}
 use Rattle.journal.specs.declared.event.Event.{Event}
 use Rattle.journal.specs.declared.event.Kind.{Kind}
 use Rattle.journal.specs.declared.event.Kind.TheVariants.{Load, Store, Ask, Arrive, Watch}
-use Rattle.journal.specs.Did.{event}
+use Rattle.journal.specs.DidEvent.{event}
 use Rattle.journal.specs.Sizes.{Sizes}
 use Rattle.journal.specs.Events.{At, address_of, is_store}
-use Rattle.journal.specs.Flat.{flat_write, memory_after, AnswersWord}
+use Rattle.journal.specs.FlatMemory.{flat_write, memory_after, AnswersWord}
 use Rattle.journal.specs.Races.{Conflict}
-use Rattle.journal.specs.WellFormed.{Answers, Allowed, MayFollow}
-use Rattle.journal.proofs.Journals.WellFormed.{last_shorter}
+use Rattle.journal.specs.WellFormed.{AnswersCall, Allowed, MayFollow}
+use Rattle.journal.proofs.Journals.WellFormedLast.{last_shorter}
 use Rattle.lrc_script.specs.Plan.{Plan}
-use Rattle.lrc_script.specs.Lawful.{addresses}
+use Rattle.lrc_script.specs.Lawful.{plan_addresses}
 use Rattle.conformance.specs.Follows.{plan_sizes, calls_of, is_fetch}
 use Rattle.conformance.proofs.Calls.{calls_of-append, calls_of_first-other}
 use Rattle.explore.specs.declared.prefixes.script_call.ScriptCall.{ScriptCall}
@@ -63,7 +63,7 @@ conflict_second e q memory b c = record {
 }
 
 -- after a call that waits no load comes, whatever its reply is
-answers_any : (c : Kind) (w v u : ℕ) → Answers c (Load w v) → Answers c (Load w u)
+answers_any : (c : Kind) (w v u : ℕ) → AnswersCall c (Load w v) → AnswersCall c (Load w u)
 answers_any (Ask l) w v u h = absurd cc
 answers_any Arrive w v u h = absurd cc
 answers_any (Watch f) w v u h = absurd cc
@@ -88,7 +88,7 @@ step_replied reply (Adds a v) k memory is = ap (replied memory) is
 
 -- after events that leave q's calls, its next call is the same but for the reply
 pub next_replied : (s : Plan) (g h : List Event) (q : ℕ) (k : Kind) → MayFollow (plan_sizes s) h (event q k)
-    → calls_of g q ≡ calls_of h q → MayComeNext s g q k → MayComeNext s h q (replied (memory_after (replicate (addresses s) 0) h) k)
+    → calls_of g q ≡ calls_of h q → MayComeNext s g q k → MayComeNext s h q (replied (memory_after (replicate (plan_addresses s) 0) h) k)
 next_replied s g h q k may same next = record {
   may_follow = follows_replied (plan_sizes s) h q k memory may;
   calls = record {
@@ -105,15 +105,15 @@ next_replied s g h q k may same next = record {
 }
   where
     memory : List ℕ
-    memory = memory_after (replicate (addresses s) 0) h
+    memory = memory_after (replicate (plan_addresses s) 0) h
 
-    answers : (k : Kind) → AnswersWord (memory_after (replicate (addresses s) 0) g) k
+    answers : (k : Kind) → AnswersWord (memory_after (replicate (plan_addresses s) 0) g) k
         → AnswersWord memory (replied memory k)
     answers (Load w v) word =
         let f : Event → Option (ℕ × ℕ) = λ e. flat_write e.kind in
-        let within = slice_get_within (memory_after (replicate (addresses s) 0) g) w v word in
-        let old = length-written f (replicate (addresses s) 0) g in
-        let new = length-written f (replicate (addresses s) 0) h in
+        let within = slice_get_within (memory_after (replicate (plan_addresses s) 0) g) w v word in
+        let old = length-written f (replicate (plan_addresses s) 0) g in
+        let new = length-written f (replicate (plan_addresses s) 0) h in
         slice_get-get_or memory w 0 (omega arith)
     answers _ word = word
 
@@ -132,7 +132,7 @@ access_allowed s j r _ w at = absurd (none-some w at)
 -- an access that may come next may do so after others' events
 pub access_over : (s : Plan) (g es : List Event) (q : ℕ) (k : Kind) (w : ℕ) → address_of k ≡ Some w
     → ((m : ℕ) (f : Event) → At es m f → f.processor ≢ q) → MayComeNext s g q k
-    → MayComeNext s (g ++ es) q (replied (memory_after (replicate (addresses s) 0) (g ++ es)) k)
+    → MayComeNext s (g ++ es) q (replied (memory_after (replicate (plan_addresses s) 0) (g ++ es)) k)
 access_over s g es q k w at away next =
     next_replied s g (g ++ es) q k
     (record {

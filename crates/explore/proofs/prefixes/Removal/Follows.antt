@@ -4,14 +4,14 @@ use Rattle.std.proofs.lemmas.Bool.{cases_eq}
 use Rattle.journal.specs.declared.event.Event.{Event}
 use Rattle.journal.specs.declared.event.Kind.{Kind}
 use Rattle.journal.specs.declared.event.Kind.TheVariants.{Ask, Acquire, Release, Arrive, Depart, Set, Watch, Await}
-use Rattle.journal.specs.Did.{event}
+use Rattle.journal.specs.DidEvent.{event}
 use Rattle.journal.specs.Sizes.{Sizes}
 use Rattle.journal.specs.Events.{At, count_of, is_arrive, is_depart}
-use Rattle.journal.specs.Order.{LetsThrough}
+use Rattle.journal.specs.HappensBeforeEdges.{LetsThrough}
 use Rattle.journal.specs.WellFormed.{LastIs, Holds, Allowed, MayFollow}
-use Rattle.journal.proofs.Order.Places.{count_of-append}
+use Rattle.journal.proofs.Order.CountedAndNumbered.{count_of-append}
 use Rattle.journal.proofs.Times.Times.{count_of-one}
-use Rattle.journal.proofs.Journals.WellFormed.{last_shorter}
+use Rattle.journal.proofs.Journals.WellFormedLast.{last_shorter}
 use Rattle.explore.proofs.prefixes.Removal.Places.{lift, lift_less, left_cases}
 use Rattle.explore.proofs.prefixes.Removal.Stays.{last_lift, last_lower, holds_lift, holds_lower, holds_taken, count_left, count_away}
 

@@ -2,11 +2,11 @@
 use Rattle.std.proofs.Common.{ℕ, ◌≢◌, ◌<◌, ◌⊎◌, inl, inr, List, ◌∷◌, ◌++◌, length, sym, ◌∙◌}
 use Rattle.journal.specs.declared.event.Event.{Event}
 use Rattle.journal.specs.Events.{At, is_arrive, is_depart}
-use Rattle.journal.specs.Order.{Link, Edge, HappensBefore}
-use Rattle.journal.specs.Order.Link.{same, lets, meets}
-use Rattle.journal.specs.Order.HappensBefore.{edge, on}
+use Rattle.journal.specs.HappensBeforeEdges.{Link, Edge, HappensBefore}
+use Rattle.journal.specs.HappensBeforeEdges.Link.{same, lets, meets}
+use Rattle.journal.specs.HappensBeforeEdges.HappensBefore.{edge, on}
 use Rattle.journal.specs.Races.{Race}
-use Rattle.base.proofs.Places.{append_cases}
+use Rattle.base.proofs.SlicesAndCounts.{append_cases}
 use Rattle.explore.proofs.prefixes.Removal.Places.{lift, lift_less, less_lift, item_lift}
 use Rattle.explore.proofs.prefixes.Removal.Stays.{count_lift}
 

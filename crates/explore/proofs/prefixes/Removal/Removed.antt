@@ -3,16 +3,16 @@ use Rattle.std.proofs.Common.{ℕ, suc, ◌≡◌, ◌≢◌, ◌+◌, List, [],
 use Rattle.std.proofs.Math.Seq.{take-append_seam}
 use Rattle.journal.specs.declared.event.Event.{Event}
 use Rattle.journal.specs.Events.{At, count_of, is_arrive, is_depart}
-use Rattle.journal.specs.Order.{Link, HappensBefore}
-use Rattle.journal.specs.Order.Link.{same, lets, meets}
-use Rattle.journal.specs.Order.HappensBefore.{edge}
+use Rattle.journal.specs.HappensBeforeEdges.{Link, HappensBefore}
+use Rattle.journal.specs.HappensBeforeEdges.Link.{same, lets, meets}
+use Rattle.journal.specs.HappensBeforeEdges.HappensBefore.{edge}
 use Rattle.journal.specs.Races.{Conflict, Race}
 use Rattle.journal.specs.WellFormed.{MayFollow}
-use Rattle.journal.proofs.Order.Places.{at_behind, at_last, at_longer}
-use Rattle.journal.proofs.Order.HappensBefore.{longer}
-use Rattle.base.proofs.Places.{push_induction}
+use Rattle.journal.proofs.Order.CountedAndNumbered.{at_behind, at_last, at_longer}
+use Rattle.journal.proofs.Order.HappensBefore.{before_longer}
+use Rattle.base.proofs.SlicesAndCounts.{push_induction}
 use Rattle.lrc_script.specs.Plan.{Plan}
-use Rattle.lrc_script.specs.Lawful.{addresses}
+use Rattle.lrc_script.specs.Lawful.{plan_addresses}
 use Rattle.conformance.specs.Follows.{plan_sizes, calls_of}
 use Rattle.conformance.proofs.Calls.{calls_of-append, calls_of_first-other}
 use Rattle.explore.specs.Prefixes.Beginnings.{IsFlatBeginning}
@@ -109,7 +109,7 @@ next_left s a b x e u apart next = record {
         (λ calls. IsCalledNext (section_steps section (shown_by s e.processor)) calls e.kind)
         (calls_left a b x e.processor u.apart) (next.calls.next section at);
   };
-  answers = answers_left (replicate (addresses s) 0) a b x e.processor e.kind apart next.answers;
+  answers = answers_left (replicate (plan_addresses s) 0) a b x e.processor e.kind apart next.answers;
 }
 
 -- an event in a beginning may come next after what is before it
@@ -123,7 +123,7 @@ follows_front s a b x h =
 removable_front : (a b : List Event) (x e : Event) → IsRemovable a (b ++ e ∷ []) x → IsRemovable a b x
 removable_front a b x e r = record {
   unreached = λ m h. r.unreached m (subst (λ es. HappensBefore es (length a) m) (append_assoc a (x ∷ b) (e ∷ []))
-      (longer (a ++ x ∷ b) (e ∷ []) h));
+      (before_longer (a ++ x ∷ b) (e ∷ []) h));
   unopposed = λ m f at. r.unopposed m f (at_longer b (e ∷ []) m f at);
 }
 

@@ -4,13 +4,13 @@ use Rattle.std.proofs.lemmas.List.{take-append-le}
 use Rattle.journal.specs.declared.event.Event.{Event}
 use Rattle.journal.specs.declared.event.Kind.{Kind}
 use Rattle.journal.specs.declared.event.Kind.TheVariants.{Acquire, Release}
-use Rattle.journal.specs.Did.{event}
+use Rattle.journal.specs.DidEvent.{event}
 use Rattle.journal.specs.Events.{At, count_of}
 use Rattle.journal.specs.WellFormed.{LastIs, Holds}
-use Rattle.journal.proofs.Order.Places.{count_of-append}
+use Rattle.journal.proofs.Order.CountedAndNumbered.{count_of-append}
 use Rattle.journal.proofs.Times.Times.{count_of-one}
-use Rattle.journal.proofs.Journals.Holders.{holds_others}
-use Rattle.journal.proofs.Journals.WellFormed.{holds_now}
+use Rattle.journal.proofs.Journals.HoldsOfOthers.{holds_others}
+use Rattle.journal.proofs.Journals.WellFormedLast.{holds_now}
 use Rattle.explore.proofs.prefixes.Removal.Places.{lift, lift_before, lift_less, less_lift, item_lift, LeftAt, left_cases}
 
 -- the last event of r, at place m of the whole, is left

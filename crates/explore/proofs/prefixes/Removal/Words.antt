@@ -2,17 +2,17 @@
 use Rattle.std.proofs.Common.{ℕ, ◌≡◌, ◌≢◌, ◌<◌, inl, inr, List, [], ◌∷◌, ◌++◌, Option, Some, None, length, slice_get, slice_set, refl, sym, ap, ◌∙◌, arith}
 use Rattle.std.proofs.lemmas.Bool.{cases_eq}
 use Rattle.std.proofs.lemmas.Option.{slice_get_within}
-use Rattle.base.specs.Writes.{wrote, written}
-use Rattle.base.proofs.Sets.{slice_get-set_same, slice_get-set_other}
-use Rattle.base.proofs.LastWrites.{length-written, written-append}
+use Rattle.base.specs.LastWritten.{wrote, written}
+use Rattle.base.proofs.SliceSets.{slice_get-set_same, slice_get-set_other}
+use Rattle.base.proofs.LastWritten.{length-written, written-append}
 use Rattle.journal.specs.declared.event.Event.{Event}
 use Rattle.journal.specs.declared.event.Kind.{Kind}
 use Rattle.journal.specs.declared.event.Kind.TheVariants.{Load}
-use Rattle.journal.specs.Did.{event}
+use Rattle.journal.specs.DidEvent.{event}
 use Rattle.journal.specs.Events.{address_of, is_store}
 use Rattle.journal.specs.Races.{Conflict}
-use Rattle.journal.specs.Flat.{flat_write, memory_after, AnswersWord}
-use Rattle.journal.proofs.Flat.Stores.{flat_store}
+use Rattle.journal.specs.FlatMemory.{flat_write, memory_after, AnswersWord}
+use Rattle.journal.proofs.Flat.StoresUnordered.{flat_store}
 
 -- words that agree at a place still do after the same write
 wrote_agree : (m n : List ℕ) (p : Option (ℕ × ℕ)) (o : ℕ) → o < length m → length m ≡ length n

@@ -4,7 +4,7 @@ use Rattle.std.specs.Global.{Vec}
 use Rattle.std.proofs.lemmas.Option.{same_Some}
 use Rattle.journal.specs.declared.event.Event.{Event}
 use Rattle.journal.specs.declared.event.Kind.{Kind}
-use Rattle.journal.specs.Did.{did, event}
+use Rattle.journal.specs.DidEvent.{did, event}
 use Rattle.lrc_script.specs.Plan.{Plan}
 use Rattle.explore.specs.declared.prefixes.script_call.ScriptCall.{ScriptCall}
 use Rattle.explore.specs.Prefixes.Beginnings.{IsFlatBeginning}

@@ -3,7 +3,7 @@ use Rattle.journal.specs.declared.event.Event.{Event}
 use Rattle.journal.specs.Races.{IsFirstRace, RaceFree}
 use Rattle.explore.specs.Prefixes.Beginnings.{IsFlatBeginning}
 use Rattle.causes.specs.Prelude.{IsFirstRaceTold}
-use Rattle.journal.proofs.Order.Places.{at_within}
+use Rattle.journal.proofs.Order.CountedAndNumbered.{at_within}
 use Rattle.lrc_script.specs.Plan.{plan_of}
 use Rattle.explore.proofs.Lengths.{history_few}
 use Rattle.explore.proofs.FirstRaces.{first_of_front, front_is_beginning, is_there, length_front, told}

@@ -3,7 +3,7 @@ use Rattle.std.proofs.lemmas.List.Elements.{All-get_or}
 use Rattle.std.proofs.lemmas.Option.{same_Some, slice_get-get_or, slice_get_within}
 use Rattle.std.proofs.lemmas.List.Sums.{count_by-le-length, sum_by_more}
 use Rattle.lrc_script.specs.Plan.{Plan, plan_of}
-use Rattle.lrc_script.specs.Lawful.{IsLawful, IsSection}
+use Rattle.lrc_script.specs.Lawful.{IsLawful, IsLawfulSection}
 use Rattle.explore.specs.Room.{is_loading, loads_in}
 use Rattle.explore.proofs.prefixes.Steps.{section_at}
 use Rattle.explore.proofs.Machines.{read_at}
@@ -12,7 +12,7 @@ use Rattle.explore.proofs.room.words_of_state.Goals as goal
 -- no section loads more than it has instructions
 loads_few : (s : Plan) (n : ℕ) → IsLawful s → n < length s.sections → loads_in (slice_index_or s.sections n []) ≤ 10000
 loads_few s n lawful lt =
-    let is = All-get_or (IsSection s) s.sections n [] lt lawful.but_uneven.sections in
+    let is = All-get_or (IsLawfulSection s) s.sections n [] lt lawful.but_uneven.sections in
     let most = is.most in
     let within = count_by-le-length is_loading (slice_index_or s.sections n []) in
     omega arith

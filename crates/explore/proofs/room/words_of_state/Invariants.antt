@@ -1,13 +1,13 @@
 use Rattle.std.proofs.Common.{◌≡◌, ◌+◌, ◌*◌, ◌≤◌, length, take}
 use Rattle.std.specs.Prelude.{sum_by}
 use Rattle.lrc_script.specs.Plan.{plan_of}
-use Rattle.lrc_script.specs.Lawful.{addresses}
+use Rattle.lrc_script.specs.Lawful.{plan_addresses}
 use Rattle.explore.specs.Room.{loads_in}
 use Rattle.explore.proofs.room.words_of_state.Given as goal
 
 abbrev pub invariant-loop-section : goal.invariant-loop-section
 invariant-loop-section l = record {
-  is : l.words ≡ addresses (plan_of l.script) + length l.script.shown.items
+  is : l.words ≡ plan_addresses (plan_of l.script) + length l.script.shown.items
       + sum_by loads_in (take l.section-index (plan_of l.script).sections);
   few : l.words ≤ 4160 + l.section-index * 10000;
 }

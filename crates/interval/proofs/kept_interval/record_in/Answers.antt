@@ -2,8 +2,8 @@ use Rattle.std.proofs.Common.{◌≡◌, ◌==◌, Some, find, map, ap, sym, ◌
 use Rattle.std.specs.Arc.{arc_value}
 use Rattle.std.proofs.lemmas.Bool.{cond-true, cond-false, eq-eqb, ne_eqb}
 use Rattle.std.proofs.lemmas.List.{drop_all}
-use Rattle.page.specs.Changes.{Changes}
-use Rattle.interval.proofs.Records.Steps.{find_more}
+use Rattle.page.specs.RisingChanges.{Changes}
+use Rattle.interval.proofs.Records.FindAndPush.{find_more}
 use Rattle.interval.proofs.kept_interval.record_in.Goals as goal
 
 pub returns-then-page : goal.returns-then-page

@@ -1,7 +1,7 @@
 -- The search from here on finds what the whole search finds.
 use Rattle.std.proofs.Common.{◌≡◌, ◌==◌, find, map, drop}
 use Rattle.std.specs.Arc.{arc_value}
-use Rattle.page.specs.Changes.{Changes}
+use Rattle.page.specs.RisingChanges.{Changes}
 use Rattle.interval.proofs.kept_interval.record_in.Given as goal
 
 abbrev pub invariant-loop-record : goal.invariant-loop-record

@@ -1,7 +1,7 @@
 use Rattle.std.proofs.Common.{replicate}
 use Rattle.std.proofs.lemmas.Result.{IfOk-weaker}
 use Rattle.std.proofs.lemmas.Slice.Zip.{AllZip-map}
-use Rattle.journal.proofs.Passes.Entries.{entry-zeros}
+use Rattle.journal.proofs.Passes.ClockEntry.{entry-zeros}
 use Rattle.journal.proofs.clock.zeros.Goals as goal
 
 pub returns-clause-zeros : goal.returns-clause-zeros

@@ -1,4 +1,4 @@
-use Rattle.journal.proofs.Bases.Whole.{copy_law}
+use Rattle.journal.proofs.FromBase.Whole.{copy_law}
 use Rattle.journal.proofs.laws.copy_law.Goals as goal
 
 pub returns : goal.returns

@@ -1,4 +1,4 @@
-use Rattle.journal.proofs.Bases.Whole.{flat_law}
+use Rattle.journal.proofs.FromBase.Whole.{flat_law}
 use Rattle.journal.proofs.laws.flat_law.Goals as goal
 
 pub returns : goal.returns

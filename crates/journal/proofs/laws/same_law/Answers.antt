@@ -1,4 +1,4 @@
-use Rattle.journal.proofs.Bases.Whole.{same_law}
+use Rattle.journal.proofs.FromBase.Whole.{same_law}
 use Rattle.journal.proofs.laws.same_law.Goals as goal
 
 pub returns : goal.returns

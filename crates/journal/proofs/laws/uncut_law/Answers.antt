@@ -1,4 +1,4 @@
-use Rattle.journal.proofs.Bases.Whole.{uncut_law}
+use Rattle.journal.proofs.FromBase.Whole.{uncut_law}
 use Rattle.journal.proofs.laws.uncut_law.Goals as goal
 
 pub returns : goal.returns

@@ -1,4 +1,4 @@
-use Rattle.journal.proofs.Bases.Whole.{well_formed_law}
+use Rattle.journal.proofs.FromBase.Whole.{well_formed_law}
 use Rattle.journal.proofs.laws.well_formed_law.Goals as goal
 
 pub returns : goal.returns

@@ -4,17 +4,17 @@ use Rattle.std.proofs.lemmas.List.{length-take-le}
 use Rattle.std.proofs.lemmas.Bool.{cases_lt}
 use Rattle.journal.specs.declared.event.Event.{Event}
 use Rattle.journal.specs.declared.event.Kind.TheVariants.{Load}
-use Rattle.journal.specs.Did.{event}
+use Rattle.journal.specs.DidEvent.{event}
 use Rattle.journal.specs.Pasts.{InPast}
 use Rattle.journal.specs.Times.{IsTimeOf}
 use Rattle.journal.specs.Races.{Race}
 use Rattle.journal.specs.InRange.{AddressInRange, ProcessorsInRange}
-use Rattle.journal.specs.Entries.{entry}
+use Rattle.journal.specs.ClockEntry.{entry}
 use Rattle.journal.specs.Clocks.{AreClocks}
-use Rattle.journal.specs.Accesses.{AreAccesses}
+use Rattle.journal.specs.AccessEntry.{AreAccessEntries}
 use Rattle.journal.proofs.Times.Times.{time_equal}
-use Rattle.journal.proofs.Passes.ClockSteps.{time_small, front_next, clocks_plain}
-use Rattle.journal.proofs.Passes.RaceSteps.{access_plain, no_access, no_race_other, next_other, accesses_next, ordered_here}
+use Rattle.journal.proofs.Passes.NextClocks.{time_small, front_next, clocks_plain}
+use Rattle.journal.proofs.Passes.ReachedNextRaces.{access_plain, no_access, no_race_other, next_other, accesses_next, ordered_here}
 use Rattle.journal.proofs.race.first_race_of.Goals as goal
 use Rattle.journal.proofs.race.first_race_of.Goals.{then-is_access+in_default, else-is_access+in_ok-note}
 
@@ -135,16 +135,16 @@ loop-place-preserved c =
           w.note.ensures.loads_long e.kind refl w.note.ensures.noted in (
             subst (λ x. AreClocks (take (place + 1) events) x) (sym w.clocks-is)
                 (subst (λ xs. AreClocks xs c.loop-place.clocks) (sym next) clocks),
-            subst (λ x. AreAccesses (take (place + 1) events) c.args.addresses x) (sym w.accesses-is)
-                (subst (λ xs. AreAccesses xs c.args.addresses w.note.new.self) (sym next) accesses),
+            subst (λ x. AreAccessEntries (take (place + 1) events) c.args.addresses x) (sym w.accesses-is)
+                (subst (λ xs. AreAccessEntries xs c.args.addresses w.note.new.self) (sym next) accesses),
             no_race_yet events place c.loop-place.invariant.2 here_none,
             ap (λ x. x.present) w.clocks-is ∙ c.loop-place.invariant.3,
           ))
       | else-is_access+in_ok-note w ↦ (let none = no_access e.kind (sym c.is_access.ensures ∙ w.if-is_access.false) in
           let accesses = next_other front e c.args.addresses c.loop-place.accesses none c.loop-place.invariant.1 in (
             subst (λ x. AreClocks (take (place + 1) events) x) (sym w.clocks-is) w.in_ok-note.ensures.clocks,
-            subst (λ x. AreAccesses (take (place + 1) events) c.args.addresses x) (sym w.accesses-is)
-                (subst (λ xs. AreAccesses xs c.args.addresses c.loop-place.accesses) (sym next) accesses),
+            subst (λ x. AreAccessEntries (take (place + 1) events) c.args.addresses x) (sym w.accesses-is)
+                (subst (λ xs. AreAccessEntries xs c.args.addresses c.loop-place.accesses) (sym next) accesses),
             no_race_yet events place c.loop-place.invariant.2 (no_race_other events place e at none),
             ap (λ x. x.present) w.clocks-is ∙ (w.in_ok-note.ensures.present ∙ c.loop-place.invariant.3),
           ))
@@ -171,7 +171,7 @@ race_at-requires-clause-few c = c.requires.few
 
 pub race_at-requires-clause-kept : goal.race_at-requires-clause-kept
 race_at-requires-clause-kept c =
-    subst (λ n. AreAccesses (take c.loop-place.place c.args.events.now) n c.loop-place.accesses)
+    subst (λ n. AreAccessEntries (take c.loop-place.place c.args.events.now) n c.loop-place.accesses)
     (sym c.loop-place.invariant.1.last_long) c.loop-place.invariant.1
 
 pub race_at-requires-clause-processors : goal.race_at-requires-clause-processors

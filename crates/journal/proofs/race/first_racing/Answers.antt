@@ -6,12 +6,12 @@ use Rattle.std.proofs.lemmas.List.{length-take-le}
 use Rattle.std.proofs.lemmas.List.Sums.{count_by-le-length}
 use Rattle.journal.specs.declared.event.Event.{Event}
 use Rattle.journal.specs.declared.event.Kind.TheVariants.{Load}
-use Rattle.journal.specs.Did.{event}
+use Rattle.journal.specs.DidEvent.{event}
 use Rattle.journal.specs.Events.{At, count_of, is_closing}
 use Rattle.journal.specs.InRange.{ProcessorsInRange}
 use Rattle.journal.specs.Races.{Race}
-use Rattle.journal.proofs.Passes.Entries.{zeros_at}
-use Rattle.journal.proofs.Passes.RaceSteps.{race_by_time, race_events, count_next, cond-and_true, cond-and_false}
+use Rattle.journal.proofs.Passes.ClockEntry.{zeros_at}
+use Rattle.journal.proofs.Passes.ReachedNextRaces.{race_by_time, race_events, count_next, cond-and_true, cond-and_false}
 use Rattle.journal.proofs.race.first_racing.Goals as goal
 use Rattle.journal.proofs.race.first_racing.Goals.{else-is_conflict-via-then-is_conflict+else-time-earlier, else-is_conflict-via-else-is_conflict, then-closes, else-closes}
 

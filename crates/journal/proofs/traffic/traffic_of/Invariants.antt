@@ -1,4 +1,4 @@
-use Rattle.journal.proofs.Passes.Spending.{Spent}
+use Rattle.journal.proofs.Passes.SpentTraffic.{Spent}
 use Rattle.journal.proofs.traffic.traffic_of.Given as goal
 
 abbrev pub invariant-loop-event : goal.invariant-loop-event

@@ -3,10 +3,10 @@ use Rattle.std.proofs.lemmas.List.{length-take-le}
 use Rattle.std.proofs.lemmas.Option.{slice_get-get_or}
 use Rattle.journal.specs.declared.event.Event.{Event}
 use Rattle.journal.specs.declared.event.Kind.TheVariants.{Load}
-use Rattle.journal.specs.Did.{event}
+use Rattle.journal.specs.DidEvent.{event}
 use Rattle.journal.specs.Events.{At}
 use Rattle.journal.specs.Sizes.{Sizes}
-use Rattle.journal.proofs.Passes.ClockSteps.{front_next}
+use Rattle.journal.proofs.Passes.NextClocks.{front_next}
 use Rattle.judge.specs.declared.why.Why.{Why}
 use Rattle.judge.specs.Lax.{MayFollowIn}
 use Rattle.judge.specs.Sizes.{sizes_of}

@@ -4,7 +4,7 @@ use Rattle.journal.specs.declared.event.Event.{Event}
 use Rattle.journal.specs.declared.event.Kind.{Kind}
 use Rattle.journal.specs.declared.event.Kind.TheVariants.{Fetch}
 use Rattle.journal.specs.Sizes.{Sizes}
-use Rattle.journal.specs.Copies.{GapCounts, StoredInGap}
+use Rattle.journal.specs.PageImages.{GapCounts, StoredInGap}
 use Rattle.judge.specs.declared.gaps.CountedGap.{CountedGap}
 use Rattle.judge.specs.Sizes.{sizes_of}
 use Rattle.judge.proofs.Counts.{count_unique}

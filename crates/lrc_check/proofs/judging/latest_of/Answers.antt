@@ -2,9 +2,9 @@ use Rattle.std.proofs.Common.{◌≡◌, ◌<◌, ◌∙◌, take, subst, sym, r
 use Rattle.journal.specs.InRange.{AddressInRange, AddressesInRange, ProcessorsInRange}
 use Rattle.journal.specs.declared.event.Event.{Event}
 use Rattle.journal.specs.declared.event.Kind.TheVariants.{Load}
-use Rattle.journal.specs.Did.{event}
+use Rattle.journal.specs.DidEvent.{event}
 use Rattle.journal.specs.WellFormed.{Does}
-use Rattle.journal.proofs.Order.Places.{at_same, does_at}
+use Rattle.journal.proofs.Order.CountedAndNumbered.{at_same, does_at}
 use Rattle.judge.specs.Sources.Tells.{AreStoresOf}
 use Rattle.lrc_check.proofs.Fronts.{latest_told}
 use Rattle.lrc_check.proofs.Places.{here, here_at}

@@ -1,5 +1,5 @@
 use Rattle.std.proofs.Common.{sym, subst}
-use Rattle.lrc_commands.specs.Judged.{IsJudgedAs}
+use Rattle.lrc_commands.specs.JudgedTraces.{IsJudgedAs}
 use Rattle.lrc_commands.proofs.Judging.{judged_as}
 use Rattle.lrc_commands.proofs.checking.check_source.Goals as goal
 

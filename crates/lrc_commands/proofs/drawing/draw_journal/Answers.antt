@@ -1,6 +1,6 @@
 use Rattle.std.proofs.Common.{rules}
 use Rattle.std.specs.Prelude.{IsTrue}
-use Rattle.lrc_commands.proofs.Pictures.{drawn, race_within}
+use Rattle.lrc_commands.proofs.Pictures.{drawn, picture_race_within}
 use Rattle.lrc_commands.proofs.drawing.draw_journal.Goals as goal
 
 pub render-requires-clause-drawn : goal.render-requires-clause-drawn
@@ -16,5 +16,5 @@ render-requires-clause-drawn g c =
 pub render-requires-clause-race : goal.render-requires-clause-race
 render-requires-clause-race g c =
     rw c.events.ensures.value
-    (race_within c.args.journal.now.base c.args.journal.now.events c.in_ok-first_race.field-0
+    (picture_race_within c.args.journal.now.base c.args.journal.now.events c.in_ok-first_race.field-0
     c.in_ok-first_race.ensures.first)

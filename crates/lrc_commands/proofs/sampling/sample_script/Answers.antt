@@ -1,11 +1,11 @@
 use Rattle.lrc_script.specs.Plan.{plan_of}
-use Rattle.lrc_commands.proofs.Serving.{not_inputs, sampled_by}
+use Rattle.lrc_commands.proofs.Serving.{serves_no_input, serves_sample}
 use Rattle.lrc_commands.proofs.sampling.sample_script.Goals as goal
 
 pub returns-clause-sampled : goal.returns-clause-sampled
 returns-clause-sampled g c =
-    sampled_by _ (plan_of c.in_ok-script.script) _ _ _ c.print_sample.result c.in_ok-script.ensures.read
+    serves_sample _ (plan_of c.in_ok-script.script) _ _ _ c.print_sample.result c.in_ok-script.ensures.read
     c.print_sample.ensures.written
 
 pub returns-clause-refused : goal.returns-clause-refused
-returns-clause-refused g c = not_inputs _ c.print_sample.result c.print_sample.ensures.runs
+returns-clause-refused g c = serves_no_input _ c.print_sample.result c.print_sample.ensures.runs

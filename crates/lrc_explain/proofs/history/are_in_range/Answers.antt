@@ -1,5 +1,5 @@
 use Rattle.std.proofs.Common.{◌<◌, arith}
-use Rattle.journal.proofs.Order.Places.{at_within}
+use Rattle.journal.proofs.Order.CountedAndNumbered.{at_within}
 use Rattle.journal.specs.InRange.{AddressInRange}
 use Rattle.lrc_explain.proofs.Each.{each_next}
 use Rattle.lrc_explain.proofs.history.are_in_range.Goals as goal

@@ -1,5 +1,5 @@
 use Rattle.std.proofs.Common.{arith}
-use Rattle.journal.proofs.Order.Places.{at_within}
+use Rattle.journal.proofs.Order.CountedAndNumbered.{at_within}
 use Rattle.judge.specs.Miscounted.{IsWithin}
 use Rattle.judge.specs.Sizes.{sizes_of}
 use Rattle.lrc_explain.proofs.Each.{each_next}

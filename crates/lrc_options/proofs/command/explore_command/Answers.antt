@@ -1,9 +1,9 @@
 use Rattle.std.proofs.Common.{codes}
-use Rattle.lrc_options.specs.CommandLine.{file_app}
-use Rattle.lrc_options.proofs.CommandLine.{with_rule_is}
+use Rattle.lrc_options.specs.CommandLine.{file_rules}
+use Rattle.lrc_options.proofs.CommandLine.{with_option_rule}
 use Rattle.lrc_options.proofs.command.explore_command.Goals as goal
 
 pub returns : goal.returns
 returns c =
-    let file = file_app (codes "explore") in
-    with_rule_is _ file _ _ c.most_arg.ensures.rule (c.with_option.ensures file c.file_command-command.ensures)
+    let file = file_rules (codes "explore") in
+    with_option_rule _ file _ _ c.most_arg.ensures.rule (c.with_option.ensures file c.file_command-command.ensures)

@@ -1,11 +1,11 @@
 use Rattle.clap.specs.Words.{rule_of, with_rule}
-use Rattle.lrc_options.specs.CommandLine.{file_app}
-use Rattle.lrc_options.proofs.CommandLine.{with_rule_is}
+use Rattle.lrc_options.specs.CommandLine.{file_rules}
+use Rattle.lrc_options.proofs.CommandLine.{with_option_rule}
 use Rattle.lrc_options.proofs.command.script_command.Goals as goal
 
 pub returns : goal.returns
 returns c =
-    let file = file_app c.args.name.now in
+    let file = file_rules c.args.name.now in
     let own = with_rule file (rule_of c.args.own) in
-    with_rule_is _ own _ _ c.lock_arg.ensures.rule
+    with_option_rule _ own _ _ c.lock_arg.ensures.rule
     (c.with_option.ensures own (c.with_option-command.ensures file c.file_command-command.ensures))

@@ -1,9 +1,9 @@
 use Rattle.std.proofs.Common.{◌≡◌, ◌∙◌, inl, [], ◌∷◌, sym, ap, subst, codes, map, rules, string_bytes}
 use Rattle.clap.specs.Words.{App, HasKind, fault_of, found_of, is_simple, is_simple_and_free, rows_of, subcommand_of, subcommand_rows_of}
 use Rattle.clap.specs.declared.builder.value_parser.ValueParser.TheVariants as vp
-use Rattle.lrc_options.specs.CommandLine.{lrc_app}
+use Rattle.lrc_options.specs.CommandLine.{lrc_rules}
 use Rattle.std.proofs.lemmas.Result.{err_from_is_err_and}
-use Rattle.lrc_options.proofs.CommandLine.{given_by, if_err_map, is_fault, named_rows, no_fault, out_of_memory, refused_by, same_kind}
+use Rattle.lrc_options.proofs.CommandLine.{given_by, if_err_map, is_fault, named_option_rows, no_fault, out_of_memory, refused_by, same_kind}
 use Rattle.lrc_options.proofs.command_line.options.Goals as goal
 
 -- what is read of the command that is given
@@ -12,12 +12,12 @@ returns-in-Some-clause-given c =
     let app = c.in_ok-lrc_command.ensures.command.shape in
     let words = map (λ w. string_bytes w) c.args.words.now in
     let locks_are : map (λ s. s.now) c.as_slice.result.now ≡ codes "array" ∷ codes "ticket" ∷ [] = search rules in
-    let entered : subcommand_rows_of c.in-Ok.matches ≡ subcommand_of (lrc_app (vp.Names c.as_slice.result)) words =
+    let entered : subcommand_rows_of c.in-Ok.matches ≡ subcommand_of (lrc_rules (vp.Names c.as_slice.result)) words =
     (c.in-Ok.ensures.matches (ap is_simple app)).1 ∙ ap (λ (a : App). subcommand_of a words) app in
     let faults = no_fault _ _ _ c.in-Ok.is (c.try_get_matches_from.ensures.kinds (ap is_simple_and_free app)) in
     given_by (vp.Names c.as_slice.result) words c.in-Some.name.now (rows_of (found_of c.in-Some.given.now)) c.answer_of.result
     locks_are (sym (ap (λ (a : App). fault_of a words) app) ∙ faults)
-    (sym entered ∙ named_rows _ _ _ _ _ c.in-Some.ensures.name c.in-Some.ensures.rows) c.answer_of.ensures.one
+    (sym entered ∙ named_option_rows _ _ _ _ _ c.in-Some.ensures.name c.in-Some.ensures.rows) c.answer_of.ensures.one
     c.answer_of.ensures.asked
 
 pub returns-in-Some-clause-refused : goal.returns-in-Some-clause-refused
@@ -25,9 +25,9 @@ returns-in-Some-clause-refused c =
     let app = c.in_ok-lrc_command.ensures.command.shape in
     let words = map (λ w. string_bytes w) c.args.words.now in
     let locks_are : map (λ s. s.now) c.as_slice.result.now ≡ codes "array" ∷ codes "ticket" ∷ [] = search rules in
-    let entered : subcommand_rows_of c.in-Ok.matches ≡ subcommand_of (lrc_app (vp.Names c.as_slice.result)) words =
+    let entered : subcommand_rows_of c.in-Ok.matches ≡ subcommand_of (lrc_rules (vp.Names c.as_slice.result)) words =
     (c.in-Ok.ensures.matches (ap is_simple app)).1 ∙ ap (λ (a : App). subcommand_of a words) app in
-    let command = sym entered ∙ named_rows _ _ _ _ _ c.in-Some.ensures.name c.in-Some.ensures.rows in
+    let command = sym entered ∙ named_option_rows _ _ _ _ _ c.in-Some.ensures.name c.in-Some.ensures.rows in
     if_err_map c.answer_of.result (λ e unanswered. refused_by (vp.Names c.as_slice.result) words c.in-Some.name.now
     (rows_of (found_of c.in-Some.given.now)) e locks_are command unanswered) c.answer_of.ensures.unanswered
 

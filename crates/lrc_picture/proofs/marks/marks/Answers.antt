@@ -1,7 +1,7 @@
 use Rattle.std.proofs.Common.{◌≡◌, length, subst, sym, ap, ◌∙◌, arith}
 use Rattle.std.proofs.lemmas.Option.{slice_get-get_or, same_Some}
 use Rattle.journal.specs.declared.event.Kind.TheVariants.{Load}
-use Rattle.journal.specs.Did.{event}
+use Rattle.journal.specs.DidEvent.{event}
 use Rattle.lrc_picture.specs.Marks.{AreMarksOf, IsMarkOf, mark_for}
 use Rattle.lrc_picture.proofs.Lanes.{here, lane_within}
 use Rattle.lrc_picture.proofs.Marking.{marks_next}

@@ -1,5 +1,5 @@
 use Rattle.lrc_script.specs.Plan.{plan_of}
-use Rattle.lrc_program.proofs.Serving.{not_scripts, served_by}
+use Rattle.lrc_program.proofs.Serving.{serves_no_script, served_by}
 use Rattle.lrc_program.proofs.program.run_script.Goals as goal
 
 pub returns-clause-served : goal.returns-clause-served
@@ -8,4 +8,4 @@ returns-clause-served g c =
     c.print_report.ensures.printed
 
 pub returns-clause-refused : goal.returns-clause-refused
-returns-clause-refused g c = not_scripts _ c.print_report.result c.print_report.ensures.runs
+returns-clause-refused g c = serves_no_script _ c.print_report.result c.print_report.ensures.runs

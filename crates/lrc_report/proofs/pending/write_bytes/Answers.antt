@@ -1,4 +1,4 @@
-use Rattle.lrc_report.proofs.Writing.{under_way_more}
+use Rattle.lrc_report.proofs.AppendsThrough.{under_way_more}
 use Rattle.lrc_report.proofs.pending.write_bytes.Goals as goal
 
 pub loop-rest-preserved : goal.loop-rest-preserved

@@ -1,5 +1,5 @@
 use Rattle.std.proofs.Common.{length}
-use Rattle.lrc_report.proofs.Writing.{IsUnderWay}
+use Rattle.lrc_report.proofs.AppendsThrough.{IsUnderWay}
 use Rattle.lrc_report.proofs.pending.write_bytes.Given as goal
 
 abbrev pub invariant-loop-rest : goal.invariant-loop-rest

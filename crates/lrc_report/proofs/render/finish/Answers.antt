@@ -1,4 +1,4 @@
-use Rattle.lrc_report.proofs.Writing.{appends_kept, front_whole}
+use Rattle.lrc_report.proofs.AppendsThrough.{appends_kept, appends_front_whole}
 use Rattle.lrc_report.proofs.render.finish.Goals as goal
 
 pub returns-in-Ok : goal.returns-in-Ok
@@ -7,5 +7,5 @@ returns-in-Ok g c =
 
 pub returns-in-Err : goal.returns-in-Err
 returns-in-Err g c =
-    front_whole _ _ _ (appends_kept _ (g.W.Write.contents c.flush.new.out) _ _ c.in_ok-flush.ensures.writes
+    appends_front_whole _ _ _ (appends_kept _ (g.W.Write.contents c.flush.new.out) _ _ c.in_ok-flush.ensures.writes
     c.flush-2.ensures.bytes)

@@ -1,6 +1,6 @@
 use Rattle.std.proofs.lemmas.Option.{slice_get-get_or}
 use Rattle.std.proofs.lemmas.Result.{err_from_is_err_and}
-use Rattle.lrc_report.proofs.Lines.{events_front, events_next}
+use Rattle.lrc_report.proofs.Lines.{event_lines_front, event_lines_next}
 use Rattle.lrc_report.proofs.render.write_events.Goals as goal
 
 pub returns-in_err-take : goal.returns-in_err-take
@@ -8,12 +8,12 @@ returns-in_err-take g c =
     let p = err_from_is_err_and c.from_residual.result c.from_residual.ensures.1 in
     let at = slice_get-get_or c.args.events.now c.loop-index.index _ c.loop-index-test.true in
     let this = rw (c.bytes.ensures, c.put_event.ensures) at c.in_err-take.ensures in
-    rw p.1 (events_front c.args.first c.args.events.now c.loop-index.index _ _ (g.W.Write.contents c.loop-index.out) _ _
+    rw p.1 (event_lines_front c.args.first c.args.events.now c.loop-index.index _ _ (g.W.Write.contents c.loop-index.out) _ _
     c.loop-index.pending at c.loop-index.invariant this)
 
 pub loop-index-preserved : goal.loop-index-preserved
 loop-index-preserved g c =
     let at = slice_get-get_or c.args.events.now c.loop-index.index _ c.loop-index-test.true in
     let this = rw (c.bytes.ensures, c.put_event.ensures) at c.in_ok-take.ensures in
-    events_next c.args.first c.args.events.now c.loop-index.index _ _ (g.W.Write.contents c.loop-index.out) _ _
+    event_lines_next c.args.first c.args.events.now c.loop-index.index _ _ (g.W.Write.contents c.loop-index.out) _ _
     c.loop-index.pending _ at c.loop-index.invariant this

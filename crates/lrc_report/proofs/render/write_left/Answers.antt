@@ -2,7 +2,7 @@ use Rattle.std.proofs.Common.{◌≡◌, ◌∙◌, ap, take}
 use Rattle.std.proofs.Math.Seq.{take-length}
 use Rattle.std.proofs.lemmas.Result.{err_from_is_err_and, MatchResult-weaker}
 use Rattle.lrc_report.specs.ReportText.{event_lines}
-use Rattle.lrc_report.proofs.Writing.{passes_then, passes_front, pending_longer}
+use Rattle.lrc_report.proofs.AppendsThrough.{passes_through_then, passes_through_front, appends_pending_longer}
 use Rattle.lrc_report.proofs.render.write_left.Goals as goal
 
 pub returns-in_err-write_cut : goal.returns-in_err-write_cut
@@ -10,7 +10,7 @@ returns-in_err-write_cut g c =
     let p = err_from_is_err_and c.from_residual.result c.from_residual.ensures.1 in
     let j = c.args.journal.now in
     let cut = rw c.cut_events-cut.ensures.value at c.in_err-write_cut.ensures in
-    rw p.1 (pending_longer _ _ _ _ (event_lines j.base.cut j.events) cut)
+    rw p.1 (appends_pending_longer _ _ _ _ (event_lines j.base.cut j.events) cut)
 
 pub returns : goal.returns
 returns g c =
@@ -19,5 +19,5 @@ returns g c =
     let cut = rw c.cut_events-cut.ensures.value at c.in_ok-write_cut.ensures in
     let lines = rw (c.cut_events-cut.ensures.value, all) at (rw c.events.ensures.value at c.write_events.ensures) in
     MatchResult-weaker c.write_events.result lines
-    (λ _ last. passes_then _ (g.W.Write.contents c.write_cut.new.out) _ _ c.write_cut.new.pending _ _ _ cut last)
-    (λ _ last. passes_front _ (g.W.Write.contents c.write_cut.new.out) _ _ c.write_cut.new.pending _ _ cut last)
+    (λ _ last. passes_through_then _ (g.W.Write.contents c.write_cut.new.out) _ _ c.write_cut.new.pending _ _ _ cut last)
+    (λ _ last. passes_through_front _ (g.W.Write.contents c.write_cut.new.out) _ _ c.write_cut.new.pending _ _ cut last)

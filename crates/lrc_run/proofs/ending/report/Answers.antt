@@ -1,5 +1,5 @@
 use Rattle.std.proofs.Common.{refl}
-use Rattle.lrc_run.proofs.Concluding.{report_is}
+use Rattle.lrc_run.proofs.FollowedReports.{report_is}
 use Rattle.lrc_run.proofs.ending.report.Goals as goal
 
 pub returns : goal.returns

@@ -1,7 +1,7 @@
 use Rattle.std.proofs.Common.{rules, ◌≡◌, Some, Err, length, refl, sym, ap, ◌∙◌, arith}
 use Rattle.std.proofs.lemmas.Grind.{common_steps}
 use Rattle.std.proofs.lemmas.Option.{slice_get_within, slice_get_read, same_Some}
-use Rattle.lrc_run.proofs.Failing.{none_more, first_so}
+use Rattle.lrc_run.proofs.Failing.{none_failed_more, first_failed_so}
 use Rattle.lrc_run.proofs.faults.first_fault.Goals as goal
 use Rattle.lrc_run.proofs.faults.first_fault.Goals.{in-Err+else-is_stuck-stuck, in_default}
 
@@ -12,7 +12,7 @@ returns-then-is_stuck-stuck-clause-some g c =
     let at = slice_get_read xs (length xs) k c.index-outcomes-processor.result refl c.loop-processor-test.true
     c.index-outcomes-processor.is in
     let so : c.is_stuck.result ≡ c.args.stuck = search rules in
-    first_so xs c.args.stuck k c.in-Err.cause c.loop-processor.invariant (at ∙ ap Some c.in-Err.is)
+    first_failed_so xs c.args.stuck k c.in-Err.cause c.loop-processor.invariant (at ∙ ap Some c.in-Err.is)
     (sym c.is_stuck.ensures ∙ so)
 
 pub loop-processor-preserved : goal.loop-processor-preserved
@@ -21,7 +21,7 @@ loop-processor-preserved g c =
     let k = c.loop-processor.processor in
     let at = slice_get_read xs (length xs) k c.index-outcomes-processor.result refl c.loop-processor-test.true
     c.index-outcomes-processor.is in
-    none_more xs c.args.stuck k c.loop-processor.invariant (λ cause failed so.
+    none_failed_more xs c.args.stuck k c.loop-processor.invariant (λ cause failed so.
     let same : c.index-outcomes-processor.result ≡ Err cause = same_Some _ _ (sym at ∙ failed) in
     elim c.match-outcomes-processor.branch [
       | in-Err+else-is_stuck-stuck w ↦ grind (arith, common_steps, same, so)

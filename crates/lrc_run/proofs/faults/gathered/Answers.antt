@@ -1,5 +1,5 @@
 use Rattle.std.proofs.Common.{◌≡◌, ◌⊎◌, inr, Ok, map}
-use Rattle.lrc_run.specs.Faults.{IsFaultOf, NoneFailed}
+use Rattle.lrc_run.specs.FailedOutcomes.{IsFaultOfOutcome, NoOutcomeFailed}
 use Rattle.lrc_run.proofs.Failing.{each_error, told_ok}
 use Rattle.lrc_run.proofs.faults.gathered.Goals as goal
 
@@ -9,6 +9,6 @@ returns g c =
     record {
       ok = told_ok c.all_of.result c.map_err.result (λ all. map Ok all.items ≡ outcomes) _
           c.map_err.ensures.cases c.map_err.ensures.variant c.all_of.ensures;
-      err = each_error c.map_err.result (λ fault. IsFaultOf outcomes fault ⊎ NoneFailed outcomes)
+      err = each_error c.map_err.result (λ fault. IsFaultOfOutcome outcomes fault ⊎ NoOutcomeFailed outcomes)
           (λ fault. inr (rw c.as_slice.ensures.value at c.in_default.ensures.none));
     }

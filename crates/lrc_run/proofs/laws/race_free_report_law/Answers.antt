@@ -1,4 +1,4 @@
-use Rattle.lrc_run.proofs.Concluding.{race_free_report}
+use Rattle.lrc_run.proofs.FollowedReports.{race_free_report}
 use Rattle.lrc_run.proofs.laws.race_free_report_law.Goals as goal
 
 pub returns : goal.returns

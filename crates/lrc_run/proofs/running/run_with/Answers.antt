@@ -1,14 +1,14 @@
 use Rattle.std.proofs.Common.{rules}
-use Rattle.lrc_script.specs.Plan.{items_of}
+use Rattle.lrc_script.specs.Plan.{plan_sections}
 use Rattle.lrc_run.specs.Threads.{AreThreadResults}
-use Rattle.lrc_run.proofs.Joining.{all_walked}
+use Rattle.lrc_run.proofs.JoinedThreads.{joined_all_walked}
 use Rattle.lrc_run.proofs.running.run_with.Goals as goal
 
 pub conclude-requires-clause-walked : goal.conclude-requires-clause-walked
 conclude-requires-clause-walked g c κs within =
-    let sections = items_of c.args.script.now.sections.items in
+    let sections = plan_sections c.args.script.now.sections.items in
     let are : AreThreadResults c.in_ok-cluster.cluster sections c.in_ok-cluster.outcomes.items = search rules in
-    all_walked c.in_ok-cluster.cluster sections c.in_ok-cluster.outcomes.items c.in_ok-processors.processors.items
+    joined_all_walked c.in_ok-cluster.cluster sections c.in_ok-cluster.outcomes.items c.in_ok-processors.processors.items
     are c.in_ok-processors.ensures.ok
 
 pub returns-in-Ok : goal.returns-in-Ok

@@ -4,8 +4,8 @@ use Rattle.std.specs.Prelude.{All}
 use Rattle.lrc_script.specs.Plan.{plan_of}
 use Rattle.conformance.specs.declared.progress.TurnProgress.{TurnProgress}
 use Rattle.conformance.specs.declared.progress.TurnProgress.TheVariants.{Passed}
-use Rattle.lrc_run.proofs.Turning.{before_rounds, next_round, some_of, ways_turned}
-use Rattle.lrc_run.proofs.Stepping.{own_at}
+use Rattle.lrc_run.proofs.Turning.{before_turn_rounds, next_turn_round, some_of, ways_turned}
+use Rattle.lrc_run.proofs.Stepping.{steps_own_at}
 use Rattle.lrc_run.proofs.steps.go_round.Goals as goal
 
 pub loop-init : goal.loop-init
@@ -13,7 +13,7 @@ loop-init g c =
     let ms = c.args.processors.now.items in
     let many : c.len.result ≡ length ms = omega (arith, c.len.ensures, c.args.processors.now.ok) in
     record {
-      between = before_rounds c.args.cluster.now (plan_of c.args.script.now) c.args.seed ms c.args.all.now.items _
+      between = before_turn_rounds c.args.cluster.now (plan_of c.args.script.now) c.args.seed ms c.args.all.now.items _
           c.requires.way c.generator_of-generator.ensures;
       long = omega (arith, c.in-Ok.ensures, many, c.requires.way.many);
     }
@@ -32,7 +32,7 @@ is_stuck-requires-clause-own g c κs within = λ m here.
     let way = ways_turned c.args.cluster.now s.sections c.deref-in-loop.result.now c.loop.processors.items
     c.round.new.processors.items c.loop.all.items c.round.new.all.items c.loop.invariant.between.gone.way
     c.in_ok-moved.ensures.turns in
-    own_at s c.args.cluster.now c.round.new.processors.items c.round.new.all.items 0 m c.requires.lawful
+    steps_own_at s c.args.cluster.now c.round.new.processors.items c.round.new.all.items 0 m c.requires.lawful
     c.requires.sizes way here
 
 pub is_stuck-requires-clause-some : goal.is_stuck-requires-clause-some
@@ -58,7 +58,7 @@ returns-then-branch-clause-gone g c =
     let fits : c.loop.list.len ≡ length order = omega (arith, c.draw.ensures.below.1, c.deref_mut.ensures.len) in
     let drawn_is : list ≡ order =
     c.deref-in-loop.ensures.value ∙ ap (λ k. take k (order ++ rest)) fits ∙ take-append_seam order rest in
-    let next = next_round c.args.cluster.now s c.args.seed c.args.processors.now.items c.loop.processors.items turned os
+    let next = next_turn_round c.args.cluster.now s c.args.seed c.args.processors.now.items c.loop.processors.items turned os
     c.args.all.now.items c.loop.all.items c.round.new.all.items c.loop.generator c.draw.new.generator n list
     c.requires.sizes many c.loop.invariant.between (drawn_is ∙ c.draw.ensures.list) c.draw.ensures.state
     c.in_ok-moved.ensures.turns c.is_stuck.ensures.seen in
@@ -82,7 +82,7 @@ loop-preserved g c =
     let fits : c.loop.list.len ≡ length order = omega (arith, c.draw.ensures.below.1, c.deref_mut.ensures.len) in
     let drawn_is : list ≡ order =
     c.deref-in-loop.ensures.value ∙ ap (λ k. take k (order ++ rest)) fits ∙ take-append_seam order rest in
-    let next = next_round c.args.cluster.now s c.args.seed c.args.processors.now.items c.loop.processors.items turned os
+    let next = next_turn_round c.args.cluster.now s c.args.seed c.args.processors.now.items c.loop.processors.items turned os
     c.args.all.now.items c.loop.all.items c.round.new.all.items c.loop.generator c.draw.new.generator n list
     c.requires.sizes many c.loop.invariant.between (drawn_is ∙ c.draw.ensures.list) c.draw.ensures.state
     c.in_ok-moved.ensures.turns c.is_stuck.ensures.seen in

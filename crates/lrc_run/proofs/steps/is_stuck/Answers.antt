@@ -1,7 +1,7 @@
 use Rattle.std.proofs.Common.{◌<◌, length, refl, arith}
 use Rattle.std.proofs.lemmas.Option.{slice_get_read}
 use Rattle.lrc_run.proofs.Turning.{seen_same}
-use Rattle.lrc_run.proofs.Waiting.{seen_at, waits_on}
+use Rattle.lrc_run.proofs.Waiting.{waiting_seen_at, waits_on}
 use Rattle.lrc_run.proofs.steps.is_stuck.Goals as goal
 
 pub returns-then-moved-clause-seen : goal.returns-then-moved-clause-seen
@@ -19,7 +19,7 @@ returns-in-Ok-Stuck-clause-seen g c =
     let ms = c.args.processors.now.items in
     let m = c.index_mut.result.now in
     let some : 0 < length ms = omega (arith, c.requires.some, c.args.processors.now.ok) in
-    seen_at ms m c.wait.new.processor (slice_get_read ms (length ms) 0 m refl some c.index_mut.ensures.value)
+    waiting_seen_at ms m c.wait.new.processor (slice_get_read ms (length ms) 0 m refl some c.index_mut.ensures.value)
     (waits_on m c.wait.new.processor c.wait.result c.wait.ensures)
 
 pub returns-in-Ok : goal.returns-in-Ok
@@ -28,7 +28,7 @@ returns-in-Ok g c =
     let m = c.index_mut.result.now in
     let some : 0 < length ms = omega (arith, c.requires.some, c.args.processors.now.ok) in
     record {
-      seen = seen_at ms m c.wait.new.processor (slice_get_read ms (length ms) 0 m refl some c.index_mut.ensures.value)
+      seen = waiting_seen_at ms m c.wait.new.processor (slice_get_read ms (length ms) 0 m refl some c.index_mut.ensures.value)
           (waits_on m c.wait.new.processor c.wait.result c.wait.ensures);
       stuck = λ no. absurd (cc);
       err = tt;
@@ -39,5 +39,5 @@ returns-in-Err-clause-seen g c =
     let ms = c.args.processors.now.items in
     let m = c.index_mut.result.now in
     let some : 0 < length ms = omega (arith, c.requires.some, c.args.processors.now.ok) in
-    seen_at ms m c.wait.new.processor (slice_get_read ms (length ms) 0 m refl some c.index_mut.ensures.value)
+    waiting_seen_at ms m c.wait.new.processor (slice_get_read ms (length ms) 0 m refl some c.index_mut.ensures.value)
     (waits_on m c.wait.new.processor c.wait.result c.wait.ensures)

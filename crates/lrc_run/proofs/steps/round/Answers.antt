@@ -1,6 +1,6 @@
 use Rattle.std.proofs.Common.{add-one, take, ◌∙◌}
 use Rattle.std.proofs.lemmas.Option.{slice_get-get_or}
-use Rattle.base.proofs.Places.{take-suc_at}
+use Rattle.base.proofs.SlicesAndCounts.{take-suc_at}
 use Rattle.lrc_script.specs.Plan.{plan_of}
 use Rattle.lrc_run.proofs.Turning.{turned_more, way_turned}
 use Rattle.lrc_run.proofs.steps.round.Goals as goal

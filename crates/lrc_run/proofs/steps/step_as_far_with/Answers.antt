@@ -1,17 +1,17 @@
 use Rattle.std.proofs.Common.{◌≡◌, [], length, arith}
 use Rattle.lrc_script.specs.Plan.{plan_of}
-use Rattle.conformance.specs.ByTurns.{IsEndBy, orders_of}
-use Rattle.lrc_run.specs.Endings.{IsEndAfter}
+use Rattle.conformance.specs.ByTurns.{IsEndByTurns, turn_orders}
+use Rattle.lrc_run.specs.FollowedReports.{IsEndAfter}
 use Rattle.lrc_run.proofs.ByTurns.{by_rounds, by_seed, end_by}
 use Rattle.lrc_run.proofs.Failing.{ok_as}
-use Rattle.lrc_run.proofs.Stepping.{all_begin}
+use Rattle.lrc_run.proofs.Stepping.{steps_begin}
 use Rattle.lrc_run.proofs.steps.step_as_far_with.Goals as goal
 
 pub go_round-passed-requires-clause-way : goal.go_round-passed-requires-clause-way
 go_round-passed-requires-clause-way g c κs within =
     let ms = c.in_ok-cluster.processors.items in
     let many : c.len.result ≡ length ms = omega (arith, c.len.ensures, c.in_ok-cluster.processors.ok) in
-    all_begin c.in_ok-cluster.cluster (plan_of c.args.script.now).sections ms c.in_ok-all.all.items c.len.result
+    steps_begin c.in_ok-cluster.cluster (plan_of c.args.script.now).sections ms c.in_ok-all.all.items c.len.result
     c.in_ok-cluster.ensures.new many c.in_ok-all.ensures.ok
 
 pub returns-clause-end : goal.returns-clause-end
@@ -26,8 +26,8 @@ returns-clause-end g c =
     let new = c.in_ok-cluster.ensures.new in
     let many : c.len.result ≡ length ms = omega (arith, c.len.ensures, c.in_ok-cluster.processors.ok) in
     let gone = c.in_ok-passed.ensures.gone in
-    let orders = orders_of s c.args.seed in
+    let orders = turn_orders s c.args.seed in
     let told = by_seed s cluster c.args.seed ms ns all sizes new
     (by_rounds s cluster c.args.seed ms ns start all c.len.result sizes new many c.in_ok-all.ensures.ok gone) in
-    ok_as c.end_run.result (IsEndAfter s ns all) (IsEndBy s orders)
+    ok_as c.end_run.result (IsEndAfter s ns all) (IsEndByTurns s orders)
     (λ e after. end_by s cluster orders ns all e c.requires.lawful sizes gone.way told after) c.end_run.ensures.end

@@ -1,6 +1,6 @@
 use Rattle.std.proofs.Common.{rules, ◌≡◌, Bool, false, true, subst}
-use Rattle.lrc_run.specs.Walks.{IsOnItsWay, TriedTake}
-use Rattle.lrc_run.proofs.Making.{on_its_way}
+use Rattle.lrc_run.specs.MakesCalls.{IsOnItsWay, TriedTake}
+use Rattle.lrc_run.proofs.SeesAndMakes.{makes_its_way}
 use Rattle.lrc_run.proofs.walk.perform.Goals as goal
 
 pub returns-then-branch-2-clause-ok : goal.returns-then-branch-2-clause-ok
@@ -9,12 +9,12 @@ returns-then-branch-2-clause-ok g c =
     let taken : c.in_ok-end.field-0 ≡ true = search rules in
     let P : Bool → Type 0 = λ b. IsOnItsWay c.args.processor.now c.begin.new.processor c.args.instruction b in
     let Q : Bool → Type 0 = λ b. TriedTake c.begin.new.processor c.end.new.processor b in
-    on_its_way c.args.processor.now c.begin.new.processor c.end.new.processor c.args.instruction true
+    makes_its_way c.args.processor.now c.begin.new.processor c.end.new.processor c.args.instruction true
     (subst P begun c.in_ok-begin.ensures.ok) (subst Q taken c.in_ok-end.ensures.ok)
 
 pub returns-then-branch-3-clause-ok : goal.returns-then-branch-3-clause-ok
 returns-then-branch-3-clause-ok g c =
     let taken : c.in_ok-look_again.field-0 ≡ true = search rules in
     let P : Bool → Type 0 = λ b. TriedTake c.loop.processor c.look_again.new.processor b in
-    on_its_way c.args.processor.now c.loop.processor c.look_again.new.processor c.args.instruction true
+    makes_its_way c.args.processor.now c.loop.processor c.look_again.new.processor c.args.instruction true
     c.loop.invariant.begun (subst P taken c.in_ok-look_again.ensures.ok)

@@ -1,5 +1,5 @@
-use Rattle.lrc_script.proofs.Longest.{text_most}
+use Rattle.lrc_script.proofs.LineLengths.{text_length_most}
 use Rattle.lrc_script.proofs.laws.most_bytes_law.Goals as goal
 
 pub returns : goal.returns
-returns c = text_most
+returns c = text_length_most

@@ -2,7 +2,7 @@ use Rattle.std.proofs.Common.{eqb, rules}
 use borrow.Author.Tests.{tests}
 use Rattle.std.proofs.lemmas.Iterator.Search.{all_from_yields_List}
 use Rattle.std.proofs.lemmas.Iterator.Splits.{YieldsList-from_slice_split}
-use Rattle.lrc_script.specs.Reading.{has_bytes}
+use Rattle.lrc_script.specs.LineReading.{has_bytes}
 use Rattle.lrc_script.proofs.line.is_separated.Goals as goal
 
 pub returns : goal.returns

@@ -1,19 +1,19 @@
 use Rattle.std.proofs.Common.{sym, ◌∙◌, arith}
-use Rattle.lrc_script.proofs.Reading.Digits.{digits_more, sum_more, sum_past_mul, sum_past_add, sum_all}
+use Rattle.lrc_script.proofs.Reading.Digits.{digits_more, digits_sum_more, digits_sum_past_mul, digits_sum_past_add, digits_sum_all}
 use Rattle.lrc_script.proofs.line.sum_of_digits.Goals as goal
 
 pub returns-in_err-checked_mul : goal.returns-in_err-checked_mul
 returns-in_err-checked_mul c =
     let digit = sym c.is_ascii_digit.ensures.value ∙ c.if-not-is_ascii_digit.false in
     c.from_residual.ensures
-    ∙ sym (sum_past_mul c.args.word.now c.loop-byte.byte-index c.loop-byte.sum (omega arith) digit
+    ∙ sym (digits_sum_past_mul c.args.word.now c.loop-byte.byte-index c.loop-byte.sum (omega arith) digit
     c.loop-byte.invariant.sum c.in_err-checked_mul.ensures)
 
 pub returns-in_err-sum : goal.returns-in_err-sum
 returns-in_err-sum c =
     let digit = sym c.is_ascii_digit.ensures.value ∙ c.if-not-is_ascii_digit.false in
     c.from_residual-in_err-sum.ensures
-    ∙ sym (sum_past_add c.args.word.now c.loop-byte.byte-index c.loop-byte.sum (omega arith) digit
+    ∙ sym (digits_sum_past_add c.args.word.now c.loop-byte.byte-index c.loop-byte.sum (omega arith) digit
     c.loop-byte.invariant.sum
     (λ small. c.in_err-sum.ensures (omega (arith, c.in_ok-checked_mul.ensures.1, c.from.ensures, small))))
 
@@ -29,12 +29,12 @@ loop-byte-preserved c =
             c.in_ok-checked_mul.ensures.1,
             c.from.ensures,
             c.loop-byte.invariant.sum,
-            sum_more c.args.word.now c.loop-byte.byte-index (omega arith) digit,
+            digits_sum_more c.args.word.now c.loop-byte.byte-index (omega arith) digit,
           );
       small = omega (arith, c.in_ok-sum.ensures.0, c.in_ok-sum.ensures.1);
     }
 
 pub returns : goal.returns
 returns c =
-    sum_all c.args.word.now c.loop-byte.byte-index c.loop-byte.sum (omega arith) c.loop-byte.invariant.digits
+    digits_sum_all c.args.word.now c.loop-byte.byte-index c.loop-byte.sum (omega arith) c.loop-byte.invariant.digits
     c.loop-byte.invariant.sum c.loop-byte.invariant.small

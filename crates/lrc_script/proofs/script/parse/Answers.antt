@@ -1,22 +1,22 @@
 use Rattle.std.proofs.Common.{arith, refl}
 use Rattle.lrc_script.specs.Plan.{plan_of}
-use Rattle.lrc_script.proofs.Faults.Places.{at_start, at_next, failed_fault, truncated_fault, whole_text, uneven_fault, read_again, sections_fit, number_fits, cut_shorter}
+use Rattle.lrc_script.proofs.Faults.TextLines.{at_first_line, at_next_line, failed_fault, truncated_fault, whole_text, uneven_fault, text_read_again, section_lines_fit, line_number_fits, line_cut_shorter}
 use Rattle.lrc_script.proofs.script.parse.Goals as goal
 
 pub loop-line-init : goal.loop-line-init
-loop-line-init c = at_start c.args.bytes.now
+loop-line-init c = at_first_line c.args.bytes.now
 
 pub after-requires : goal.after-requires
 after-requires c = c.loop-line.invariant.begun
 
 pub overflow_add-number : goal.overflow_add-number
-overflow_add-number c = omega (arith, number_fits _ _ _ _ _ _ c.loop-line.invariant c.in-Some.ensures)
+overflow_add-number c = omega (arith, line_number_fits _ _ _ _ _ _ c.loop-line.invariant c.in-Some.ensures)
 
 pub loop-line-smaller : goal.loop-line-smaller
-loop-line-smaller c = cut_shorter _ _ _ c.in-Some.ensures
+loop-line-smaller c = line_cut_shorter _ _ _ c.in-Some.ensures
 
 pub loop-line-preserved : goal.loop-line-preserved
-loop-line-preserved c = at_next _ _ _ _ _ _ _ c.loop-line.invariant c.in-Some.ensures c.in-Ok.ensures.ok
+loop-line-preserved c = at_next_line _ _ _ _ _ _ _ c.loop-line.invariant c.in-Some.ensures c.in-Ok.ensures.ok
 
 pub returns-in-Err-clause-only : goal.returns-in-Err-clause-only
 returns-in-Err-clause-only c =
@@ -41,7 +41,7 @@ uneven_line-requires-clause-instructions c =
     let whole =
     whole_text c.args.bytes.now c.loop-line.number _ c.loop-line.rest.now (plan_of c.in-Some-whole.script)
     c.loop-line.invariant c.in-Some-whole.ensures.found in
-    (sections_fit (plan_of c.in-Some-whole.script) c.in-Some-whole.script.sections.items refl whole.0).1
+    (section_lines_fit (plan_of c.in-Some-whole.script) c.in-Some-whole.script.sections.items refl whole.0).1
 
 pub returns-in-Some-uneven_line-clause-only : goal.returns-in-Some-uneven_line-clause-only
 returns-in-Some-uneven_line-clause-only c =
@@ -56,5 +56,5 @@ returns-in-None-clause-again c =
     let whole =
     whole_text c.args.bytes.now c.loop-line.number _ c.loop-line.rest.now (plan_of c.in-Some-whole.script)
     c.loop-line.invariant c.in-Some-whole.ensures.found in
-    read_again c.args.bytes.now (plan_of c.in-Some-whole.script)
+    text_read_again c.args.bytes.now (plan_of c.in-Some-whole.script)
     (record { but_uneven = whole.0; even = c.in-None.ensures.even }, whole.1)

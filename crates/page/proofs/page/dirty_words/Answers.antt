@@ -1,26 +1,26 @@
 use Rattle.std.proofs.Common.{ℕ, ◌≡◌, List, ◌++◌, length, drop, append-nil, ap, sym, ◌∙◌, arith}
 use Rattle.std.proofs.lemmas.List.{length-drop}
-use Rattle.base.specs.Records.{harvest}
+use Rattle.base.specs.MarkedRecords.{harvest}
 use Rattle.page.specs.Marks.{marks_of}
-use Rattle.page.proofs.Harvested.{first_within, found_more, below_more, harvest-none}
+use Rattle.page.proofs.Harvested.{harvest_first_within, harvest_found_more, harvest_below_more, harvest-none}
 use Rattle.page.proofs.page.dirty_words.Goals as goal
 
 pub bounds-words-offset : goal.bounds-words-offset
 bounds-words-offset c =
     let l = c.loop-rest in
-    let within = first_within (drop l.offset c.args.words.now) l.rest (omega arith) (omega arith) l.invariant.below in
+    let within = harvest_first_within (drop l.offset c.args.words.now) l.rest (omega arith) (omega arith) l.invariant.below in
     omega (arith, length-drop l.offset c.args.words.now)
 
 pub loop-rest-preserved : goal.loop-rest-preserved
 loop-rest-preserved c =
     let l = c.loop-rest in
     let words = c.args.words.now in
-    let within = first_within (drop l.offset words) l.rest (omega arith) (omega arith) l.invariant.below in
+    let within = harvest_first_within (drop l.offset words) l.rest (omega arith) (omega arith) l.invariant.below in
     record {
       within = omega (arith, length-drop l.offset words);
-      below = below_more words l.offset l.rest l.invariant.below;
+      below = harvest_below_more words l.offset l.rest l.invariant.below;
       so_far =
-          rw c.in_ok-push.ensures.items (found_more l.found.items words
+          rw c.in_ok-push.ensures.items (harvest_found_more l.found.items words
           (harvest 0 words (marks_of (length words) c.args.dirty)) l.offset l.rest (omega arith) (omega arith)
           l.invariant.below l.invariant.so_far);
     }

@@ -1,5 +1,5 @@
 use Rattle.std.proofs.Common.{◌≡◌, length, drop}
-use Rattle.base.specs.Records.{record_applied}
+use Rattle.base.specs.MarkedRecords.{record_applied}
 use Rattle.page.proofs.page.overwrite.Given as goal
 
 abbrev pub invariant-loop-offset : goal.invariant-loop-offset

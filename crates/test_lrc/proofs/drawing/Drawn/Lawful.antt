@@ -14,7 +14,7 @@ use Rattle.test_lrc.specs.declared.drawing.draw.DrawSizes.{DrawSizes}
 use Rattle.lrc_script.specs.declared.script.Instruction.{Instruction}
 use Rattle.lrc_script.specs.declared.script.Instruction.TheVariants.{Load, Store, Add, Barrier}
 use Rattle.lrc_script.specs.Plan.{Plan}
-use Rattle.lrc_script.specs.Lawful.{addresses, barriers, IsInRange, IsSection, IsEven, IsLawful}
+use Rattle.lrc_script.specs.Lawful.{plan_addresses, barriers, IsInstructionInRange, IsLawfulSection, IsEven, IsLawful}
 use Rattle.test_lrc.specs.Drawing.Draw.{below, shape, group, access, item, piece, pieces, most_pieces, phase, more_phases, section, drawn_sections, drawn, IsShape}
 
 below_lt : (m : ℕ) (g : Lcg) → 0 < m → (below m g).0 < m
@@ -63,7 +63,7 @@ group_safe sh sections shown g h =
     safe_group s (a.0 % sh.locks) a.0 (below 8 a.1).0 (mod_lt a.0 sh.locks h.some_locks)
     (below_lt (sh.pages * sh.words) g (space sh h).some) (small_value a.1)
 
-access_safe : (s : Plan) (kind a : ℕ) (g : Lcg) → a < addresses s → IsSafe s 1 0 ((access kind a g).0 ∷ [])
+access_safe : (s : Plan) (kind a : ℕ) (g : Lcg) → a < plan_addresses s → IsSafe s 1 0 ((access kind a g).0 ∷ [])
 access_safe s kind a g lt = kind_cases (ltb kind 2) (ltb kind 4)
   where
     kind_cases : (first second : Bool)
@@ -158,11 +158,11 @@ sections_safe (suc n) style sh sections shown g h =
     let rest = sections_safe n style sh sections shown one.1 h in
     (ap suc rest.0, (section_safe style sh sections shown g h, rest.1))
 
-section_from_safe : (s : Plan) (count : ℕ) (is : List Instruction) → IsSafe s 74 count is → IsSection s is
+section_from_safe : (s : Plan) (count : ℕ) (is : List Instruction) → IsSafe s 74 count is → IsLawfulSection s is
 section_from_safe s count is h =
     record {
       most = omega (arith, h.short);
-      in_range = All-from_recursion (IsInRange s) is h.in_range;
+      in_range = All-from_recursion (IsInstructionInRange s) is h.in_range;
       holding = h.may [] (λ l. refl);
     }
 
@@ -206,7 +206,7 @@ drawn_lawful style g =
         };
         one_each = safe.0;
         sections =
-            All-weaker (IsSafe s 74 sh.barriers) (IsSection s) (λ is k. section_from_safe s sh.barriers is k) sections
+            All-weaker (IsSafe s 74 sh.barriers) (IsLawfulSection s) (λ is k. section_from_safe s sh.barriers is k) sections
             each;
         some_shown = omega (arith, length-range_with_len 0 (sh.pages * sh.words), room.some);
         most_shown = omega (arith, length-range_with_len 0 (sh.pages * sh.words), room.most);

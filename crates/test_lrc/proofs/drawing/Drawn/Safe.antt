@@ -8,7 +8,7 @@ use Rattle.std.proofs.lemmas.List.Sums.{fold-append}
 use Rattle.lrc_script.specs.declared.script.Instruction.{Instruction}
 use Rattle.lrc_script.specs.declared.script.Instruction.TheVariants.{Add, Acquire, Release, Barrier}
 use Rattle.lrc_script.specs.Plan.{Plan}
-use Rattle.lrc_script.specs.Lawful.{addresses, holds, still_holds, is_barrier, barriers, IsInRange, MayStandAfter}
+use Rattle.lrc_script.specs.Lawful.{plan_addresses, holds, still_holds, is_barrier, barriers, IsInstructionInRange, IsLawfulAfter}
 
 -- no lock is held
 abbrev pub HoldsNone : List Instruction → Type 0
@@ -17,15 +17,15 @@ HoldsNone is = (l : ℕ) → holds is l ≡ false
 -- instructions that are lawful wherever no lock is held, and leave none held
 pub record IsSafe (s : Plan) (most count : ℕ) (is : List Instruction) : Type 0 where
   pub short : length is ≤ most
-  pub in_range : AllByRecursion (IsInRange s) is
+  pub in_range : AllByRecursion (IsInstructionInRange s) is
   pub may : (before : List Instruction) → HoldsNone before
       → (front : List Instruction) (i : Instruction) (back : List Instruction) → is ≡ front ++ i ∷ back
-      → MayStandAfter (before ++ front) i
+      → IsLawfulAfter (before ++ front) i
   pub frees : (before : List Instruction) → HoldsNone before → HoldsNone (before ++ is)
   pub barriers_are : barriers is ≡ count
 
-All-append : (s : Plan) (xs ys : List Instruction) → AllByRecursion (IsInRange s) xs → AllByRecursion (IsInRange s) ys
-    → AllByRecursion (IsInRange s) (xs ++ ys)
+All-append : (s : Plan) (xs ys : List Instruction) → AllByRecursion (IsInstructionInRange s) xs → AllByRecursion (IsInstructionInRange s) ys
+    → AllByRecursion (IsInstructionInRange s) (xs ++ ys)
 All-append s [] ys p q = q
 All-append s (x ∷ xs) ys p q = (p.0, All-append s xs ys p.1 q)
 
@@ -62,7 +62,7 @@ safe-append s m n a b xs ys p q = record {
   in_range = All-append s xs ys p.in_range q.in_range;
   may = λ before none front i back e. elim (split_append xs ys front i back e) [
     | inl t ↦ p.may before none front i t.0 t.1
-    | inr t ↦ subst (λ (zs : List Instruction). MayStandAfter zs i)
+    | inr t ↦ subst (λ (zs : List Instruction). IsLawfulAfter zs i)
         (append_assoc before xs t.0 ∙ ap (λ (zs : List Instruction). before ++ zs) (sym t.1))
         (q.may (before ++ xs) (p.frees before none) t.0 i back t.2)
   ];
@@ -86,7 +86,7 @@ holds-append : (before is : List Instruction) (l : ℕ)
 holds-append before is l = fold-append (still_holds l) false before is
 
 -- an instruction that has nothing to do with locks and barriers
-pub safe_plain : (s : Plan) (i : Instruction) → IsInRange s i → ((before : List Instruction) → MayStandAfter before i)
+pub safe_plain : (s : Plan) (i : Instruction) → IsInstructionInRange s i → ((before : List Instruction) → IsLawfulAfter before i)
     → ((l : ℕ) (held : Bool) → still_holds l held i ≡ held) → is_barrier i ≡ false → IsSafe s 1 0 (i ∷ [])
 safe_plain s i range may keeps other = record {
   short = omega arith;
@@ -97,9 +97,9 @@ safe_plain s i range may keeps other = record {
 }
   where
     plain_may : (before front : List Instruction) (j : Instruction) (back : List Instruction)
-        → i ∷ [] ≡ front ++ j ∷ back → MayStandAfter (before ++ front) j
+        → i ∷ [] ≡ front ++ j ∷ back → IsLawfulAfter (before ++ front) j
     plain_may before [] j back e =
-        let head : i ≡ j = cc in subst (λ (k : Instruction). MayStandAfter (before ++ []) k) head (may (before ++ []))
+        let head : i ≡ j = cc in subst (λ (k : Instruction). IsLawfulAfter (before ++ []) k) head (may (before ++ []))
     plain_may before (f ∷ front) j back e =
         absurd (omega (arith, ap (λ (is : List Instruction). length is) e, length-append front (j ∷ back)))
 
@@ -112,26 +112,26 @@ given_back false held h = h
 
 group_may : (l a v : ℕ) (before : List Instruction) → HoldsNone before
     → (front : List Instruction) (i : Instruction) (back : List Instruction)
-    → Acquire l ∷ Add a v ∷ Release l ∷ [] ≡ front ++ i ∷ back → MayStandAfter (before ++ front) i
+    → Acquire l ∷ Add a v ∷ Release l ∷ [] ≡ front ++ i ∷ back → IsLawfulAfter (before ++ front) i
 group_may l a v before none [] i back e =
     let head : Acquire l ≡ i = cc in
-    subst (λ (k : Instruction). MayStandAfter (before ++ []) k) head
+    subst (λ (k : Instruction). IsLawfulAfter (before ++ []) k) head
     (ap (λ (is : List Instruction). holds is l) (append-nil before) ∙ none l)
 group_may l a v before none (f ∷ []) i back e =
-    let head : Add a v ≡ i = cc in subst (λ (k : Instruction). MayStandAfter (before ++ f ∷ []) k) head tt
+    let head : Add a v ≡ i = cc in subst (λ (k : Instruction). IsLawfulAfter (before ++ f ∷ []) k) head tt
 group_may l a v before none (f ∷ g ∷ []) i back e =
     let first : Acquire l ≡ f = cc in
     let second : Add a v ≡ g = cc in
     let third : Release l ≡ i = cc in
     let held : holds (before ++ Acquire l ∷ Add a v ∷ []) l ≡ true =
     holds-append before (Acquire l ∷ Add a v ∷ []) l ∙ taken l (holds before l) in
-    subst (λ (k : Instruction). MayStandAfter (before ++ f ∷ g ∷ []) k) third (subst
+    subst (λ (k : Instruction). IsLawfulAfter (before ++ f ∷ g ∷ []) k) third (subst
     (λ (k : Instruction). holds (before ++ k ∷ g ∷ []) l ≡ true) first
     (subst (λ (k : Instruction). holds (before ++ Acquire l ∷ k ∷ []) l ≡ true) second held))
 group_may l a v before none (f ∷ g ∷ h ∷ front) i back e =
     absurd (omega (arith, ap (λ (is : List Instruction). length is) e, length-append front (i ∷ back)))
 
-pub safe_group : (s : Plan) (l a v : ℕ) → l < s.locks → a < addresses s → v < 2 ^ 32
+pub safe_group : (s : Plan) (l a v : ℕ) → l < s.locks → a < plan_addresses s → v < 2 ^ 32
     → IsSafe s 3 0 (Acquire l ∷ Add a v ∷ Release l ∷ [])
 safe_group s l a v lock address value = record {
   short = omega arith;
@@ -164,8 +164,8 @@ safe_barrier s = record {
   where
     barrier_may : (before : List Instruction) → HoldsNone before
         → (front : List Instruction) (i : Instruction) (back : List Instruction) → Barrier ∷ [] ≡ front ++ i ∷ back
-        → MayStandAfter (before ++ front) i
+        → IsLawfulAfter (before ++ front) i
     barrier_may before none [] i back e =
-        let head : Barrier ≡ i = cc in subst (λ (k : Instruction). MayStandAfter (before ++ []) k) head tt
+        let head : Barrier ≡ i = cc in subst (λ (k : Instruction). IsLawfulAfter (before ++ []) k) head tt
     barrier_may before none (f ∷ front) i back e =
         absurd (omega (arith, ap (λ (is : List Instruction). length is) e, length-append front (i ∷ back)))

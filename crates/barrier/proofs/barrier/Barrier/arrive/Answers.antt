@@ -4,7 +4,7 @@ use Rattle.barrier.specs.declared.barrier.Stage.{Stage}
 use Rattle.barrier.specs.declared.barrier.Stage.TheVariants.{Away, Here}
 use Rattle.vtime.specs.Times.{join}
 use Rattle.barrier.specs.Episodes.{Episodes, HasGathered, Gathers}
-use Rattle.barrier.proofs.Full.{comes_last, read_set, gathered-more}
+use Rattle.barrier.proofs.LastArrivals.{comes_last, read_set, gathered-arrival}
 use Rattle.barrier.proofs.barrier.Barrier.arrive.Goals as goal
 
 pub returns-then-full-clause-complete : goal.returns-then-full-clause-complete
@@ -28,7 +28,7 @@ returns-else-full-clause-gathers c times has =
     let Had : Episodes → Type 0 = λ b. HasGathered b times in
     let IsAway : Episodes → Type 0 = λ b. slice_get b.stages p ≡ Some Away in
     let gathered =
-    gathered-more old p time times (subst IsAway (sym c.self.view_is) c.requires.away)
+    gathered-arrival old p time times (subst IsAway (sym c.self.view_is) c.requires.away)
     (subst Had (sym c.self.view_is) has) in
     let Stages : List Stage → Type 0 =
     λ ss. HasGathered (record { stages = ss; gathered = join i.gathered time; last = i.last })

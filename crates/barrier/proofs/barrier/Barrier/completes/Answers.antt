@@ -1,7 +1,7 @@
 use Rattle.std.proofs.Common.{List, length, count_by, ap, ◌∙◌}
 use Rattle.barrier.specs.declared.barrier.Stage.{Stage}
 use Rattle.barrier.specs.Episodes.{Episodes, is_here}
-use Rattle.barrier.proofs.Full.{last_arrival_test}
+use Rattle.barrier.proofs.LastArrivals.{last_arrival_test}
 use Rattle.barrier.proofs.barrier.Barrier.completes.Goals as goal
 
 pub returns-clause-full : goal.returns-clause-full

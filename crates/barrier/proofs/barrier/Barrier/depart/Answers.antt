@@ -2,7 +2,7 @@ use Rattle.std.proofs.Common.{◌≡◌, Some, List, slice_get, refl, sym, subst
 use Rattle.barrier.specs.declared.barrier.Stage.{Stage}
 use Rattle.barrier.specs.declared.barrier.Stage.TheVariants.{Away, Free}
 use Rattle.barrier.specs.Episodes.{Episodes, HasGathered}
-use Rattle.barrier.proofs.Full.{read_set, gathered-departed}
+use Rattle.barrier.proofs.LastArrivals.{read_set, gathered-departed}
 use Rattle.barrier.proofs.barrier.Barrier.depart.Goals as goal
 
 pub returns-clause-gathers : goal.returns-clause-gathers

@@ -7,69 +7,69 @@ use Rattle.transit.specs.Letters.{Letter, letter}
 use Rattle.transit.specs.declared.message.Message.{Message}
 use Rattle.vtime.specs.Times.{tick}
 use Rattle.book.specs.State.{State, time_of}
-use Rattle.book.specs.Transitions.{handed_in, open_interval, closed_by, departures_to}
-use Rattle.interval.specs.Intervals.{ClosedInterval}
+use Rattle.book.specs.Transitions.{book_handed_in, book_open_interval, book_closed_by, departures_to}
+use Rattle.interval.specs.SentIntervals.{ClosedInterval}
 use Rattle.interval.specs.Closings.{pushed}
 use Rattle.barrier.specs.declared.barrier.Stage.TheVariants.{Away}
-use Rattle.book.specs.Calls.{MayBeSent}
-use Rattle.book.specs.Holding.{state_of}
+use Rattle.book.specs.Calls.{AllowsNotices}
+use Rattle.book.specs.BookInvariant.{book_state}
 use Rattle.book.specs.declared.book.Book.TheInside.{Inside}
 use Rattle.book.proofs.Parts.History.{happened_fits}
-use Rattle.book.proofs.Calling.Calls.{IsStanding, stands, still_open, opens_roomy, HasClosedRoomy, closed_roomy}
-use Rattle.book.proofs.Calling.Arrivals.{IsArriving, arrives, arriving, departures_made, none_waits, arrived_met, arrived_alone}
+use Rattle.book.proofs.Calling.Closing.{StandsToClose, closing_stands, closing_still_open, closing_opens_roomy, HasClosedRoomy, closed_roomy}
+use Rattle.book.proofs.Calling.Arriving.{IsArriving, arrives, arriving, arrived_departures_made, arriving_finds_no_mail, arrived_met, arrived_alone}
 use Rattle.book.proofs.book.Book.arrive.Goals.{After-parts, After-closing_time-time, In_ok-departures, After-parts-2, in-Some, in_default}
 use Rattle.book.proofs.book.Book.arrive.Goals as goal
 
 -- the parts hold the book as it is found
-same : (c : After-parts) → state_of c.parts.inside ≡ c.args.self.now
+same : (c : After-parts) → book_state c.parts.inside ≡ c.args.self.now
 same c = c.parts.view_is ∙ c.deref_mut-parts.ensures.value ∙ c.self.view_is
 
 pub open_interval-interval-requires : goal.open_interval-interval-requires
 open_interval-interval-requires c =
-    opens_roomy c.parts.inside _ _ _ c.args.p c.in_ok-make_room.ensures.same
+    closing_opens_roomy c.parts.inside _ _ _ c.args.processor c.in_ok-make_room.ensures.same
     (same (goal.at.open_interval-interval-requires c).After-parts) c.requires.call
 
 pub close-requires-clause-open : goal.close-requires-clause-open
 close-requires-clause-open c =
-    still_open (state_of c.parts.inside) c.args.p c.open_interval-interval.result (map arc_value c.args.records.items)
+    closing_still_open (book_state c.parts.inside) c.args.processor c.open_interval-interval.result (map arc_value c.args.records.items)
     c.open_interval-interval.ensures
 
 pub closing_time-time-requires-clause-open : goal.closing_time-time-requires-clause-open
 closing_time-time-requires-clause-open c =
-    opens_roomy c.parts.inside _ _ _ c.args.p c.in_ok-make_room.ensures.same
+    closing_opens_roomy c.parts.inside _ _ _ c.args.processor c.in_ok-make_room.ensures.same
     (same (goal.at.closing_time-time-requires-clause-open c).After-parts) c.requires.call
 
 pub closing_time-time-requires-clause-fits : goal.closing_time-time-requires-clause-fits
 closing_time-time-requires-clause-fits c =
-    let few = (stands (state_of c.parts.inside)
-    c.args.self.now c.args.p c.args.block.now (same (goal.at.closing_time-time-requires-clause-fits c).After-parts)
+    let few = (closing_stands (book_state c.parts.inside)
+    c.args.self.now c.args.processor c.args.block.now (same (goal.at.closing_time-time-requires-clause-fits c).After-parts)
     c.requires.call).few in
     let all = happened_fits c.parts.inside.journal c.parts.inside.owing c.parts.invariant.few in
     omega arith
 
 -- what the arrival rests on, whose interval is p's
 rests : (c : After-closing_time-time)
-    → IsStanding (state_of c.parts.inside) c.args.p × IsArriving (state_of c.parts.inside) c.args.p
-    × (c.args.p ≡ c.open_interval-interval.result.owner)
+    → StandsToClose (book_state c.parts.inside) c.args.processor × IsArriving (book_state c.parts.inside) c.args.processor
+    × (c.args.processor ≡ c.open_interval-interval.result.owner)
 rests c = (
-  stands (state_of c.parts.inside) c.args.self.now c.args.p c.args.block.now
+  closing_stands (book_state c.parts.inside) c.args.self.now c.args.processor c.args.block.now
       (c.parts.view_is ∙ c.deref_mut-parts.ensures.value ∙ c.self.view_is) c.requires.call,
-  arrives (state_of c.parts.inside) c.args.self.now c.args.p c.args.block.now
+  arrives (book_state c.parts.inside) c.args.self.now c.args.processor c.args.block.now
       (c.parts.view_is ∙ c.deref_mut-parts.ensures.value ∙ c.self.view_is) c.requires.call,
   sym (ap (λ (i : ClosedInterval). i.owner) c.open_interval-interval.ensures),
 )
 
 -- the timestamp after the arrival
 ticked : (c : After-closing_time-time)
-    → c.closing_time-time.result ≡ tick (time_of (state_of c.parts.inside) c.args.p) c.args.p
+    → c.closing_time-time.result ≡ tick (time_of (book_state c.parts.inside) c.args.processor) c.args.processor
 ticked c = c.closing_time-time.ensures
 
 -- there are as many stages as it has entries
 long : (c : After-closing_time-time) → length c.closing_time-time.result ≡ length c.parts.inside.barrier.stages
 long c =
     ap (λ (t : List ℕ). length t) (ticked c)
-    ∙ length-set (time_of (state_of c.parts.inside) c.args.p) c.args.p
-    (slice_index (time_of (state_of c.parts.inside) c.args.p) c.args.p + 1) ∙ (rests c).1.own_long
+    ∙ length-set (time_of (book_state c.parts.inside) c.args.processor) c.args.processor
+    (slice_index (time_of (book_state c.parts.inside) c.args.processor) c.args.processor + 1) ∙ (rests c).1.own_long
     ∙ sym (rests c).1.stages
 
 pub departures_with-requires-clause-owner : goal.departures_with-requires-clause-owner
@@ -96,15 +96,15 @@ departures_with-requires-clause-all c =
     let at = (goal.at.departures_with-requires-clause-all c).After-closing_time-time in
     let w = rests at in
     subst (λ q. (r : ℕ) → r < length c.parts.inside.times.items
-    → MayBeSent c.parts.inside.closed (slice_set c.parts.inside.times.items q c.closing_time-time.result) r) w.2
+    → AllowsNotices c.parts.inside.closed (slice_set c.parts.inside.times.items q c.closing_time-time.result) r) w.2
     (subst (λ (t : List ℕ). (r : ℕ) → r < length c.parts.inside.times.items
-    → MayBeSent c.parts.inside.closed (slice_set c.parts.inside.times.items c.args.p t) r) (sym (ticked at)) w.1.sent)
+    → AllowsNotices c.parts.inside.closed (slice_set c.parts.inside.times.items c.args.processor t) r) (sym (ticked at)) w.1.sent)
 
 -- the book once the interval is closed
-closed : (c : After-parts-2) → state_of c.parts-2.inside
-    ≡ closed_by (handed_in c.args.self.now c.args.block.now) c.args.p Arrive (map arc_value c.args.records.items)
+closed : (c : After-parts-2) → book_state c.parts-2.inside
+    ≡ book_closed_by (book_handed_in c.args.self.now c.args.block.now) c.args.processor Arrive (map arc_value c.args.records.items)
 closed c =
-    let is : HasClosedRoomy c.parts.inside c.args.self.now (state_of c.parts-2.inside) c.args.block.now c.args.p
+    let is : HasClosedRoomy c.parts.inside c.args.self.now (book_state c.parts-2.inside) c.args.block.now c.args.processor
     Arrive (map arc_value c.args.records.items) = record {
       log = c.make_room.new.journal;
       i = c.open_interval-interval.result;
@@ -117,9 +117,9 @@ closed c =
 
 pub arrive-requires-clause-away : goal.arrive-requires-clause-away
 arrive-requires-clause-away c =
-    ap (λ (b : State). slice_get b.barrier.stages c.args.p)
+    ap (λ (b : State). slice_get b.barrier.stages c.args.processor)
     (closed (goal.at.arrive-requires-clause-away c).After-parts-2)
-    ∙ (arriving c.args.self.now c.args.p c.args.block.now c.requires.call).away
+    ∙ (arriving c.args.self.now c.args.processor c.args.block.now c.requires.call).away
 
 pub arrive-requires-clause-long : goal.arrive-requires-clause-long
 arrive-requires-clause-long c =
@@ -132,16 +132,16 @@ abbrev letters : Option (Vec Message Global) → Option (List Letter)
 letters o = option_map (λ (ms : Vec Message Global). map letter ms.items) o
 
 -- the timestamp and the departures, read off the book before the call
-made : (c : In_ok-departures) → (c.closing_time-time.result ≡ tick (time_of c.args.self.now c.args.p) c.args.p)
+made : (c : In_ok-departures) → (c.closing_time-time.result ≡ tick (time_of c.args.self.now c.args.processor) c.args.processor)
     × (letters c.in_ok-departures.departures
     ≡ departures_to
-    (pushed c.args.self.now.closed (open_interval c.args.self.now c.args.p (map arc_value c.args.records.items)))
-    c.args.self.now.barrier (slice_set c.args.self.now.times c.args.p c.closing_time-time.result) c.args.p
+    (pushed c.args.self.now.closed (book_open_interval c.args.self.now c.args.processor (map arc_value c.args.records.items)))
+    c.args.self.now.barrier (slice_set c.args.self.now.times c.args.processor c.closing_time-time.result) c.args.processor
     c.closing_time-time.result)
 made c = (
-  c.closing_time-time.ensures ∙ ap (λ (b : State). tick (time_of b c.args.p) c.args.p)
+  c.closing_time-time.ensures ∙ ap (λ (b : State). tick (time_of b c.args.processor) c.args.processor)
       (c.parts.view_is ∙ c.deref_mut-parts.ensures.value ∙ c.self.view_is),
-  departures_made c.args.self.now (state_of c.parts.inside) c.args.p (map arc_value c.args.records.items)
+  arrived_departures_made c.args.self.now (book_state c.parts.inside) c.args.processor (map arc_value c.args.records.items)
       c.open_interval-interval.result c.closing_time-time.result
       (letters c.in_ok-departures.departures)
       (c.parts.view_is ∙ c.deref_mut-parts.ensures.value ∙ c.self.view_is) c.open_interval-interval.ensures
@@ -152,10 +152,10 @@ pub post_all-requires : goal.post_all-requires
 post_all-requires c =
     let w = made (goal.at.post_all-requires c).In_ok-departures in
     ap (λ (b : State). b.transit) (closed (goal.at.post_all-requires c).After-parts-2)
-    ∙ none_waits c.args.self.now c.args.p
-    (pushed c.args.self.now.closed (open_interval c.args.self.now c.args.p (map arc_value c.args.records.items)))
+    ∙ arriving_finds_no_mail c.args.self.now c.args.processor
+    (pushed c.args.self.now.closed (book_open_interval c.args.self.now c.args.processor (map arc_value c.args.records.items)))
     c.closing_time-time.result (map letter c.in-Some.messages.items)
-    (arriving c.args.self.now c.args.p c.args.block.now c.requires.call) w.0 (sym (ap letters c.in-Some.is) ∙ w.1)
+    (arriving c.args.self.now c.args.processor c.args.block.now c.requires.call) w.0 (sym (ap letters c.in-Some.is) ∙ w.1)
     ∙ ap (λ (n : ℕ). replicate n None) (length-map c.in-Some.messages.items letter)
 
 pub returns : goal.returns
@@ -166,12 +166,12 @@ returns c =
     record {
       ok = elim c.match-departures-2.branch [
         | in-Some x ↦ ap (λ (i : Inside). i.parts.value) x.self-inside-is
-            ∙ arrived_met c.args.self.now (state_of c.parts-2.inside) c.args.p c.args.block.now records
+            ∙ arrived_met c.args.self.now (book_state c.parts-2.inside) c.args.processor c.args.block.now records
             c.closing_time-time.result is w.0 c.arrive.new.self x.post_all.new.transit
             (map letter x.in-Some.messages.items) c.arrive.ensures.barrier x.post_all.ensures
             (sym (ap letters x.in-Some.is) ∙ w.1)
         | in_default x ↦ ap (λ (i : Inside). i.parts.value) x.self-inside-is
-            ∙ arrived_alone c.args.self.now (state_of c.parts-2.inside) c.args.p c.args.block.now records
+            ∙ arrived_alone c.args.self.now (book_state c.parts-2.inside) c.args.processor c.args.block.now records
             c.closing_time-time.result is w.0 c.arrive.new.self c.arrive.ensures.barrier
             (sym (ap letters x.in_default.is) ∙ w.1)
       ];

@@ -2,55 +2,55 @@ use Rattle.std.proofs.Common.{◌≡◌, map, Option, slice_get, ap, ◌∙◌, 
 use Rattle.std.specs.Arc.{arc_value}
 use Rattle.std.specs.Option.{option_map}
 use Rattle.journal.specs.declared.event.Kind.TheVariants.{Ask}
-use Rattle.base.specs.Places.{Has}
-use Rattle.lockq.specs.Lock.{lock_at, line}
+use Rattle.base.specs.InOrderOnce.{Has}
+use Rattle.lockq.specs.LockQueues.{lock_at, lock_line}
 use Rattle.transit.specs.Letters.{letter}
 use Rattle.transit.specs.declared.message.Message.{Message}
 use Rattle.book.specs.State.{State}
-use Rattle.book.specs.Transitions.{handed_in, closed_by, if_free, grant_from}
-use Rattle.book.specs.Holding.{state_of}
+use Rattle.book.specs.Transitions.{book_handed_in, book_closed_by, if_free, book_grant}
+use Rattle.book.specs.BookInvariant.{book_state}
 use Rattle.book.specs.declared.book.Book.TheInside.{Inside}
-use Rattle.book.proofs.Calling.Calls.{stands, still_open, opens_roomy, HasClosedRoomy, closed_roomy}
-use Rattle.book.proofs.Calling.Asks.{IsAsking, asking, asked_granted, asked_waits}
+use Rattle.book.proofs.Calling.Closing.{closing_stands, closing_still_open, closing_opens_roomy, HasClosedRoomy, closed_roomy}
+use Rattle.book.proofs.Calling.AskingAndSetting.{IsAsking, asking, asked_granted, asked_waits}
 use Rattle.book.proofs.book.Book.ask.Goals.{After-parts, After-parts-2, In_ok-grant, in-Some, in_default}
 use Rattle.book.proofs.book.Book.ask.Goals as goal
 
 -- the parts hold the book as it is found
-same : (c : After-parts) → state_of c.parts.inside ≡ c.args.self.now
+same : (c : After-parts) → book_state c.parts.inside ≡ c.args.self.now
 same c = c.parts.view_is ∙ c.deref_mut-parts.ensures.value ∙ c.self.view_is
 
 pub open_interval-interval-requires : goal.open_interval-interval-requires
 open_interval-interval-requires c =
-    opens_roomy c.parts.inside _ _ _ c.args.p c.in_ok-make_room.ensures.same
+    closing_opens_roomy c.parts.inside _ _ _ c.args.processor c.in_ok-make_room.ensures.same
     (same (goal.at.open_interval-interval-requires c).After-parts) c.requires.call.call
 
 pub close-requires-clause-open : goal.close-requires-clause-open
 close-requires-clause-open c =
-    still_open (state_of c.parts.inside) c.args.p c.open_interval-interval.result (map arc_value c.args.records.items)
+    closing_still_open (book_state c.parts.inside) c.args.processor c.open_interval-interval.result (map arc_value c.args.records.items)
     c.open_interval-interval.ensures
 
 pub grant_if_free-requires-clause-processor : goal.grant_if_free-requires-clause-processor
 grant_if_free-requires-clause-processor c =
-    (stands (state_of c.parts.inside)
-    c.args.self.now c.args.p c.args.block.now (same (goal.at.grant_if_free-requires-clause-processor c).After-parts)
+    (closing_stands (book_state c.parts.inside)
+    c.args.self.now c.args.processor c.args.block.now (same (goal.at.grant_if_free-requires-clause-processor c).After-parts)
     c.requires.call.call).times
 
 -- what the ask rests on
-asks : (c : After-parts) → IsAsking (state_of c.parts.inside) c.args.p c.args.l
+asks : (c : After-parts) → IsAsking (book_state c.parts.inside) c.args.processor c.args.lock
 asks c =
-    subst (λ b. IsAsking b c.args.p c.args.l) (sym (same c))
-    (asking c.args.self.now c.args.p c.args.l c.args.block.now c.requires.call)
+    subst (λ b. IsAsking b c.args.processor c.args.lock) (sym (same c))
+    (asking c.args.self.now c.args.processor c.args.lock c.args.block.now c.requires.call)
 
 pub grant_if_free-requires-clause-keeps : goal.grant_if_free-requires-clause-keeps
 grant_if_free-requires-clause-keeps c = (asks (goal.at.grant_if_free-requires-clause-keeps c).After-parts).keeps
 
 -- the book once the interval is closed
-closed : (c : After-parts-2) → state_of c.parts-2.inside
-    ≡ closed_by (handed_in c.args.self.now c.args.block.now) c.args.p (Ask c.args.l)
+closed : (c : After-parts-2) → book_state c.parts-2.inside
+    ≡ book_closed_by (book_handed_in c.args.self.now c.args.block.now) c.args.processor (Ask c.args.lock)
     (map arc_value c.args.records.items)
 closed c =
-    let is : HasClosedRoomy c.parts.inside c.args.self.now (state_of c.parts-2.inside) c.args.block.now c.args.p
-    (Ask c.args.l) (map arc_value c.args.records.items) = record {
+    let is : HasClosedRoomy c.parts.inside c.args.self.now (book_state c.parts-2.inside) c.args.block.now c.args.processor
+    (Ask c.args.lock) (map arc_value c.args.records.items) = record {
       log = c.make_room.new.journal;
       i = c.open_interval-interval.result;
       made = c.in_ok-make_room.ensures.same;
@@ -62,28 +62,28 @@ closed c =
 
 pub ask-requires-clause-processor : goal.ask-requires-clause-processor
 ask-requires-clause-processor c =
-    let lt = (asking c.args.self.now c.args.p c.args.l c.args.block.now c.requires.call).processor in
+    let lt = (asking c.args.self.now c.args.processor c.args.lock c.args.block.now c.requires.call).processor in
     let e = ap (λ (b : State). b.locks.processors) (closed (goal.at.ask-requires-clause-processor c).After-parts-2) in
     omega arith
 
 pub ask-requires-clause-apart : goal.ask-requires-clause-apart
 ask-requires-clause-apart c =
-    subst (λ (x : _). ¬ Has (line (lock_at x c.args.l)) c.args.p)
+    subst (λ (x : _). ¬ Has (lock_line (lock_at x c.args.lock)) c.args.processor)
     (sym (ap (λ (b : State). b.locks) (closed (goal.at.ask-requires-clause-apart c).After-parts-2)))
-    (asking c.args.self.now c.args.p c.args.l c.args.block.now c.requires.call).apart
+    (asking c.args.self.now c.args.processor c.args.lock c.args.block.now c.requires.call).apart
 
 pub post-requires : goal.post-requires
 post-requires c =
-    ap (λ (b : State). slice_get b.transit c.args.p) (closed (goal.at.post-requires c).After-parts-2)
-    ∙ (asking c.args.self.now c.args.p c.args.l c.args.block.now c.requires.call).none
+    ap (λ (b : State). slice_get b.transit c.args.processor) (closed (goal.at.post-requires c).After-parts-2)
+    ∙ (asking c.args.self.now c.args.processor c.args.lock c.args.block.now c.requires.call).none
 
 -- the grant, read off the book before the call
 made : (c : In_ok-grant) → option_map letter c.in_ok-grant.grant
-    ≡ if_free (lock_at c.args.self.now.locks c.args.l).holder
-    (grant_from c.args.self.now c.args.p (lock_at c.args.self.now.locks c.args.l).time)
+    ≡ if_free (lock_at c.args.self.now.locks c.args.lock).holder
+    (book_grant c.args.self.now c.args.processor (lock_at c.args.self.now.locks c.args.lock).time)
 made c =
-    c.in_ok-grant.ensures ∙ ap (λ (b : State). if_free (lock_at b.locks c.args.l).holder
-    (grant_from b c.args.p (lock_at b.locks c.args.l).time))
+    c.in_ok-grant.ensures ∙ ap (λ (b : State). if_free (lock_at b.locks c.args.lock).holder
+    (book_grant b c.args.processor (lock_at b.locks c.args.lock).time))
     (c.parts.view_is ∙ c.deref_mut-parts.ensures.value ∙ c.self.view_is)
 
 pub returns : goal.returns
@@ -93,12 +93,12 @@ returns c =
     record {
       ok = elim c.match-grant-4.branch [
         | in-Some x ↦ ap (λ (i : Inside). i.parts.value) x.self-inside-is
-            ∙ asked_granted c.args.self.now (state_of c.parts-2.inside) c.args.p c.args.l c.args.block.now records
+            ∙ asked_granted c.args.self.now (book_state c.parts-2.inside) c.args.processor c.args.lock c.args.block.now records
             c.requires.call (closed at.After-parts-2) c.ask.new.self c.ask.ensures.locks
             x.post.new.self (letter x.in-Some.message) x.post.ensures
             (sym (ap (λ (m : Option Message). option_map letter m) x.in-Some.is) ∙ made at.In_ok-grant)
         | in_default x ↦ ap (λ (i : Inside). i.parts.value) x.self-inside-is
-            ∙ asked_waits c.args.self.now (state_of c.parts-2.inside) c.args.p c.args.l c.args.block.now records
+            ∙ asked_waits c.args.self.now (book_state c.parts-2.inside) c.args.processor c.args.lock c.args.block.now records
             c.requires.call (closed at.After-parts-2) c.ask.new.self c.ask.ensures.locks
             (sym (ap (λ (m : Option Message). option_map letter m) x.in_default.is) ∙ made at.In_ok-grant)
       ];

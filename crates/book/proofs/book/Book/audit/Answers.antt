@@ -1,13 +1,13 @@
 use Rattle.std.proofs.Common.{◌≡◌, length, ap, ◌∙◌}
-use Rattle.book.specs.Holding.{state_of}
+use Rattle.book.specs.BookInvariant.{book_state}
 use Rattle.journal.specs.Log.{Log}
-use Rattle.book.proofs.Calling.Calls.{block_fits}
+use Rattle.book.proofs.Calling.Closing.{block_fits}
 use Rattle.book.proofs.book.Book.audit.Goals.{In_ok-copy}
 use Rattle.book.proofs.book.Book.audit.Goals.{After-parts}
 use Rattle.book.proofs.book.Book.audit.Goals as goal
 
 -- the parts hold the book as it is found
-same : (c : After-parts) → state_of c.parts.inside ≡ c.args.self.now
+same : (c : After-parts) → book_state c.parts.inside ≡ c.args.self.now
 same c = c.parts.view_is ∙ c.deref_mut-parts.ensures.value ∙ c.self.view_is
 
 pub append_all-requires-clause-processor : goal.append_all-requires-clause-processor

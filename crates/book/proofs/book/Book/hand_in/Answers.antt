@@ -1,11 +1,11 @@
 use Rattle.std.proofs.Common.{◌≡◌, ◌∙◌}
-use Rattle.book.specs.Holding.{state_of}
-use Rattle.book.proofs.Calling.Calls.{block_fits}
+use Rattle.book.specs.BookInvariant.{book_state}
+use Rattle.book.proofs.Calling.Closing.{block_fits}
 use Rattle.book.proofs.book.Book.hand_in.Goals.{After-parts}
 use Rattle.book.proofs.book.Book.hand_in.Goals as goal
 
 -- the parts hold the book as it is found
-same : (c : After-parts) → state_of c.parts.inside ≡ c.args.self.now
+same : (c : After-parts) → book_state c.parts.inside ≡ c.args.self.now
 same c = c.parts.view_is ∙ c.deref_mut-parts.ensures.value ∙ c.self.view_is
 
 pub append_all-requires-clause-processor : goal.append_all-requires-clause-processor

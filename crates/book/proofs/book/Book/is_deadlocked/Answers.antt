@@ -2,15 +2,15 @@ use Rattle.std.proofs.Common.{◌≡◌, ◌<◌, ◌∙◌, Option, Some, List,
 use Rattle.std.specs.Option.{option_map}
 use Rattle.book.specs.declared.awaited.Awaited.{Awaited}
 use Rattle.book.specs.declared.awaited.Awaited.TheVariants.{Signal}
-use Rattle.book.specs.Awaiting.{kind_of}
-use Rattle.book.specs.Holding.{state_of}
-use Rattle.book.proofs.Calling.Waiting.{waits_map}
-use Rattle.book.proofs.Calling.GoingOn.{IsWaitingRead, StandsWaiting, stands_waiting, deadlocked}
+use Rattle.book.specs.Awaiting.{awaited_kind}
+use Rattle.book.specs.BookInvariant.{book_state}
+use Rattle.book.proofs.Calling.WaitingPlaces.{waits_map}
+use Rattle.book.proofs.Calling.NamedWaiting.{IsWaitingRead, StandsWaiting, stands_waiting, waiting_deadlocked}
 use Rattle.book.proofs.book.Book.is_deadlocked.Goals.{After-parts}
 use Rattle.book.proofs.book.Book.is_deadlocked.Goals as goal
 
 -- the parts hold the book as it is found
-same : (c : After-parts) → state_of c.parts.inside ≡ c.args.self.now
+same : (c : After-parts) → book_state c.parts.inside ≡ c.args.self.now
 same c = c.parts.view_is ∙ c.deref-parts.ensures ∙ c.self.view_is
 
 pub all_wait_in_vain-requires-clause-flags : goal.all_wait_in_vain-requires-clause-flags
@@ -23,9 +23,9 @@ all_wait_in_vain-requires-clause-flags c p f at =
 
 pub returns : goal.returns
 returns c s h told =
-    let read : IsWaitingRead (state_of c.parts.inside) c.args.self.now c.deref.result.now c.deref-2.result.now = record {
+    let read : IsWaitingRead (book_state c.parts.inside) c.args.self.now c.deref.result.now c.deref-2.result.now = record {
       same = same (goal.at.returns c).After-parts;
-      awaits_are = ap (map (option_map kind_of)) (sym c.deref.ensures.value);
+      awaits_are = ap (map (option_map awaited_kind)) (sym c.deref.ensures.value);
       flags_are = c.deref-2.ensures.value;
     } in
-    deadlocked read c.all_wait_in_vain.result c.all_wait_in_vain.ensures s h told
+    waiting_deadlocked read c.all_wait_in_vain.result c.all_wait_in_vain.ensures s h told

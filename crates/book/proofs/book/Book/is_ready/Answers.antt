@@ -1,40 +1,40 @@
 use Rattle.std.proofs.Common.{◌≡◌, ◌∙◌, ◌<◌, length, refl, ap, sym, subst, arith}
 use Rattle.std.proofs.lemmas.List.{length-map}
 use Rattle.std.specs.Option.{option_map}
-use Rattle.book.specs.Awaiting.{kind_of}
-use Rattle.book.specs.Holding.{state_of}
+use Rattle.book.specs.Awaiting.{awaited_kind}
+use Rattle.book.specs.BookInvariant.{book_state}
 use Rattle.book.specs.State.{State}
-use Rattle.book.proofs.Calling.Takes.{IsReceiving, reading, IsComeRead, comes, receiving, not_idle}
+use Rattle.book.proofs.Calling.Receiving.{IsReceiving, reads_receiving, IsComeRead, comes, receiving, receiving_not_idle}
 use Rattle.book.proofs.book.Book.is_ready.Goals.{In-Some}
 use Rattle.book.proofs.book.Book.is_ready.Goals.{After-parts}
 use Rattle.book.proofs.book.Book.is_ready.Goals as goal
 
 -- the parts hold the book as it is found
-same : (c : After-parts) → state_of c.parts.inside ≡ c.args.self.now
+same : (c : After-parts) → book_state c.parts.inside ≡ c.args.self.now
 same c = c.parts.view_is ∙ c.deref-parts.ensures ∙ c.self.view_is
 
 pub index-requires : goal.index-requires
 index-requires c =
-    let r = receiving c.args.self.now c.args.p c.requires.call.kind c.requires.call.take in
+    let r = receiving c.args.self.now c.args.processor c.requires.call.kind c.requires.call.take in
     let e = ap (λ (b : State). length b.awaits) (same (goal.at.index-requires c).After-parts) in
     omega (
       arith,
       r.awaits,
       e,
-      length-map c.parts.inside.awaits.items (option_map kind_of),
+      length-map c.parts.inside.awaits.items (option_map awaited_kind),
       c.parts.inside.awaits.ok.0,
     )
 
 pub unreachable-requires : goal.unreachable-requires
 unreachable-requires c =
-    not_idle (state_of c.parts.inside) c.args.self.now c.parts.inside.awaits.items c.args.p c.index.result.now refl
+    receiving_not_idle (book_state c.parts.inside) c.args.self.now c.parts.inside.awaits.items c.args.processor c.index.result.now refl
     (same (goal.at.unreachable-requires c).After-parts) c.requires.call c.index.ensures c.in_default.is
 
 -- what p waits for
-waits : (c : In-Some) → IsReceiving (state_of c.parts.inside) c.args.p (kind_of c.in-Some.awaited)
+waits : (c : In-Some) → IsReceiving (book_state c.parts.inside) c.args.processor (awaited_kind c.in-Some.awaited)
 waits c =
-    reading (state_of c.parts.inside)
-    c.args.self.now c.parts.inside.awaits.items c.args.p c.index.result.now refl
+    reads_receiving (book_state c.parts.inside)
+    c.args.self.now c.parts.inside.awaits.items c.args.processor c.index.result.now refl
     (c.parts.view_is ∙ c.deref-parts.ensures ∙ c.self.view_is) c.requires.call
     c.index.ensures c.in-Some.awaited c.in-Some.is
 
@@ -44,11 +44,11 @@ has_come-requires-clause-processor c = (waits (goal.at.has_come-requires-clause-
 pub has_come-requires-clause-flag : goal.has_come-requires-clause-flag
 has_come-requires-clause-flag c f is =
     subst (λ fs. f < length fs) (sym c.deref.ensures.value)
-    ((waits (goal.at.has_come-requires-clause-flag c).In-Some).flag f (ap kind_of is)).within
+    ((waits (goal.at.has_come-requires-clause-flag c).In-Some).flag f (ap awaited_kind is)).within
 
 pub returns : goal.returns
 returns c s h told =
-    let read : IsComeRead (state_of c.parts.inside) c.args.self.now c.args.p (kind_of c.in-Some.awaited)
+    let read : IsComeRead (book_state c.parts.inside) c.args.self.now c.args.processor (awaited_kind c.in-Some.awaited)
     c.has_come.result = record {
       flags = c.deref.result.now;
       same = same (goal.at.returns c).After-parts;

@@ -1,7 +1,7 @@
 use Rattle.std.proofs.Common.{◌≡◌, ◌↔◌, ◌<◌, ℕ, List, [], ◌∷◌, ◌++◌, length, inl, inr, Some, None, true, refl, slice_get, slice_set, slice_index_or, ap, ◌∙◌, sym, subst, arith, rules, true≢false}
 use Rattle.std.proofs.lemmas.List.{length-append, length-map, map-set}
 use Rattle.std.specs.Option.{option_map}
-use Rattle.journal.specs.Did.{event}
+use Rattle.journal.specs.DidEvent.{event}
 use Rattle.journal.specs.declared.event.Event.{Event}
 use Rattle.journal.specs.Sizes.{Sizes}
 use Rattle.journal.specs.WellFormed.{Ready}
@@ -10,53 +10,53 @@ use Rattle.journal.specs.Log.{Log}
 use Rattle.vtime.specs.Times.{join}
 use Rattle.transit.specs.Letters.{letter}
 use Rattle.book.specs.declared.refused.Refused.TheVariants.{NotYet, NoMemory}
-use Rattle.book.specs.Awaiting.{kind_of}
-use Rattle.book.specs.Brought.{message_for}
-use Rattle.book.specs.Calls.{MaySignal}
-use Rattle.book.specs.Holding.{state_of}
+use Rattle.book.specs.Awaiting.{awaited_kind}
+use Rattle.book.specs.Messages.{message_for}
+use Rattle.book.specs.Calls.{AllowsSignal}
+use Rattle.book.specs.BookInvariant.{book_state}
 use Rattle.book.specs.State.{State, time_of}
 use Rattle.book.specs.Transitions.{trimmed_by, book_taken}
 use Rattle.book.specs.Told.{Represents}
-use Rattle.book.proofs.Calling.Calls.{own_read}
-use Rattle.book.proofs.Calling.Takes.{IsReceiving, reading, may_trim, log_is, taking_address, took_is, IsComeRead, comes, IsFound, received_is, brings_is, receiving, not_idle}
+use Rattle.book.proofs.Calling.Closing.{own_read}
+use Rattle.book.proofs.Calling.Receiving.{IsReceiving, reads_receiving, receiving_allows_trim, log_is, taking_address, received_book_is, IsComeRead, comes, IsFoundToReceive, received_is, received_brings, receiving, receiving_not_idle}
 use Rattle.book.proofs.book.Book.take.Goals.{In-Some, After-has_come, After-index-2, In_ok-message, After-index_mut}
 use Rattle.book.proofs.book.Book.take.Goals.{After-parts}
 use Rattle.book.proofs.book.Book.take.Goals as goal
 
 -- the parts hold the book as it is found
-same : (c : After-parts) → state_of c.parts.inside ≡ c.args.self.now
+same : (c : After-parts) → book_state c.parts.inside ≡ c.args.self.now
 same c = c.parts.view_is ∙ c.deref_mut-parts.ensures.value ∙ c.self.view_is
 
 pub index-requires : goal.index-requires
 index-requires c =
-    let r = receiving c.args.self.now c.args.p c.requires.call.kind c.requires.call.take in
+    let r = receiving c.args.self.now c.args.processor c.requires.call.kind c.requires.call.take in
     let e = ap (λ (b : State). length b.awaits) (same (goal.at.index-requires c).After-parts) in
     omega (
       arith,
       r.awaits,
       e,
-      length-map c.parts.inside.awaits.items (option_map kind_of),
+      length-map c.parts.inside.awaits.items (option_map awaited_kind),
       c.parts.inside.awaits.ok.0,
     )
 
 pub unreachable-requires : goal.unreachable-requires
 unreachable-requires c =
-    not_idle (state_of c.parts.inside) c.args.self.now c.parts.inside.awaits.items c.args.p c.index.result.now refl
+    receiving_not_idle (book_state c.parts.inside) c.args.self.now c.parts.inside.awaits.items c.args.processor c.index.result.now refl
     (same (goal.at.unreachable-requires c).After-parts) c.requires.call c.index.ensures c.in_default.is
 
 -- what p waits for
-waits : (c : In-Some) → IsReceiving (state_of c.parts.inside) c.args.p (kind_of c.in-Some.awaited)
+waits : (c : In-Some) → IsReceiving (book_state c.parts.inside) c.args.processor (awaited_kind c.in-Some.awaited)
 waits c =
-    reading (state_of c.parts.inside)
-    c.args.self.now c.parts.inside.awaits.items c.args.p c.index.result.now refl
+    reads_receiving (book_state c.parts.inside)
+    c.args.self.now c.parts.inside.awaits.items c.args.processor c.index.result.now refl
     (c.parts.view_is ∙ c.deref_mut-parts.ensures.value ∙ c.self.view_is) c.requires.call
     c.index.ensures c.in-Some.awaited c.in-Some.is
 
 -- it has come exactly where p is ready
-come : (c : After-has_come) → IsReceiving (state_of c.parts.inside) c.args.p (kind_of c.in-Some.awaited)
-    → (s : Sizes) (h : List Event) → Represents s h c.args.self.now → (c.has_come.result ≡ true) ↔ Ready s h c.args.p
+come : (c : After-has_come) → IsReceiving (book_state c.parts.inside) c.args.processor (awaited_kind c.in-Some.awaited)
+    → (s : Sizes) (h : List Event) → Represents s h c.args.self.now → (c.has_come.result ≡ true) ↔ Ready s h c.args.processor
 come c w =
-    let read : IsComeRead (state_of c.parts.inside) c.args.self.now c.args.p (kind_of c.in-Some.awaited)
+    let read : IsComeRead (book_state c.parts.inside) c.args.self.now c.args.processor (awaited_kind c.in-Some.awaited)
     c.has_come.result = record {
       flags = c.deref.result.now;
       same = c.parts.view_is ∙ c.deref_mut-parts.ensures.value ∙ c.self.view_is;
@@ -67,21 +67,21 @@ come c w =
     comes read
 
 -- p's timestamp, as it was read
-own : (c : After-index-2) → IsReceiving (state_of c.parts.inside) c.args.p (kind_of c.in-Some.awaited)
-    → c.index-2.result.now ≡ time_of (state_of c.parts.inside) c.args.p
-own c w = own_read c.parts.inside.times.items c.args.p c.index-2.result.now w.times c.index-2.ensures
+own : (c : After-index-2) → IsReceiving (book_state c.parts.inside) c.args.processor (awaited_kind c.in-Some.awaited)
+    → c.index-2.result.now ≡ time_of (book_state c.parts.inside) c.args.processor
+own c w = own_read c.parts.inside.times.items c.args.processor c.index-2.result.now w.times c.index-2.ensures
 
 -- and as it is written
-written : (c : After-index_mut) → IsReceiving (state_of c.parts.inside) c.args.p (kind_of c.in-Some.awaited)
-    → c.index_mut.result.now ≡ time_of (state_of c.parts.inside) c.args.p
-written c w = own_read c.parts.inside.times.items c.args.p c.index_mut.result.now w.times c.index_mut.ensures.value
+written : (c : After-index_mut) → IsReceiving (book_state c.parts.inside) c.args.processor (awaited_kind c.in-Some.awaited)
+    → c.index_mut.result.now ≡ time_of (book_state c.parts.inside) c.args.processor
+written c w = own_read c.parts.inside.times.items c.args.processor c.index_mut.result.now w.times c.index_mut.ensures.value
 
 -- the message is what has come
-received : (c : In_ok-message) → c.index-2.result.now ≡ time_of (state_of c.parts.inside) c.args.p
-    → message_for (state_of c.parts.inside) c.args.p (kind_of c.in-Some.awaited) ≡ Some
+received : (c : In_ok-message) → c.index-2.result.now ≡ time_of (book_state c.parts.inside) c.args.processor
+    → message_for (book_state c.parts.inside) c.args.processor (awaited_kind c.in-Some.awaited) ≡ Some
     (letter c.in_ok-message.message)
 received c is =
-    let found : IsFound (state_of c.parts.inside) c.args.p (kind_of c.in-Some.awaited)
+    let found : IsFoundToReceive (book_state c.parts.inside) c.args.processor (awaited_kind c.in-Some.awaited)
     (letter c.in_ok-message.message) = record {
       flags = c.deref-2.result.now;
       own = c.index-2.result.now;
@@ -97,7 +97,7 @@ has_come-requires-clause-processor c = (waits (goal.at.has_come-requires-clause-
 pub has_come-requires-clause-flag : goal.has_come-requires-clause-flag
 has_come-requires-clause-flag c f is =
     subst (λ fs. f < length fs) (sym c.deref.ensures.value)
-    ((waits (goal.at.has_come-requires-clause-flag c).In-Some).flag f (ap kind_of is)).within
+    ((waits (goal.at.has_come-requires-clause-flag c).In-Some).flag f (ap awaited_kind is)).within
 
 pub returns-then-not-has_come-clause-absent : goal.returns-then-not-has_come-clause-absent
 returns-then-not-has_come-clause-absent c s h told =
@@ -130,13 +130,13 @@ pub receive-requires-clause-flag : goal.receive-requires-clause-flag
 receive-requires-clause-flag c f is =
     let at = goal.at.receive-requires-clause-flag c in
     let w = waits at.In-Some in
-    subst (λ fs. MaySignal c.parts.inside.closed fs c.index-2.result.now f) (sym c.deref-2.ensures.value)
-    (subst (λ t. MaySignal c.parts.inside.closed c.parts.inside.flags.items t f) (sym (own at.After-index-2 w))
-    (w.flag f (ap kind_of is)))
+    subst (λ fs. AllowsSignal c.parts.inside.closed fs c.index-2.result.now f) (sym c.deref-2.ensures.value)
+    (subst (λ t. AllowsSignal c.parts.inside.closed c.parts.inside.flags.items t f) (sym (own at.After-index-2 w))
+    (w.flag f (ap awaited_kind is)))
 
 pub receive-requires-clause-none : goal.receive-requires-clause-none
 receive-requires-clause-none c f is =
-    (waits (goal.at.receive-requires-clause-none c).In-Some).none f (ap kind_of is)
+    (waits (goal.at.receive-requires-clause-none c).In-Some).none f (ap awaited_kind is)
 
 pub returns-in_err-message-clause-absent : goal.returns-in_err-message-clause-absent
 returns-in_err-message-clause-absent c s h told =
@@ -161,7 +161,7 @@ append-requires-clause-processor c =
 pub append-requires-clause-address : goal.append-requires-clause-address
 append-requires-clause-address c =
     subst (λ k. AddressInRange c.make_room.new.journal.addresses k) (sym c.kind-kind.ensures)
-    (taking_address c.make_room.new.journal.addresses (kind_of c.in-Some.awaited)
+    (taking_address c.make_room.new.journal.addresses (awaited_kind c.in-Some.awaited)
     (waits (goal.at.append-requires-clause-address c).In-Some).takes)
 
 pub index_mut-requires : goal.index_mut-requires
@@ -181,30 +181,30 @@ join-requires c =
 pub index_mut-requires-2 : goal.index_mut-requires-2
 index_mut-requires-2 c =
     let w = waits (goal.at.index_mut-requires-2 c).In-Some in
-    omega (arith, w.awaits, length-map c.parts.inside.awaits.items (option_map kind_of), c.parts.inside.awaits.ok.0)
+    omega (arith, w.awaits, length-map c.parts.inside.awaits.items (option_map awaited_kind), c.parts.inside.awaits.ok.0)
 
 pub leave-requires : goal.leave-requires
 leave-requires c is =
     let at = goal.at.leave-requires c in
     let w = waits at.In-Some in
-    w.free (letter c.in_ok-message.message) (received at.In_ok-message (own at.After-index-2 w)) (ap kind_of is)
+    w.free (letter c.in_ok-message.message) (received at.In_ok-message (own at.After-index-2 w)) (ap awaited_kind is)
 
 pub trim-requires : goal.trim-requires
 trim-requires c =
     let at = goal.at.trim-requires c in
     let w = waits at.In-Some in
-    may_trim (state_of c.parts.inside) c.args.p (kind_of c.in-Some.awaited)
+    receiving_allows_trim (book_state c.parts.inside) c.args.processor (awaited_kind c.in-Some.awaited)
     c.deref-3.result.now c.copy-before.result c.join.new.self w c.deref-3.ensures.value
     (c.join.ensures.same_length ∙ ap length (written at.After-index_mut w) ∙ w.own_long)
     (c.copy-before.ensures
-    ∙ own_read c.parts.inside.times.items c.args.p c.index-3.result.now w.times c.index-3.ensures)
+    ∙ own_read c.parts.inside.times.items c.args.processor c.index-3.result.now w.times c.index-3.ensures)
 
 pub invariant_of-parts-2 : goal.invariant_of-parts-2
 invariant_of-parts-2 c =
     let room = ap (λ (l : Log). l.room) c.append.ensures in
     let events = ap (λ (l : Log). length l.events) c.append.ensures in
     let before = ap (λ (l : Log). length l.events) c.in_ok-make_room.ensures.same in
-    let more = length-append c.make_room.new.journal.events (event c.args.p c.kind-kind.result ∷ []) in
+    let more = length-append c.make_room.new.journal.events (event c.args.processor c.kind-kind.result ∷ []) in
     record {
       room = omega (arith, room, c.in_ok-make_room.ensures.ok.0);
       owing = omega arith;
@@ -212,10 +212,10 @@ invariant_of-parts-2 c =
     }
 
 -- the message is what p waited for
-was_due : (c : In_ok-message) → c.index-2.result.now ≡ time_of (state_of c.parts.inside) c.args.p
-    → message_for c.args.self.now c.args.p (kind_of c.in-Some.awaited) ≡ Some (letter c.in_ok-message.message)
+was_due : (c : In_ok-message) → c.index-2.result.now ≡ time_of (book_state c.parts.inside) c.args.processor
+    → message_for c.args.self.now c.args.processor (awaited_kind c.in-Some.awaited) ≡ Some (letter c.in_ok-message.message)
 was_due c is =
-    ap (λ (b : State). message_for b c.args.p (kind_of c.in-Some.awaited))
+    ap (λ (b : State). message_for b c.args.processor (awaited_kind c.in-Some.awaited))
     (sym (c.parts.view_is ∙ c.deref_mut-parts.ensures.value ∙ c.self.view_is)) ∙ received c is
 
 pub returns-clause-ok : goal.returns-clause-ok
@@ -224,29 +224,29 @@ returns-clause-ok c =
     let w = waits at.In-Some in
     let m = letter c.in_ok-message.message in
     let log = log_is c.parts.inside.journal c.make_room.new.journal c.append.new.self c.parts.inside.owing
-    (event c.args.p c.kind-kind.result) c.in_ok-make_room.ensures.same c.append.ensures
+    (event c.args.processor c.kind-kind.result) c.in_ok-make_room.ensures.same c.append.ensures
     ∙ ap (λ k. record c.parts.inside.journal
-    { events = c.parts.inside.journal.events ++ event c.args.p k ∷ []; room = c.parts.inside.owing })
+    { events = c.parts.inside.journal.events ++ event c.args.processor k ∷ []; room = c.parts.inside.owing })
     c.kind-kind.ensures in
     let time = c.join.ensures.value ∙ ap (λ (t : List ℕ). join t c.time.result.now) (written at.After-index_mut w)
-    ∙ ap (λ (t : List ℕ). join (slice_index_or c.parts.inside.times.items c.args.p []) t) c.time.ensures in
+    ∙ ap (λ (t : List ℕ). join (slice_index_or c.parts.inside.times.items c.args.processor []) t) c.time.ensures in
     let closed = c.trim.ensures
     ∙ ap (λ (ts : List (List ℕ)). trimmed_by c.parts.inside.closed ts (length ts)) c.deref-3.ensures.value in
     record {
-      kind = kind_of c.in-Some.awaited;
-      awaits = ap (λ (b : State). slice_get b.awaits c.args.p) (sym (same (goal.at.returns-clause-ok c).After-parts))
+      kind = awaited_kind c.in-Some.awaited;
+      awaits = ap (λ (b : State). slice_get b.awaits c.args.processor) (sym (same (goal.at.returns-clause-ok c).After-parts))
           ∙ w.waits;
       message = was_due at.In_ok-message (own at.After-index-2 w);
-      after = took_is (state_of c.parts.inside) c.args.p (kind_of c.in-Some.awaited) m _ (record {
+      after = received_book_is (book_state c.parts.inside) c.args.processor (awaited_kind c.in-Some.awaited) m _ (record {
         takes = w.takes;
         journal = log;
-        times = ap (λ (t : List ℕ). slice_set c.parts.inside.times.items c.args.p t) time;
+        times = ap (λ (t : List ℕ). slice_set c.parts.inside.times.items c.args.processor t) time;
         closed = closed;
-        awaits = map-set (option_map kind_of) c.parts.inside.awaits.items c.args.p None;
+        awaits = map-set (option_map awaited_kind) c.parts.inside.awaits.items c.args.processor None;
         transit = c.in_ok-message.ensures.after;
         barrier = c.leave.ensures;
         others = refl;
-      }) ∙ ap (λ (b : State). book_taken b c.args.p (kind_of c.in-Some.awaited) m)
+      }) ∙ ap (λ (b : State). book_taken b c.args.processor (awaited_kind c.in-Some.awaited) m)
           (same (goal.at.returns-clause-ok c).After-parts);
     }
 
@@ -254,8 +254,8 @@ pub returns-clause-brings : goal.returns-clause-brings
 returns-clause-brings c =
     let at = goal.at.returns-clause-brings c in
     let w = waits at.In-Some in
-    brings_is c.args.self.now c.args.p (kind_of c.in-Some.awaited) (letter c.in_ok-message.message)
-    (ap (λ (b : State). slice_get b.awaits c.args.p) (sym (same (goal.at.returns-clause-brings c).After-parts))
+    received_brings c.args.self.now c.args.processor (awaited_kind c.in-Some.awaited) (letter c.in_ok-message.message)
+    (ap (λ (b : State). slice_get b.awaits c.args.processor) (sym (same (goal.at.returns-clause-brings c).After-parts))
     ∙ w.waits)
     (was_due at.In_ok-message (own at.After-index-2 w))
 

@@ -3,26 +3,26 @@ use Rattle.std.proofs.lemmas.List.{length-map, map-set}
 use Rattle.std.specs.Option.{option_map}
 use Rattle.journal.specs.Log.{Log}
 use Rattle.vtime.specs.Times.{tick}
-use Rattle.interval.specs.Intervals.{ClosedInterval}
+use Rattle.interval.specs.SentIntervals.{ClosedInterval}
 use Rattle.interval.specs.Closings.{pushed}
-use Rattle.journal.specs.Did.{event}
-use Rattle.book.specs.Awaiting.{kind_of}
+use Rattle.journal.specs.DidEvent.{event}
+use Rattle.book.specs.Awaiting.{awaited_kind}
 use Rattle.book.specs.State.{State, time_of}
-use Rattle.book.specs.Transitions.{handed_in, open_interval, closed_by}
-use Rattle.book.specs.Holding.{state_of}
+use Rattle.book.specs.Transitions.{book_handed_in, book_open_interval, book_closed_by}
+use Rattle.book.specs.BookInvariant.{book_state}
 use Rattle.book.proofs.Parts.History.{happened_fits}
-use Rattle.book.proofs.Calling.Calls.{IsStanding, stands, own_read, flushes, block_fits, closing_address, logs_are, closing_is}
+use Rattle.book.proofs.Calling.Closing.{StandsToClose, closing_stands, own_read, flushes, block_fits, closing_address, logs_are, closing_is}
 use Rattle.book.proofs.protocol.Protocol.close.Goals.{After-self, After-index_mut}
 use Rattle.book.proofs.protocol.Protocol.close.Goals as goal
 
 -- numbers of the book as it is found
-standing : (c : After-self) → IsStanding (state_of c.self.inside) c.args.p
-standing c = stands (state_of c.self.inside) c.args.self.now c.args.p c.args.block.now c.self.view_is c.requires.call
+standing : (c : After-self) → StandsToClose (book_state c.self.inside) c.args.processor
+standing c = closing_stands (book_state c.self.inside) c.args.self.now c.args.processor c.args.block.now c.self.view_is c.requires.call
 
 -- p's timestamp, as it is read
-own : (c : After-index_mut) → IsStanding (state_of c.self.inside) c.args.p
-    → c.index_mut.result.now ≡ time_of (state_of c.self.inside) c.args.p
-own c st = own_read c.self.inside.times.items c.args.p c.index_mut.result.now st.times c.index_mut.ensures.value
+own : (c : After-index_mut) → StandsToClose (book_state c.self.inside) c.args.processor
+    → c.index_mut.result.now ≡ time_of (book_state c.self.inside) c.args.processor
+own c st = own_read c.self.inside.times.items c.args.processor c.index_mut.result.now st.times c.index_mut.ensures.value
 
 pub push-requires-clause-owner : goal.push-requires-clause-owner
 push-requires-clause-owner c =
@@ -32,7 +32,7 @@ push-requires-clause-owner c =
 pub push-requires-clause-number : goal.push-requires-clause-number
 push-requires-clause-number c =
     let open_is = c.requires.open
-    ∙ ap (λ (b : State). open_interval b c.args.p c.args.interval.records) (sym c.self.view_is) in
+    ∙ ap (λ (b : State). book_open_interval b c.args.processor c.args.interval.records) (sym c.self.view_is) in
     ap (λ (i : ClosedInterval). i.number) open_is
     ∙ (standing (goal.at.push-requires-clause-number c).After-self).number
     ∙ ap (λ q. slice_index c.self.inside.closed.next q)
@@ -47,12 +47,12 @@ push-requires-clause-fits c =
 pub append_all-requires-clause-processor : goal.append_all-requires-clause-processor
 append_all-requires-clause-processor c =
     (block_fits c.self.inside c.self.view_is c.in_ok-make_room.ensures.same
-    (flushes _ c.args.p c.args.block.now c.requires.call)).0
+    (flushes _ c.args.processor c.args.block.now c.requires.call)).0
 
 pub append_all-requires-clause-address : goal.append_all-requires-clause-address
 append_all-requires-clause-address c =
     (block_fits c.self.inside c.self.view_is c.in_ok-make_room.ensures.same
-    (flushes _ c.args.p c.args.block.now c.requires.call)).1
+    (flushes _ c.args.processor c.args.block.now c.requires.call)).1
 
 pub append-requires-clause-processor : goal.append-requires-clause-processor
 append-requires-clause-processor c =
@@ -82,13 +82,13 @@ tick-requires-clause-fits c =
     let st = standing at.After-self in
     let few = st.few in
     let all = happened_fits c.self.inside.journal c.self.inside.owing c.self.invariant.few in
-    let e = ap (λ ts. slice_index ts c.args.p) (own at.After-index_mut st) in
+    let e = ap (λ ts. slice_index ts c.args.processor) (own at.After-index_mut st) in
     omega arith
 
 pub index_mut-requires-2 : goal.index_mut-requires-2
 index_mut-requires-2 c =
     let lt = (standing (goal.at.index_mut-requires-2 c).After-self).awaits in
-    omega (arith, length-map c.self.inside.awaits.items (option_map kind_of), c.self.inside.awaits.ok.0)
+    omega (arith, length-map c.self.inside.awaits.items (option_map awaited_kind), c.self.inside.awaits.ok.0)
 
 pub returns : goal.returns
 returns c =
@@ -96,20 +96,20 @@ returns c =
     let records = c.args.interval.records in
     let log = logs_are c.self.inside.journal c.make_room.new.journal c.append_all.new.journal c.append.new.self
     c.self.inside.owing c.args.block.now
-    (event c.args.p c.args.kind) c.in_ok-make_room.ensures.same c.append_all.ensures c.append.ensures in
+    (event c.args.processor c.args.kind) c.in_ok-make_room.ensures.same c.append_all.ensures c.append.ensures in
     let closed = c.in_ok-push.ensures.ok ∙ ap (λ (i : ClosedInterval). pushed c.self.inside.closed i) c.requires.open
-    ∙ ap (λ (b : State). pushed c.self.inside.closed (open_interval b c.args.p records)) (sym c.self.view_is) in
-    let time = c.tick.ensures ∙ ap (λ ts. tick ts c.args.p) (own at.After-index_mut (standing at.After-self)) in
-    let waits = map-set (option_map kind_of) c.self.inside.awaits.items c.args.p c.after.result
-    ∙ ap (λ w. slice_set (map (option_map kind_of) c.self.inside.awaits.items) c.args.p w) c.after.ensures in
+    ∙ ap (λ (b : State). pushed c.self.inside.closed (book_open_interval b c.args.processor records)) (sym c.self.view_is) in
+    let time = c.tick.ensures ∙ ap (λ ts. tick ts c.args.processor) (own at.After-index_mut (standing at.After-self)) in
+    let waits = map-set (option_map awaited_kind) c.self.inside.awaits.items c.args.processor c.after.result
+    ∙ ap (λ w. slice_set (map (option_map awaited_kind) c.self.inside.awaits.items) c.args.processor w) c.after.ensures in
     record {
-      ok = closing_is (state_of c.self.inside) c.args.p c.args.kind c.args.block.now records _ (record {
+      ok = closing_is (book_state c.self.inside) c.args.processor c.args.kind c.args.block.now records _ (record {
         journal = log;
         closed = closed;
-        times = ap (λ t. slice_set c.self.inside.times.items c.args.p t) time;
+        times = ap (λ t. slice_set c.self.inside.times.items c.args.processor t) time;
         awaits = waits;
         others = refl;
-      }) ∙ ap (λ (b : State). closed_by (handed_in b c.args.block.now) c.args.p c.args.kind records) c.self.view_is;
+      }) ∙ ap (λ (b : State). book_closed_by (book_handed_in b c.args.block.now) c.args.processor c.args.kind records) c.self.view_is;
       err = search rules;
       full = search rules;
       only = search rules;

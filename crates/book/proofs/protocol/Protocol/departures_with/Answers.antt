@@ -1,23 +1,23 @@
 use Rattle.std.proofs.Common.{◌≡◌, ℕ, List, slice_set, map, ap, ◌∙◌}
 use Rattle.vtime.specs.Times.{join}
-use Rattle.barrier.specs.Episodes.{episode_full, arrived_at}
-use Rattle.interval.specs.Intervals.{ClosedInterval}
+use Rattle.barrier.specs.Episodes.{episode_full, episode_with_arrival}
+use Rattle.interval.specs.SentIntervals.{ClosedInterval}
 use Rattle.interval.specs.Closings.{pushed}
 use Rattle.transit.specs.Letters.{letter}
 use Rattle.book.specs.State.{State}
 use Rattle.book.specs.Transitions.{departure_to}
-use Rattle.book.proofs.Calling.Arrivals.{AreDepartures, departures_are, none_depart}
+use Rattle.book.proofs.Calling.Arriving.{AreDepartures, departures_are, none_depart}
 use Rattle.book.proofs.protocol.Protocol.departures_with.Goals.{After-completes-is_last}
 use Rattle.book.proofs.protocol.Protocol.departures_with.Goals as goal
 
 -- whether the episode is complete with this arrival
 full : (c : After-completes-is_last) → c.completes-is_last.result
-    ≡ episode_full (arrived_at c.args.self.now.barrier c.args.interval.now.owner c.args.own.now)
+    ≡ episode_full (episode_with_arrival c.args.self.now.barrier c.args.interval.now.owner c.args.own.now)
 full c =
     c.completes-is_last.ensures.full c.args.own.now
-    ∙ ap (λ (n : ℕ). episode_full (arrived_at c.self.inside.barrier n c.args.own.now))
+    ∙ ap (λ (n : ℕ). episode_full (episode_with_arrival c.self.inside.barrier n c.args.own.now))
     (ap (λ (i : ClosedInterval). i.owner) c.interval.view_is)
-    ∙ ap (λ (b : State). episode_full (arrived_at b.barrier c.args.interval.now.owner c.args.own.now)) c.self.view_is
+    ∙ ap (λ (b : State). episode_full (episode_with_arrival b.barrier c.args.interval.now.owner c.args.own.now)) c.self.view_is
 
 pub returns-then-not-is_last : goal.returns-then-not-is_last
 returns-then-not-is_last c =

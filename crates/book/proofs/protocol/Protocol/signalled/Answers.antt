@@ -1,21 +1,21 @@
 use Rattle.std.proofs.Common.{refl, sym, arith}
-use Rattle.book.specs.Holding.{state_of}
-use Rattle.book.proofs.Calling.Takes.{waits_flag, IsSignalRead, signalled}
+use Rattle.book.specs.BookInvariant.{book_state}
+use Rattle.book.proofs.Calling.Receiving.{receiving_flag, IsSignalRead, signalled}
 use Rattle.book.proofs.protocol.Protocol.signalled.Goals as goal
 
 pub index-requires : goal.index-requires
 index-requires c =
-    let w = waits_flag _ c.args.self.now c.args.p c.args.f c.self.view_is c.requires.call in
-    omega (arith, (w.flag c.args.f refl).within, c.self.inside.flags.ok.0)
+    let w = receiving_flag _ c.args.self.now c.args.processor c.args.flag c.self.view_is c.requires.call in
+    omega (arith, (w.flag c.args.flag refl).within, c.self.inside.flags.ok.0)
 
 pub index-requires-2 : goal.index-requires-2
 index-requires-2 c =
-    let w = waits_flag _ c.args.self.now c.args.p c.args.f c.self.view_is c.requires.call in
+    let w = receiving_flag _ c.args.self.now c.args.processor c.args.flag c.self.view_is c.requires.call in
     omega (arith, w.times, c.self.inside.times.ok.0)
 
 pub returns-clause-set : goal.returns-clause-set
 returns-clause-set c =
-    let reads : IsSignalRead (state_of c.self.inside) c.args.self.now c.args.p c.args.f c.index-2.result.now
+    let reads : IsSignalRead (book_state c.self.inside) c.args.self.now c.args.processor c.args.flag c.index-2.result.now
     c.in_ok-time.time.now = record {
       o = c.index.result.now;
       same = c.self.view_is;

@@ -1,12 +1,12 @@
 use Rattle.std.proofs.Common.{◌≡◌, ◌<◌, ◌∙◌, ℕ, List, false, ◌∷◌, length, slice_set, ap, sym, arith}
-use Rattle.book.specs.Waiters.{places_from}
-use Rattle.book.proofs.Calling.Waiting.{first_place, no_place}
+use Rattle.book.specs.Waiters.{waiters_from}
+use Rattle.book.proofs.Calling.WaitingPlaces.{first_place, no_place}
 use Rattle.book.proofs.waiters.WaitersIterator.next.Goals.{In-Some}
 use Rattle.book.proofs.waiters.WaitersIterator.next.Goals as goal
 
 -- the first mark's place, and what is left without it
 first : (c : In-Some) → (c.in-Some.first < length c.self.inside.marks)
-    × (c.args.self.now ≡ c.in-Some.first ∷ places_from 0 (slice_set c.self.inside.marks c.in-Some.first false))
+    × (c.args.self.now ≡ c.in-Some.first ∷ waiters_from 0 (slice_set c.self.inside.marks c.in-Some.first false))
 first c =
     let f = first_place c.self.inside.marks c.in-Some.first (sym c.first_mark.ensures ∙ c.in-Some.is) in
     (f.0, sym c.self.view_is ∙ f.1)

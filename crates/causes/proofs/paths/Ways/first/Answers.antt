@@ -5,10 +5,10 @@ use Rattle.std.proofs.lemmas.Option.{get_or_from_slice_get, slice_get-get_or, sl
 use Rattle.journal.specs.declared.event.Event.{Event}
 use Rattle.journal.specs.declared.event.Kind.{Kind}
 use Rattle.journal.specs.declared.event.Kind.TheVariants.{Load}
-use Rattle.journal.specs.Did.{event}
+use Rattle.journal.specs.DidEvent.{event}
 use Rattle.journal.specs.Events.{At, interval_at}
 use Rattle.journal.specs.WellFormed.{Does}
-use Rattle.journal.proofs.Order.Places.{at_within, does_at}
+use Rattle.journal.proofs.Order.CountedAndNumbered.{at_within, does_at}
 use Rattle.causes.specs.declared.takings.Taking.{Taking}
 use Rattle.causes.specs.declared.paths.Ways.{Ways}
 use Rattle.causes.specs.Takings.{AreTakings, IsFirstAbove, NoneAbove}

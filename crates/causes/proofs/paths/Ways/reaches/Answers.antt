@@ -3,8 +3,8 @@ use Rattle.std.proofs.lemmas.Bool.{false≢true, le-leb, leb-true}
 use Rattle.std.proofs.lemmas.Option.{slice_get-get_or}
 use Rattle.journal.specs.declared.event.Event.{Event}
 use Rattle.journal.specs.declared.event.Kind.TheVariants.{Load}
-use Rattle.journal.specs.Did.{event}
-use Rattle.journal.proofs.Order.Places.{does_at}
+use Rattle.journal.specs.DidEvent.{event}
+use Rattle.journal.proofs.Order.CountedAndNumbered.{does_at}
 use Rattle.causes.proofs.Reached.{reached_from}
 use Rattle.causes.proofs.paths.Ways.reaches.Goals as goal
 

@@ -3,10 +3,10 @@ use Rattle.std.specs.Prelude.{None}
 use Rattle.std.proofs.lemmas.Option.{slice_get-get_or}
 use Rattle.journal.specs.declared.event.Event.{Event}
 use Rattle.journal.specs.declared.event.Kind.TheVariants.{Load}
-use Rattle.journal.specs.Did.{event}
-use Rattle.journal.specs.Order.{Edge}
+use Rattle.journal.specs.DidEvent.{event}
+use Rattle.journal.specs.HappensBeforeEdges.{Edge}
 use Rattle.journal.specs.Pasts.{UpTo}
-use Rattle.journal.proofs.Order.Places.{does_at}
+use Rattle.journal.proofs.Order.CountedAndNumbered.{does_at}
 use Rattle.causes.specs.Edges.{EdgeFromOther}
 use Rattle.causes.specs.News.{IsNews}
 use Rattle.causes.specs.Paths.{IsFirstReached}

@@ -1,12 +1,12 @@
 use Rattle.std.proofs.Common.{refl, sym}
 use Rattle.book.specs.declared.refused.Refused.TheVariants.{SeatSpent, NoMemory}
-use Rattle.cluster.proofs.Admitting.{may_make}
-use Rattle.cluster.proofs.Made.{refused_with, call_outside, call_unmade}
+use Rattle.cluster.proofs.Admitting.{admitted_may_make}
+use Rattle.cluster.proofs.UnchangedCalls.{call_refused_with, call_outside, call_unmade}
 use Rattle.cluster.proofs.cluster.Cluster.close.Goals as goal
 
 pub returns-in_err-admit_closing : goal.returns-in_err-admit_closing
 returns-in_err-admit_closing g c =
-    rw (refused_with _ _ c.from_residual.ensures.1, ← c.in_err-admit_closing.ensures, ← c.processor.view_is)
+    rw (call_refused_with _ _ c.from_residual.ensures.1, ← c.in_err-admit_closing.ensures, ← c.processor.view_is)
     (call_outside _ c.processor.invariant.0 refl)
 
 pub returns-then-is_spent : goal.returns-then-is_spent
@@ -17,14 +17,14 @@ returns-then-is_spent g c =
 pub returns-in_err-records : goal.returns-in_err-records
 returns-in_err-records g c =
     rw (
-      refused_with _ NoMemory c.from_residual-in_err-records.ensures.1,
+      call_refused_with _ NoMemory c.from_residual-in_err-records.ensures.1,
       ← c.in_ok-admit_closing.ensures,
       ← c.processor.view_is,
     ) (call_unmade c.processor.invariant.0 (rw (← c.is_spent.ensures, c.if-is_spent.false) refl) (λ l late. late))
 
 pub close_with-requires-clause-may : goal.close_with-requires-clause-may
 close_with-requires-clause-may g c κs within =
-    may_make c.args.processor.now c.args.kind c.requires.closes (sym c.in_ok-admit_closing.ensures)
+    admitted_may_make c.args.processor.now c.args.kind c.requires.closes (sym c.in_ok-admit_closing.ensures)
 
 pub returns : goal.returns
 returns g c = rw (← c.in_ok-admit_closing.ensures) c.close_with.ensures

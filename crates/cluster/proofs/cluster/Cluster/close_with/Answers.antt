@@ -1,13 +1,13 @@
 -- The goals are those of each call that enters, over records of this one's steps: proofs/Visiting has what they share.
 use Rattle.std.proofs.Common.{map, refl, sym, subst, arith}
 use Rattle.std.specs.Arc.{arc_value}
-use Rattle.cluster.specs.Copies.Records.{AreHarvests}
+use Rattle.cluster.specs.Copies.MarksAndHarvests.{AreHarvests}
 use Rattle.cluster.specs.Copies.Local.{Local}
 use Rattle.cluster.specs.Seats.{local}
 use Rattle.cluster.specs.Closing.{MayHold, MayMake}
 use Rattle.cluster.proofs.ClosingCalls.{marked_well, may_close, has_closed, call_of_close, Closed, closed_visit, closed_good, closed_done}
-use Rattle.cluster.proofs.Visiting.{book_found, may_give_back, visited, left_as}
-use Rattle.cluster.proofs.Made.{alike_all, refused_with, call_spent, call_refused, unchanged_sound}
+use Rattle.cluster.proofs.Visiting.{visited_book_found, visit_gives_back, visited, visit_left_as}
+use Rattle.cluster.proofs.UnchangedCalls.{alike_all, call_refused_with, call_spent, call_refused, unchanged_sound}
 use Rattle.cluster.proofs.cluster.Cluster.close_with.Given as given
 use Rattle.cluster.proofs.cluster.Cluster.close_with.Goals as goal
 use Rattle.cluster.proofs.cluster.Cluster.close_with.Goals.{After-clear}
@@ -15,13 +15,13 @@ use Rattle.cluster.proofs.cluster.Cluster.close_with.Goals.{After-clear}
 pub returns-in_err-held : goal.returns-in_err-held
 returns-in_err-held g c =
     let spent = c.in_err-held.ensures.spent in
-    rw (refused_with _ _ c.from_residual.ensures.1, spent.0, spent.2, ← c.processor.view_is)
+    rw (call_refused_with _ _ c.from_residual.ensures.1, spent.0, spent.2, ← c.processor.view_is)
     (call_spent c.processor.invariant.0 spent.1)
 
 pub close_in-closed-requires-clause-call : goal.close_in-closed-requires-clause-call
 close_in-closed-requires-clause-call g c =
     let m = c.processor.invariant in
-    let finds = book_found m.0 m.1 refl c.in_ok-held.book c.in_ok-held.ensures.finds in
+    let finds = visited_book_found m.0 m.1 refl c.in_ok-held.book c.in_ok-held.ensures.finds in
     let may = subst (λ (l : Local). MayMake l c.args.kind) (sym c.processor.view_is) c.requires.may in
     rw (c.as_slice-block.ensures.value) (may_close _ m.0 c.in_ok-held.book finds c.args.kind may)
 
@@ -33,7 +33,7 @@ give_book-requires-clause-call g c κs within =
     let are =
     subst (λ (l : Local). AreHarvests l.copies (map arc_value c.args.records.items)) (sym c.processor.view_is)
     c.requires.records in
-    may_give_back m.0 m.1 refl c.in_ok-held.ensures.entered
+    visit_gives_back m.0 m.1 refl c.in_ok-held.ensures.entered
     (call_of_close _ m.0 c.in_ok-held.book c.args.kind may _ are c.close_in-closed.result _ _
     c.as_slice-block.ensures.value made.ok made.err made.full)
 
@@ -41,15 +41,15 @@ pub invariant_of-processor-in_err-closed : goal.invariant_of-processor-in_err-cl
 invariant_of-processor-in_err-closed g c =
     let m = c.processor.invariant in
     let visit = visited m.0 m.1 refl c.in_ok-held.ensures.entered c.give_book.ensures in
-    (unchanged_sound (left_as visit c.in_err-closed.ensures.err) _ (alike_all _), visit.seated, m.2)
+    (unchanged_sound (visit_left_as visit c.in_err-closed.ensures.err) _ (alike_all _), visit.seated, m.2)
 
 pub returns-in_err-closed : goal.returns-in_err-closed
 returns-in_err-closed g c =
     let m = c.processor.invariant in
     let visit = visited m.0 m.1 refl c.in_ok-held.ensures.entered c.give_book.ensures in
     let bad = c.in_err-closed.ensures in
-    rw (refused_with _ _ c.from_residual-in_err-closed.ensures.1, ← c.processor.view_is)
-    (call_refused (left_as visit bad.err) _ _ bad.only bad.full (rw (c.as_slice-block.ensures.value) (omega arith)))
+    rw (call_refused_with _ _ c.from_residual-in_err-closed.ensures.1, ← c.processor.view_is)
+    (call_refused (visit_left_as visit bad.err) _ _ bad.only bad.full (rw (c.as_slice-block.ensures.value) (omega arith)))
 
 -- the interval was closed
 closed : (g : given.Over) (c : After-clear g)
@@ -121,7 +121,7 @@ mark_held-requires-clause-may g c =
 pub close_in-closed-requires-clause-told : goal.close_in-closed-requires-clause-told
 close_in-closed-requires-clause-told g c =
     let m = c.processor.invariant in
-    let finds = book_found m.0 m.1 refl c.in_ok-held.book c.in_ok-held.ensures.finds in
+    let finds = visited_book_found m.0 m.1 refl c.in_ok-held.book c.in_ok-held.ensures.finds in
     let may = subst (λ (l : Local). MayMake l c.args.kind) (sym c.processor.view_is) c.requires.may in
     let are =
     subst (λ (l : Local). AreHarvests l.copies (map arc_value c.args.records.items)) (sym c.processor.view_is)

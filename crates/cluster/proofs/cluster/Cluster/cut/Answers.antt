@@ -1,45 +1,45 @@
 -- The goals are those of each call that enters, over records of this one's steps: proofs/Visiting has what they share.
 use Rattle.std.proofs.Common.{refl}
-use Rattle.cluster.proofs.Visiting.{may_give_back, visited, left_as}
-use Rattle.cluster.proofs.Made.{alike_all, refused_with, unchanged_sound}
-use Rattle.cluster.proofs.CuttingCalls.{call_of_cutting, cut_good, cut_done, cut_refused, cut_spent}
+use Rattle.cluster.proofs.Visiting.{visit_gives_back, visited, visit_left_as}
+use Rattle.cluster.proofs.UnchangedCalls.{alike_all, call_refused_with, unchanged_sound}
+use Rattle.cluster.proofs.CuttingCalls.{call_of_cutting, cutting_good, cutting_done, cutting_refused, cutting_spent}
 use Rattle.cluster.proofs.cluster.Cluster.cut.Goals as goal
 
 pub returns-in_err-held : goal.returns-in_err-held
 returns-in_err-held g c =
     let spent = c.in_err-held.ensures.spent in
-    rw (refused_with _ _ c.from_residual.ensures.1, spent.0, spent.2, ← c.processor.view_is)
-    (cut_spent c.processor.invariant.0 spent.1)
+    rw (call_refused_with _ _ c.from_residual.ensures.1, spent.0, spent.2, ← c.processor.view_is)
+    (cutting_spent c.processor.invariant.0 spent.1)
 
 pub give_book-requires-clause-call : goal.give_book-requires-clause-call
 give_book-requires-clause-call g c κs within =
     let m = c.processor.invariant in
     let made = c.cut_off-cut.ensures in
-    may_give_back m.0 m.1 refl c.in_ok-held.ensures.entered
+    visit_gives_back m.0 m.1 refl c.in_ok-held.ensures.entered
     (call_of_cutting _ c.in_ok-held.book _ c.cut_off-cut.result made.ok made.err)
 
 pub invariant_of-processor-in_err-cut : goal.invariant_of-processor-in_err-cut
 invariant_of-processor-in_err-cut g c =
     let m = c.processor.invariant in
     let visit = visited m.0 m.1 refl c.in_ok-held.ensures.entered c.give_book.ensures in
-    (unchanged_sound (left_as visit c.in_err-cut.ensures.err) _ (alike_all _), visit.seated, m.2)
+    (unchanged_sound (visit_left_as visit c.in_err-cut.ensures.err) _ (alike_all _), visit.seated, m.2)
 
 pub returns-in_err-cut : goal.returns-in_err-cut
 returns-in_err-cut g c =
     let m = c.processor.invariant in
     let visit = visited m.0 m.1 refl c.in_ok-held.ensures.entered c.give_book.ensures in
     let bad = c.in_err-cut.ensures in
-    rw (refused_with _ _ c.from_residual-in_err-cut.ensures.1, bad.fault.1, ← c.processor.view_is)
-    (cut_refused (left_as visit bad.err) bad.fault.0 bad.fault.2)
+    rw (call_refused_with _ _ c.from_residual-in_err-cut.ensures.1, bad.fault.1, ← c.processor.view_is)
+    (cutting_refused (visit_left_as visit bad.err) bad.fault.0 bad.fault.2)
 
 pub invariant_of-processor-2 : goal.invariant_of-processor-2
 invariant_of-processor-2 g c =
     let m = c.processor.invariant in
     let visit = visited m.0 m.1 refl c.in_ok-held.ensures.entered c.give_book.ensures in
-    (cut_good visit c.in_ok-cut.ensures.ok, visit.seated, m.2)
+    (cutting_good visit c.in_ok-cut.ensures.ok, visit.seated, m.2)
 
 pub returns : goal.returns
 returns g c =
     let m = c.processor.invariant in
     let visit = visited m.0 m.1 refl c.in_ok-held.ensures.entered c.give_book.ensures in
-    rw (← c.processor.view_is) (cut_done visit c.in_ok-cut.ensures.ok)
+    rw (← c.processor.view_is) (cutting_done visit c.in_ok-cut.ensures.ok)

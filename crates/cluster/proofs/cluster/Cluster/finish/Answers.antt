@@ -1,9 +1,9 @@
 use Rattle.std.proofs.Common.{List, map, sym, subst}
 use Rattle.std.specs.Vec.{vec_items}
 use Rattle.journal.specs.declared.event.Event.{Event}
-use Rattle.cluster.specs.Clusters.{Shared}
-use Rattle.cluster.specs.Finishing.{AreAllOf, AreBlocksOf, IsFinishing}
-use Rattle.cluster.proofs.Apart.{all_chairs, all_blocks, finishing_start, finished}
+use Rattle.cluster.specs.Clusters.{SharedCluster}
+use Rattle.cluster.specs.Finishing.{AreAllToFinish, AreBlocksToFinish, IsFinishing}
+use Rattle.cluster.proofs.ApartToFinish.{apart_all_chairs, apart_all_blocks, finishing_start, finished}
 use Rattle.cluster.proofs.cluster.Cluster.finish.Given as given
 use Rattle.cluster.proofs.cluster.Cluster.finish.Goals as goal
 use Rattle.cluster.proofs.cluster.Cluster.finish.Goals.{After-close-book}
@@ -11,19 +11,19 @@ use Rattle.cluster.proofs.cluster.Cluster.finish.Goals.{After-close-book}
 -- all blocks are to come
 begun : (g : given.Over) (c : After-close-book g) → (h : List Event)
     × IsFinishing c.self.inside.shape c.args.processors.items 0 h c.close-book.result
-    × AreBlocksOf c.args.processors.items (map vec_items c.take_apart-chairs.result.1.items)
+    × AreBlocksToFinish c.args.processors.items (map vec_items c.take_apart-chairs.result.1.items)
 begun g c =
-    let all = subst (λ (s : Shared). AreAllOf s c.args.processors.items) (sym c.self.view_is) c.requires in
+    let all = subst (λ (s : SharedCluster). AreAllToFinish s c.args.processors.items) (sym c.self.view_is) c.requires in
     let apart = c.take_apart-chairs.ensures in (
       _,
       finishing_start _ _ _ _ all apart c.close-book.result c.self.invariant.1.some_processors c.close-book.ensures,
-      all_blocks _ _ _ _ all apart,
+      apart_all_blocks _ _ _ _ all apart,
     )
 
 pub close-book-requires : goal.close-book-requires
 close-book-requires g c =
-    let all = subst (λ (s : Shared). AreAllOf s c.args.processors.items) (sym c.self.view_is) c.requires in
-    all_chairs _ _ _ _ all c.take_apart-chairs.ensures _ c.self.invariant.0
+    let all = subst (λ (s : SharedCluster). AreAllToFinish s c.args.processors.items) (sym c.self.view_is) c.requires in
+    apart_all_chairs _ _ _ _ all c.take_apart-chairs.ensures _ c.self.invariant.0
 
 pub hand_in_all-requires : goal.hand_in_all-requires
 hand_in_all-requires g c =

@@ -5,20 +5,20 @@ use Rattle.turn.specs.Chairs.{LockId}
 use Rattle.book.specs.State.{State}
 use Rattle.book.specs.Transitions.{new_book}
 use Rattle.cluster.specs.Copies.Local.{new_local}
-use Rattle.cluster.specs.Copies.Sound.{AreSizes}
-use Rattle.cluster.specs.Kept.{LockInvariant, nothing_seen, book_sizes}
-use Rattle.cluster.proofs.Starting.{new_sizes, start_kept, new_covered}
+use Rattle.cluster.specs.Copies.Sound.{AreSoundSizes}
+use Rattle.cluster.specs.KeptViews.{LockInvariant, view_of_nothing, book_sizes}
+use Rattle.cluster.proofs.Starting.{start_sizes, start_kept, start_covered}
 use Rattle.cluster.proofs.cluster.Cluster.lawful.Goals as goal
 
 pub new-requires-3-clause-addresses : goal.new-requires-3-clause-addresses
 new-requires-3-clause-addresses g c =
-    let s = subst AreSizes (sym c.shape.view_is) c.requires.sizes in
+    let s = subst AreSoundSizes (sym c.shape.view_is) c.requires.sizes in
     let few = mul-le c.shape.inside.pages c.shape.inside.words 64 64 s.pages s.words in
     omega arith
 
 pub new-requires-4-clause-room : goal.new-requires-4-clause-room
 new-requires-4-clause-room g c =
-    let s = subst AreSizes (sym c.shape.view_is) c.requires.sizes in
+    let s = subst AreSoundSizes (sym c.shape.view_is) c.requires.sizes in
     let few = mul-le c.shape.inside.processors g.T.Turn.ENTRIES 16 (2 ^ 40) s.processors c.requires.entries in
     omega arith
 
@@ -27,21 +27,21 @@ new-requires-4-clause-fact g c =
     let s = c.args.shape in
     let size = ap (λ (x : Sizes). x.processors) c.shape.view_is in
     let book = c.in_ok-book.ensures ∙ ap new_book c.shape.view_is in
-    let P : State → ℕ → Type 0 = λ b n. LockInvariant s [] b (replicate n (nothing_seen (book_sizes b))) in
+    let P : State → ℕ → Type 0 = λ b n. LockInvariant s [] b (replicate n (view_of_nothing (book_sizes b))) in
     let kept = start_kept s c.requires.sizes.some_processors in
-    (s, [], subst₂ P (sym book) (sym size) (rw (new_sizes s c.requires.sizes.some_words) kept))
+    (s, [], subst₂ P (sym book) (sym size) (rw (start_sizes s c.requires.sizes.some_words) kept))
 
 pub seat_all-all-requires-clause-chairs : goal.seat_all-all-requires-clause-chairs
 seat_all-all-requires-clause-chairs g c κs within =
     let same : book_sizes c.in_ok-book.book ≡ c.args.shape =
     ap book_sizes (c.in_ok-book.ensures ∙ ap new_book c.shape.view_is)
-    ∙ new_sizes c.args.shape c.requires.sizes.some_words in
+    ∙ start_sizes c.args.shape c.requires.sizes.some_words in
     let made = c.in_ok-turn.ensures in (
       (let long = made.1 in let size = ap (λ (x : Sizes). x.processors) c.shape.view_is in omega arith),
       λ p x at. (let f = made.2 p x at in record {
         lock_is = refl;
         place_is = f.1;
-        view_is = f.2 ∙ ap nothing_seen same;
+        view_is = f.2 ∙ ap view_of_nothing same;
         entries_are = f.3;
         outside = f.4;
       }),
@@ -59,4 +59,4 @@ returns-clause-new g c =
     }
 
 pub returns-clause-covers : goal.returns-clause-covers
-returns-clause-covers g c = new_covered _ _ c.requires.sizes (returns-clause-new g c)
+returns-clause-covers g c = start_covered _ _ c.requires.sizes (returns-clause-new g c)

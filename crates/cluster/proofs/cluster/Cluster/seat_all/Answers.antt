@@ -2,7 +2,7 @@ use Rattle.std.proofs.Common.{ℕ, ◌≡◌, ◌++◌, ◌∷◌, [], List, len
 use Rattle.std.proofs.lemmas.List.{length_push}
 use Rattle.std.proofs.lemmas.Option.{slice_get_within}
 use Rattle.std.specs.Vec.Iter.{into_iter_items}
-use Rattle.base.proofs.Places.{slice_get-append_left, slice_get-last}
+use Rattle.base.proofs.SlicesAndCounts.{slice_get-append_left, slice_get-last}
 use Rattle.turn.specs.Chairs.{lock}
 use Rattle.cluster.specs.Copies.Local.{Local, new_local}
 use Rattle.cluster.specs.Clusters.{IsNewChair}

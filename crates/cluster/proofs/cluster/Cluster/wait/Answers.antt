@@ -2,11 +2,11 @@
 use Rattle.std.proofs.Common.{[], refl, sym, ap, ◌∙◌}
 use Rattle.std.proofs.lemmas.Option.{none-some}
 use Rattle.cluster.specs.Refusals.{is_waiting}
-use Rattle.cluster.proofs.Leaving.{call_of_nothing}
-use Rattle.cluster.proofs.Refusing.{unawaited}
-use Rattle.cluster.proofs.Visiting.{book_found, may_give_back, visited}
-use Rattle.cluster.proofs.Made.{alike_all, unchanged_sound}
-use Rattle.cluster.proofs.TakingCalls.{may_take}
+use Rattle.cluster.proofs.LeavingCalls.{call_of_nothing}
+use Rattle.cluster.proofs.MayAccessAndFetch.{unawaited}
+use Rattle.cluster.proofs.Visiting.{visited_book_found, visit_gives_back, visited}
+use Rattle.cluster.proofs.UnchangedCalls.{alike_all, unchanged_sound}
+use Rattle.cluster.proofs.TakenCalls.{may_take}
 use Rattle.cluster.proofs.WaitingCalls.{answered_with, awaited, wait_idle, wait_looked, wait_spent}
 use Rattle.cluster.proofs.cluster.Cluster.wait.Goals as goal
 
@@ -26,13 +26,13 @@ pub look-found-requires : goal.look-found-requires
 look-found-requires g c =
     let m = c.processor.invariant in
     let some = awaited _ (ap is_waiting c.processor.view_is ∙ sym c.waiting.ensures ∙ c.if-not-waiting.false) in
-    let finds = book_found m.0 m.1 refl c.in_ok-held.book c.in_ok-held.ensures.finds in
+    let finds = visited_book_found m.0 m.1 refl c.in_ok-held.book c.in_ok-held.ensures.finds in
     record { call = may_take _ m.0 _ _ some.1 finds }
 
 pub give_book-requires-clause-call : goal.give_book-requires-clause-call
 give_book-requires-clause-call g c κs within =
     let m = c.processor.invariant in
-    may_give_back m.0 m.1 refl c.in_ok-held.ensures.entered ([], call_of_nothing _ c.in_ok-held.book)
+    visit_gives_back m.0 m.1 refl c.in_ok-held.ensures.entered ([], call_of_nothing _ c.in_ok-held.book)
 
 pub invariant_of-processor-2 : goal.invariant_of-processor-2
 invariant_of-processor-2 g c =

@@ -3,7 +3,7 @@ use Rattle.std.specs.Vec.{vec_items}
 use Rattle.std.proofs.lemmas.List.{length-map}
 use Rattle.cluster.specs.Finishing.{IsFinishing}
 use Rattle.cluster.proofs.copies.Steps.{item_at}
-use Rattle.cluster.proofs.FinishingCalls.{mapped_at, may_last_block, fits_last_block, one_more_block}
+use Rattle.cluster.proofs.FinishingLastBlocks.{mapped_at, may_last_block, fits_last_block, finishing_one_more_block}
 use Rattle.cluster.proofs.cluster.finishing.hand_in_all.Goals as goal
 use Rattle.cluster.proofs.cluster.finishing.hand_in_all.Goals.{After-index-blocks-p}
 
@@ -33,7 +33,7 @@ loop-p-preserved c =
     λ s ms h start are. (
     let fin = c.loop-p.invariant s ms h start are in
     let at = here (goal.at.loop-p-preserved c).After-index-blocks-p in
-    let more = one_more_block _ _ _ _ _ fin.1 _ are _ at in
+    let more = finishing_one_more_block _ _ _ _ _ fin.1 _ are _ at in
     (more.0, rw (c.last.ensures, c.as_slice.ensures.value) more.1)
     )
 

@@ -3,7 +3,7 @@ use Rattle.std.proofs.lemmas.List.{length_push, map-append}
 use Rattle.std.specs.Vec.{vec_items}
 use Rattle.std.specs.Vec.Iter.{into_iter_items}
 use Rattle.cluster.specs.Copies.Local.{Local}
-use Rattle.cluster.proofs.Apart.{apart_more}
+use Rattle.cluster.proofs.ApartToFinish.{apart_more}
 use Rattle.cluster.proofs.cluster.finishing.take_apart.Goals as goal
 
 pub loop-processor-preserved : goal.loop-processor-preserved

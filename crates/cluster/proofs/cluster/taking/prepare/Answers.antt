@@ -1,5 +1,5 @@
-use Rattle.book.specs.Brought.{brought}
-use Rattle.cluster.proofs.Preparing.{room_ok}
+use Rattle.book.specs.Messages.{brought}
+use Rattle.cluster.proofs.PreparingRoom.{room_ok}
 use Rattle.cluster.proofs.cluster.taking.prepare.Goals as goal
 
 pub returns-clause-room : goal.returns-clause-room

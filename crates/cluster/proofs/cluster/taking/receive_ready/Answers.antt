@@ -1,4 +1,4 @@
-use Rattle.cluster.proofs.Preparing.{in_time, may_look, never_absent, room_brought}
+use Rattle.cluster.proofs.PreparingRoom.{in_time, may_look, prepared_never_absent, room_brought}
 use Rattle.cluster.proofs.cluster.taking.receive_ready.Goals as goal
 
 pub prepare-requires-clause-call : goal.prepare-requires-clause-call
@@ -11,5 +11,5 @@ returns-clause-room c =
 
 pub returns-clause-only : goal.returns-clause-only
 returns-clause-only c =
-    let never = never_absent c.take.result c.args.book.now c.args.p c.requires.call c.requires.ready c.take.ensures.absent in
+    let never = prepared_never_absent c.take.result c.args.book.now c.args.p c.requires.call c.requires.ready c.take.ensures.absent in
     in_time c.take.result never c.take.ensures.only

@@ -1,6 +1,6 @@
 use Rattle.std.proofs.Common.{◌≡◌, Some, slice_get, slice_set, sym, ap, subst, ◌+◌, ◌∙◌, arith}
-use Rattle.cluster.specs.Copies.Copies.{Copied}
-use Rattle.cluster.specs.Copies.Steps.{cleaned}
+use Rattle.cluster.specs.Copies.PageReplica.{Copied}
+use Rattle.cluster.specs.Copies.AfterNews.{cleaned}
 use Rattle.cluster.proofs.copies.Steps.{item_at}
 use Rattle.cluster.proofs.copies.Cleaned.{IsCleanBelow, clean_start, clean_more, clean_end, clean_past}
 use Rattle.cluster.proofs.copies.harvesting.clean.Goals as goal

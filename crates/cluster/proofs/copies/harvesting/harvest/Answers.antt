@@ -1,13 +1,13 @@
 use Rattle.std.proofs.Common.{◌≡◌, ◌+◌, ◌++◌, [], ◌∷◌, List, Option, Some, IfSome, IfNone, map, take, slice_get, sym, ap, subst, arith}
 use Rattle.std.proofs.lemmas.List.{map-append}
 use Rattle.std.specs.Arc.{arc_value}
-use Rattle.page.specs.Changes.{Changes}
-use Rattle.page.specs.Carries.{IsHarvest}
+use Rattle.page.specs.RisingChanges.{Changes}
+use Rattle.page.specs.CarriedHarvests.{IsHarvest}
 use Rattle.page.specs.Contents.{IsClean}
-use Rattle.cluster.specs.Copies.Copies.{Copied}
-use Rattle.cluster.specs.Copies.Records.{AreHarvests}
+use Rattle.cluster.specs.Copies.PageReplica.{Copied}
+use Rattle.cluster.specs.Copies.MarksAndHarvests.{AreHarvests}
 use Rattle.cluster.proofs.copies.Steps.{item_at}
-use Rattle.cluster.proofs.copies.Marked.{harvests_end, harvests_past, harvests_none_at, harvests_more_at, unmarked}
+use Rattle.cluster.proofs.copies.Marked.{marked_harvests_end, marked_harvests_past, marked_harvests_none_at, marked_harvests_more_at, unmarked}
 use Rattle.cluster.proofs.copies.harvesting.harvest.Goals as goal
 use Rattle.cluster.proofs.copies.harvesting.harvest.Goals.{in-Some+then-page-replicas, in_default, in-Some-2+in_ok-new+in_ok-push, in_default-2}
 
@@ -40,7 +40,7 @@ loop-page-preserved c =
             (let P : Option Changes → Type 0 = λ o. IfNone o (IsClean copy.page) in
             let clean = subst P w.in_default-2.is came.none in
             rw (w.records-is)
-            (harvests_none_at xs c.args.stored.now c.requires c.loop-page.next rs so_far page is copy at clean))
+            (marked_harvests_none_at xs c.args.stored.now c.requires c.loop-page.next rs so_far page is copy at clean))
         | in-Some-2+in_ok-new+in_ok-push w ↦
             (let r : Changes = w.in-Some-2.record in
             let P : Option Changes → Type 0 = λ o. IfSome o (IsHarvest page copy.page) in
@@ -48,7 +48,7 @@ loop-page-preserved c =
             let dirty : ¬ IsClean copy.page = λ clean. let none = came.clean clean in
             cc (none, w.in-Some-2.is, c.in_ok-record.was) in
             let more =
-            harvests_more_at xs c.args.stored.now c.requires c.loop-page.next rs so_far page is copy at r dirty
+            marked_harvests_more_at xs c.args.stored.now c.requires c.loop-page.next rs so_far page is copy at r dirty
             harvest in
             let now : map arc_value c.match-branch-2.records.items ≡ rs ++ r ∷ [] =
             rw (
@@ -71,6 +71,6 @@ returns-clause-harvests c =
     let so_far = c.loop-page.invariant.harvests in
     elim c.match-first_from.branch [
       | in-Some+then-page-replicas w ↦
-          harvests_past xs marks c.requires a rs so_far w.in-Some.page w.in-Some.ensures.some (omega arith)
-      | in_default w ↦ harvests_end xs marks c.requires a rs so_far w.in_default.ensures.none
+          marked_harvests_past xs marks c.requires a rs so_far w.in-Some.page w.in-Some.ensures.some (omega arith)
+      | in_default w ↦ marked_harvests_end xs marks c.requires a rs so_far w.in_default.ensures.none
     ]

@@ -1,6 +1,6 @@
 use Rattle.std.proofs.Common.{◌≤◌, ◌-◌, map, take}
 use Rattle.std.specs.Arc.{arc_value}
-use Rattle.cluster.specs.Copies.Records.{AreHarvests}
+use Rattle.cluster.specs.Copies.MarksAndHarvests.{AreHarvests}
 use Rattle.cluster.proofs.copies.harvesting.harvest.Given as goal
 
 abbrev pub invariant-loop-page : goal.invariant-loop-page

@@ -1,11 +1,11 @@
 use Rattle.std.proofs.Common.{ℕ, ◌≡◌, List, Some, length, map, subst₂, sym, ap, ◌∙◌, arith}
-use Rattle.interval.specs.Intervals.{SentRecord}
-use Rattle.base.specs.Records.{record_applied, records_applied}
-use Rattle.base.proofs.LastWrites.{length-written}
-use Rattle.page.specs.Changes.{Changes}
-use Rattle.page.specs.Carries.{FitsIn}
-use Rattle.cluster.specs.Copies.Copies.{record_words}
-use Rattle.cluster.proofs.copies.Steps.{found_dropped}
+use Rattle.interval.specs.SentIntervals.{SentRecord}
+use Rattle.base.specs.MarkedRecords.{record_applied, records_applied}
+use Rattle.base.proofs.LastWritten.{length-written}
+use Rattle.page.specs.RisingChanges.{Changes}
+use Rattle.page.specs.CarriedHarvests.{FitsIn}
+use Rattle.cluster.specs.Copies.PageReplica.{record_words}
+use Rattle.cluster.proofs.copies.Steps.{step_found_dropped}
 use Rattle.cluster.proofs.copies.page_copy.apply_all.Goals as goal
 
 pub apply-requires-clause-in_range : goal.apply-requires-clause-in_range
@@ -28,7 +28,7 @@ loop-index-preserved c =
     ap (λ (r : Changes). r.words) c.deref-content.ensures ∙ ap (λ (y : SentRecord). record_words y) c.sent.view_is in
     let after : c.apply.new.self.words ≡ record_applied c.loop-index.page.words (record_words x) =
     c.apply.ensures.words ∙ ap (λ (ws : List (ℕ × ℕ)). record_applied c.loop-index.page.words ws) same in
-    let more = found_dropped c.args.missing.now.records c.loop-index.index x (omega arith) c.at-sent.ensures in
+    let more = step_found_dropped c.args.missing.now.records c.loop-index.index x (omega arith) c.at-sent.ensures in
     record {
       long = ap length after ∙ length-written (λ (w : ℕ × ℕ). Some w) c.loop-index.page.words (record_words x) ∙ inv.long;
       dirty = c.apply.ensures.dirty ∙ inv.dirty;

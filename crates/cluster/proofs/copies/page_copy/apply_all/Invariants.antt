@@ -1,6 +1,6 @@
 use Rattle.std.proofs.Common.{◌≡◌, length, map, drop}
-use Rattle.base.specs.Records.{records_applied}
-use Rattle.cluster.specs.Copies.Copies.{record_words}
+use Rattle.base.specs.MarkedRecords.{records_applied}
+use Rattle.cluster.specs.Copies.PageReplica.{record_words}
 use Rattle.cluster.proofs.copies.page_copy.apply_all.Given as goal
 
 abbrev pub invariant-loop-index : goal.invariant-loop-index

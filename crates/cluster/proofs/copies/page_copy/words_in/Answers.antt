@@ -1,9 +1,9 @@
 use Rattle.std.proofs.Common.{ℕ, ◌≡◌, ◌+◌, ◌≤◌, List, [], ◌∷◌, ◌++◌, length, take, sum_by, subst, sym, ap, ◌∙◌, arith}
 use Rattle.std.proofs.lemmas.List.Sums.{sum_by_push, sum_by-take-le}
-use Rattle.page.specs.Changes.{Changes}
-use Rattle.interval.specs.Intervals.{SentRecord}
-use Rattle.cluster.specs.Copies.Copies.{record_words}
-use Rattle.cluster.proofs.copies.Steps.{found_taken}
+use Rattle.page.specs.RisingChanges.{Changes}
+use Rattle.interval.specs.SentIntervals.{SentRecord}
+use Rattle.cluster.specs.Copies.PageReplica.{record_words}
+use Rattle.cluster.proofs.copies.Steps.{step_found_taken}
 use Rattle.cluster.proofs.copies.page_copy.words_in.Goals as goal
 
 -- the words so far and those of the next record are within all
@@ -20,7 +20,7 @@ pub overflow_cast-count : goal.overflow_cast-count
 overflow_cast-count c =
     let x = c.at-sent.result.now in
     let k = c.loop-index.index in
-    let low = within c.args.missing.now.records k x (found_taken c.args.missing.now.records k x (omega arith) c.at-sent.ensures) in
+    let low = within c.args.missing.now.records k x (step_found_taken c.args.missing.now.records k x (omega arith) c.at-sent.ensures) in
     let few = c.requires in
     let same : c.words.result.now ≡ record_words x =
     c.words.ensures.words ∙ ap (λ (r : Changes). r.words) c.deref-content.ensures
@@ -31,7 +31,7 @@ pub overflow_add-count : goal.overflow_add-count
 overflow_add-count c =
     let x = c.at-sent.result.now in
     let k = c.loop-index.index in
-    let low = within c.args.missing.now.records k x (found_taken c.args.missing.now.records k x (omega arith) c.at-sent.ensures) in
+    let low = within c.args.missing.now.records k x (step_found_taken c.args.missing.now.records k x (omega arith) c.at-sent.ensures) in
     let few = c.requires in
     let sums = c.loop-index.invariant.sums in
     let same : c.words.result.now ≡ record_words x =
@@ -47,7 +47,7 @@ loop-index-preserved c =
     c.words.ensures.words ∙ ap (λ (r : Changes). r.words) c.deref-content.ensures
     ∙ ap (λ (y : SentRecord). record_words y) c.sent.view_is in
     let f : SentRecord → ℕ = λ y. length (record_words y) in
-    let more = found_taken c.args.missing.now.records k x (omega arith) c.at-sent.ensures in
+    let more = step_found_taken c.args.missing.now.records k x (omega arith) c.at-sent.ensures in
     record {
       sums = rw (same, more)
           (ap (λ n. n + f x) c.loop-index.invariant.sums ∙ sym (sum_by_push f (take k c.args.missing.now.records) x));

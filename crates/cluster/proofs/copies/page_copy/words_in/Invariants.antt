@@ -1,5 +1,5 @@
 use Rattle.std.proofs.Common.{◌≡◌, length, sum_by, take}
-use Rattle.cluster.specs.Copies.Copies.{record_words}
+use Rattle.cluster.specs.Copies.PageReplica.{record_words}
 use Rattle.cluster.proofs.copies.page_copy.words_in.Given as goal
 
 abbrev pub invariant-loop-index : goal.invariant-loop-index

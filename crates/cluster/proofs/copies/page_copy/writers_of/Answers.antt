@@ -1,6 +1,6 @@
 use Rattle.std.proofs.Common.{ℕ, ◌≡◌, Bool, Some, take, slice_get, ap, subst₂, arith}
-use Rattle.interval.specs.Intervals.{SentRecord}
-use Rattle.cluster.proofs.copies.Steps.{found_taken}
+use Rattle.interval.specs.SentIntervals.{SentRecord}
+use Rattle.cluster.proofs.copies.Steps.{step_found_taken}
 use Rattle.cluster.proofs.copies.Owners.{no_owners, no_marks, owner_again, owner_new}
 use Rattle.cluster.proofs.copies.page_copy.writers_of.Goals as goal
 use Rattle.cluster.proofs.copies.page_copy.writers_of.Goals.{then-not-has, else-not-has}
@@ -36,7 +36,7 @@ loop-index-preserved c =
     let k = c.loop-index.index in
     let xs = take k c.args.missing.now.records in
     let inv = c.loop-index.invariant in
-    let more = found_taken c.args.missing.now.records k x (omega arith) c.at-sent.ensures in
+    let more = step_found_taken c.args.missing.now.records k x (omega arith) c.at-sent.ensures in
     let same : c.sent.inside.notice.owner ≡ x.notice.owner = ap (λ (y : SentRecord). y.notice.owner) c.sent.view_is in
     let P : ℕ → Bool → Type 0 = λ q b. slice_get c.loop-index.owners q ≡ Some b in
     elim c.if-not-has.branch [

@@ -1,6 +1,6 @@
 use Rattle.std.proofs.Common.{◌≤◌, take}
-use Rattle.journal.specs.Copies.{HasCount}
-use Rattle.cluster.specs.Copies.Copies.{IsOwner}
+use Rattle.journal.specs.PageImages.{HasCount}
+use Rattle.cluster.specs.Copies.PageReplica.{IsOwner}
 use Rattle.cluster.proofs.copies.Owners.{AreMarked}
 use Rattle.cluster.proofs.copies.page_copy.writers_of.Given as goal
 

@@ -4,7 +4,7 @@ use Rattle.cluster.specs.Copies.Local.{Local}
 use Rattle.cluster.specs.Seats.{local}
 use Rattle.cluster.specs.declared.processor.Processor.TheInside.{Inside}
 use Rattle.cluster.specs.Copies.Sound.{IsSound}
-use Rattle.cluster.proofs.Accessing.{copy_found, access_past, access_at}
+use Rattle.cluster.proofs.Access.{access_copy_found, access_past, access_at}
 use Rattle.cluster.proofs.processor.Processor.admit.Given as given
 use Rattle.cluster.proofs.processor.Processor.admit.Goals as goal
 use Rattle.cluster.proofs.processor.Processor.admit.Goals.{In-Some}
@@ -21,7 +21,7 @@ found : (g : given.Over) (c : In-Some g)
     slice_get m.copies (c.args.address / m.sizes.words) ≡ Some c.in-Some.replica.now
 found g c =
     let look = c.in-Some.ensures.lookup in
-    copy_found _ _ c.args.address _ c.in-Some.replica.now
+    access_copy_found _ _ c.args.address _ c.in-Some.replica.now
     (ap (local_of g) c.self-inside.view_is ∙ c.self.view_is) c.deref.ensures.value
     look.3.0 look.1
 

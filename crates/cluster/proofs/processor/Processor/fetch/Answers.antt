@@ -2,7 +2,7 @@ use Rattle.std.proofs.Common.{◌≡◌, Some, slice_get, sym, subst, arith}
 use Rattle.page.specs.declared.page.Access.TheVariants.{Invalid}
 use Rattle.cluster.specs.Copies.Sound.{IsSound}
 use Rattle.cluster.proofs.Covering.{covers}
-use Rattle.cluster.proofs.Fetching.{missing_fit, missing_countable, fetched_newest, fetched_sound, stale_read, fetch_done}
+use Rattle.cluster.proofs.FetchingMissing.{missing_fit, missing_countable, fetched_newest, fetched_sound, fetch_stale_read, fetch_done}
 use Rattle.cluster.proofs.processor.Processor.fetch.Given as given
 use Rattle.cluster.proofs.processor.Processor.fetch.Goals as goal
 use Rattle.cluster.proofs.processor.Processor.fetch.Goals.{After-index_mut-replica}
@@ -14,7 +14,7 @@ read : (g : given.Over) (c : After-index_mut-replica g)
 read g c =
     let sound = subst IsSound c.self.view_is c.self.invariant.0 in
     let at =
-    stale_read _ _ _ _ c.self.view_is (sym c.in_ok-admit_fetch.ensures) c.index_mut-replica.ensures.value sound in
+    fetch_stale_read _ _ _ _ c.self.view_is (sym c.in_ok-admit_fetch.ensures) c.index_mut-replica.ensures.value sound in
     (sound, at.0, at.1)
 
 pub returns-in_err-admit_fetch-clause-covers : goal.returns-in_err-admit_fetch-clause-covers

@@ -1,6 +1,6 @@
 use Rattle.std.proofs.Common.{ℕ, zero, suc, ◌≡◌, ◌<◌, [], List, Some, replicate, slice_get, refl, sym, subst, arith}
 use Rattle.std.proofs.lemmas.List.{length-replicate}
-use Rattle.base.proofs.Sets.{index-zeros}
+use Rattle.base.proofs.SliceSets.{index-zeros}
 use Rattle.lrc_script.specs.Plan.{plan_of}
 use Rattle.explore.proofs.prefixes.Beginnings.{empty_begins}
 use Rattle.explore.specs.Outcomes.{AreReplies}

@@ -4,8 +4,8 @@ use Rattle.std.proofs.lemmas.Bool.{false≢true}
 use Rattle.std.proofs.lemmas.Option.{none-some, same_Some}
 use Rattle.journal.specs.declared.event.Event.{Event}
 use Rattle.journal.specs.declared.event.Kind.{Kind}
-use Rattle.journal.specs.Did.{did, event}
-use Rattle.journal.specs.Flat.{AnswersWord}
+use Rattle.journal.specs.DidEvent.{did, event}
+use Rattle.journal.specs.FlatMemory.{AnswersWord}
 use Rattle.journal.specs.WellFormed.{KindInRange, MayFollow}
 use Rattle.lrc_script.specs.Plan.{Plan}
 use Rattle.conformance.specs.Follows.{calls_of, plan_sizes}

@@ -1,8 +1,8 @@
 use Rattle.std.proofs.Common.{ℕ, ◌≡◌, ◌+◌, ◌<◌, List, length, slice_index, vec_len, ap, ◌∙◌, arith}
 use Rattle.std.proofs.Math.ListN.{length-set}
 use Rattle.std.proofs.lemmas.List.{with_items_is}
-use Rattle.base.specs.Writes.{wrote}
-use Rattle.journal.specs.Flat.{flat_write}
+use Rattle.base.specs.LastWritten.{wrote}
+use Rattle.journal.specs.FlatMemory.{flat_write}
 use Rattle.conformance.specs.Follows.{plan_sizes}
 use Rattle.explore.proofs.Lengths.{calls_few, history_few}
 use Rattle.explore.proofs.Machines.{done_next, kind_address, memory_long, memory_next, next_call, next_may, next_within, read_at, sizes_small}

@@ -1,6 +1,6 @@
 use Rattle.std.proofs.Common.{ℕ, ◌<◌, All, subst, sym}
 use Rattle.std.proofs.lemmas.Bool.{eq-eqb, eqb-true, false≢true}
-use Rattle.base.specs.Places.{Has}
+use Rattle.base.specs.InOrderOnce.{Has}
 use Rattle.explore.specs.Waiting.{AwaitsLock, IsFirstOf}
 use Rattle.explore.proofs.Asked.{asked_small, first_may, nobody_asked, somebody_holds}
 use Rattle.explore.proofs.waiting.Waiting.may_acquire.Goals as goal

@@ -5,7 +5,7 @@ use Rattle.std.proofs.lemmas.Option.{none-some}
 use Rattle.journal.specs.WellFormed.{Holds}
 use Rattle.judge.specs.Tells.{IsSet}
 use Rattle.base.proofs.Joined.{has-nil, in_order-nil}
-use Rattle.base.proofs.Sets.{index-zeros}
+use Rattle.base.proofs.SliceSets.{index-zeros}
 use Rattle.explore.specs.Waiting.{AreAsked}
 use Rattle.explore.specs.Waits.{AwaitedAreKept, arrivals_open, ending, seated}
 use Rattle.explore.proofs.waiting.Waiting.new.Goals as goal

@@ -2,7 +2,7 @@ use Rattle.std.proofs.Common.{◌≡◌, ℕ, ◌<◌, ◌^◌, List, Option, So
 use Rattle.std.specs.Prelude.{None}
 use Rattle.std.proofs.Math.ListN.{length-set}
 use Rattle.journal.specs.declared.event.Event.{Event}
-use Rattle.journal.specs.Did.{did, event}
+use Rattle.journal.specs.DidEvent.{did, event}
 use Rattle.journal.specs.Events.{is_arrive}
 use Rattle.journal.specs.WellFormed.{Holds}
 use Rattle.judge.specs.Tells.{IsSet}

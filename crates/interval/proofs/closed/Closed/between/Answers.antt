@@ -6,7 +6,7 @@ use Rattle.interval.specs.declared.kept_interval.KeptInterval.{KeptInterval}
 use Rattle.interval.specs.Closings.{sent_interval}
 use Rattle.interval.proofs.News.Gathered.{sent_more, rises-news}
 use Rattle.interval.proofs.News.InClosingOrder.{between_in_order}
-use Rattle.interval.proofs.Order.Sorted.{sorted_all}
+use Rattle.interval.proofs.Order.SortedPlaces.{sorted_all}
 use Rattle.interval.proofs.closed.Closed.between.Goals as goal
 
 abbrev kept : Bor KeptInterval → KeptInterval

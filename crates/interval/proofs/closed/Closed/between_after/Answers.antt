@@ -1,5 +1,5 @@
 use Rattle.std.proofs.Common.{List, sym, ap, subst, ◌∙◌}
-use Rattle.interval.specs.Intervals.{SentRecord, IsInClosingOrder}
+use Rattle.interval.specs.SentIntervals.{SentRecord, IsInClosingOrder}
 use Rattle.interval.proofs.News.InClosingOrder.{after_in_order}
 use Rattle.interval.proofs.closed.Closed.between_after.Goals as goal
 use Rattle.interval.proofs.closed.Closed.between_after.Goals.{then-covers+then-not-covers+in_ok-send, else-covers}

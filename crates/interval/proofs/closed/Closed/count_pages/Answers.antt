@@ -1,10 +1,10 @@
 use Rattle.std.proofs.Common.{◌≡◌, ◌<◌, ◌+◌, ◌==◌, ℕ, List, length, slice_index, count_by, ap, sym, subst, arith, ◌∙◌}
 use Rattle.std.specs.List.{flat_map}
 use Rattle.std.proofs.lemmas.List.{take_all, get_or-replicate}
-use Rattle.interval.specs.Counts.{CountsGrew, HasRoom}
+use Rattle.interval.specs.PageCounts.{CountsGrew, CountsHaveRoom}
 use Rattle.interval.specs.Queues.{Queue}
-use Rattle.interval.proofs.Counts.Counted.{counted_more, room_more}
-use Rattle.interval.proofs.Counts.Walked.{news_pages, news_read, news_total, news_room}
+use Rattle.interval.proofs.Counts.CountedRoom.{counted_more, room_more}
+use Rattle.interval.proofs.Counts.WalkedNews.{news_pages, news_read, news_total, news_room}
 use Rattle.interval.proofs.closed.Closed.count_pages.Goals as goal
 
 pub count_pages-requires-clause-room : goal.count_pages-requires-clause-room
@@ -27,7 +27,7 @@ count_pages-requires-clause-room c =
     c.entry-in-loop-owner.result c.queue-item.result
     c.deref-queue-items.ensures.value c.self.invariant c.loop-owner-test.true c.queue-item.is c.entry.ensures
     c.entry-in-loop-owner.ensures in
-    let Room : List ℕ → Type 0 = λ ps. HasRoom c.args.base ps c.loop-owner.counts in
+    let Room : List ℕ → Type 0 = λ ps. CountsHaveRoom c.args.base ps c.loop-owner.counts in
     subst Room read room
 
 pub loop-owner-preserved : goal.loop-owner-preserved

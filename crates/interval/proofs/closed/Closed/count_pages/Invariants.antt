@@ -1,8 +1,8 @@
 -- The news of the owners so far are counted.
 use Rattle.std.proofs.Common.{take}
 use Rattle.std.specs.List.{flat_map}
-use Rattle.interval.specs.Counts.{CountsGrew}
-use Rattle.interval.proofs.Counts.Walked.{news_pages}
+use Rattle.interval.specs.PageCounts.{CountsGrew}
+use Rattle.interval.proofs.Counts.WalkedNews.{news_pages}
 use Rattle.interval.proofs.closed.Closed.count_pages.Given as goal
 
 abbrev pub invariant-loop-owner : goal.invariant-loop-owner

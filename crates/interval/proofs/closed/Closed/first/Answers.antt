@@ -1,5 +1,5 @@
 use Rattle.interval.proofs.News.Gathered.{owned_queue}
-use Rattle.interval.proofs.Queues.Found.{first_number}
+use Rattle.interval.proofs.Queues.FirstFound.{first_number}
 use Rattle.interval.proofs.closed.Closed.first.Goals as goal
 
 pub returns-clause-earliest : goal.returns-clause-earliest

@@ -1,6 +1,6 @@
 use Rattle.std.proofs.Common.{◌≡◌, ap, ◌∙◌, arith, replicate, refl, ℕ}
 use Rattle.interval.specs.Queues.{by_place}
-use Rattle.interval.proofs.Queues.Empty.{one_more_empty, are_none}
+use Rattle.interval.proofs.Queues.Empty.{one_more_empty, are_none_queued}
 use Rattle.interval.proofs.closed.Closed.new.Goals as goal
 
 pub loop-init : goal.loop-init
@@ -15,7 +15,7 @@ all : (c : goal.After-loop) → c.loop.counter ≡ c.args.owners
 all c = omega arith
 
 pub invariant_of-result : goal.invariant_of-result
-invariant_of-result c = are_none c.loop.queues.items c.loop.invariant.none
+invariant_of-result c = are_none_queued c.loop.queues.items c.loop.invariant.none
 
 pub returns-clause-kept : goal.returns-clause-kept
 returns-clause-kept c = ap by_place c.loop.invariant.none

@@ -1,15 +1,15 @@
 use Rattle.std.proofs.Common.{ap, ◌∙◌}
-use Rattle.interval.specs.Intervals.{ClosedInterval}
-use Rattle.interval.specs.Closings.{Closings, between}
-use Rattle.interval.proofs.News.Unchanged.{between-pushed}
-use Rattle.interval.proofs.Queues.Pushed.{Comes, comes_next, are_pushed, closings_pushed}
+use Rattle.interval.specs.SentIntervals.{ClosedInterval}
+use Rattle.interval.specs.Closings.{Closings, closings_between}
+use Rattle.interval.proofs.News.BetweenUnchanged.{closings_between-pushed}
+use Rattle.interval.proofs.Queues.LastPushed.{Comes, pushed_next, are_pushed, closings_pushed}
 use Rattle.interval.proofs.closed.Closed.push.Goals as goal
 
 comes : (c : goal.After-self-2-1)
     → Comes c.self.inside.queues.items c.self.inside.pushed c.interval.inside.owner c.index_mut.result.now
     (record { place = c.self.inside.pushed; interval = c.args.interval })
 comes c =
-    comes_next c.self.inside.queues.items c.self.inside.pushed c.args.self.now c.args.interval c.interval.inside.owner
+    pushed_next c.self.inside.queues.items c.self.inside.pushed c.args.self.now c.args.interval c.interval.inside.owner
     c.index_mut.result.now
     c.self.view_is (ap (λ (i : ClosedInterval). i.owner) c.interval.view_is) c.requires.owner c.requires.number
     c.requires.pages c.requires.fits c.index_mut.ensures.value
@@ -30,5 +30,5 @@ returns-clause-ok c =
 
 pub returns-clause-same_news : goal.returns-clause-same_news
 returns-clause-same_news c = λ old new uncovered.
-    ap (λ (v : Closings). between v old new) (returns-clause-ok c)
-    ∙ between-pushed c.args.self.now c.args.interval old new uncovered
+    ap (λ (v : Closings). closings_between v old new) (returns-clause-ok c)
+    ∙ closings_between-pushed c.args.self.now c.args.interval old new uncovered

@@ -1,7 +1,7 @@
 use Rattle.std.proofs.Common.{◌<◌, ◌≤◌, Some, None, List, length, ap, sym, ◌∙◌, arith}
 use Rattle.std.specs.Option.{option_copied}
 use Rattle.interval.specs.Queues.{Queue}
-use Rattle.interval.proofs.Queues.Found.{none_of, none_below, noticed_at, queue_read, record_found}
+use Rattle.interval.proofs.Queues.FirstFound.{none_found, none_found_below, noticed_at, queue_read, record_found}
 use Rattle.interval.proofs.closed.Closed.record_of.Goals as goal
 
 pub returns-in_err-queue : goal.returns-in_err-queue
@@ -9,7 +9,7 @@ returns-in_err-queue c =
     let long = ap (λ (qs : List Queue). length qs) c.deref.ensures.value in
     let look = c.in_err-queue.ensures.lookup.3 in
     let past : length c.self.inside.queues.items ≤ c.args.notice.now.owner = omega arith in
-    let none = none_of c.self.inside.queues.items c.self.inside.pushed c.args.notice.now c.self.invariant past in
+    let none = none_found c.self.inside.queues.items c.self.inside.pushed c.args.notice.now c.self.invariant past in
     ap option_copied c.from_residual.ensures
     ∙ sym (record_found c.self.inside.queues.items c.self.inside.pushed c.args.self.now c.args.notice.now None
     c.self.view_is none)
@@ -24,7 +24,7 @@ returns-then-notice-first c =
     let test = c.if-notice-first.true in
     let below : c.args.notice.now.number < c.in_ok-queue.queue.now.first = omega arith in
     let none =
-    none_below c.self.inside.queues.items c.self.inside.pushed c.args.notice.now c.in_ok-queue.queue.now
+    none_found_below c.self.inside.queues.items c.self.inside.pushed c.args.notice.now c.in_ok-queue.queue.now
     c.self.invariant owned below in
     sym (record_found c.self.inside.queues.items c.self.inside.pushed c.args.self.now c.args.notice.now None
     c.self.view_is none)

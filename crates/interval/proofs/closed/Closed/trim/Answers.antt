@@ -1,6 +1,6 @@
 use Rattle.std.proofs.Common.{◌≡◌, Some, slice_get, ap, ◌∙◌}
-use Rattle.interval.specs.Closings.{Closings, between}
-use Rattle.interval.proofs.News.Unchanged.{between-trimmed}
+use Rattle.interval.specs.Closings.{Closings, closings_between}
+use Rattle.interval.proofs.News.BetweenUnchanged.{closings_between-trimmed}
 use Rattle.interval.proofs.Queues.Trimmed.{are_trimmed, closings_trimmed}
 use Rattle.interval.proofs.News.Gathered.{owned_queue}
 use Rattle.interval.proofs.closed.Closed.trim.Goals as goal
@@ -22,5 +22,5 @@ returns-clause-value c =
 
 pub returns-clause-same_news : goal.returns-clause-same_news
 returns-clause-same_news c = λ old new performed.
-    ap (λ (v : Closings). between v old new) (returns-clause-value c)
-    ∙ between-trimmed c.args.self.now c.args.owner c.args.to old new performed
+    ap (λ (v : Closings). closings_between v old new) (returns-clause-value c)
+    ∙ closings_between-trimmed c.args.self.now c.args.owner c.args.to old new performed

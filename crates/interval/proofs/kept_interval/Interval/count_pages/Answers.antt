@@ -3,9 +3,9 @@ use Rattle.std.specs.List.{flat_map}
 use Rattle.std.specs.Arc.{arc_value}
 use Rattle.std.proofs.lemmas.List.{take_all, length-map}
 use Rattle.std.proofs.lemmas.List.Concat.{flat_map_single}
-use Rattle.page.specs.Changes.{Changes}
-use Rattle.interval.specs.Counts.{CountsGrew, HasRoom}
-use Rattle.interval.proofs.Counts.Counted.{counted-nil, counted-one, counted-out, counted_more, room_one, room_more, mapped_at}
+use Rattle.page.specs.RisingChanges.{Changes}
+use Rattle.interval.specs.PageCounts.{CountsGrew, CountsHaveRoom}
+use Rattle.interval.proofs.Counts.CountedRoom.{counted-nil, counted-one, counted-out, counted_more, room_one, room_more, mapped_at}
 use Rattle.interval.proofs.kept_interval.Interval.count_pages.Goals as goal
 use Rattle.interval.proofs.kept_interval.Interval.count_pages.Goals.{then-base-page+then-page-base, else-base-page, else-base-page-via-then-base-page+else-page-base, else-base-page-via-else-base-page}
 
@@ -23,7 +23,7 @@ overflow_add-counts c =
     let items = map arc_value c.shared_records-record-items.result.now in
     let page : (arc_value c.record-item.result).page ≡ c.page-page.result =
     ap (λ (r : Changes). r.page) (sym c.deref.ensures) ∙ sym c.page-page.ensures in
-    let Room : List ℕ → Type 0 = λ ps. HasRoom c.args.base ps c.args.counts.now in
+    let Room : List ℕ → Type 0 = λ ps. CountsHaveRoom c.args.base ps c.args.counts.now in
     let whole =
     subst Room (sym (flat_map_single (λ (r : Changes). r.page) items
     ∙ ap (map (λ (r : Changes). r.page)) c.shared_records-record-items.ensures))
@@ -31,7 +31,7 @@ overflow_add-counts c =
     let room =
     room_more c.args.base own items c.loop-record.record-index (arc_value c.record-item.result) c.args.counts.now
     c.loop-record.counts at.0 at.1 whole c.loop-record.invariant in
-    let Next : ℕ → Type 0 = λ p. HasRoom c.args.base (p ∷ []) c.loop-record.counts in
+    let Next : ℕ → Type 0 = λ p. CountsHaveRoom c.args.base (p ∷ []) c.loop-record.counts in
     let fits =
     room_one c.args.base c.page-page.result c.loop-record.counts c.if-base-page.true c.if-page-base.true
     (subst Next page room) in

@@ -2,8 +2,8 @@
 use Rattle.std.proofs.Common.{[], ◌∷◌, map, take}
 use Rattle.std.specs.List.{flat_map}
 use Rattle.std.specs.Arc.{arc_value}
-use Rattle.page.specs.Changes.{Changes}
-use Rattle.interval.specs.Counts.{CountsGrew}
+use Rattle.page.specs.RisingChanges.{Changes}
+use Rattle.interval.specs.PageCounts.{CountsGrew}
 use Rattle.interval.proofs.kept_interval.Interval.count_pages.Given as goal
 
 abbrev pub invariant-loop-record : goal.invariant-loop-record

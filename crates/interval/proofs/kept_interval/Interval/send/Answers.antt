@@ -2,7 +2,7 @@ use Rattle.std.proofs.Common.{◌++◌, map, ap, sym, ◌∙◌}
 use Rattle.std.specs.Arc.{arc_value}
 use Rattle.std.proofs.lemmas.List.{take_all, append-nil}
 use Rattle.interval.specs.Closings.{sent_record}
-use Rattle.interval.proofs.Records.Steps.{pushed_more}
+use Rattle.interval.proofs.Records.FindAndPush.{pushed_more}
 use Rattle.interval.proofs.kept_interval.Interval.send.Goals as goal
 
 pub loop-record-init : goal.loop-record-init

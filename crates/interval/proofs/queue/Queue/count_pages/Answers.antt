@@ -1,9 +1,9 @@
 use Rattle.std.proofs.Common.{◌≡◌, ◌-◌, ◌+◌, ℕ, List, take, subst, arith}
 use Rattle.interval.specs.declared.kept_interval.KeptInterval.{KeptInterval}
-use Rattle.interval.specs.Counts.{pages_of, pages_of_records, CountsGrew}
-use Rattle.interval.specs.Queues.{within}
-use Rattle.interval.proofs.Counts.Counted.{counted_more, room_more}
-use Rattle.interval.proofs.Counts.Walked.{within_at}
+use Rattle.interval.specs.PageCounts.{pages_of, pages_of_records, CountsGrew}
+use Rattle.interval.specs.Queues.{queue_within}
+use Rattle.interval.proofs.Counts.CountedRoom.{counted_more, room_more}
+use Rattle.interval.proofs.Counts.WalkedNews.{within_at}
 use Rattle.interval.proofs.queue.Queue.count_pages.Goals as goal
 
 abbrev own : KeptInterval → List ℕ
@@ -15,7 +15,7 @@ count_pages-requires c =
     let at =
     within_at _ c.args.self.now c.args.from c.args.to c.loop-index.index c.index.result.now c.self.view_is
     c.loop-index.auto.index (omega arith) c.index.ensures in
-    room_more c.args.base own (within c.args.self.now c.args.from c.args.to)
+    room_more c.args.base own (queue_within c.args.self.now c.args.from c.args.to)
     (c.loop-index.index - (c.args.from - c.self.inside.first)) c.index.result.now c.args.counts.now
     c.loop-index.counts
     at.0 at.1 c.requires.room c.loop-index.invariant
@@ -28,11 +28,11 @@ loop-index-preserved c =
     let at =
     within_at _ c.args.self.now c.args.from c.args.to c.loop-index.index c.index.result.now c.self.view_is after
     (omega arith) c.index.ensures in
-    let more = counted_more c.args.base own (within c.args.self.now c.args.from c.args.to)
+    let more = counted_more c.args.base own (queue_within c.args.self.now c.args.from c.args.to)
     (c.loop-index.index - start) c.index.result.now c.args.counts.now c.loop-index.counts c.count_pages.new.counts
     at.0 at.1 c.loop-index.invariant c.count_pages.ensures in
     let next : c.loop-index.index - start + 1 ≡ c.loop-index.index + 1 - start = omega arith in
     let Next : ℕ → Type 0 =
-    λ n. CountsGrew c.args.base (pages_of (take n (within c.args.self.now c.args.from c.args.to)))
+    λ n. CountsGrew c.args.base (pages_of (take n (queue_within c.args.self.now c.args.from c.args.to)))
     c.args.counts.now c.count_pages.new.counts in
     subst Next next more

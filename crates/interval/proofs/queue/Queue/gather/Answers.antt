@@ -1,8 +1,8 @@
 use Rattle.std.proofs.Common.{◌≡◌, ◌-◌, ◌+◌, ◌++◌, ◌∷◌, [], ℕ, List, map, take, Bor, sym, ap, arith, ◌∙◌}
 use Rattle.std.proofs.lemmas.List.{append-nil, map-append, take_all}
 use Rattle.interval.specs.declared.kept_interval.KeptInterval.{KeptInterval}
-use Rattle.interval.specs.Queues.{within}
-use Rattle.interval.proofs.Counts.Walked.{within_at}
+use Rattle.interval.specs.Queues.{queue_within}
+use Rattle.interval.proofs.Counts.WalkedNews.{within_at}
 use Rattle.interval.proofs.News.Gathered.{grown_more, within_few}
 use Rattle.interval.proofs.queue.Queue.gather.Goals as goal
 
@@ -13,7 +13,7 @@ pub loop-index-init : goal.loop-index-init
 loop-index-init c =
     let start = c.args.from - c.self.inside.first in
     let none : start - start ≡ 0 = omega arith in
-    sym (ap (λ (n : ℕ). now c.args.news.now.items ++ take n (within c.args.self.now c.args.from c.args.to)) none
+    sym (ap (λ (n : ℕ). now c.args.news.now.items ++ take n (queue_within c.args.self.now c.args.from c.args.to)) none
     ∙ append-nil (now c.args.news.now.items))
 
 pub loop-index-preserved : goal.loop-index-preserved
@@ -21,7 +21,7 @@ loop-index-preserved c =
     let start = c.args.from - c.self.inside.first in
     let len = c.len.ensures in
     let after = c.loop-index.auto.index in
-    let news = within c.args.self.now c.args.from c.args.to in
+    let news = queue_within c.args.self.now c.args.from c.args.to in
     let at =
     within_at _ c.args.self.now c.args.from c.args.to c.loop-index.index c.index.result.now c.self.view_is after
     (omega arith) c.index.ensures in
@@ -39,4 +39,4 @@ returns c =
     let few = within_few _ c.args.self.now c.args.from c.args.to c.self.view_is in
     c.loop-index.invariant
     ∙ ap (λ (ks : List KeptInterval). now c.args.news.now.items ++ ks)
-    (take_all (c.loop-index.index - start) (within c.args.self.now c.args.from c.args.to) (omega arith))
+    (take_all (c.loop-index.index - start) (queue_within c.args.self.now c.args.from c.args.to) (omega arith))

@@ -2,9 +2,9 @@ use Rattle.std.proofs.Common.{slice_index_or, subst, sym, arith}
 use Rattle.std.proofs.lemmas.Option.{slice_get-get_or}
 use Rattle.std.proofs.lemmas.List.{length-take-le}
 use Rattle.journal.specs.declared.event.Kind.TheVariants.{Load}
-use Rattle.journal.specs.Did.{event}
+use Rattle.journal.specs.DidEvent.{event}
 use Rattle.journal.specs.InRange.{AddressInRange}
-use Rattle.journal.proofs.Bases.Noted.{kept_long, kept_next}
+use Rattle.journal.proofs.FromBase.KeptAndHeld.{kept_long, kept_next}
 use Rattle.journal.proofs.base_state.Kept.after.Goals as goal
 
 pub note-requires-clause-address : goal.note-requires-clause-address

@@ -1,4 +1,4 @@
-use Rattle.journal.proofs.Bases.Noted.{IsKeptSoFar}
+use Rattle.journal.proofs.FromBase.KeptAndHeld.{IsKeptSoFar}
 use Rattle.journal.proofs.base_state.Kept.after.Given as goal
 
 abbrev pub invariant-loop-event : goal.invariant-loop-event

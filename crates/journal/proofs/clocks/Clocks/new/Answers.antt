@@ -1,6 +1,6 @@
 use Rattle.std.proofs.Common.{refl, ap}
-use Rattle.journal.specs.Entries.{entry}
-use Rattle.journal.proofs.Passes.Entries.{zeros_at}
+use Rattle.journal.specs.ClockEntry.{entry}
+use Rattle.journal.proofs.Passes.ClockEntry.{zeros_at}
 use Rattle.journal.proofs.Passes.FirstClocks.{clocks_first}
 use Rattle.journal.proofs.clocks.Clocks.new.Goals as goal
 

@@ -7,12 +7,12 @@ use Rattle.journal.specs.declared.event.Event.{Event}
 use Rattle.journal.specs.declared.event.Kind.{Kind}
 use Rattle.journal.specs.declared.event.Kind.TheVariants.{Load, Ask, Acquire, Release, Arrive, Depart, Set, Watch, Await}
 use Rattle.journal.specs.declared.clocks.Clocks.{Clocks}
-use Rattle.journal.specs.Did.{event}
+use Rattle.journal.specs.DidEvent.{event}
 use Rattle.journal.specs.InRange.{ProcessorsInRange}
 use Rattle.journal.specs.Events.{is_taking, is_closing}
-use Rattle.journal.specs.Entries.{entry}
+use Rattle.journal.specs.ClockEntry.{entry}
 use Rattle.journal.specs.Clocks.{AreClocks}
-use Rattle.journal.proofs.Passes.ClockSteps.{clocks_plain, closed_next, taken_next, arrived_next, departed_next, front_next, own_room, clocks_let_go}
+use Rattle.journal.proofs.Passes.NextClocks.{clocks_plain, closed_next, taken_next, arrived_next, departed_next, front_next, own_room, clocks_let_go}
 use Rattle.journal.proofs.clocks.Clocks.note.Goals as goal
 
 -- the event at this place

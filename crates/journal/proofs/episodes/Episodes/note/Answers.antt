@@ -2,8 +2,8 @@ use Rattle.std.proofs.Common.{slice_index_or}
 use Rattle.std.proofs.lemmas.Option.{slice_get-get_or}
 use Rattle.journal.specs.declared.event.Event.{Event}
 use Rattle.journal.specs.declared.event.Kind.TheVariants.{Load}
-use Rattle.journal.specs.Did.{event}
-use Rattle.journal.proofs.Bases.Episodes.{episode_ends, episode_lasts}
+use Rattle.journal.specs.DidEvent.{event}
+use Rattle.journal.proofs.FromBase.EpisodeEnds.{episode_ends, episode_lasts}
 use Rattle.journal.proofs.episodes.Episodes.note.Goals as goal
 
 pub returns-then-ends_episode : goal.returns-then-ends_episode

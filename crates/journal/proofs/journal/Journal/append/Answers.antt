@@ -6,9 +6,9 @@ use Rattle.journal.specs.Log.{Log}
 use Rattle.journal.specs.InRange.{AddressInRange, AddressesInRange, ProcessorsInRange}
 use Rattle.journal.specs.Opening.{IsOpening}
 use Rattle.journal.specs.Kept.{base_of}
-use Rattle.journal.specs.Episodes.{AreEpisodes, IsRaceOfPart}
-use Rattle.journal.proofs.Bases.Fronts.{part_race_longer}
-use Rattle.journal.proofs.Journals.Held.{within_length, processors_push, addresses_push, processors_part, opening_longer, behind_whole, up_to_last, before_last}
+use Rattle.journal.specs.Episodes.{AreEpisodes, IsRaceOfEpisodes}
+use Rattle.journal.proofs.FromBase.LongerAndShorter.{part_race_longer}
+use Rattle.journal.proofs.Journals.ProcessorsAndAddresses.{within_length, processors_push, addresses_push, processors_part, opening_longer, behind_whole, up_to_last, before_last}
 use Rattle.journal.proofs.journal.Journal.append.Goals as goal
 
 pub note-requires-clause-so_far : goal.note-requires-clause-so_far
@@ -78,7 +78,7 @@ invariant_of-self c =
           c.note.ensures;
       race =
           IfSome_then j.race held.race (λ (r : ℕ × ℕ) known. subst
-          (λ (xs : List Event). IsRaceOfPart j.processors (base_of j.kept) xs r.0 r.1) (sym pushed)
+          (λ (xs : List Event). IsRaceOfEpisodes j.processors (base_of j.kept) xs r.0 r.1) (sym pushed)
           (part_race_longer j.processors (base_of j.kept) (drop j.processors j.events.items) (c.args.event ∷ [])
           r.0 r.1 known));
     }

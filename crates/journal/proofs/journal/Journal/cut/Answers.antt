@@ -3,10 +3,10 @@ use Rattle.journal.specs.declared.event.Event.{Event}
 use Rattle.journal.specs.Log.{Log}
 use Rattle.journal.specs.InRange.{AddressesInRange}
 use Rattle.journal.specs.RacesFrom.{RaceFreeFrom}
-use Rattle.journal.specs.Cuts.{IsBaseAfter}
-use Rattle.journal.specs.Cutting.{WasCut}
+use Rattle.journal.specs.EpisodeBases.{IsBaseAfter}
+use Rattle.journal.specs.CutFaults.{WasCut}
 use Rattle.journal.specs.Kept.{base_of}
-use Rattle.journal.proofs.Journals.Held.{addresses_part}
+use Rattle.journal.proofs.Journals.ProcessorsAndAddresses.{addresses_part}
 use Rattle.journal.proofs.journal.Journal.cut.Goals as goal
 
 pub overflow_add-cut_events : goal.overflow_add-cut_events

@@ -3,11 +3,11 @@ use Rattle.std.proofs.Math.Seq.{take-length}
 use Rattle.std.proofs.lemmas.Result.{IfOk-weaker}
 use Rattle.journal.specs.declared.event.Event.{Event}
 use Rattle.journal.specs.declared.event.Kind.TheVariants.{Load}
-use Rattle.journal.specs.Did.{event}
+use Rattle.journal.specs.DidEvent.{event}
 use Rattle.journal.specs.InRange.{AddressesInRange}
 use Rattle.journal.specs.Base.{Base}
-use Rattle.journal.specs.Flat.{Replays}
-use Rattle.journal.specs.LoadsFrom.{ExplainedFrom}
+use Rattle.journal.specs.FlatMemory.{Replays}
+use Rattle.journal.specs.ExplainedAnswersFrom.{ExplainedFrom}
 use Rattle.journal.specs.RacesFrom.{RaceFreeFrom, IsFirstRaceFrom}
 use Rattle.journal.proofs.Flat.FlatMemory.{flat_before_race_from}
 use Rattle.journal.proofs.journal.Journal.first_race.Goals as goal

@@ -2,7 +2,7 @@ use Rattle.std.proofs.Common.{rules, List, drop, subst, sym, ap, ◌∙◌}
 use Rattle.std.proofs.Math.Seq.{drop-length}
 use Rattle.journal.specs.declared.event.Event.{Event}
 use Rattle.journal.specs.Episodes.{AreEpisodes}
-use Rattle.journal.proofs.Journals.Held.{opening_processors, opening_addresses, opening_whole}
+use Rattle.journal.proofs.Journals.ProcessorsAndAddresses.{opening_processors, opening_addresses, opening_whole}
 use Rattle.journal.proofs.journal.Journal.new.Goals as goal
 
 pub invariant_of-result : goal.invariant_of-result

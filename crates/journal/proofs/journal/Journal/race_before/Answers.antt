@@ -1,8 +1,8 @@
 use Rattle.std.proofs.Common.{◌+◌, ◌-◌, inl, inr, take, subst}
 use Rattle.journal.specs.Log.{Log}
 use Rattle.journal.specs.RacesFrom.{RaceFreeFrom, IsFirstRaceFrom}
-use Rattle.journal.proofs.Bases.Opening.{free_from, first_from}
-use Rattle.journal.proofs.Journals.Held.{processors_part, addresses_part, in_base, checked}
+use Rattle.journal.proofs.FromBase.Opening.{free_from, first_from}
+use Rattle.journal.proofs.Journals.ProcessorsAndAddresses.{processors_part, addresses_part, in_base, checked}
 use Rattle.journal.proofs.journal.Journal.race_before.Goals as goal
 use Rattle.journal.proofs.journal.Journal.race_before.Goals.{then-self-eq0, else-self-eq0}
 

@@ -1,9 +1,9 @@
 use Rattle.std.proofs.Common.{take, drop, MatchOption, subst, sym}
 use Rattle.journal.specs.Log.{Log}
 use Rattle.journal.specs.RacesFrom.{RaceFreeFrom, IsFirstRaceFrom}
-use Rattle.journal.specs.Cuts.{IsCut}
+use Rattle.journal.specs.EpisodeBases.{IsEpisodeCut}
 use Rattle.journal.specs.Kept.{base_of}
-use Rattle.journal.proofs.Bases.Fronts.{part_race}
+use Rattle.journal.proofs.FromBase.LongerAndShorter.{part_race}
 use Rattle.journal.proofs.journal.Journal.race_of_part.Goals as goal
 
 pub returns-in-Some-clause-race : goal.returns-in-Some-clause-race
@@ -11,7 +11,7 @@ returns-in-Some-clause-race c =
     let j = c.self.inside in
     let race = c.in-Some.race in
     let known = rw c.in-Some.is at c.self.invariant.race in
-    let cut = subst (λ (l : Log). IsCut l.processors l.events c.args.count) (sym c.self.view_is) c.requires in
+    let cut = subst (λ (l : Log). IsEpisodeCut l.processors l.events c.args.count) (sym c.self.view_is) c.requires in
     subst (λ (l : Log). IsFirstRaceFrom l.base (take c.args.count l.events) race.0 race.1) c.self.view_is
     (part_race j.processors (base_of j.kept) (drop j.processors j.events.items) c.args.count race.0 race.1 cut known)
 

@@ -1,12 +1,12 @@
 use Rattle.std.proofs.Common.{IsSome, ◌↔◌}
 use Rattle.std.proofs.lemmas.Result.{IfOk-weaker}
 use Rattle.journal.specs.declared.event.Kind.TheVariants.{Load}
-use Rattle.journal.specs.Did.{event}
-use Rattle.journal.specs.Flat.{Replays}
-use Rattle.journal.specs.LoadsFrom.{ExplainedFrom}
+use Rattle.journal.specs.DidEvent.{event}
+use Rattle.journal.specs.FlatMemory.{Replays}
+use Rattle.journal.specs.ExplainedAnswersFrom.{ExplainedFrom}
 use Rattle.journal.specs.RacesFrom.{RaceFreeFrom}
 use Rattle.journal.proofs.Flat.FlatMemory.{flat_memory_from}
-use Rattle.journal.proofs.Journals.Held.{in_base}
+use Rattle.journal.proofs.Journals.ProcessorsAndAddresses.{in_base}
 use Rattle.journal.proofs.journal.Journal.replay.Goals as goal
 
 pub replay_of-requires : goal.replay_of-requires

@@ -5,7 +5,7 @@ use Rattle.journal.specs.InRange.{AddressesInRange, ProcessorsInRange}
 use Rattle.journal.specs.Opening.{IsOpening}
 use Rattle.journal.specs.Episodes.{AreEpisodes}
 use Rattle.journal.specs.Kept.{IsBaseState}
-use Rattle.journal.proofs.Journals.Held.{processors_part, processors_cut, addresses_cut, opening_cut, behind_whole}
+use Rattle.journal.proofs.Journals.ProcessorsAndAddresses.{processors_part, processors_cut, addresses_cut, opening_cut, behind_whole}
 use Rattle.journal.proofs.journal.Journal.take_off.Goals as goal
 
 pub of-self-inside-requires-clause-processors : goal.of-self-inside-requires-clause-processors

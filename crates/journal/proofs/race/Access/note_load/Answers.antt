@@ -1,6 +1,6 @@
 use Rattle.std.proofs.Common.{ℕ, ◌+◌, ◌<◌, ◌≤◌, inr, List, length, slice_index, slice_set, subst, sym, arith}
 use Rattle.std.proofs.lemmas.List.{get_or-set_same, get_or-set_other}
-use Rattle.journal.specs.Accesses.{AreLoadsAfter}
+use Rattle.journal.specs.AccessEntry.{AreLoadsAfter}
 use Rattle.journal.proofs.race.Access.note_load.Goals as goal
 
 -- a load whose number is written among several is the only one that changes

@@ -1,5 +1,5 @@
 use Rattle.std.proofs.Common.{vec_len, refl, slice_index}
-use Rattle.journal.proofs.Passes.RaceSteps.{no_race}
+use Rattle.journal.proofs.Passes.ReachedNextRaces.{no_race}
 use Rattle.journal.proofs.race.Accesses.race_at.Goals as goal
 
 pub returns-then-are_counted : goal.returns-then-are_counted

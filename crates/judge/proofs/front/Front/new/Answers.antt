@@ -3,7 +3,7 @@ use Rattle.std.specs.Prelude.{None}
 use Rattle.std.proofs.lemmas.Bool.{false≢true}
 use Rattle.std.proofs.lemmas.Option.{none-some}
 use Rattle.journal.specs.WellFormed.{Holds}
-use Rattle.base.proofs.Sets.{index-zeros}
+use Rattle.base.proofs.SliceSets.{index-zeros}
 use Rattle.judge.specs.Tells.{IsLastOf, IsSet}
 use Rattle.judge.proofs.front.Front.new.Goals as goal
 

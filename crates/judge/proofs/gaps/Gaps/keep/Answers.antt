@@ -2,7 +2,7 @@ use Rattle.std.proofs.Common.{refl, ap}
 use Rattle.journal.specs.declared.event.Event.{Event}
 use Rattle.judge.specs.Sizes.{sizes_of}
 use Rattle.judge.specs.Tallies.{row_index}
-use Rattle.journal.specs.Entries.{entry}
+use Rattle.journal.specs.ClockEntry.{entry}
 use Rattle.judge.proofs.InGaps.{fetched_other}
 use Rattle.judge.proofs.Keeping.{gaps_kept}
 use Rattle.judge.proofs.gaps.Gaps.keep.Goals as goal

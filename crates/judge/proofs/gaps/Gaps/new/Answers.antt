@@ -1,10 +1,10 @@
 use Rattle.std.proofs.Common.{ℕ, ◌*◌, [], replicate}
 use Rattle.std.proofs.lemmas.Slice.Zip.{AllZip-map}
-use Rattle.journal.proofs.Passes.Entries.{entry-zeros}
+use Rattle.journal.proofs.Passes.ClockEntry.{entry-zeros}
 use Rattle.std.proofs.lemmas.Option.{none-some}
 use Rattle.journal.specs.declared.event.Kind.TheVariants.{Store}
-use Rattle.journal.specs.Did.{event}
-use Rattle.journal.specs.Entries.{entry}
+use Rattle.journal.specs.DidEvent.{event}
+use Rattle.journal.specs.ClockEntry.{entry}
 use Rattle.judge.specs.Sizes.{sizes_of}
 use Rattle.judge.specs.Gaps.{StoresAt, StoresInPage, StoresWord}
 use Rattle.judge.specs.Tallies.{row_index}

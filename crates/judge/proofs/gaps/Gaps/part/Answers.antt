@@ -1,7 +1,7 @@
 use Rattle.std.proofs.Common.{◌≡◌, ℕ, ◌*◌, ◌<◌, List, [], length, count_by, vec_len, slice_index, slice_index_or, subst, sym, refl, ap, ap₂, ◌∙◌, arith}
 use Rattle.std.specs.Global.{Vec}
 use Rattle.std.proofs.lemmas.Option.{slice_get_read, get_or_from_slice_get}
-use Rattle.journal.specs.Entries.{entry}
+use Rattle.journal.specs.ClockEntry.{entry}
 use Rattle.judge.specs.declared.gaps.CountedGap.{CountedGap}
 use Rattle.judge.specs.Sizes.{sizes_of}
 use Rattle.judge.specs.Gaps.{CountsAmong}

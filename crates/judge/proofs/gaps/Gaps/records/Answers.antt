@@ -1,5 +1,5 @@
 use Rattle.std.proofs.Common.{ℕ, ◌≤◌, ◌<◌, subst, sym, ap, ◌∙◌, count_by}
-use Rattle.journal.specs.Copies.{HasCount}
+use Rattle.journal.specs.PageImages.{HasCount}
 use Rattle.judge.specs.Gaps.{StoresInPage}
 use Rattle.judge.specs.Sizes.{sizes_of}
 use Rattle.judge.specs.Tallies.{is_between, numbers, row_index}

@@ -4,10 +4,10 @@ use Rattle.std.specs.Prelude.{Result, Ok, Err, OnOk}
 use Rattle.journal.specs.declared.event.Event.{Event}
 use Rattle.journal.specs.declared.event.Kind.TheVariants.{Store, Fetch}
 use Rattle.journal.specs.Sizes.{Sizes}
-use Rattle.journal.specs.Did.{did, event}
+use Rattle.journal.specs.DidEvent.{did, event}
 use Rattle.journal.specs.Events.{count_of, is_closing}
-use Rattle.journal.specs.Entries.{entry}
-use Rattle.journal.proofs.Times.Pushes.{own_entry}
+use Rattle.journal.specs.ClockEntry.{entry}
+use Rattle.journal.proofs.Times.PushesCovered.{own_time_entry}
 use Rattle.judge.specs.declared.gaps.Gaps.{Gaps}
 use Rattle.judge.specs.declared.tally.Tally.{Tally}
 use Rattle.judge.specs.Sizes.{sizes_of}
@@ -63,7 +63,7 @@ stored g j q a v k n intervals words tells lt is page first second = record {
 own : (j : List Event) (g : Gaps) (p : ℕ) (time : List ℕ) → TellsGaps j g → p < 16
     → ((q : ℕ) → slice_index time q ≡ entry g.clocks.processors.items p q)
     → slice_index time p ≡ count_of is_closing j p
-own j g p time tells lt is = is p ∙ own_entry j p (entry g.clocks.processors.items p) (tells.clocks.times p lt)
+own j g p time tells lt is = is p ∙ own_time_entry j p (entry g.clocks.processors.items p) (tells.clocks.times p lt)
 
 sixteen : (j : List Event) (g : Gaps) (p : ℕ) → TellsGaps j g → p < g.sizes.processors → p < 16
 sixteen j g p tells lt = let small = tells.long.sizes.processors in omega arith

@@ -1,5 +1,5 @@
 use Rattle.std.proofs.Common.{slice_index, sym}
-use Rattle.journal.specs.Entries.{entry}
+use Rattle.journal.specs.ClockEntry.{entry}
 use Rattle.journal.specs.Pasts.{InPast}
 use Rattle.journal.proofs.Times.Times.{time_equal}
 use Rattle.judge.proofs.gaps.Gaps.time.Goals as goal

@@ -1,6 +1,6 @@
 use Rattle.std.proofs.Common.{◌≡◌, ℕ, inl, inr, [], ◌∷◌, ◌++◌, List, Some, slice_get, subst, sym, ap, ◌∙◌, arith}
 use Rattle.std.specs.Global.{Vec}
-use Rattle.base.proofs.Places.{push_cases}
+use Rattle.base.proofs.SlicesAndCounts.{push_cases}
 use Rattle.judge.specs.declared.sources.stored.Stored.{Stored}
 use Rattle.judge.proofs.sources.readable.no_stores.Goals as goal
 

@@ -1,10 +1,10 @@
 use Rattle.std.proofs.Common.{◌≡◌, ℕ, inl, inr, [], ◌∷◌, ◌++◌, List, length, take, slice_index_or, subst, sym, ◌∙◌, arith}
 use Rattle.std.specs.Global.{Vec}
 use Rattle.std.proofs.lemmas.Option.{slice_get-get_or}
-use Rattle.base.proofs.Places.{push_cases}
+use Rattle.base.proofs.SlicesAndCounts.{push_cases}
 use Rattle.journal.specs.declared.event.Event.{Event}
 use Rattle.journal.specs.declared.event.Kind.TheVariants.{Load}
-use Rattle.journal.specs.Did.{event}
+use Rattle.journal.specs.DidEvent.{event}
 use Rattle.journal.specs.InRange.{AddressInRange, AddressesInRange, ProcessorsInRange}
 use Rattle.judge.specs.Sources.Latest.{AreReadableRows, IsReadableRow}
 use Rattle.judge.proofs.sources.InRows.{row_in}

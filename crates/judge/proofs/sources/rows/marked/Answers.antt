@@ -1,7 +1,7 @@
 use Rattle.std.proofs.Common.{◌≡◌, ℕ, ◌+◌, ◌<◌, List, [], ◌∷◌, ◌++◌, Option, Some, length, take, slice_get, slice_index_or, subst, sym, ap, ◌∙◌, add-one, arith}
 use Rattle.std.specs.Prelude.{None}
 use Rattle.std.proofs.lemmas.Option.{slice_get-get_or}
-use Rattle.base.proofs.Places.{take-suc_at}
+use Rattle.base.proofs.SlicesAndCounts.{take-suc_at}
 use Rattle.judge.specs.Sources.Latest.{AreMarked}
 use Rattle.judge.proofs.sources.InRows.{marked_next, marked_none}
 use Rattle.judge.proofs.sources.rows.marked.Goals as goal

@@ -2,7 +2,7 @@ use Rattle.std.proofs.Common.{ℕ, [], ◌∷◌, ◌++◌, List, length, subst,
 use Rattle.std.specs.Global.{Vec}
 use Rattle.std.proofs.lemmas.Result.{IfOk-weaker}
 use Rattle.journal.specs.declared.event.Event.{Event}
-use Rattle.journal.specs.Did.{event}
+use Rattle.journal.specs.DidEvent.{event}
 use Rattle.judge.specs.Sources.Latest.{AreMarked, IsReadableRow}
 use Rattle.judge.specs.Sources.Tells.{AreStoresOf}
 use Rattle.judge.proofs.sources.InRows.{row_marked, row_other}

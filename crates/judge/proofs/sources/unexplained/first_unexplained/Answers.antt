@@ -4,12 +4,12 @@ use Rattle.std.proofs.lemmas.Option.{slice_get-get_or}
 use Rattle.journal.specs.declared.event.Event.{Event}
 use Rattle.journal.specs.declared.event.Kind.{Kind}
 use Rattle.journal.specs.declared.event.Kind.TheVariants.{Load}
-use Rattle.journal.specs.Did.{event}
+use Rattle.journal.specs.DidEvent.{event}
 use Rattle.journal.specs.Events.{At}
 use Rattle.journal.specs.WellFormed.{Does}
 use Rattle.journal.specs.InRange.{AddressInRange, AddressesInRange, ProcessorsInRange}
-use Rattle.journal.specs.Loads.{IsAnswer}
-use Rattle.journal.proofs.Order.Places.{at_same, at_within}
+use Rattle.journal.specs.ExplainedAnswers.{IsAnswer}
+use Rattle.journal.proofs.Order.CountedAndNumbered.{at_same, at_within}
 use Rattle.judge.specs.Sources.Answers.{IsFirstUnexplained}
 use Rattle.judge.proofs.sources.Answering.{answer_in}
 use Rattle.judge.proofs.sources.unexplained.first_unexplained.Goals as goal

@@ -1,7 +1,7 @@
 use Rattle.std.proofs.Common.{◌≡◌, ◌<◌, ℕ, take}
 use Rattle.journal.specs.declared.event.Kind.TheVariants.{Load}
 use Rattle.journal.specs.WellFormed.{Does}
-use Rattle.journal.specs.Loads.{IsAnswer}
+use Rattle.journal.specs.ExplainedAnswers.{IsAnswer}
 use Rattle.judge.specs.Sources.Tells.{AreStoresOf}
 use Rattle.judge.proofs.sources.unexplained.first_unexplained.Given as goal
 

@@ -2,8 +2,8 @@ use Rattle.std.proofs.Common.{◌≡◌, ℕ, [], ◌∷◌, ◌++◌, List, len
 use Rattle.journal.specs.declared.event.Event.{Event}
 use Rattle.journal.specs.declared.event.Kind.{Kind}
 use Rattle.journal.specs.declared.event.Kind.TheVariants.{Load}
-use Rattle.journal.specs.Did.{event}
-use Rattle.journal.specs.Loads.{IsAnswer}
+use Rattle.journal.specs.DidEvent.{event}
+use Rattle.journal.specs.ExplainedAnswers.{IsAnswer}
 use Rattle.judge.proofs.sources.unexplained.is_explained.Goals as goal
 
 address_same : (a v b w : ℕ) → Load a v ≡ Load b w → a ≡ b

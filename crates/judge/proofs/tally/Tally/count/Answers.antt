@@ -1,7 +1,7 @@
 use Rattle.std.proofs.Common.{◌≡◌, ℕ, ◌+◌, ◌<◌, ◌≤◌, min, List, length, count_by, nat_lt, slice_index_or, subst, sym, refl, ap, ◌∙◌, arith}
 use Rattle.std.specs.Global.{Vec}
 use Rattle.std.proofs.lemmas.Option.{slice_get_read}
-use Rattle.base.specs.Places.{InOrder}
+use Rattle.base.specs.InOrderOnce.{InOrder}
 use Rattle.judge.specs.Tallies.{numbers, numbers_in, is_between}
 use Rattle.judge.proofs.Rows.{between_sum}
 use Rattle.judge.proofs.tally.Tally.count.Goals as goal

@@ -1,26 +1,26 @@
 use Rattle.std.proofs.Common.{◌<◌, ◌≢◌, None, length, is_some, ap, sym, ◌∙◌, subst, arith}
 use Rattle.std.proofs.lemmas.Bool.{false≢true}
-use Rattle.base.specs.Places.{Has}
-use Rattle.lockq.specs.Lock.{Lock, line}
-use Rattle.lockq.proofs.Orderly.{room, orderly-queued}
+use Rattle.base.specs.InOrderOnce.{Has}
+use Rattle.lockq.specs.LockQueues.{Lock, lock_line}
+use Rattle.lockq.proofs.OrderlyQueues.{queue_room, orderly-queued}
 use Rattle.lockq.proofs.locks.Lock.ask.Goals as goal
 
 pub push_back_reserved-requires : goal.push_back_reserved-requires
 push_back_reserved-requires c =
     let i = c.self.inside in
     let k : Lock = record { holder = i.holder; queue = i.queue.items; time = i.time } in
-    let Apart : Lock → Type 0 = λ s. ¬ Has (line s) c.args.processor in
+    let Apart : Lock → Type 0 = λ s. ¬ Has (lock_line s) c.args.processor in
     let apart = subst Apart (sym c.self.view_is) c.requires.apart in
     let Fits : Lock → Type 0 = λ s. c.args.processor < length s.time in
     let fits = subst Fits (sym c.self.view_is) c.requires.processor in
-    let spare = room (length i.time) k c.args.processor c.self.invariant.0 apart fits in
+    let spare = queue_room (length i.time) k c.args.processor c.self.invariant.0 apart fits in
     omega (arith, c.self.invariant.1)
 
 pub invariant_of-self-2 : goal.invariant_of-self-2
 invariant_of-self-2 c =
     let i = c.self.inside in
     let k : Lock = record { holder = i.holder; queue = i.queue.items; time = i.time } in
-    let Apart : Lock → Type 0 = λ s. ¬ Has (line s) c.args.processor in
+    let Apart : Lock → Type 0 = λ s. ¬ Has (lock_line s) c.args.processor in
     let apart = subst Apart (sym c.self.view_is) c.requires.apart in
     let Fits : Lock → Type 0 = λ s. c.args.processor < length s.time in
     let fits = subst Fits (sym c.self.view_is) c.requires.processor in

@@ -1,8 +1,8 @@
 use Rattle.std.proofs.Common.{ℕ, ◌≡◌, None, [], length, refl, ap, sym, ◌∙◌, subst, arith}
 use Rattle.std.proofs.lemmas.Option.{MatchOption-at_none}
 use Rattle.std.proofs.lemmas.List.{nil_from_length}
-use Rattle.lockq.specs.Lock.{Lock, IsOrderly}
-use Rattle.lockq.proofs.Orderly.{orderly-passed}
+use Rattle.lockq.specs.LockQueues.{Lock, IsOrderlyLock}
+use Rattle.lockq.proofs.OrderlyQueues.{orderly-passed}
 use Rattle.lockq.proofs.locks.Lock.release.Goals as goal
 
 pub invariant_of-self : goal.invariant_of-self
@@ -12,7 +12,7 @@ invariant_of-self c =
     let popped = c.pop_front-self-inside in
     let long : length c.args.time ≡ length i.time =
     c.requires.long ∙ ap (λ (s : Lock). length s.time) (sym c.self.view_is) in
-    let Orderly : ℕ → Type 0 = λ n. IsOrderly n k in
+    let Orderly : ℕ → Type 0 = λ n. IsOrderlyLock n k in
     let orderly = subst Orderly (sym long) c.self.invariant.0 in
     let left = popped.new.self in
     let none : popped.result ≡ None → left.items ≡ [] =

@@ -1,13 +1,13 @@
 use Rattle.std.proofs.Common.{List, length, slice_get, ap, sym, ◌∙◌}
 use Rattle.std.proofs.lemmas.List.{length-replicate}
-use Rattle.base.proofs.Sets.{slice_get-replicate_found}
-use Rattle.lockq.specs.Lock.{Lock, unheld}
+use Rattle.base.proofs.SliceSets.{slice_get-replicate_found}
+use Rattle.lockq.specs.LockQueues.{Lock, unheld_lock}
 use Rattle.lockq.proofs.locks.Locks.new.Goals as goal
 
 pub invariant_of-result : goal.invariant_of-result
 invariant_of-result c l k at =
     let n = c.args.processors in
     let same =
-    slice_get-replicate_found c.loop.counter (unheld n) k l
+    slice_get-replicate_found c.loop.counter (unheld_lock n) k l
     (ap (λ (ks : List Lock). slice_get ks l) (sym c.loop.invariant) ∙ at) in
     ap (λ (s : Lock). length s.time) (sym same) ∙ length-replicate n 0

@@ -1,6 +1,6 @@
 use Rattle.std.proofs.Common.{length, refl, ap, ◌∙◌, arith}
 use Rattle.std.proofs.lemmas.Option.{slice_get_read}
-use Rattle.lockq.specs.Lock.{Lock, Locks}
+use Rattle.lockq.specs.LockQueues.{Lock, Locks}
 use Rattle.lockq.proofs.locks.Locks.time.Goals as goal
 
 pub returns-clause-long : goal.returns-clause-long

@@ -1,11 +1,11 @@
 use Rattle.std.proofs.Common.{◌≡◌, List, ◌∷◌, ℕ, sym, ap, ◌∙◌, arith}
-use Rattle.lrc_script.specs.Reading.{parts_of}
+use Rattle.lrc_script.specs.LineReading.{parts_of_line}
 use Rattle.lrc_check.proofs.traces.Shapes.{four_words, shaped_from, unshaped_words, unshaped_short, unshaped_name, unshaped_count, words_same}
 use Rattle.lrc_check.proofs.traces.line.words_of.Goals as goal
 
 -- the first words, and what is left
-three : (line : List ℕ) (w a : List ℕ) (l m n : List (List ℕ)) → parts_of 32 line ≡ w ∷ l → l ≡ a ∷ m → m ≡ n
-    → parts_of 32 line ≡ w ∷ a ∷ n
+three : (line : List ℕ) (w a : List ℕ) (l m n : List (List ℕ)) → parts_of_line 32 line ≡ w ∷ l → l ≡ a ∷ m → m ≡ n
+    → parts_of_line 32 line ≡ w ∷ a ∷ n
 three line w a l m n first second third =
     first ∙ ap (λ (t : List (List ℕ)). w ∷ t) second ∙ ap (λ (t : List (List ℕ)). w ∷ a ∷ t) third
 

@@ -1,7 +1,7 @@
 use Rattle.std.proofs.Common.{◌≡◌, ◌∷◌, ◌∙◌, [], List, ℕ, add-one, ap, length, refl, subst, take, arith}
 use Rattle.std.proofs.Math.Seq.{take-length}
 use Rattle.std.proofs.lemmas.Option.{slice_get-get_or}
-use Rattle.base.proofs.Places.{take-suc_at}
+use Rattle.base.proofs.SlicesAndCounts.{take-suc_at}
 use Rattle.lrc_script.specs.Plan.{plan_of}
 use Rattle.lrc_run.specs.Turns.{AreTaken}
 use Rattle.lrc_run.proofs.Scheduling.{fault_at}

@@ -1,16 +1,16 @@
 use Rattle.std.proofs.Common.{◌≡◌, None, length, arith}
 use Rattle.lrc_script.specs.Plan.{plan_of}
-use Rattle.conformance.specs.ByTurns.{IsEndBy}
+use Rattle.conformance.specs.ByTurns.{IsEndByTurns}
 use Rattle.conformance.specs.Schedules.{scheduled}
 use Rattle.lrc_run.proofs.ByTurns.{by_schedule, by_taken, end_by}
-use Rattle.lrc_run.proofs.Stepping.{all_begin}
+use Rattle.lrc_run.proofs.Stepping.{steps_begin}
 use Rattle.lrc_run.proofs.steps.scheduled.step_by_with.Goals as goal
 
 pub follow-requires-clause-way : goal.follow-requires-clause-way
 follow-requires-clause-way g c κs within =
     let ms = c.in_ok-cluster.processors.items in
     let many : c.len.result ≡ length ms = omega (arith, c.len.ensures, c.in_ok-cluster.processors.ok) in
-    all_begin c.in_ok-cluster.cluster (plan_of c.args.script.now).sections ms c.in_ok-all.all.items c.len.result
+    steps_begin c.in_ok-cluster.cluster (plan_of c.args.script.now).sections ms c.in_ok-all.all.items c.len.result
     c.in_ok-cluster.ensures.new many c.in_ok-all.ensures.ok
 
 pub returns-clause-end : goal.returns-clause-end

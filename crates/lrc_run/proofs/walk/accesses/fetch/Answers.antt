@@ -1,5 +1,5 @@
 use Rattle.std.proofs.lemmas.Result.{err_from_is_err_and}
-use Rattle.lrc_run.proofs.Adding.{adds_flush, fetches_after, fetches_by}
+use Rattle.lrc_run.proofs.Adding.{adds_flush, adds_fetch_after, adds_fetch_by}
 use Rattle.lrc_run.proofs.walk.accesses.fetch.Goals as goal
 
 pub returns-in_err-flush-in-Err-BlockFull : goal.returns-in_err-flush-in-Err-BlockFull
@@ -14,10 +14,10 @@ returns-in_ok-flush-in-Err-BlockFull g c =
     let full = c.fetch.new.self in
     let roomy = c.flush.new.processor in
     let answer = c.fetch-in-Err-BlockFull in
-    fetches_after c.args.processor.now roomy answer.new.self answer.result c.args.page
+    adds_fetch_after c.args.processor.now roomy answer.new.self answer.result c.args.page
     (adds_flush c.args.processor.now full roomy c.flush.result c.in-Err-BlockFull.ensures.err c.flush.ensures)
-    (fetches_by roomy answer.new.self c.args.page answer.result answer.ensures.err answer.ensures.ok)
+    (adds_fetch_by roomy answer.new.self c.args.page answer.result answer.ensures.err answer.ensures.ok)
 
 pub returns-in_default-2 : goal.returns-in_default-2
-returns-in_default-2 g c = fetches_by c.args.processor.now c.fetch.new.self c.args.page c.fetch.result
+returns-in_default-2 g c = adds_fetch_by c.args.processor.now c.fetch.new.self c.args.page c.fetch.result
     c.fetch.ensures.err c.fetch.ensures.ok

@@ -1,7 +1,7 @@
 use Rattle.std.proofs.Common.{Err, Ok, ap, refl, sym, ◌∙◌}
 use Rattle.std.specs.Result.{result_err}
 use Rattle.journal.specs.declared.event.Kind.TheVariants as kind
-use Rattle.lrc_run.proofs.Adding.{access_page, adds_after, adds_load, adds_none, fetches_after, tries_adds, tries_fetched}
+use Rattle.lrc_run.proofs.Adding.{adds_access_page, adds_after, adds_load, adds_none, adds_fetch_after, tries_adds, tries_adds_fetch}
 use Rattle.lrc_run.proofs.walk.accesses.load.Goals as goal
 
 pub returns-in_ok-fetch-in-Err-Invalid : goal.returns-in_ok-fetch-in-Err-Invalid
@@ -11,10 +11,10 @@ returns-in_ok-fetch-in-Err-Invalid g c =
     let page = c.in-Err-Invalid.page in
     let refused = sym c.load.ensures.refused ∙ ap result_err (c.in-Err-Invalid.is ∙ ap Err c.in-Err-Invalid.field-0-is) in
     let fetched = Ok c.in_ok-fetch-in-Err-Invalid.field-0 in
-    tries_fetched m c.fetch.new.processor c.load_roomy.new.processor page fetched c.load_roomy.result (λ v. kind.Load c.args.address v) refl
-    (fetches_after m stale c.fetch.new.processor fetched page (adds_none m stale c.in-Err-Invalid.ensures.err)
+    tries_adds_fetch m c.fetch.new.processor c.load_roomy.new.processor page fetched c.load_roomy.result (λ v. kind.Load c.args.address v) refl
+    (adds_fetch_after m stale c.fetch.new.processor fetched page (adds_none m stale c.in-Err-Invalid.ensures.err)
     c.in_ok-fetch-in-Err-Invalid.ensures)
-    (λ x. refl) (λ x. sym (access_page m c.args.address page refused)) c.load_roomy.ensures
+    (λ x. refl) (λ x. sym (adds_access_page m c.args.address page refused)) c.load_roomy.ensures
 
 pub returns-in-Err-BlockFull : goal.returns-in-Err-BlockFull
 returns-in-Err-BlockFull g c =

@@ -1,24 +1,24 @@
 use Rattle.std.proofs.Common.{refl, [], ◌∷◌}
 use Rattle.journal.specs.declared.event.Kind.TheVariants as kind
 use Rattle.lrc_script.specs.declared.script.Instruction.TheVariants as instruction
-use Rattle.lrc_run.proofs.Calling.{begun_call, done_add, done_call, done_tries}
-use Rattle.lrc_run.proofs.Making.{tries_same}
+use Rattle.lrc_run.proofs.Calling.{begun_call, add_calls_done, done_call, call_done_tries}
+use Rattle.lrc_run.proofs.SeesAndMakes.{sees_same_if_tried}
 use Rattle.lrc_run.proofs.walk.instructions.call.Goals as goal
 
 pub returns-in-Store-clause-same : goal.returns-in-Store-clause-same
 returns-in-Store-clause-same g c =
-    tries_same c.args.processor.now c.store.new.processor c.store.result _ c.store.ensures
+    sees_same_if_tried c.args.processor.now c.store.new.processor c.store.result _ c.store.ensures
 
 pub returns-in-Store-clause-ok : goal.returns-in-Store-clause-ok
 returns-in-Store-clause-ok g c =
     let a = c.in-Store.address in
     let v = c.in-Store.value in
-    rw c.in-Store.is (done_tries (kind.Store a v ∷ []) (instruction.Store a v) c.args.processor.now
+    rw c.in-Store.is (call_done_tries (kind.Store a v ∷ []) (instruction.Store a v) c.args.processor.now
     c.store.new.processor c.store.result refl c.store.ensures)
 
 pub returns-in-Add-clause-ok : goal.returns-in-Add-clause-ok
 returns-in-Add-clause-ok g c =
-    rw c.in-Add.is (done_add c.in-Add.address c.in-Add.value c.args.processor.now c.add.new.processor c.add.result
+    rw c.in-Add.is (add_calls_done c.in-Add.address c.in-Add.value c.args.processor.now c.add.new.processor c.add.result
     c.add.ensures.ok)
 
 pub returns-in-Cut-clause-same : goal.returns-in-Cut-clause-same

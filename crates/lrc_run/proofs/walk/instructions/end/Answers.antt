@@ -1,14 +1,14 @@
 use Rattle.std.proofs.Common.{rules, ◌≡◌, Err, ap, ◌∙◌}
 use Rattle.book.specs.declared.refused.Refused.TheVariants.{NotYet}
-use Rattle.lrc_run.proofs.Making.{takes_all, takes_nothing}
+use Rattle.lrc_run.proofs.SeesAndMakes.{sees_taken_all, sees_nothing_taken}
 use Rattle.lrc_run.proofs.walk.instructions.end.Goals as goal
 
 pub returns-in-Ok-clause-ok : goal.returns-in-Ok-clause-ok
 returns-in-Ok-clause-ok g c =
-    takes_all c.args.processor.now c.take.new.processor c.take.result c.in-Ok.is c.take.ensures
+    sees_taken_all c.args.processor.now c.take.new.processor c.take.result c.in-Ok.is c.take.ensures
 
 pub returns-in-Err-NotYet-clause-ok : goal.returns-in-Err-NotYet-clause-ok
 returns-in-Err-NotYet-clause-ok g c =
     let late : c.in-Err-NotYet.field-0 ≡ NotYet = search rules in
-    takes_nothing c.args.processor.now c.take.new.processor c.take.result (c.in-Err-NotYet.is ∙ ap Err late)
+    sees_nothing_taken c.args.processor.now c.take.new.processor c.take.result (c.in-Err-NotYet.is ∙ ap Err late)
     c.take.ensures

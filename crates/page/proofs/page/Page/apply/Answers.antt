@@ -1,5 +1,5 @@
 use Rattle.std.proofs.Common.{ℕ, List, length, ap, subst, arith}
-use Rattle.base.specs.Places.{Has}
+use Rattle.base.specs.InOrderOnce.{Has}
 use Rattle.page.specs.Contents.{Contents}
 use Rattle.page.proofs.page.Page.apply.Goals as goal
 

@@ -1,12 +1,12 @@
 use Rattle.std.proofs.Common.{ℕ, ◌≡◌, List, length, ap, sym, ◌∙◌, subst}
-use Rattle.base.specs.Records.{harvest}
-use Rattle.page.specs.Changes.{IsRising}
+use Rattle.base.specs.MarkedRecords.{harvest}
+use Rattle.page.specs.RisingChanges.{IsRising}
 use Rattle.page.specs.Contents.{Contents}
-use Rattle.page.specs.Carries.{FitsIn}
+use Rattle.page.specs.CarriedHarvests.{FitsIn}
 use Rattle.page.specs.Marks.{marks_of}
-use Rattle.base.proofs.Harvests.{harvest_rises}
+use Rattle.base.proofs.MarkedHarvests.{harvest_rises}
 use Rattle.page.proofs.Harvested.{harvest_fits}
-use Rattle.page.proofs.Carries.{carries_record, carries_none}
+use Rattle.page.proofs.CarriedMerged.{carries_record, carries_none}
 use Rattle.page.proofs.page.Page.harvest.Goals as goal
 
 pub returns-then-is_clean-clause-carries : goal.returns-then-is_clean-clause-carries

@@ -2,7 +2,7 @@ use Rattle.std.proofs.Common.{ℕ, length, ap, sym, ◌∙◌, subst}
 use Rattle.std.proofs.lemmas.Bool.{eqb-true, eq-eqb}
 use Rattle.page.specs.Contents.{Contents, IsClean}
 use Rattle.page.specs.Marks.{marks_of}
-use Rattle.page.proofs.Marks.{marks_of-zero, zero_from_clean}
+use Rattle.page.proofs.Marks.{marks_of-zero, zero_marks_from_clean}
 use Rattle.page.proofs.page.Page.is_clean.Goals as goal
 
 pub returns : goal.returns
@@ -11,5 +11,5 @@ returns c =
     let n = length p.words.items in
     let P : Contents → Type 0 = λ q. IsClean q in (
       λ e. subst P c.self.view_is (ap (λ (word : ℕ). marks_of n word) (eqb-true p.dirty 0 e) ∙ marks_of-zero n),
-      λ clean. eq-eqb p.dirty 0 (zero_from_clean n p.dirty c.self.invariant.1 (subst P (sym c.self.view_is) clean)),
+      λ clean. eq-eqb p.dirty 0 (zero_marks_from_clean n p.dirty c.self.invariant.1 (subst P (sym c.self.view_is) clean)),
     )

@@ -1,5 +1,5 @@
 use Rattle.std.proofs.Common.{◌≡◌, take}
-use Rattle.journal.specs.Groups.{since}
+use Rattle.journal.specs.ContentsSince.{since}
 use Rattle.test_memory.proofs.histories.history.open_of.Given as goal
 
 abbrev pub invariant-loop-event : goal.invariant-loop-event

@@ -1,6 +1,6 @@
 use Rattle.std.proofs.Common.{◌≡◌, Some, length, slice_get, subst, arith}
 use Rattle.page.specs.declared.page.Access.TheVariants.{Invalid}
-use Rattle.cluster.specs.Copies.Copies.{AllFit, Copied}
+use Rattle.cluster.specs.Copies.PageReplica.{AllFitPage, Copied}
 use Rattle.cluster.specs.Copies.Counts.{AreCountable}
 use Rattle.cluster.proofs.copies.Steps.{item_at}
 use Rattle.test_memory.proofs.parts.copies.fetch_first.Goals as goal
@@ -12,7 +12,7 @@ counts-counts-requires-clause-fit c =
     let at : slice_get c.args.replicas.now 0 ≡ Some copy =
     item_at c.args.replicas.now 0 copy (omega arith) c.index-replicas-0.is
     in
-    subst (λ (x : Copied). AllFit (length x.page.words) x.missing) c.index-replicas-0.is (c.requires.fits 0 copy at)
+    subst (λ (x : Copied). AllFitPage (length x.page.words) x.missing) c.index-replicas-0.is (c.requires.fits 0 copy at)
 
 pub counts-counts-requires-clause-few : goal.counts-counts-requires-clause-few
 counts-counts-requires-clause-few c =
@@ -39,4 +39,4 @@ fetch-requires-clause-fit c =
     let at : slice_get c.args.replicas.now 0 ≡ Some copy =
     item_at c.args.replicas.now 0 copy (omega arith) c.index-replicas-0.is
     in
-    subst (λ (x : Copied). AllFit (length x.page.words) x.missing) c.index-replicas-0.is (c.requires.fits 0 copy at)
+    subst (λ (x : Copied). AllFitPage (length x.page.words) x.missing) c.index-replicas-0.is (c.requires.fits 0 copy at)

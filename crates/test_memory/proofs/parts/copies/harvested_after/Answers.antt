@@ -1,6 +1,6 @@
 use Rattle.std.proofs.Common.{List, sym, subst}
-use Rattle.cluster.specs.Copies.Copies.{Copied}
-use Rattle.cluster.specs.Copies.Records.{DirtyAreMarked}
+use Rattle.cluster.specs.Copies.PageReplica.{Copied}
+use Rattle.cluster.specs.Copies.MarksAndHarvests.{DirtyAreMarked}
 use Rattle.test_memory.proofs.Copies.{cleaned_marked}
 use Rattle.test_memory.proofs.parts.copies.harvested_after.Goals as goal
 

@@ -1,10 +1,10 @@
 use Rattle.std.proofs.Common.{ℕ, ◌≡◌, ◌<◌, ◌+◌, Option, [], ◌∷◌, ◌++◌, length, ap, sym, ◌∙◌, subst, arith, inl, inr}
 use Rattle.std.specs.Option.{option_to_list}
 use Rattle.std.proofs.lemmas.List.{length-set}
-use Rattle.base.specs.Places.{Has}
+use Rattle.base.specs.InOrderOnce.{Has}
 use Rattle.base.proofs.Joined.{has-append}
-use Rattle.lockq.specs.Lock.{Lock, Locks, lock_at, asked}
-use Rattle.lockq.proofs.Orderly.{has-one, within-push, lock_at-with_lock, asked-held}
+use Rattle.lockq.specs.LockQueues.{Lock, Locks, lock_at, asked_lock}
+use Rattle.lockq.proofs.OrderlyQueues.{has-one_queued, within-push, lock_at-with_lock, queued-held}
 use Rattle.test_memory.proofs.parts.locks.ask_all.Goals as goal
 
 pub ask-requires-clause-apart : goal.ask-requires-clause-apart
@@ -13,7 +13,7 @@ ask-requires-clause-apart c has =
     let k = lock_at l.locks c.args.lock in
     let Front : Option ℕ → Type 0 = λ h. Has (option_to_list h ++ k.queue) l.processor in
     elim ((has-append (0 ∷ []) k.queue l.processor).0 (subst Front l.invariant.holder has)) [
-      | inl first ↦ let same = has-one 0 l.processor first in omega arith
+      | inl first ↦ let same = has-one_queued 0 l.processor first in omega arith
       | inr queued ↦ let lt = l.invariant.below l.processor queued in omega arith
     ]
 
@@ -23,11 +23,11 @@ loop-processor-preserved c =
     let k = lock_at l.locks c.args.lock in
     let long =
     ap (λ (s : Locks). length s.locks) c.ask.ensures.locks
-    ∙ length-set l.locks.locks c.args.lock (asked k l.processor) in
+    ∙ length-set l.locks.locks c.args.lock (asked_lock k l.processor) in
     let now : lock_at c.ask.new.self c.args.lock ≡ record k { queue = k.queue ++ l.processor ∷ [] } =
     ap (λ (s : Locks). lock_at s c.args.lock) c.ask.ensures.locks
-    ∙ lock_at-with_lock l.locks c.args.lock (asked k l.processor) l.invariant.lock
-    ∙ asked-held k 0 l.processor l.invariant.holder in
+    ∙ lock_at-with_lock l.locks c.args.lock (asked_lock k l.processor) l.invariant.lock
+    ∙ queued-held k 0 l.processor l.invariant.holder in
     let Below : Lock → Type 0 = λ s. (q : ℕ) → Has s.queue q → q < l.processor + 1 in
     record {
       locks = long ∙ l.invariant.locks;

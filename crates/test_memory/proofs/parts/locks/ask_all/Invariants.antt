@@ -1,6 +1,6 @@
 use Rattle.std.proofs.Common.{ℕ, ◌≡◌, ◌<◌, Some, length}
-use Rattle.base.specs.Places.{Has}
-use Rattle.lockq.specs.Lock.{lock_at}
+use Rattle.base.specs.InOrderOnce.{Has}
+use Rattle.lockq.specs.LockQueues.{lock_at}
 use Rattle.test_memory.proofs.parts.locks.ask_all.Given as goal
 
 abbrev pub invariant-loop-processor : goal.invariant-loop-processor

@@ -1,6 +1,6 @@
 -- The lock is free, and nobody waits for it.
 use Rattle.std.proofs.Common.{◌≡◌, None, [], length}
-use Rattle.lockq.specs.Lock.{lock_at}
+use Rattle.lockq.specs.LockQueues.{lock_at}
 use Rattle.test_memory.proofs.steady.locks.go_round.Given as goal
 
 abbrev pub invariant-loop : goal.invariant-loop

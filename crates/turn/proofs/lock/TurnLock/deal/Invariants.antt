@@ -1,5 +1,5 @@
 use Rattle.std.proofs.Common.{◌≡◌, ◌≤◌, vec_len, vec_capacity}
-use Rattle.turn.proofs.Dealing.{Dealing}
+use Rattle.turn.proofs.DealingAndGathering.{Dealing}
 use Rattle.turn.proofs.lock.TurnLock.deal.Given as goal
 
 abbrev pub invariant-loop : goal.invariant-loop

@@ -1,5 +1,5 @@
 use Rattle.std.proofs.Common.{◌<◌, ℕ, subst, sym, arith}
-use Rattle.turn.proofs.Rounds.{draws_allowed}
+use Rattle.turn.proofs.AllowedLooks.{draws_allowed}
 use Rattle.turn.specs.Boards.{IsBoard}
 use Rattle.turn.proofs.lock.TurnLock.draw.Goals as goal
 

@@ -1,5 +1,5 @@
 use Rattle.std.proofs.Common.{vec_len}
-use Rattle.turn.proofs.Dealing.{Gathering}
+use Rattle.turn.proofs.DealingAndGathering.{Gathering}
 use Rattle.turn.proofs.lock.TurnLock.gather.Given as goal
 
 abbrev pub invariant-loop-chair : goal.invariant-loop-chair

@@ -2,8 +2,8 @@ use Rattle.std.proofs.Common.{◌≡◌, eqb, Option, ℕ, ◌<◌, ap, sym, ◌
 use Rattle.atomic_table.specs.Table.{Me}
 use Rattle.turn.specs.declared.chair.ChairState.{ChairState}
 use Rattle.turn.specs.declared.chair.ChairRun.{ChairRun}
-use Rattle.turn.specs.Moves.{StepsIn}
-use Rattle.turn.proofs.Rounds.{both_cases, looks_allowed}
+use Rattle.turn.specs.SeatSteps.{StepsIn}
+use Rattle.turn.proofs.AllowedLooks.{both_cases, looks_allowed}
 use Rattle.turn.specs.Boards.{IsBoard}
 use Rattle.turn.proofs.lock.TurnLock.look.Goals as goal
 

@@ -1,5 +1,5 @@
 use Rattle.std.proofs.Common.{Some}
-use Rattle.turn.proofs.Rounds.{taken_last}
+use Rattle.turn.proofs.AllowedLooks.{taken_last}
 use Rattle.turn.proofs.lock.TurnLock.take_book.Goals as goal
 
 pub exchange-taken-requires : goal.exchange-taken-requires

@@ -1,4 +1,4 @@
-use Rattle.turn.proofs.ChairLists.{chair_at, all_again}
+use Rattle.turn.proofs.ChairLists.{chair_at, all_chairs_again}
 use Rattle.turn.proofs.lock.tests.enter_at.Goals as goal
 
 pub pass_through-requires-clause-own : goal.pass_through-requires-clause-own
@@ -14,6 +14,6 @@ pass_through-requires-clause-outside g c κs within =
 pub returns : goal.returns
 returns g c =
     let same = c.pass_through.ensures in
-    all_again (g.T.Turn.id c.args.turn.now) (g.T.Turn.size c.args.turn.now) c.args.chairs.now.items c.requires.all
+    all_chairs_again (g.T.Turn.id c.args.turn.now) (g.T.Turn.size c.args.turn.now) c.args.chairs.now.items c.requires.all
     c.args.place c.index_mut.result.now c.requires.place c.index_mut.ensures.value c.pass_through.new.chair
     same.0 same.1

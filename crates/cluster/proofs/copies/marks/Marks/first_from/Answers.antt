@@ -1,6 +1,6 @@
 use Rattle.std.proofs.Common.{List, Bool, subst, ◌/◌, ◌^◌, ◌+◌, w64, arith}
 use Rattle.std.specs.Int.{trailing_zeros}
-use Rattle.cluster.specs.Copies.Records.{IsFirstMark, HasNoMark}
+use Rattle.cluster.specs.Copies.MarksAndHarvests.{IsFirstMark, HasNoMark}
 use Rattle.cluster.proofs.copies.FirstMark.{no_mark, first_mark}
 use Rattle.cluster.proofs.copies.marks.Marks.first_from.Goals as goal
 

@@ -1,7 +1,7 @@
 use Rattle.std.proofs.Common.{◌≡◌, ap, arith}
-use Rattle.interval.specs.Intervals.{SentRecord}
+use Rattle.interval.specs.SentIntervals.{SentRecord}
 use Rattle.std.proofs.lemmas.Option.{slice_get_within}
-use Rattle.cluster.proofs.copies.Backlogs.{all_later}
+use Rattle.cluster.proofs.copies.Backlogs.{backlog_all_later}
 use Rattle.cluster.proofs.copies.missing.Backlog.on_from.Goals as goal
 
 pub returns-else-at-place : goal.returns-else-at-place
@@ -11,7 +11,7 @@ returns-else-at-place c =
     record {
       within = c.loop-at.invariant.within;
       before = c.loop-at.invariant.before;
-      behind = all_later c.args.self.now.records c.args.place c.loop-at.at x c.requires.order c.at.ensures (omega arith);
+      behind = backlog_all_later c.args.self.now.records c.args.place c.loop-at.at x c.requires.order c.at.ensures (omega arith);
     }
 
 pub returns-after-loop-at : goal.returns-after-loop-at

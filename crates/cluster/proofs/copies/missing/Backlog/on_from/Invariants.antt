@@ -1,5 +1,5 @@
 use Rattle.std.proofs.Common.{ℕ, ◌≡◌, ◌≤◌, ◌<◌, ◌-◌, Some, length, slice_get}
-use Rattle.interval.specs.Intervals.{SentRecord}
+use Rattle.interval.specs.SentIntervals.{SentRecord}
 use Rattle.cluster.proofs.copies.missing.Backlog.on_from.Given as goal
 
 abbrev pub invariant-loop-at : goal.invariant-loop-at

@@ -1,15 +1,15 @@
 use Rattle.std.proofs.Common.{length, ap, arith}
-use Rattle.cluster.specs.Copies.Backlogs.{Queued}
-use Rattle.cluster.proofs.copies.Backlogs.{length_read, none_later}
+use Rattle.cluster.specs.Copies.Backlogs.{Backlogged}
+use Rattle.cluster.proofs.copies.Backlogs.{length_read, backlog_none_later}
 use Rattle.cluster.proofs.copies.missing.Backlog.place_of.Goals as goal
 
 pub on_from-requires-clause-before : goal.on_from-requires-clause-before
 on_from-requires-clause-before c =
     let b = c.self.inside in
     let long = length_read b.start b.ring.items in
-    let same = ap (λ (q : Queued). length q.records) c.self.view_is in
+    let same = ap (λ (q : Backlogged). length q.records) c.self.view_is in
     let ok = b.ring.ok.0 in
     let is = c.len.ensures in
     let low = c.back_from-start.ensures.within in
-    none_later c.args.self.now.records c.args.place c.back_from-start.result c.requires (omega arith)
+    backlog_none_later c.args.self.now.records c.args.place c.back_from-start.result c.requires (omega arith)
     c.back_from-start.ensures.before

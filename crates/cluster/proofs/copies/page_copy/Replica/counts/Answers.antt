@@ -1,12 +1,12 @@
 use Rattle.std.proofs.Common.{length, sym, subst}
-use Rattle.cluster.specs.Copies.Copies.{Copied, AllFit}
+use Rattle.cluster.specs.Copies.PageReplica.{Copied, AllFitPage}
 use Rattle.cluster.specs.Copies.Counts.{AreCountable}
 use Rattle.cluster.proofs.copies.page_copy.Replica.counts.Goals as goal
 
 pub writers_of-requires-clause-fit : goal.writers_of-requires-clause-fit
 writers_of-requires-clause-fit c =
-    let fit : AllFit (length c.self.inside.page.words) c.self.inside.missing.records =
-    subst (λ (r : Copied). AllFit (length r.page.words) r.missing) (sym c.self.view_is) c.requires.fit in
+    let fit : AllFitPage (length c.self.inside.page.words) c.self.inside.missing.records =
+    subst (λ (r : Copied). AllFitPage (length r.page.words) r.missing) (sym c.self.view_is) c.requires.fit in
     (λ x h. (fit x h).owner)
 
 pub words_in-requires : goal.words_in-requires

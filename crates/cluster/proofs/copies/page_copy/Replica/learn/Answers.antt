@@ -1,21 +1,21 @@
 use Rattle.std.proofs.Common.{List, map, sym, ap, subst, ◌∙◌}
-use Rattle.journal.specs.Missing.{InClosingOrder}
-use Rattle.book.specs.News.{missing_of}
-use Rattle.interval.specs.Intervals.{SentRecord}
+use Rattle.journal.specs.MissingWords.{MissingInOrder}
+use Rattle.book.specs.News.{news_of_notice}
+use Rattle.interval.specs.SentIntervals.{SentRecord}
 use Rattle.page.specs.declared.page.Access.TheVariants.{Invalid}
-use Rattle.cluster.specs.Copies.Backlogs.{IsPut}
-use Rattle.cluster.specs.Copies.Copies.{Copied}
-use Rattle.cluster.proofs.copies.Learned.{added_news}
+use Rattle.cluster.specs.Copies.Backlogs.{IsPutInBacklog}
+use Rattle.cluster.specs.Copies.PageReplica.{Copied}
+use Rattle.cluster.proofs.copies.Learned.{learned_news}
 use Rattle.cluster.proofs.copies.page_copy.Replica.learn.Goals as goal
 
 pub put-requires-clause-order : goal.put-requires-clause-order
 put-requires-clause-order c =
-    subst (λ (r : Copied). InClosingOrder (map missing_of r.missing)) (sym c.self.view_is) c.requires.order
+    subst (λ (r : Copied). MissingInOrder (map news_of_notice r.missing)) (sym c.self.view_is) c.requires.order
 
 pub returns-clause-news : goal.returns-clause-news
 returns-clause-news c =
     let old : Copied = c.args.self.now in
     let page = c.set_invalid.ensures ∙ ap (λ (r : Copied). record r.page { access = Invalid }) c.self.view_is in
-    let P : List SentRecord → Type 0 = λ xs. IsPut xs c.args.sent c.put.new.self.records in
+    let P : List SentRecord → Type 0 = λ xs. IsPutInBacklog xs c.args.sent c.put.new.self.records in
     let put = subst P (ap (λ (r : Copied). r.missing) c.self.view_is) c.put.ensures.put in
-    added_news old _ c.args.sent put.at c.requires put.among page put.put
+    learned_news old _ c.args.sent put.at c.requires put.among page put.put

@@ -2,9 +2,9 @@ use Rattle.std.proofs.Common.{inl, inr, Some, refl, sym, ◌∙◌, arith, lengt
 use Rattle.std.specs.Prelude.{None}
 use Rattle.std.proofs.lemmas.Bool.{cases_lt}
 use Rattle.std.proofs.lemmas.Option.{none-some}
-use Rattle.base.proofs.Sets.{slice_get-replicate_found, slice_get-set_other}
+use Rattle.base.proofs.SliceSets.{slice_get-replicate_found, slice_get-set_other}
 use Rattle.journal.specs.declared.event.Kind.TheVariants.{Store}
-use Rattle.journal.specs.Did.{event}
+use Rattle.journal.specs.DidEvent.{event}
 use Rattle.judge.proofs.sources.Choosing.{IsGiven, few_processors, marks_next, unfollowed_latest, latest_unfollowed}
 use Rattle.judge.proofs.sources.readable.Sources.before.Goals as goal
 

@@ -2,8 +2,8 @@ use Rattle.std.proofs.Common.{ℕ, ◌<◌, ◌≤◌, inl, inr, List, Some, len
 use Rattle.std.specs.Prelude.{None}
 use Rattle.std.proofs.lemmas.Bool.{cases_eq, cases_lt}
 use Rattle.std.proofs.lemmas.Option.{none-some, same_Some, slice_get_within}
-use Rattle.base.proofs.Sets.{index-zeros}
-use Rattle.journal.specs.Entries.{entry}
+use Rattle.base.proofs.SliceSets.{index-zeros}
+use Rattle.journal.specs.ClockEntry.{entry}
 use Rattle.judge.specs.declared.sources.stored.Stored.{Stored}
 use Rattle.judge.proofs.sources.Reading.{entry_read, option_at}
 use Rattle.judge.proofs.sources.readable.Sources.joined.Goals as goal

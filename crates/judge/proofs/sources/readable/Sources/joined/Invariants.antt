@@ -1,5 +1,5 @@
 use Rattle.std.proofs.Common.{◌≡◌, ℕ, ◌<◌, ◌≤◌, Some, slice_get, slice_index}
-use Rattle.journal.specs.Entries.{entry}
+use Rattle.journal.specs.ClockEntry.{entry}
 use Rattle.judge.specs.declared.sources.stored.Stored.{Stored}
 use Rattle.judge.specs.Sources.Last.{IsFollowed}
 use Rattle.judge.proofs.sources.readable.Sources.joined.Given as goal

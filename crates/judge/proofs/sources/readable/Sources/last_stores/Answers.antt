@@ -3,11 +3,11 @@ use Rattle.std.specs.Prelude.{None}
 use Rattle.std.proofs.lemmas.Bool.{cases_lt}
 use Rattle.std.specs.Global.{Vec}
 use Rattle.std.proofs.lemmas.Option.{slice_get_read, slice_get_within}
-use Rattle.base.proofs.Sets.{slice_get-replicate_found, slice_get-set_other}
+use Rattle.base.proofs.SliceSets.{slice_get-replicate_found, slice_get-set_other}
 use Rattle.journal.specs.declared.event.Event.{Event}
 use Rattle.journal.specs.declared.event.Kind.TheVariants.{Store}
-use Rattle.journal.specs.Did.{event}
-use Rattle.journal.specs.Entries.{entry}
+use Rattle.journal.specs.DidEvent.{event}
+use Rattle.journal.specs.ClockEntry.{entry}
 use Rattle.judge.specs.declared.sources.stored.Stored.{Stored}
 use Rattle.judge.specs.declared.sources.readable.Sources.{Sources}
 use Rattle.judge.specs.Sources.Last.{HasNone, IsLastOf}

@@ -2,14 +2,14 @@ use Rattle.std.proofs.Common.{◌≡◌, ◌+◌, ◌<◌, List, take, slice_ind
 use Rattle.std.specs.Prelude.{Result, Ok, Err, OnOk}
 use Rattle.std.proofs.lemmas.Option.{slice_get-get_or}
 use Rattle.std.proofs.lemmas.List.{length-take-le}
-use Rattle.base.proofs.Places.{slice_get-from_take}
+use Rattle.base.proofs.SlicesAndCounts.{slice_get-from_take}
 use Rattle.journal.specs.declared.event.Event.{Event}
 use Rattle.journal.specs.declared.event.Kind.TheVariants.{Load}
 use Rattle.journal.specs.declared.clocks.Clocks.{Clocks}
-use Rattle.journal.specs.Did.{event}
+use Rattle.journal.specs.DidEvent.{event}
 use Rattle.journal.specs.InRange.{ProcessorsInRange}
 use Rattle.journal.specs.Clocks.{AreClocks}
-use Rattle.journal.proofs.Passes.ClockSteps.{front_next}
+use Rattle.journal.proofs.Passes.NextClocks.{front_next}
 use Rattle.judge.specs.declared.sources.readable.Sources.{Sources}
 use Rattle.judge.specs.Sources.Tells.{StoresAreKept, AreStoresOf}
 use Rattle.judge.proofs.sources.readable.Sources.note.Goals as goal

@@ -1,12 +1,12 @@
 use Rattle.std.proofs.Common.{◌<◌, [], ◌∷◌, length, slice_index, sym, refl, arith, length-append}
 use Rattle.std.proofs.lemmas.Option.{slice_get_read}
 use Rattle.journal.specs.declared.event.Kind.TheVariants.{Store}
-use Rattle.journal.specs.Did.{event}
+use Rattle.journal.specs.DidEvent.{event}
 use Rattle.journal.specs.Pasts.{InPast}
 use Rattle.journal.specs.Times.{IsTimeOf}
-use Rattle.journal.specs.Entries.{entry}
+use Rattle.journal.specs.ClockEntry.{entry}
 use Rattle.journal.proofs.Times.Times.{time_equal}
-use Rattle.journal.proofs.Times.Pushes.{own_entry}
+use Rattle.journal.proofs.Times.PushesCovered.{own_time_entry}
 use Rattle.judge.specs.declared.sources.stored.Stored.{Stored}
 use Rattle.judge.specs.Sources.Tells.{row_of}
 use Rattle.judge.proofs.sources.Keeping.{AreMore, rows_next, known_quiet}
@@ -45,7 +45,7 @@ returns-clause-kept c = λ j tells long v.
       long = tells.kept.long;
       stores =
           rows_next j old.items new.items s.stores.items c.args.address p v c.index_mut.result.now c.push.new.self
-          store more sixteen there c.in_ok-push.ensures.items (sym long) (own_entry j p
+          store more sixteen there c.in_ok-push.ensures.items (sym long) (own_time_entry j p
           (slice_index c.of-time.result.now) time) (omega (arith, placed.1, new.ok.0)) placed.2
           tells.kept.stores;
     }

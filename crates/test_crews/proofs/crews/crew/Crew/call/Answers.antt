@@ -1,6 +1,6 @@
 use Rattle.std.proofs.Common.{◌≡◌, length, refl, ◌∙◌, slice_get, Some, arith}
 use Rattle.std.proofs.lemmas.Option.{slice_get_read}
-use Rattle.base.proofs.Sets.{slice_get-set_other}
+use Rattle.base.proofs.SliceSets.{slice_get-set_other}
 use Rattle.test_crews.proofs.crews.Crewing.{members_set, same_calls}
 use Rattle.test_crews.proofs.crews.crew.Crew.call.Goals as goal
 

@@ -1,5 +1,5 @@
 use Rattle.std.proofs.Common.{◌∙◌, ap, subst, ◌++◌}
-use Rattle.journal.specs.Groups.{since}
+use Rattle.journal.specs.ContentsSince.{since}
 use Rattle.test_memory.specs.Histories.Telling.{Telling, IsTelling}
 use Rattle.test_memory.proofs.histories.Calls.{may_close}
 use Rattle.test_memory.proofs.histories.told.Told.closing.Goals as goal

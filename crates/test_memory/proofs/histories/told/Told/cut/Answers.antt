@@ -1,5 +1,5 @@
 use Rattle.std.proofs.Common.{IfErr, subst}
-use Rattle.journal.specs.Cutting.{IsCutFault}
+use Rattle.journal.specs.CutFaults.{IsCutFault}
 use Rattle.test_memory.specs.Histories.Telling.{Telling}
 use Rattle.test_memory.proofs.histories.Calls.{kept_cut}
 use Rattle.test_memory.proofs.histories.told.Told.cut.Goals as goal

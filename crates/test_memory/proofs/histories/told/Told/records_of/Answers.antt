@@ -1,6 +1,6 @@
 use Rattle.std.proofs.Common.{◌∙◌, ap, subst, Option}
 use Rattle.std.specs.Arc.{arc_value}
-use Rattle.page.specs.Changes.{Changes}
+use Rattle.page.specs.RisingChanges.{Changes}
 use Rattle.test_memory.specs.Histories.Records.{IsOpenIn}
 use Rattle.test_memory.proofs.histories.Opened.{open_skipped, open_pushed}
 use Rattle.test_memory.proofs.histories.told.Told.records_of.Goals.{in-Some+in_ok-new+in_ok-push, in_default}

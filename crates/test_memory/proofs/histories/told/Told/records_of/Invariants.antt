@@ -1,7 +1,7 @@
 use Rattle.std.proofs.Common.{◌≡◌, ℕ, List, map}
 use Rattle.std.specs.Arc.{arc_value}
 use Rattle.journal.specs.declared.event.Event.{Event}
-use Rattle.journal.specs.Groups.{since}
+use Rattle.journal.specs.ContentsSince.{since}
 use Rattle.test_memory.specs.Histories.Records.{AreOpenBelow}
 use Rattle.test_memory.proofs.histories.told.Told.records_of.Given as goal
 

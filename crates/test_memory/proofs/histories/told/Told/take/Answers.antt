@@ -1,5 +1,5 @@
 use Rattle.std.proofs.Common.{◌≡◌, ◌∙◌, refl, ap, ◌++◌, ◌∷◌, [], Some, slice_get, subst, sym}
-use Rattle.journal.specs.Did.{event}
+use Rattle.journal.specs.DidEvent.{event}
 use Rattle.test_memory.specs.Histories.Telling.{Telling}
 use Rattle.test_memory.proofs.histories.Calls.{kept_after, follows_take}
 use Rattle.test_memory.proofs.histories.told.Told.take.Goals as goal

@@ -1,0 +1,302 @@
+-- What a take rests on, and what it makes, read off the book.
+use Rattle.std.proofs.Common.{Bool, ◌≡◌, ◌↔◌, ◌-◌, ℕ, ◌<◌, inl, inr, true, IsTrue, List, [], ◌∷◌, ◌++◌, length, map, Option, Some, None, slice_get, slice_set, slice_index_or, subst, subst₂, sym, refl, ap, ◌∙◌, arith}
+use Rattle.std.proofs.lemmas.Bool.{cases_eq}
+use Rattle.std.proofs.lemmas.Option.{get_or_from_slice_get, slice_get-get_or, same_Some}
+use Rattle.std.proofs.Math.ListN.{get_or-map}
+use Rattle.std.proofs.lemmas.List.{length-set, set-set, set-get_or}
+use Rattle.base.proofs.SliceSets.{slice_get-set_found, slice_get-set_other}
+use Rattle.std.specs.Option.{option_map, option_and_then}
+use Rattle.journal.specs.declared.event.Event.{Event}
+use Rattle.journal.specs.declared.event.Kind.{Kind}
+use Rattle.journal.specs.declared.event.Kind.TheVariants.{Acquire, Depart, Watch, Await, Load, Store}
+use Rattle.journal.specs.Log.{Log}
+use Rattle.journal.specs.Sizes.{Sizes}
+use Rattle.journal.specs.Events.{is_taking}
+use Rattle.journal.specs.InRange.{AddressInRange}
+use Rattle.journal.specs.WellFormed.{Allowed, Ready}
+use Rattle.journal.specs.Waits.{awaited}
+use Rattle.journal.proofs.Journals.Balance.{balanced}
+use Rattle.vtime.specs.Times.{join}
+use Rattle.interval.specs.Closings.{KeepsClosingsBetween, closings_between}
+use Rattle.barrier.specs.declared.barrier.Stage.{Stage}
+use Rattle.barrier.specs.declared.barrier.Stage.TheVariants.{Away, Free}
+use Rattle.transit.specs.Letters.{Letter}
+use Rattle.journal.specs.DidEvent.{event}
+use Rattle.book.specs.declared.awaited.Awaited.{Awaited}
+use Rattle.book.specs.Awaiting.{awaited_kind}
+use Rattle.book.specs.Flags.{IsFlag}
+use Rattle.book.specs.ClosedIntervals.{AreClosedFromFirst, IsTight}
+use Rattle.book.specs.BarrierStages.{IsAtBarrierStage}
+use Rattle.book.specs.State.{State, time_of}
+use Rattle.book.specs.Messages.{signal_message, message_among, message_for, message_has_come, sent_with_message, brought}
+use Rattle.book.specs.Transitions.{trimmed_by, book_barrier_left, book_taken}
+use Rattle.book.specs.Told.{Represents}
+use Rattle.book.specs.Calls.{IsSignalled, AllowsSignal, AllowsTake, AllowsSomeTake, AllowsTrim}
+use Rattle.book.proofs.Parts.Each.{each_is_at, each_item_at}
+use Rattle.book.proofs.Parts.BarrierStages.{stage_free}
+use Rattle.book.proofs.Told.Flags.{last_flag_watch}
+use Rattle.book.proofs.Told.TakingMessages.{waits_taking, message_is, message_come, no_mail_waits}
+use Rattle.book.proofs.Calling.Closing.{own_read, same_default}
+use Rattle.book.proofs.Parts.TimesAndAwaits.{is_processor, own_time_stamp}
+
+-- p waits for this
+pub record IsReceiving (b : State) (p : ℕ) (k : Kind) : Type 0 where
+  pub waits : slice_get b.awaits p ≡ Some (Some k)
+  pub transit : p < length b.transit
+  pub times : p < length b.times
+  pub awaits : p < length b.awaits
+  pub journal : p < b.journal.processors
+  pub own_long : length (time_of b p) ≡ length b.times
+  pub flag : (f : ℕ) → k ≡ Await f → AllowsSignal b.closed b.flags (time_of b p) f
+  pub none : (f : ℕ) → k ≡ Await f → b.transit ≡ slice_set b.transit p None
+  pub long : (m : Letter) → message_for b p k ≡ Some m → length m.time ≡ length b.times
+  pub free : (m : Letter) → message_for b p k ≡ Some m → k ≡ Depart → slice_get b.barrier.stages p ≡ Some Free
+  pub come : (s : Sizes) (h : List Event) → Represents s h b → (message_has_come b.flags b.transit p k ≡ true) ↔ Ready s h p
+  pub takes : IsTrue (is_taking k)
+  pub all_long : (i : ℕ) (t : List ℕ) → slice_get b.times i ≡ Some t → length t ≡ length b.times
+  pub owners : length b.closed.first ≡ length b.times
+  pub from : AreClosedFromFirst b.closed
+  pub tight : 1 < length b.times → IsTight b.closed.first b.times
+
+receiving_by : (s : Sizes) (h : List Event) (b : State) (p : ℕ) (k : Kind) → Represents s h b
+    → slice_get b.awaits p ≡ Some (Some k) → IsReceiving b p k
+receiving_by s h b p k told waits =
+    let lt = is_processor s h b p (Some k) told waits in
+    let transit_long = told.transit.long in
+    let times_long = told.times.long in
+    let awaits_long = told.awaits.long in
+    let first_long = told.closed.first_long in
+    let processors = told.sizes.processors in
+    let own_long = (own_time_stamp s h b p told lt).long in
+    record {
+      waits = waits;
+      transit = omega arith;
+      times = omega arith;
+      awaits = omega arith;
+      journal = omega arith;
+      own_long = omega arith;
+      flag = λ f is. signals f (subst (λ a. slice_get b.awaits p ≡ Some (Some a)) is waits);
+      none = λ f is. no_mail_waits s h b p told f (subst (λ a. slice_get b.awaits p ≡ Some (Some a)) is waits);
+      long = λ m is. (let long = (message_is s h b p told k m waits is).time.long in omega arith);
+      free = λ m is departs. departing
+          (subst (λ a. Allowed s h p a) departs (message_is s h b p told k m waits is).allowed) lt;
+      come = λ t j also. message_come t j b p also k waits;
+      takes = waits_taking h p k (told.awaits.each p (Some k) waits);
+      all_long = λ i t at. (let stamp = told.times.each i t at in let long = stamp.long in omega arith);
+      owners = omega arith;
+      from = told.closed.from;
+      tight = λ more. told.tight (omega arith);
+    }
+  where
+    departing : Allowed s h p Depart → p < s.processors → slice_get b.barrier.stages p ≡ Some Free
+    departing (i, last, all) less =
+        let x = told.barrier in
+        let more = (balanced s h p told.well_formed).waiting i last in
+        let one = all x.lacks.0 x.lacks.1 in
+        let lacks = x.lacks.2 in
+        let stage = each_is_at s.processors (IsAtBarrierStage h x.complete) b.barrier.stages p Away x.stages less in
+        each_item_at s.processors (IsAtBarrierStage h x.complete) b.barrier.stages p Away x.stages less
+        ∙ ap (λ (y : Stage). Some y)
+        (sym (stage_free h x.complete p (slice_index_or b.barrier.stages p Away) more (omega arith) stage))
+
+    signals : (f : ℕ) → slice_get b.awaits p ≡ Some (Some (Await f)) → AllowsSignal b.closed b.flags (time_of b p) f
+    signals f waits_f =
+        let lt = is_processor s h b p (Some k) told waits in
+        let last = last_flag_watch h p f (told.awaits.each p (Some (Await f)) waits_f) in
+        let range : f < s.flags = (told.well_formed last.0 (event p (Watch f)) last.1.does).in_range in
+        let flags_long = told.flags.long in
+        let first_long = told.closed.first_long in
+        let times_long = told.times.long in
+        let own_long = (own_time_stamp s h b p told lt).long in
+        record {
+          within = omega arith;
+          keeps = λ t is.
+              let flag : IsFlag s.processors h f (Some t) = subst (λ o. IsFlag s.processors h f o) is
+              (each_is_at s.flags (IsFlag s.processors h) b.flags f None told.flags range) in
+              let long = flag.1.long in
+              record {
+                old_long = omega arith;
+                new_long = omega arith;
+                none_trimmed = λ q. told.within p q (time_of b p) (slice_get-get_or b.times p [] (omega arith));
+              };
+        }
+
+pub receiving : (b : State) (p : ℕ) (k : Kind) → AllowsTake b p k → IsReceiving b p k
+receiving b p k may = receiving_by may.by.sizes may.by.history b p k may.by.told may.waits
+
+-- what was read is the kind that p waits for
+pub receiving_waits_read : (b now : State) (all : List (Option Awaited)) (p : ℕ) (o : Option Awaited)
+    → b.awaits ≡ map (option_map awaited_kind) all → b ≡ now → (may : AllowsSomeTake now p) → o ≡ slice_index_or all p o
+    → option_map awaited_kind o ≡ Some may.kind
+receiving_waits_read b now all p o kept same may is =
+    ap (option_map awaited_kind) is ∙ sym (get_or-map (option_map awaited_kind) all p o)
+    ∙ ap (λ (ks : List (Option Kind)). slice_index_or ks p (option_map awaited_kind o)) (sym kept)
+    ∙ get_or_from_slice_get b.awaits p (Some may.kind) (option_map awaited_kind o)
+    (ap (λ (x : State). slice_get x.awaits p) same ∙ (receiving now p may.kind may.take).waits)
+
+-- so there was something to read
+pub receiving_not_idle : (b now : State) (all : List (Option Awaited)) (p : ℕ) (o : Option Awaited)
+    → b.awaits ≡ map (option_map awaited_kind) all → b ≡ now → AllowsSomeTake now p → o ≡ slice_index_or all p o → o ≡ None
+    → ⊥
+receiving_not_idle b now all p o kept same may is none =
+    let read = receiving_waits_read b now all p o kept same may is in
+    let idle : option_map awaited_kind o ≡ None = ap (option_map awaited_kind) none in
+    absurd cc
+
+-- and p receives it
+pub reads_receiving : (b now : State) (all : List (Option Awaited)) (p : ℕ) (o : Option Awaited)
+    → b.awaits ≡ map (option_map awaited_kind) all → b ≡ now → AllowsSomeTake now p → o ≡ slice_index_or all p o
+    → (a : Awaited) → o ≡ Some a → IsReceiving b p (awaited_kind a)
+reads_receiving b now all p o kept same may is a some =
+    let r = receiving now p may.kind may.take in
+    let read = receiving_waits_read b now all p o kept same may is in
+    let P : Kind → Type 0 = λ k. IsReceiving b p k in
+    subst P (same_Some may.kind (awaited_kind a) (sym read ∙ ap (option_map awaited_kind) some))
+    (subst (λ x. IsReceiving x p may.kind) (sym same) r)
+
+-- a list of timestamps with another one of the same length
+pub all_long_set : (times : List (List ℕ)) (p : ℕ) (u : List ℕ) (n : ℕ) → length u ≡ n
+    → ((i : ℕ) (t : List ℕ) → slice_get times i ≡ Some t → length t ≡ n) → (i : ℕ) (t : List ℕ)
+    → slice_get (slice_set times p u) i ≡ Some t → length t ≡ n
+all_long_set times p u n long all i t at = elim (cases_eq i p) [
+  | inl is ↦ (let P : ℕ → Type 0 = λ x. slice_get (slice_set times p u) x ≡ Some t in
+      subst (λ (v : List ℕ). length v ≡ n) (slice_get-set_found times p u t (subst P is at)) long)
+  | inr isnt ↦ all i t (sym (slice_get-set_other times p i u isnt) ∙ at)
+]
+
+-- what may be trimmed once p's timestamp has risen
+pub receiving_allows_trim : (b : State) (p : ℕ) (k : Kind) (times : List (List ℕ)) (before u : List ℕ) → IsReceiving b p k
+    → times ≡ slice_set b.times p u → length u ≡ length b.times → before ≡ time_of b p
+    → AllowsTrim b.closed times p before
+receiving_allows_trim b p k times before u w is long old =
+    let same = length-set b.times p u in
+    let owners = w.owners in
+    let within = w.times in
+    let own_long = w.own_long in
+    let back = set-set b.times p u (time_of b p) ∙ set-get_or b.times p [] in
+    subst₂ (λ ts t. AllowsTrim b.closed ts p t) (sym is) (sym old) (record {
+      within = omega arith;
+      owners = omega arith;
+      long = all_long_set b.times p u (length (slice_set b.times p u)) (long ∙ sym same)
+          (λ i t at. w.all_long i t at ∙ sym same);
+      old_long = omega arith;
+      from = w.from;
+      tight = λ more. subst (λ ts. IsTight b.closed.first ts) (sym back) (w.tight (omega arith));
+    })
+
+-- the journal after one event
+pub log_is : (a b c : Log) (owing : ℕ) (e : Event) → b ≡ record a { room = b.room }
+    → c ≡ record b { events = b.events ++ e ∷ []; room = b.room - 1 }
+    → record c { room = owing } ≡ record a { events = a.events ++ e ∷ []; room = owing }
+log_is a b c owing e first second = cc
+
+-- an event that takes has no address
+pub taking_address : (n : ℕ) (k : Kind) → IsTrue (is_taking k) → AddressInRange n k
+taking_address n (Load a v) takes = absurd cc
+taking_address n (Store a v) takes = absurd cc
+taking_address n _ takes = tt
+
+-- the book after p took a message, for which it waited: each part that changes, and the others as they were
+pub record HasReceived (b : State) (p : ℕ) (k : Kind) (m : Letter) (new : State) : Type 0 where
+  pub takes : IsTrue (is_taking k)
+  pub journal : new.journal ≡ record b.journal { events = b.journal.events ++ event p k ∷ [] }
+  pub times : new.times ≡ slice_set b.times p (join (time_of b p) m.time)
+  pub closed : new.closed ≡ trimmed_by b.closed new.times (length new.times)
+  pub awaits : new.awaits ≡ slice_set b.awaits p None
+  pub transit : new.transit ≡ slice_set b.transit p None
+  pub barrier : new.barrier ≡ book_barrier_left k b.barrier p
+  pub others : new ≡ record b {
+    journal = new.journal;
+    closed = new.closed;
+    times = new.times;
+    awaits = new.awaits;
+    transit = new.transit;
+    barrier = new.barrier;
+  }
+
+pub received_book_is : (b : State) (p : ℕ) (k : Kind) (m : Letter) (new : State) → HasReceived b p k m new
+    → new ≡ book_taken b p k m
+received_book_is b p k m new is =
+    let none = takes_on k is.takes in
+    let journal = is.journal in
+    let times = is.times in
+    let closed = is.closed in
+    let awaits = is.awaits in
+    let transit = is.transit in
+    let barrier = is.barrier in
+    is.others ∙ cc
+  where
+    takes_on : (a : Kind) → IsTrue (is_taking a) → awaited a ≡ None
+    takes_on (Acquire l) takes = refl
+    takes_on Depart takes = refl
+    takes_on (Await f) takes = refl
+    takes_on _ takes = absurd cc
+
+-- r is read of the book: whether what p waits for has come
+pub record IsComeRead (b now : State) (p : ℕ) (k : Kind) (r : Bool) : Type 0 where
+  pub flags : List (Option (List ℕ))
+  pub same : b ≡ now
+  pub waits : IsReceiving b p k
+  pub flags_are : flags ≡ b.flags
+  pub is : r ≡ message_has_come flags b.transit p k
+
+-- what was read of what has come tells whether p is ready
+pub comes : {b now : State} {p : ℕ} {k : Kind} {r : Bool} → IsComeRead b now p k r → (s : Sizes) (h : List Event)
+    → Represents s h now → (r ≡ true) ↔ Ready s h p
+comes {b} {now} {p} {k} {r} read s h told =
+    let come = read.waits.come s h (subst (λ x. Represents s h x) (sym read.same) told) in
+    let all : r ≡ message_has_come b.flags b.transit p k =
+    read.is ∙ ap (λ (fs : List (Option (List ℕ))). message_has_come fs b.transit p k) read.flags_are in
+    ((λ e. come.0 (sym all ∙ e)), (λ ready. all ∙ come.1 ready))
+
+-- the message m is found for p, by the flags and p's timestamp as they are read of the book
+pub record IsFoundToReceive (b : State) (p : ℕ) (k : Kind) (m : Letter) : Type 0 where
+  pub flags : List (Option (List ℕ))
+  pub own : List ℕ
+  pub flags_are : flags ≡ b.flags
+  pub own_is : own ≡ time_of b p
+  pub is : message_among b.closed flags b.transit own p k ≡ Some m
+
+-- the message that was received
+pub received_is : {b : State} {p : ℕ} {k : Kind} {m : Letter} → IsFoundToReceive b p k m → message_for b p k ≡ Some m
+received_is {b} {p} {k} {m} found =
+    let flags_are = found.flags_are in
+    let own_is = found.own_is in
+    let is = found.is in
+    cc
+
+-- what a message brings is what was due
+pub received_brings : (b : State) (p : ℕ) (k : Kind) (m : Letter) → slice_get b.awaits p ≡ Some (Some k)
+    → message_for b p k ≡ Some m → m.notices ≡ brought b p
+received_brings b p k m waits is =
+    sym (ap (λ (w : Option Kind). sent_with_message (option_and_then (message_for b p) w))
+    (get_or_from_slice_get b.awaits p (Some k) None waits) ∙ ap sent_with_message is)
+
+-- what stands in the book of one who waits for a flag
+pub receiving_flag : (b now : State) (p f : ℕ) → b ≡ now → AllowsTake now p (Await f) → IsReceiving b p (Await f)
+receiving_flag b now p f same may = subst (λ x. IsReceiving x p (Await f)) (sym same) (receiving now p (Await f) may)
+
+-- of p, which waits for f, its timestamp own is read, and of f, which is set, its timestamp
+pub record IsSignalRead (b now : State) (p f : ℕ) (own time : List ℕ) : Type 0 where
+  pub o : Option (List ℕ)
+  pub same : b ≡ now
+  pub may : AllowsTake now p (Await f)
+  pub own_is : own ≡ slice_index_or b.times p own
+  pub flag_is : o ≡ slice_index_or b.flags f o
+  pub set : o ≡ Some time
+
+-- what was read of one who waits for a flag that is set
+pub signalled : {b now : State} {p f : ℕ} {own time : List ℕ} → IsSignalRead b now p f own time
+    → IsSignalled now p f own time
+signalled {b} {now} {p} {f} {own} {time} reads =
+    let w = receiving_flag b now p f reads.same reads.may in
+    let flag = w.flag f refl in
+    let read = own_read b.times p own w.times reads.own_is in
+    let at : slice_index_or b.flags f None ≡ Some time =
+    sym (same_default b.flags f reads.o None flag.within) ∙ sym reads.flag_is ∙ reads.set in
+    subst (λ (x : State). IsSignalled x p f own time) reads.same (record {
+      keeps = subst (λ (t : List ℕ). KeepsClosingsBetween b.closed t time) (sym read) (flag.keeps time at);
+      brings = ap (λ (t : List ℕ). closings_between b.closed t time) read
+          ∙ ap (λ (x : Option (List ℕ)). sent_with_message
+          (option_map (λ (t : List ℕ). signal_message b.closed t (time_of b p)) x)) (sym at);
+    })

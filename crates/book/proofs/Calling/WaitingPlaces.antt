@@ -1,0 +1,214 @@
+-- What lists of those who wait tell.
+use Rattle.std.proofs.Common.{◌≡◌, ℕ, zero, suc, ◌+◌, ◌<◌, ◌⊎◌, inl, inr, ◌↔◌, EachIndex, List, [], ◌∷◌, length, map, Bool, true, false, Option, Some, None, IsTrue, slice_get, slice_set, slice_index_or, subst, sym, refl, ap, ◌∙◌, arith}
+use Rattle.std.proofs.lemmas.Bool.{cases_eq, true≢false}
+use Rattle.std.proofs.lemmas.Option.{none-some, same_Some, slice_get-get_or, slice_get-map}
+use Rattle.std.specs.Option.{option_map}
+use Rattle.std.specs.List.{position_from}
+use Rattle.base.specs.Limits.{most_processors}
+use Rattle.base.specs.InOrderOnce.{Has}
+use Rattle.base.proofs.Joined.{has-nil, has-cons}
+use Rattle.base.proofs.SliceSets.{slice_get-set_same, slice_get-set_other}
+use Rattle.transit.specs.Letters.{Letter}
+use Rattle.book.specs.declared.awaited.Awaited.{Awaited}
+use Rattle.book.specs.declared.awaited.Awaited.TheVariants.{Grant, Departure, Signal}
+use Rattle.book.specs.Awaiting.{awaited_kind}
+use Rattle.book.specs.Messages.{message_has_come}
+use Rattle.book.specs.Waiters.{waiters_from}
+
+-- p waits for what has not come
+abbrev pub WaitsInVainAt : List (Option Awaited) → List (Option (List ℕ)) → List (Option Letter) → ℕ → Type 0
+WaitsInVainAt awaits flags mail p =
+    (a : Awaited) × (slice_get awaits p ≡ Some (Some a)) × (message_has_come flags mail p (awaited_kind a) ≡ false)
+
+-- p waits for this, which has come
+abbrev pub IsDoneWaitingAt : List (Option Awaited) → List (Option (List ℕ)) → List (Option Letter) → Awaited → ℕ → Type 0
+IsDoneWaitingAt awaits flags mail a p =
+    (slice_get awaits p ≡ Some (Some a)) × (message_has_come flags mail p (awaited_kind a) ≡ true)
+
+-- and is one of the first 16 processors
+abbrev pub MayBeNamed : List (Option Awaited) → List (Option (List ℕ)) → List (Option Letter) → Awaited → ℕ → Type 0
+MayBeNamed awaits flags mail a p =
+    (p < most_processors) × (slice_get awaits p ≡ Some (Some a)) × (message_has_come flags mail p (awaited_kind a) ≡ true)
+
+-- what is read at p's place stands there
+pub read_at : (awaits : List (Option Awaited)) (p : ℕ) (o : Option Awaited) → p < length awaits
+    → slice_index_or awaits p None ≡ o → slice_get awaits p ≡ Some o
+read_at awaits p o lt is = slice_get-get_or awaits p None lt ∙ ap (λ (x : Option Awaited). Some x) is
+
+-- where p waits for nothing, not all wait in vain
+pub idle_waits_not : (awaits : List (Option Awaited)) (flags : List (Option (List ℕ))) (mail : List (Option Letter)) (p : ℕ)
+    → p < length awaits → slice_get awaits p ≡ Some None → IsTrue false ↔ EachIndex awaits (WaitsInVainAt awaits flags mail)
+idle_waits_not awaits flags mail p lt at = (
+  (λ e. absurd (true≢false (sym e))),
+  (λ all. (let v = all p lt in absurd (none-some v.0 (same_Some None (Some v.0) (sym at ∙ v.1))))),
+)
+
+-- nor where what p waits for has come
+pub done_waiting_not_vain : (awaits : List (Option Awaited)) (flags : List (Option (List ℕ))) (mail : List (Option Letter)) (p : ℕ)
+    (a : Awaited) → p < length awaits → slice_get awaits p ≡ Some (Some a) → message_has_come flags mail p (awaited_kind a) ≡ true
+    → IsTrue false ↔ EachIndex awaits (WaitsInVainAt awaits flags mail)
+done_waiting_not_vain awaits flags mail p a lt at come = (
+  (λ e. absurd (true≢false (sym e))),
+  (λ all. (let v = all p lt in
+      let same = same_Some a v.0 (same_Some (Some a) (Some v.0) (sym at ∙ v.1)) in
+      absurd (true≢false (sym (subst (λ (x : Awaited). message_has_come flags mail p (awaited_kind x) ≡ true) same come) ∙ v.2)))),
+)
+
+kind_same : (x a : Awaited) → awaited_kind x ≡ awaited_kind a → x ≡ a
+kind_same (Grant l) (Grant m) e = cc
+kind_same Departure Departure e = refl
+kind_same (Signal f) (Signal g) e = cc
+kind_same _ _ e = absurd cc
+
+-- p waits for this by the list of what all wait for, and by the list of the events that end the waits
+pub waits_map : (awaits : List (Option Awaited)) (p : ℕ) (a : Awaited)
+    → slice_get (map (option_map awaited_kind) awaits) p ≡ Some (Some (awaited_kind a)) ↔ slice_get awaits p ≡ Some (Some a)
+waits_map awaits p a = (
+  (λ at. found (slice_get awaits p) refl (sym (slice_get-map (option_map awaited_kind) awaits p) ∙ at)),
+  (λ at. slice_get-map (option_map awaited_kind) awaits p ∙ ap (option_map (option_map awaited_kind)) at),
+)
+  where
+    found : (o : Option (Option Awaited)) → slice_get awaits p ≡ o
+        → option_map (option_map awaited_kind) o ≡ Some (Some (awaited_kind a)) → slice_get awaits p ≡ Some (Some a)
+    found None is at = absurd cc
+    found (Some None) is at = absurd (none-some (awaited_kind a) (same_Some None (Some (awaited_kind a)) at))
+    found (Some (Some x)) is at =
+        is ∙ ap (λ (y : Awaited). Some (Some y))
+        (kind_same x a (same_Some (awaited_kind x) (awaited_kind a) (same_Some (Some (awaited_kind x)) (Some (awaited_kind a)) at)))
+
+-- the numbers below n of which Q holds are found
+abbrev pub AreFound : (ℕ → Type 0) → ℕ → List ℕ → Type 0
+AreFound Q n found = (q : ℕ) → Has found q ↔ ((q < n) × Q q)
+
+pub none_found : (Q : ℕ → Type 0) (found : List ℕ) → found ≡ [] → AreFound Q 0 found
+none_found Q found is q = (
+  (λ has. absurd (has-nil q (subst (λ (xs : List ℕ). Has xs q) is has))),
+  (λ both. absurd (omega (arith, both.0))),
+)
+
+-- one more is
+pub one_found : (Q : ℕ → Type 0) (n : ℕ) (old new : List ℕ) → ((q : ℕ) → Q q → q < most_processors) → AreFound Q n old
+    → ((q : ℕ) → Has new q ↔ (((q ≡ n) × (q < most_processors)) ⊎ Has old q)) → (n < most_processors → Q n)
+    → AreFound Q (n + 1) new
+one_found Q n old new few are added here q = (
+  (λ has. elim ((added q).0 has) [
+    | inl own ↦ (
+      omega (arith, own.0),
+      subst Q (sym own.0) (here (subst (λ (x : ℕ). x < most_processors) own.0 own.1)),
+    )
+    | inr was ↦ (let both = (are q).0 was in (omega (arith, both.0), both.1))
+  ]),
+  (λ both. elim (cases_eq q n) [
+    | inl is ↦ (added q).1 (inl (is, few q both.1))
+    | inr isnt ↦ (added q).1 (inr ((are q).1 (omega (arith, both.0), both.1)))
+  ]),
+)
+
+-- one more is not
+pub not_found : (Q : ℕ → Type 0) (n : ℕ) (old new : List ℕ) → AreFound Q n old → new ≡ old → ¬ Q n
+    → AreFound Q (n + 1) new
+not_found Q n old new are same isnt q = (
+  (λ has. (let both = (are q).0 (subst (λ (xs : List ℕ). Has xs q) same has) in (omega (arith, both.0), both.1))),
+  (λ both. elim (cases_eq q n) [
+    | inl is ↦ absurd (isnt (subst Q is both.1))
+    | inr apart ↦ subst (λ (xs : List ℕ). Has xs q) (sym same) ((are q).1 (omega (arith, both.0), both.1))
+  ]),
+)
+
+-- a number that is found is the place of a mark
+has_place : (n : ℕ) (marks : List Bool) (x : ℕ) → Has (waiters_from n marks) x
+    → (k : ℕ) × (slice_get marks k ≡ Some true) × (x ≡ n + k)
+has_place n [] x has = absurd (has-nil x has)
+has_place n (true ∷ marks) x has = elim ((has-cons n (waiters_from (n + 1) marks) x).0 has) [
+  | inl is ↦ (0, refl, omega arith)
+  | inr rest ↦ (let w = has_place (n + 1) marks x rest in (suc w.0, w.1, omega (arith, w.2)))
+]
+has_place n (false ∷ marks) x has =
+    let w = has_place (n + 1) marks x has in (suc w.0, w.1, omega (arith, w.2))
+
+place_has : (n : ℕ) (marks : List Bool) (k : ℕ) → slice_get marks k ≡ Some true → Has (waiters_from n marks) (n + k)
+place_has n [] k at = absurd (none-some true at)
+place_has n (true ∷ marks) zero at = let e : n ≡ n + 0 = omega arith in (0, ap (λ (m : ℕ). Some m) e)
+place_has n (false ∷ marks) zero at = absurd cc
+place_has n (true ∷ marks) (suc k) at =
+    let e : n + 1 + k ≡ n + suc k = omega arith in
+    (has-cons n (waiters_from (n + 1) marks) (n + suc k)).1
+    (inr (subst (λ (m : ℕ). Has (waiters_from (n + 1) marks) m) e (place_has (n + 1) marks k at)))
+place_has n (false ∷ marks) (suc k) at =
+    let e : n + 1 + k ≡ n + suc k = omega arith in
+    subst (λ (m : ℕ). Has (waiters_from (n + 1) marks) m) e (place_has (n + 1) marks k at)
+
+-- a mark is set
+pub place_added : (marks : List Bool) (p : ℕ) → p < length marks → (q : ℕ)
+    → Has (waiters_from 0 (slice_set marks p true)) q ↔ (((q ≡ p) × (q < length marks)) ⊎ Has (waiters_from 0 marks) q)
+place_added marks p lt q = (there, back)
+  where
+    at_place : (ms : List Bool) (k : ℕ) → slice_get ms k ≡ Some true → Has (waiters_from 0 ms) k
+    at_place ms k at = let e : 0 + k ≡ k = omega arith in
+        subst (λ (m : ℕ). Has (waiters_from 0 ms) m) e (place_has 0 ms k at)
+
+    there : Has (waiters_from 0 (slice_set marks p true)) q → ((q ≡ p) × (q < length marks)) ⊎ Has (waiters_from 0 marks) q
+    there has =
+        let w = has_place 0 (slice_set marks p true) q has in
+        let is : w.0 ≡ q = omega (arith, w.2) in
+        elim (cases_eq q p) [
+          | inl same ↦ inl (same, omega arith)
+          | inr apart ↦ inr (at_place marks q (sym (slice_get-set_other marks p q true apart)
+              ∙ subst (λ (m : ℕ). slice_get (slice_set marks p true) m ≡ Some true) is w.1))
+        ]
+
+    back : ((q ≡ p) × (q < length marks)) ⊎ Has (waiters_from 0 marks) q → Has (waiters_from 0 (slice_set marks p true)) q
+    back (inl own) =
+        subst (λ (m : ℕ). Has (waiters_from 0 (slice_set marks p true)) m) (sym own.0)
+        (at_place (slice_set marks p true) p (slice_get-set_same marks p true lt))
+    back (inr has) =
+        let w = has_place 0 marks q has in
+        let is : w.0 ≡ q = omega (arith, w.2) in
+        elim (cases_eq q p) [
+          | inl same ↦ subst (λ (m : ℕ). Has (waiters_from 0 (slice_set marks p true)) m) (sym same)
+              (at_place (slice_set marks p true) p (slice_get-set_same marks p true lt))
+          | inr apart ↦ at_place (slice_set marks p true) q (slice_get-set_other marks p q true apart
+              ∙ subst (λ (m : ℕ). slice_get marks m ≡ Some true) is w.1)
+        ]
+
+-- the first mark, and what is left without it
+pub record IsFirstPlace (n : ℕ) (marks : List Bool) (p : ℕ) : Type 0 where
+  pub place : ℕ
+  pub is : p ≡ n + place
+  pub within : place < length marks
+  pub first : waiters_from n marks ≡ p ∷ waiters_from n (slice_set marks place false)
+
+first_place_from : (n : ℕ) (marks : List Bool) (p : ℕ) → position_from (λ b. b) n marks ≡ Some p → IsFirstPlace n marks p
+first_place_from n [] p is = absurd (none-some p is)
+first_place_from n (true ∷ marks) p is =
+    let same = same_Some n p is in
+    record {
+      place = 0;
+      is = omega arith;
+      within = omega arith;
+      first = ap (λ (m : ℕ). m ∷ waiters_from (n + 1) marks) same;
+    }
+first_place_from n (false ∷ marks) p is =
+    let f = first_place_from (n + 1) marks p is in
+    let at = f.is in
+    let lt = f.within in
+    record { place = suc f.place; is = omega arith; within = omega arith; first = f.first }
+
+pub first_place : (marks : List Bool) (p : ℕ) → position_from (λ b. b) 0 marks ≡ Some p
+    → (p < length marks) × (waiters_from 0 marks ≡ p ∷ waiters_from 0 (slice_set marks p false))
+first_place marks p is =
+    let f = first_place_from 0 marks p is in
+    let at = f.is in
+    let lt = f.within in
+    let same : f.place ≡ p = omega arith in (
+      omega arith,
+      f.first ∙ ap (λ (k : ℕ). p ∷ waiters_from 0 (slice_set marks k false)) same,
+    )
+
+no_place_from : (n : ℕ) (marks : List Bool) → position_from (λ b. b) n marks ≡ None → waiters_from n marks ≡ []
+no_place_from n [] is = refl
+no_place_from n (true ∷ marks) is = absurd (none-some n (sym is))
+no_place_from n (false ∷ marks) is = no_place_from (n + 1) marks is
+
+pub no_place : (marks : List Bool) → position_from (λ b. b) 0 marks ≡ None → waiters_from 0 marks ≡ []
+no_place marks is = no_place_from 0 marks is

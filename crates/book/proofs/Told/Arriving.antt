@@ -1,0 +1,177 @@
+-- Arrivals: what the book is told by the history before, it is told by the history with the event after.
+use Rattle.std.proofs.Common.{◌≡◌, ◌≢◌, ℕ, ◌<◌, ◌≤◌, inl, inr, List, [], length, map, Bool, true, false, Option, Some, None, slice_get, slice_index_or, subst, sym, refl, ap, ◌∙◌, arith}
+use Rattle.std.proofs.lemmas.Option.{same_Some, slice_get_within, slice_get-get_or, slice_get-map}
+use Rattle.std.proofs.lemmas.List.{length-map}
+use Rattle.std.specs.Option.{option_map}
+use Rattle.journal.specs.declared.event.Event.{Event}
+use Rattle.journal.specs.declared.event.Kind.{Kind}
+use Rattle.journal.specs.declared.event.Kind.TheVariants.{Ask, Acquire, Arrive, Depart}
+use Rattle.journal.specs.Sizes.{Sizes}
+use Rattle.journal.specs.Events.{count_of, is_arrive, is_depart, is_closing}
+use Rattle.journal.specs.WellFormed.{Allowed, MayFollow, WellFormed}
+use Rattle.journal.proofs.Journals.WellFormedLast.{last_cases}
+use Rattle.journal.specs.Waits.{IsIdle}
+use Rattle.journal.specs.Pasts.{InPast}
+use Rattle.page.specs.RisingChanges.{Changes}
+use Rattle.vtime.specs.Times.{tick, join}
+use Rattle.interval.specs.Closings.{closings_between}
+use Rattle.barrier.specs.Episodes.{episode_full, episode_with_arrival, completed_episode}
+use Rattle.transit.specs.Letters.{Letter}
+use Rattle.journal.specs.DidEvent.{event, did}
+use Rattle.book.specs.Stamps.{EachAt, IsStamp}
+use Rattle.book.specs.Mail.{ComesByMail, IsMail}
+use Rattle.book.specs.BarrierStages.{IsBarrier}
+use Rattle.book.specs.ClosedIntervals.{AreIntervalContents}
+use Rattle.book.specs.State.{State, time_of}
+use Rattle.book.specs.Transitions.{book_closed_by, departure_to, book_mail_met, book_arrived}
+use Rattle.book.specs.Told.{Represents}
+use Rattle.book.proofs.Parts.Each.{each_own}
+use Rattle.book.proofs.Parts.LastAndCounts.{last_none, count_others, count_kept}
+use Rattle.book.proofs.Parts.Stamps.{stamp_closing}
+use Rattle.book.proofs.Parts.Lines.{idle_no_ask}
+use Rattle.book.proofs.Parts.Mail.{MailNews, mail_stays, mail_unless, idle_mail}
+use Rattle.book.proofs.Parts.Flags.{flags_kept}
+use Rattle.book.proofs.Parts.BarrierStages.{barrier_waits, barrier_completes, barrier_lets_all, idle_counts}
+use Rattle.book.proofs.Parts.TimesAndAwaits.{is_processor, idle_awaits_none, awaits_none_no_mail, own_time_stamp, follows, still_formed, times_closing, old_notices}
+use Rattle.book.proofs.Told.Events.{told_closing}
+use Rattle.book.proofs.Told.Locks.{locks_kept}
+
+-- in an open episode only those may depart that might before
+departs_before_arriving : (s : Sizes) (h : List Event) (p r n : ℕ) → r ≢ p
+    → ((q : ℕ) → q < s.processors → n ≤ count_of is_arrive h q)
+    → (q : ℕ) × (q < s.processors) × (count_of is_arrive (did h p Arrive) q ≡ n)
+    → Allowed s (did h p Arrive) r Depart → Allowed s h r Depart
+departs_before_arriving s h p r n isnt most lacks allowed =
+    let same = count_others is_depart h p Arrive r isnt in
+    let one = allowed.2 lacks.0 lacks.1 in
+    let e = lacks.2 in (
+      allowed.0,
+      elim (last_cases h (event p Arrive) r allowed.0 Arrive allowed.1)
+          [ inl own ↦ absurd (isnt (sym own.0)) | inr old ↦ old.1 ],
+      λ q lt. (let m = most q lt in omega arith),
+    )
+
+-- so the others' mail stays while the episode is open
+arriving_mail_waits : (s : Sizes) (h : List Event) (p r n : ℕ) (o : Option Letter) → MayFollow s h (event p Arrive) → r ≢ p
+    → ((q : ℕ) → q < s.processors → n ≤ count_of is_arrive h q)
+    → (q : ℕ) × (q < s.processors) × (count_of is_arrive (did h p Arrive) q ≡ n)
+    → IsMail s h r o → IsMail s (did h p Arrive) r o
+arriving_mail_waits s h p r n None may isnt most lacks mail = mail_unless s h p Arrive may r isnt None never mail
+  where
+    never : (a : Kind) → ComesByMail a → MailNews Arrive a → ¬ Allowed s (did h p Arrive) r a
+    never (Acquire l) posted news allowed = absurd cc
+    never Depart posted news allowed = mail Depart tt (departs_before_arriving s h p r n isnt most lacks allowed)
+    never _ posted news allowed = absurd posted
+arriving_mail_waits s h p r n (Some m) may isnt most lacks mail = mail_stays s h p Arrive may r isnt m mail
+
+-- the one who arrives has none then
+arrived_none : (s : Sizes) (h : List Event) (p n : ℕ) → count_of is_depart h p ≡ n
+    → (q : ℕ) × (q < s.processors) × (count_of is_arrive (did h p Arrive) q ≡ n) → IsMail s (did h p Arrive) p None
+arrived_none s h p n same lacks (Acquire l) posted allowed =
+    last_none h p Arrive allowed.0 (Ask l) (λ e. absurd cc) allowed.1
+arrived_none s h p n same lacks Depart posted allowed =
+    let one = allowed.2 lacks.0 lacks.1 in
+    let e = lacks.2 in
+    let kept = count_kept is_depart h p Arrive p refl in
+    absurd (omega arith)
+arrived_none s h p n same lacks _ posted allowed = absurd posted
+
+-- a departure that is made now has the notices that its receiver lacks
+arrived_notices : (full : Bool) (c : State) (u : List ℕ) (r : ℕ) (m : Letter) (t : List ℕ)
+    → slice_get (book_mail_met full c u) r ≡ Some (Some m) → slice_get c.times r ≡ Some t
+    → (slice_get c.transit r ≡ Some (Some m) → m.notices ≡ closings_between c.closed t m.time)
+    → m.notices ≡ closings_between c.closed t m.time
+arrived_notices false c u r m t at time old = old at
+arrived_notices true c u r m t at time old =
+    let there = slice_get-map (λ (own : List ℕ). Some (departure_to c.closed u own)) c.times r in
+    let is = same_Some (Some (departure_to c.closed u t)) (Some m)
+    (sym (there ∙ ap (λ x. option_map (λ (own : List ℕ). Some (departure_to c.closed u own)) x) time) ∙ at) in
+    subst (λ x. x.notices ≡ closings_between c.closed t x.time) (same_Some (departure_to c.closed u t) m is) refl
+
+-- p, which waits for nothing, arrives at the barrier
+module _ (s : Sizes) (h : List Event) (b : State) (p : ℕ) (told : Represents s h b)
+    (idle : slice_get b.awaits p ≡ Some None) where
+  lt : p < s.processors
+  lt = is_processor s h b p None told idle
+
+  free : IsIdle h p
+  free = idle_awaits_none s h b p told idle
+
+  may : MayFollow s h (event p Arrive)
+  may = follows s h b p told Arrive idle tt tt
+
+  well : WellFormed s (did h p Arrive)
+  well = still_formed s h b p told Arrive may
+
+  -- p's timestamp then
+  abbrev now : List ℕ
+  now = tick (time_of b p) p
+
+  time : IsStamp s.processors (did h p Arrive) (InPast (did h p Arrive) p) now
+  time = stamp_closing s.processors h p Arrive (time_of b p) lt refl refl (own_time_stamp s h b p told lt)
+
+  -- everyone's mail after the arrival
+  arrived_mail : (c : State) (full : Bool) → c.transit ≡ b.transit → length c.times ≡ s.processors
+      → episode_full (episode_with_arrival b.barrier p now) ≡ full
+      → EachAt s.processors (IsMail s (did h p Arrive)) (book_mail_met full c (join b.barrier.gathered now))
+  arrived_mail c false same long full =
+      subst (λ ms. EachAt s.processors (IsMail s (did h p Arrive)) ms) (sym same)
+      (each_own s.processors (IsMail s h) (IsMail s (did h p Arrive)) b.transit p told.transit
+      (λ r o isnt at is. arriving_mail_waits s h p r waits.0.complete o may isnt waits.1 waits.0.lacks is)
+      (λ o at is. subst (λ x. IsMail s (did h p Arrive) p x) (idle_mail s h p o free is)
+      (arrived_none s h p waits.0.complete counts waits.0.lacks)))
+    where
+      waits : (x : IsBarrier s (did h p Arrive) (episode_with_arrival b.barrier p now))
+          × ((q : ℕ) → q < s.processors → x.complete ≤ count_of is_arrive h q) × (count_of is_arrive h p ≡ x.complete)
+      waits = barrier_waits s h p b.barrier told.well_formed free lt told.barrier now time full
+
+      counts : count_of is_depart h p ≡ waits.0.complete
+      counts = sym (idle_counts s h p told.well_formed free) ∙ waits.2
+  arrived_mail c true same long full = record { long = length-map c.times departs ∙ long; each = each }
+    where
+      -- one's departure, with what it lacks
+      departs : List ℕ → Option Letter
+      departs own = Some (departure_to c.closed (join b.barrier.gathered now) own)
+
+      carries : (q : ℕ) → q < s.processors → (own : List ℕ) → IsMail s (did h p Arrive) q (departs own)
+      carries q less own =
+          let x = barrier_lets_all s h p b.barrier told.well_formed free lt told.barrier now time well full q less in
+          record { kind = Depart; lets = tt; allowed = x.0; time = x.1 }
+
+      each : (q : ℕ) (o : Option Letter) → slice_get (map departs c.times) q ≡ Some o → IsMail s (did h p Arrive) q o
+      each q o at =
+          let within = slice_get_within (map departs c.times) q o at in
+          let mapped = length-map c.times departs in
+          let read = slice_get-get_or c.times q [] (omega arith) in
+          let is = same_Some (departs (slice_index_or c.times q [])) o
+          (sym (slice_get-map departs c.times q ∙ ap (λ x. option_map departs x) read) ∙ at) in
+          subst (λ x. IsMail s (did h p Arrive) q x) is (carries q (omega arith) (slice_index_or c.times q []))
+
+  -- and the barrier
+  arrived_barrier : (full : Bool) → episode_full (episode_with_arrival b.barrier p now) ≡ full
+      → IsBarrier s (did h p Arrive) (completed_episode full (episode_with_arrival b.barrier p now))
+  arrived_barrier false full =
+      (barrier_waits s h p b.barrier told.well_formed free lt told.barrier now time full).0
+  arrived_barrier true full =
+      barrier_completes s h p b.barrier told.well_formed free lt told.barrier now time well full
+
+  pub told_arrive : (records : List Changes) → AreIntervalContents s h p (count_of is_closing h p) records
+      → Represents s (did h p Arrive) (book_arrived b p records)
+  told_arrive records stored =
+      told_closing s h b p told lt Arrive may (book_arrived b p records)
+      (record {
+        locks = locks_kept s h p Arrive b.locks.locks (λ l e. absurd cc) (λ l e. absurd cc) (λ l e. absurd cc)
+            (λ l. idle_no_ask h p l free) told.locks;
+        barrier = arrived_barrier full refl;
+        flags = flags_kept s h p Arrive b.flags (λ f e. absurd cc) told.flags;
+        transit = arrived_mail (book_closed_by b p Arrive records) full refl
+            (times_closing s h b p told lt Arrive refl refl).long refl;
+        notices = λ r m t at read. arrived_notices full (book_closed_by b p Arrive records) (join b.barrier.gathered now)
+            r m t at read
+            (λ there. old_notices s h b p told lt records r m t (awaits_none_no_mail s h b p told idle r m there) there read);
+      })
+      refl refl records stored refl
+    where
+      -- whether the episode is complete
+      full : Bool
+      full = episode_full (episode_with_arrival b.barrier p now)

@@ -1,5 +1,0 @@
-use Rattle.std.proofs.Common.{◌≡◌, replicate}
-use Rattle.book.proofs.opening.zero_times.Given as goal
-
-abbrev pub invariant-loop : goal.invariant-loop
-invariant-loop l = l.all.items ≡ replicate l.counter (replicate l.processors 0)

@@ -1,0 +1,185 @@
+-- The open blocks that are handed in at the end.
+use Rattle.std.proofs.Common.{ℕ, ◌≡◌, ◌≢◌, ◌+◌, ◌<◌, ◌≤◌, Option, Some, None, List, [], ◌∷◌, ◌++◌, length, map, slice_get, take, slice_index_or, inl, inr, refl, sym, ap, subst, ◌∙◌, append-nil, append_assoc, add-one, arith}
+use Rattle.std.proofs.lemmas.Bool.{cases_eq}
+use Rattle.std.proofs.lemmas.Grind.{flat_map-append}
+use Rattle.std.proofs.lemmas.Option.{slice_get_within, slice_get-get_or, slice_get-map}
+use Rattle.std.specs.Option.{option_map}
+use Rattle.std.proofs.lemmas.List.Elements.{filter-append}
+use Rattle.journal.specs.declared.event.Event.{Event}
+use Rattle.journal.specs.declared.event.Kind.{Kind}
+use Rattle.journal.specs.Sizes.{Sizes}
+use Rattle.journal.specs.Events.{At}
+use Rattle.base.proofs.SlicesAndCounts.{append_cases, take-suc_at}
+use Rattle.book.specs.State.{State}
+use Rattle.book.specs.Calls.{AllowsFlush, AllowsBlock}
+use Rattle.book.specs.Transitions.{book_handed_last}
+use Rattle.book.proofs.Told.Whole.{last_law}
+use Rattle.cluster.specs.Copies.Local.{Local}
+use Rattle.cluster.specs.Copies.Sound.{IsSound}
+use Rattle.cluster.proofs.copies.Entering.{entered_awaited_others}
+use Rattle.cluster.specs.Covers.{IsCovered}
+use Rattle.cluster.specs.Finishing.{HasCallsOf, IsToFinish, IsFinishing, AreBlocksToFinish}
+use Rattle.cluster.proofs.Covering.{covered_on, part_away}
+use Rattle.cluster.proofs.Found.{awaited_once, at_or}
+use Rattle.cluster.proofs.Handing.{handed_part_own}
+
+module _ (s : Sizes) (ms : List Local) (k : ℕ) (b : State) (m : Local) (at : slice_get ms k ≡ Some m)
+    (rest : List Event) (away : (i : ℕ) (e : Event) → At rest i e
+    → e.processor ≢ m.number) (fin : IsFinishing s ms k (m.seen ++ rest) b) where
+  abbrev h : List Event
+  h = m.seen ++ rest
+
+  sound : IsSound m
+  sound = (fin.sound k m at).0
+
+  number : m.number ≡ k
+  number = (fin.sound k m at).1
+
+  sizes : m.sizes ≡ s
+  sizes = (fin.sound k m at).2
+
+  mine : (i : ℕ) (e : Event) → At m.block i e → e.processor ≡ m.number
+  mine i e there = (sound.inner i e there).mine
+
+  last_awaits_here : slice_get b.awaits m.number ≡ Some m.awaits
+  last_awaits_here =
+      let told = fin.told.awaits in
+      let within : m.number < s.processors = subst (λ (z : Sizes). m.number < z.processors) sizes sound.mine in
+      let there = at_or b.awaits m.number s.processors None told.long within in
+      there ∙ ap (λ (w : Option Kind). Some w) (awaited_once h m.number (slice_index_or b.awaits m.number None)
+      m.awaits (told.each m.number (slice_index_or b.awaits m.number None) there)
+      (entered_awaited_others m.seen rest m.number m.awaits away sound.awaits))
+
+  may_give_last : AllowsBlock s b m.number m.block
+  may_give_last = record { waits = (m.awaits, last_awaits_here, sound.quiet); inner = rw (← sizes) sound.inner }
+
+  -- the block may be handed in
+  pub may_flush_last : AllowsFlush b k m.block
+  may_flush_last = rw (← number) (record {
+    by = record { sizes = s; history = h; told = fin.told };
+    gives =
+        may_give_last;
+  })
+
+  -- and there is room for it
+  pub room_last : length m.block ≤ b.journal.room
+  room_last = let within = slice_get_within ms k m at in let short = sound.short in let room = fin.room in omega arith
+
+  covered_last : IsCovered m h
+  covered_last = covered_on m sound rest away (rw sizes fin.told.well_formed) fin.explained (rw sizes fin.counted)
+
+  -- after that one more is done
+  pub finishing_step : IsFinishing s ms (k + 1) (h ++ m.block) (book_handed_last b m.block)
+  finishing_step = record {
+    told = last_law s h m.block b m.number fin.told may_give_last;
+    explained = covered_last.explained;
+    counted = rw (← sizes) covered_last.counted;
+    cuts = fin.cuts;
+    room = let short = sound.short in let enough = room_last in let room = fin.room in omega arith;
+    sound = fin.sound;
+    done = done;
+    to_come = to_come;
+    in_turn = (
+      fin.in_turn.0,
+      rw (
+        more,
+        flat_map-append,
+        append-nil,
+        ← append_assoc,
+      ) (ap (λ (xs : List Event). xs ++ m.block) fin.in_turn.1),
+    );
+  }
+    where
+      more : take (k + 1) ms ≡ take k ms ++ m ∷ []
+      more = ap (λ (n : ℕ). take n ms) (add-one k) ∙ take-suc_at ms k m at
+
+      done : (p : ℕ) (x : Local) → p < k + 1 → slice_get ms p ≡ Some x → HasCallsOf (h ++ m.block) x
+      done p x before there = elim (cases_eq p k) [
+        | inl same ↦
+            (let P : ℕ → Type 0 = λ i. slice_get ms i ≡ Some x in
+            let is : m ≡ x = cc (at, subst P same there) in
+            subst (HasCallsOf (h ++ m.block)) is (record {
+              begins = (rest ++ m.block, append_assoc m.seen rest m.block);
+              calls_are =
+                  rw (
+                    filter-append,
+                    filter-append,
+                    part_away rest m.number away,
+                    handed_part_own m.block m.number mine,
+                    append-nil,
+                  ) refl;
+            }))
+        | inr other ↦
+            (let old = fin.done p x (omega arith) there in
+            let own = (fin.sound p x there).1 in
+            let apart : (i : ℕ) (e : Event) → At m.block i e → e.processor ≢ x.number =
+            λ i e here is. other (sym own ∙ sym is ∙ mine i e here ∙ number) in
+            record {
+              begins = (
+                old.begins.0 ++ m.block,
+                ap (λ (xs : List Event). xs ++ m.block) old.begins.1
+                    ∙ append_assoc x.seen old.begins.0 m.block,
+              );
+              calls_are = rw (filter-append, part_away m.block x.number apart, append-nil) old.calls_are;
+            })
+      ]
+
+      to_come : (p : ℕ) (x : Local) → k + 1 ≤ p → slice_get ms p ≡ Some x → IsToFinish (h ++ m.block) x
+      to_come p x after there =
+          let old = fin.to_come p x (omega arith) there in
+          let own = (fin.sound p x there).1 in
+          record {
+            rest = old.rest ++ m.block;
+            begins = ap (λ (xs : List Event). xs ++ m.block) old.begins ∙ append_assoc x.seen old.rest m.block;
+            away = λ i e here. elim (append_cases old.rest m.block i e here) [
+              | inl a ↦ old.away i e a.1
+              | inr a ↦ (λ is. let same = mine a.0 e a.2 in let first = number in omega arith)
+            ];
+          }
+
+module _ (s : Sizes) (ms : List Local) (k : ℕ) (h : List Event) (b : State) (fin : IsFinishing s ms k h b) (m : Local)
+    (at : slice_get ms k ≡ Some m) where
+  abbrev come : IsToFinish h m
+  come = fin.to_come k m (omega arith) at
+
+  abbrev here : IsFinishing s ms k (m.seen ++ come.rest) b
+  here = let P : List Event → Type 0 = λ xs. IsFinishing s ms k xs b in subst P come.begins fin
+
+  -- the next block may be handed in
+  pub may_last : AllowsFlush b k m.block
+  may_last = may_flush_last s ms k b m at come.rest come.away here
+
+  pub fits_last : length m.block ≤ b.journal.room
+  fits_last = room_last s ms k b m at come.rest come.away here
+
+  -- and then the history has it
+  pub finishing_one_more : (g : List Event) × IsFinishing s ms (k + 1) g (book_handed_last b m.block)
+  finishing_one_more = ((m.seen ++ come.rest) ++ m.block, finishing_step s ms k b m at come.rest come.away here)
+
+-- what stands at a place of a mapped list
+pub mapped_at : {A B : Type 0} (f : A → B) (xs : List A) (k : ℕ) (x : A) → slice_get xs k ≡ Some x
+    → slice_get (map f xs) k ≡ Some (f x)
+mapped_at f xs k x at = slice_get-map f xs k ∙ ap (option_map f) at
+
+-- the processor whose block stands at this place
+pub block_of : (ms : List Local) (blocks : List (List Event)) (k : ℕ) (block : List Event) → AreBlocksToFinish ms blocks
+    → slice_get blocks k ≡ Some block → (m : Local) × (slice_get ms k ≡ Some m) × (block ≡ m.block)
+block_of [] blocks k block are at =
+    let within = slice_get_within blocks k block at in let all = are.all in absurd (omega arith)
+block_of (x ∷ xs) blocks k block are at =
+    let within = slice_get_within blocks k block at in
+    let all = are.all in
+    let there = slice_get-get_or (x ∷ xs) k x (omega arith) in
+    (slice_index_or (x ∷ xs) k x, there, are.each k (slice_index_or (x ∷ xs) k x) block there at)
+
+module _ (ms : List Local) (s : Sizes) (h : List Event) (b : State) (k : ℕ) (fin : IsFinishing s ms k h b)
+    (blocks : List (List Event)) (are : AreBlocksToFinish ms blocks) (block : List Event)
+    (at : slice_get blocks k ≡ Some block) where
+  pub may_last_block : AllowsFlush b k block
+  may_last_block = let m = block_of ms blocks k block are at in rw (m.2) (may_last s ms k h b fin m.0 m.1)
+
+  pub fits_last_block : length block ≤ b.journal.room
+  fits_last_block = let m = block_of ms blocks k block are at in rw (m.2) (fits_last s ms k h b fin m.0 m.1)
+
+  pub finishing_one_more_block : (g : List Event) × IsFinishing s ms (k + 1) g (book_handed_last b block)
+  finishing_one_more_block = let m = block_of ms blocks k block are at in rw (m.2) (finishing_one_more s ms k h b fin m.0 m.1)

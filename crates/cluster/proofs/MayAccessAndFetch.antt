@@ -1,0 +1,111 @@
+-- What it means that a call is not refused.
+use Rattle.std.proofs.Common.{ℕ, ◌≡◌, ◌<◌, ◌/◌, Bool, true, false, not, nat_le, cond, Option, Some, None, List, refl, sym, ap, ◌∙◌, length, slice_get, get_or, subst, subst₂, is_some}
+use Rattle.std.proofs.lemmas.Option.{none-some, get_or_from_slice_get, slice_get_within}
+use Rattle.std.proofs.lemmas.Bool.{leb-false, not-false}
+use Rattle.page.specs.declared.page.Access.{Access}
+use Rattle.page.specs.declared.page.Access.TheVariants.{Valid, Invalid}
+use Rattle.book.specs.declared.refused.Refused.{Refused}
+use Rattle.journal.specs.Sizes.{addresses}
+use Rattle.base.specs.Limits.{most_in_block}
+use Rattle.cluster.specs.Copies.PageReplica.{Copied, may_use_replica}
+use Rattle.cluster.specs.Copies.Local.{Local}
+use Rattle.cluster.specs.Refusals.{serves, has_valid, is_waiting, block_full, access_refusal, fetch_refusal}
+
+-- the first doesn't apply, nor do the others
+pub due_none : (b : Bool) (r : Refused) (rest : Option Refused) → cond b (Some r) rest ≡ None
+    → (b ≡ false) × (rest ≡ None)
+due_none true r rest h = absurd (none-some r (sym h))
+due_none false r rest h = (refl, h)
+
+-- what is not there is nothing
+pub unawaited : {A : Type 0} (o : Option A) → is_some o ≡ false → o ≡ None
+unawaited None h = refl
+unawaited (Some x) h = absurd (cc)
+
+-- a copy that serves is there and valid
+pub serving : (o : Option Copied) → serves o ≡ true → (c : Copied) × (o ≡ Some c) × (c.page.access ≡ Valid)
+serving None h = absurd (cc)
+serving (Some c) h = (c, refl, usable c.page.access h)
+  where
+    usable : (a : Access) → may_use_replica a ≡ true → a ≡ Valid
+    usable Valid h = refl
+    usable Invalid h = absurd (cc)
+
+-- a load or a store at this address is not refused
+pub record MayAccess (m : Local) (a : ℕ) : Type 0 where
+  pub within : a < addresses m.sizes
+  pub copy : Copied
+  pub at : slice_get m.copies (a / m.sizes.words) ≡ Some copy
+  pub valid : copy.page.access ≡ Valid
+  pub idle : m.awaits ≡ None
+  pub room : length m.block < most_in_block
+
+pub may_access : (m : Local) (a : ℕ) → access_refusal m a ≡ None → MayAccess m a
+may_access m a none =
+    let one = due_none (nat_le (addresses m.sizes) a) _ _ none in
+    let two = due_none (not (has_valid m (a / m.sizes.words))) _ _ one.1 in
+    let three = due_none (is_waiting m) _ _ two.1 in
+    let four = due_none (block_full m) _ _ three.1 in
+    let found = serving (slice_get m.copies (a / m.sizes.words)) (not-false _ two.0) in
+    record {
+      within = leb-false (addresses m.sizes) a one.0;
+      copy = found.0;
+      at = found.1;
+      valid = found.2;
+      idle = unawaited m.awaits three.0;
+      room = leb-false most_in_block (length m.block) four.0;
+    }
+
+-- the copy that is read at the address's page is the processor's
+pub access_copy_read : (was m : Local) (a page : ℕ) (x : Copied) → was ≡ m → access_refusal m a ≡ None
+    → page ≡ a / m.sizes.words → x ≡ get_or was.copies page x
+    → (slice_get m.copies (a / m.sizes.words) ≡ Some x) × (x.page.access ≡ Valid)
+access_copy_read was m a page x same free place read =
+    let may = may_access m a free in
+    let P : List Copied → ℕ → Type 0 = λ xs k. x ≡ get_or xs k x in
+    let is : x ≡ may.copy =
+    subst₂ P (ap (λ (l : Local). l.copies) same) place read
+    ∙ get_or_from_slice_get m.copies (a / m.sizes.words) may.copy x may.at in
+    (may.at ∙ ap (λ (c : Copied). Some c) (sym is), ap (λ (c : Copied). c.page.access) is ∙ may.valid)
+
+-- it has a place among the copies,
+pub access_place_within : (was m : Local) (a page : ℕ) → was ≡ m → access_refusal m a ≡ None → page ≡ a / m.sizes.words
+    → page < length was.copies
+access_place_within was m a page same free place =
+    let may = may_access m a free in
+    subst₂ (λ (l : Local) (k : ℕ). k < length l.copies) (sym same) (sym place)
+    (slice_get_within m.copies (a / m.sizes.words) may.copy may.at)
+
+-- and the open block has room for the event
+pub access_room_within : (was m : Local) (a : ℕ) → was ≡ m → access_refusal m a ≡ None → length was.block < most_in_block
+access_room_within was m a same free =
+    subst (λ (l : Local). length l.block < most_in_block) (sym same) (may_access m a free).room
+
+-- a fetch of this page is not refused
+pub record MayFetch (m : Local) (n : ℕ) : Type 0 where
+  pub within : n < m.sizes.pages
+  pub idle : m.awaits ≡ None
+  pub room : length m.block < most_in_block
+  pub invalid : has_valid m n ≡ false
+
+pub may_fetch : (m : Local) (n : ℕ) → fetch_refusal m n ≡ None → MayFetch m n
+may_fetch m n none =
+    let one = due_none (nat_le m.sizes.pages n) _ _ none in
+    let two = due_none (is_waiting m) _ _ one.1 in
+    let three = due_none (block_full m) _ _ two.1 in
+    let four = due_none (has_valid m n) _ _ three.1 in
+    record {
+      within = leb-false m.sizes.pages n one.0;
+      idle = unawaited m.awaits two.0;
+      room = leb-false most_in_block (length m.block) three.0;
+      invalid = four.0;
+    }
+
+-- so the copy is not valid
+pub fetch_stale_copy : (m : Local) (n : ℕ) (c : Copied) → fetch_refusal m n ≡ None → slice_get m.copies n ≡ Some c
+    → c.page.access ≡ Invalid
+fetch_stale_copy m n c free at = unusable c.page.access (ap serves (sym at) ∙ (may_fetch m n free).invalid)
+  where
+    unusable : (a : Access) → may_use_replica a ≡ false → a ≡ Invalid
+    unusable Valid h = absurd (cc)
+    unusable Invalid h = refl

@@ -1,0 +1,122 @@
+-- Counts of pages, built up by a loop over what has the pages.
+use Rattle.std.proofs.Common.{◌≡◌, ℕ, ◌+◌, ◌-◌, ◌<◌, ◌≤◌, ◌==◌, ◌^◌, Bool, cond, inl, inr, List, [], ◌∷◌, ◌++◌, map, take, drop, get_or, set, length, count_by, slice_index, refl, sym, ap, subst, arith, ◌∙◌}
+use Rattle.std.specs.List.{flat_map}
+use Rattle.std.proofs.lemmas.Bool.{cases_eq, eq-eqb, ne_eqb}
+use Rattle.std.proofs.lemmas.List.{take_more, append-nil, take-append-drop, length-set, get_or-set_same, get_or-set_other, length-map, get_or-map}
+use Rattle.std.proofs.lemmas.List.Sums.{sum_by-cons}
+use Rattle.std.proofs.lemmas.Grind.{flat_map-append}
+use Rattle.base.proofs.SlicesAndCounts.{count_by-append}
+use Rattle.interval.specs.PageCounts.{CountsGrew, CountsHaveRoom}
+
+-- the test for page base + i
+abbrev is_page : ℕ → ℕ → ℕ → ℕ
+is_page base i p = cond (p == base + i) 1 0
+
+pub counted-nil : (base : ℕ) (counts : List ℕ) → CountsGrew base [] counts counts
+counted-nil base counts = record { long = refl; each = λ i inside. omega arith }
+
+pub counted-append : (base : ℕ) (ps qs before between after : List ℕ) → CountsGrew base ps before between
+    → CountsGrew base qs between after → CountsGrew base (ps ++ qs) before after
+counted-append base ps qs before between after first second = record {
+  long = second.long ∙ first.long;
+  each = λ i inside.
+      let here = first.each i inside in
+      let long = first.long in
+      let there = second.each i (omega arith) in
+      let both = count_by-append (λ (p : ℕ). p == base + i) ps qs in
+      omega arith;
+}
+
+-- one page that has a count
+pub counted-one : (base page : ℕ) (counts : List ℕ) → base ≤ page → page - base < length counts
+    → CountsGrew base (page ∷ []) counts (set counts (page - base) (slice_index counts (page - base) + 1))
+counted-one base page counts from inside = record {
+  long = length-set counts (page - base) (slice_index counts (page - base) + 1);
+  each = λ i within.
+      let value = slice_index counts (page - base) + 1 in
+      let one = sum_by-cons (is_page base i) page [] in
+      elim (cases_eq i (page - base)) [
+        | inl here ↦
+            let is : cond {A = ℕ} (page == base + i) 1 0 ≡ 1 =
+            ap (λ (b : Bool). cond {A = ℕ} b 1 0) (eq-eqb page (base + i) (omega arith)) in
+            let new : slice_index (set counts (page - base) value) i ≡ value =
+            ap (slice_index (set counts (page - base) value)) here
+            ∙ get_or-set_same counts (page - base) value 0 inside in
+            let old = ap (slice_index counts) here in
+            omega arith
+        | inr other ↦
+            let isnt : cond {A = ℕ} (page == base + i) 1 0 ≡ 0 =
+            ap (λ (b : Bool). cond {A = ℕ} b 1 0) (ne_eqb page (base + i) (λ e. other (omega arith))) in
+            let new = get_or-set_other counts (page - base) i value 0 other in
+            omega arith
+      ];
+}
+
+-- one page that has none
+pub counted-out : (base page : ℕ) (counts : List ℕ) → (base ≤ page → length counts ≤ page - base)
+    → CountsGrew base (page ∷ []) counts counts
+counted-out base page counts out = record {
+  long = refl;
+  each = λ i within.
+      let one = sum_by-cons (is_page base i) page [] in
+      let isnt : cond {A = ℕ} (page == base + i) 1 0 ≡ 0 =
+      ap (λ (b : Bool). cond {A = ℕ} b 1 0)
+      (ne_eqb page (base + i) (λ e. let past = out (omega arith) in omega arith)) in
+      omega arith;
+}
+
+-- where a page's count is to grow, it can
+pub room_one : (base page : ℕ) (counts : List ℕ) → base ≤ page → page - base < length counts
+    → CountsHaveRoom base (page ∷ []) counts → slice_index counts (page - base) + 1 < 2 ^ 64
+room_one base page counts from inside room =
+    let less = room (page - base) inside in
+    let one = sum_by-cons (is_page base (page - base)) page [] in
+    let is : cond {A = ℕ} (page == base + (page - base)) 1 0 ≡ 1 =
+    ap (λ (b : Bool). cond {A = ℕ} b 1 0) (eq-eqb page (base + (page - base)) (omega arith)) in
+    omega arith
+
+-- an item of a list is one of its list under a function
+pub mapped_at : {X Y : Type 0} (f : X → Y) (xs : List X) (k : ℕ) (x : X) → k < length xs → x ≡ get_or xs k x
+    → (k < length (map f xs)) × (f x ≡ get_or (map f xs) k (f x))
+mapped_at f xs k x inside is =
+    let long = length-map xs f in
+    (omega arith, ap f is ∙ sym (get_or-map f xs k x (f x) inside))
+
+-- the items up to an item, with it
+flat_map_more : {X : Type 0} (f : X → List ℕ) (xs : List X) (k : ℕ) (x : X) → k < length xs → x ≡ get_or xs k x
+    → flat_map f (take (k + 1) xs) ≡ flat_map f (take k xs) ++ f x
+flat_map_more f xs k x inside is =
+    let step = take_more xs k x inside in
+    let one : take (k + 1) xs ≡ take k xs ++ x ∷ [] = rw (← is) at step in
+    ap (flat_map f) one ∙ flat_map-append f (take k xs) (x ∷ [])
+    ∙ ap (λ (ps : List ℕ). flat_map f (take k xs) ++ ps) (append-nil (f x))
+
+-- the items so far, and one more
+pub counted_more : {X : Type 0} (base : ℕ) (f : X → List ℕ) (xs : List X) (k : ℕ) (x : X)
+    (before between after : List ℕ)
+    → k < length xs → x ≡ get_or xs k x
+    → CountsGrew base (flat_map f (take k xs)) before between → CountsGrew base (f x) between after
+    → CountsGrew base (flat_map f (take (k + 1) xs)) before after
+counted_more base f xs k x before between after inside is so_far one =
+    let P : List ℕ → Type 0 = λ ps. CountsGrew base ps before after in
+    subst P (sym (flat_map_more f xs k x inside is))
+    (counted-append base (flat_map f (take k xs)) (f x) before between after so_far one)
+
+-- where there is room for all, there is room for the next
+pub room_more : {X : Type 0} (base : ℕ) (f : X → List ℕ) (xs : List X) (k : ℕ) (x : X) (before between : List ℕ)
+    → k < length xs → x ≡ get_or xs k x
+    → CountsHaveRoom base (flat_map f xs) before → CountsGrew base (flat_map f (take k xs)) before between
+    → CountsHaveRoom base (f x) between
+room_more base f xs k x before between inside is room so_far i within =
+    let test : ℕ → Bool = λ p. p == base + i in
+    let long = so_far.long in
+    let all = room i (omega arith) in
+    let now = so_far.each i (omega arith) in
+    let parts =
+    ap (count_by test) (sym (flat_map-append f (take (k + 1) xs) (drop (k + 1) xs))
+    ∙ ap (flat_map f) (take-append-drop (k + 1) xs))
+    in
+    let ends = count_by-append test (flat_map f (take (k + 1) xs)) (flat_map f (drop (k + 1) xs)) in
+    let more = ap (count_by test) (flat_map_more f xs k x inside is) in
+    let one = count_by-append test (flat_map f (take k xs)) (f x) in
+    omega arith

@@ -1,0 +1,178 @@
+-- What is found in the merged list by owner and number.
+use Rattle.std.proofs.Common.{◌≡◌, ℕ, zero, suc, ◌<◌, ◌≤◌, ◌+◌, ◌-◌, Bool, true, ◌==◌, inl, inr, Option, Some, None, List, [], ◌∷◌, map, find, slice_get, get_or, length, refl, sym, ap, subst, arith, ◌∙◌}
+use Rattle.std.specs.Option.{MatchOption, option_and_then}
+use Rattle.std.proofs.lemmas.Bool.{cases_order, cases_Bool, and_parts, and_from, eqb-true, eq-eqb}
+use Rattle.std.proofs.lemmas.Option.{slice_get_within, slice_get-get_or, slice_get_read}
+use Rattle.page.specs.RisingChanges.{Changes}
+use Rattle.interval.specs.declared.notice.Notice.{Notice}
+use Rattle.interval.specs.declared.kept_interval.KeptInterval.{KeptInterval}
+use Rattle.interval.specs.Closings.{Closings, is_noticed, record_of}
+use Rattle.interval.specs.Queues.{Queue, merged_queues, queue_closings, AreQueues}
+use Rattle.base.specs.InOrderOnce.{Has}
+use Rattle.base.proofs.Filters.{find_none}
+use Rattle.interval.proofs.Order.Least.{find_least}
+use Rattle.interval.proofs.Queues.Merged.{Lies, merged_lies, lies_merged, rises-merged, queued}
+
+-- an owner's interval lies in the owner's queue
+pub in_own_queue : (queues : List Queue) (count : ℕ) → AreQueues queues count → (k : KeptInterval) → Lies queues k
+    → (owner : ℕ) → k.interval.owner ≡ owner → (queue : Queue) → slice_get queues owner ≡ Some queue
+    → (i : ℕ) × (slice_get queue.kept i ≡ Some k)
+in_own_queue queues count are k l owner is queue owned =
+    let q = queued queues count are k l in
+    let same : l.owner ≡ owner = sym q.owner_is ∙ is in
+    let queue_is : l.queue ≡ queue =
+    let there : slice_get queues owner ≡ Some l.queue = ap (slice_get queues) (sym same) ∙ l.owned in
+    cc (there, owned) in
+    (l.index, ap (λ (q : Queue). slice_get q.kept l.index) (sym queue_is) ∙ l.at)
+
+-- the first of the owner's intervals in closing order is the first of its queue
+pub first_of : (queues : List Queue) (count owner : ℕ) (queue : Queue) → AreQueues queues count
+    → slice_get queues owner ≡ Some queue
+    → find (λ (k : KeptInterval). k.interval.owner == owner) (merged_queues queues) ≡ slice_get queue.kept 0
+first_of queues count owner queue are owned =
+    let test : KeptInterval → Bool = λ k. k.interval.owner == owner in
+    let go : (o : Option KeptInterval) → slice_get queue.kept 0 ≡ o
+    → find test (merged_queues queues)
+    ≡ o = λ o. elim o as (λ (o : Option KeptInterval). slice_get queue.kept 0 ≡ o → find test (merged_queues queues) ≡ o) [
+      | None ↦ λ e. find_none test (merged_queues queues) (λ j h. elim (cases_Bool (test j)) [
+        | inl t ↦
+            let at = in_own_queue queues count are j (merged_lies queues j h) owner (eqb-true _ _ t) queue owned in
+            let within = slice_get_within queue.kept at.0 j at.1 in
+            let there = slice_get-get_or queue.kept 0 j (omega arith) in
+            cc
+        | inr f ↦ f
+      ])
+      | Some k ↦ λ e.
+          let l : Lies queues k = record { owner = owner; queue = queue; index = 0; owned = owned; at = e } in
+          let is = (queued queues count are k l).owner_is in
+          find_least test (merged_queues queues) k (rises-merged queues) (lies_merged queues count are k l) (eq-eqb _ _ is)
+          (λ j h t.
+          let at = in_own_queue queues count are j (merged_lies queues j h) owner (eqb-true _ _ t) queue owned in
+          elim (cases_order 0 at.0) [
+            | inl same ↦ let there : slice_get queue.kept 0 ≡ Some j = ap (slice_get queue.kept) same ∙ at.1 in
+                let one : k ≡ j = cc (e, there) in let place = ap (λ (z : KeptInterval). z.place) one in omega arith
+            | inr other ↦ elim other [
+              | inl before ↦ let rises = (are.each owner queue owned).rising 0 at.0 k j before e at.1 in omega arith
+              | inr after ↦ absurd (omega arith)
+            ]
+          ])
+    ] in
+    go (slice_get queue.kept 0) refl
+
+-- what `first` answers is the number of that interval, or the owner's next number
+pub first_number : (queues : List Queue) (count : ℕ) (value : Closings) (owner : ℕ) (queue : Queue) (n : ℕ)
+    → queue_closings queues count ≡ value → AreQueues queues count → slice_get queues owner ≡ Some queue → n ≡ queue.first
+    → MatchOption (find (λ (k : KeptInterval). k.interval.owner == owner) value.kept) (slice_get value.next owner ≡ Some n)
+    (λ k. k.interval.number ≡ n)
+first_number queues count value owner queue n is are owned n_is =
+    let kepts : merged_queues queues ≡ value.kept = ap (λ (c : Closings). c.kept) is in
+    let nexts : map (λ (q : Queue). q.first + length q.kept) queues ≡ value.next = ap (λ (c : Closings). c.next) is in
+    let go : (o : Option KeptInterval) → slice_get queue.kept 0 ≡ o
+    → MatchOption o (slice_get value.next owner ≡ Some n) (λ k. k.interval.number ≡ n) = λ o. elim o as (λ
+    (o : Option KeptInterval). slice_get queue.kept 0
+    ≡ o
+    → MatchOption o (slice_get value.next owner ≡ Some n) (λ k. k.interval.number ≡ n)) [
+      | None ↦ λ e.
+          let none : length queue.kept ≡ 0 = empty queue.kept e in
+          let entry : slice_get (map (λ (q : Queue). q.first + length q.kept) queues) owner
+          ≡ Some (queue.first + length queue.kept) =
+          got (λ (q : Queue). q.first + length q.kept) queues owner queue owned in
+          let number : queue.first + length queue.kept ≡ n = omega arith in
+          ap (λ (ns : List ℕ). slice_get ns owner) (sym nexts) ∙ entry ∙ ap Some number
+      | Some k ↦ λ e. let number = ((are.each owner queue owned).each 0 k e).number_is in omega arith
+    ] in
+    let P : Option KeptInterval → Type 0 =
+    λ o. MatchOption o (slice_get value.next owner ≡ Some n) (λ k. k.interval.number ≡ n) in
+    subst P (sym (first_of queues count owner queue are owned)
+    ∙ ap (find (λ (k : KeptInterval). k.interval.owner == owner)) kepts)
+    (go (slice_get queue.kept 0) refl)
+  where
+    empty : (ks : List KeptInterval) → slice_get ks 0 ≡ None → length ks ≡ 0
+    empty [] e = refl
+    empty (k ∷ ks) e = absurd (cc e)
+
+    got : (f : Queue → ℕ) (queues : List Queue) (owner : ℕ) (queue : Queue) → slice_get queues owner ≡ Some queue
+        → slice_get (map f queues) owner ≡ Some (f queue)
+    got f [] owner queue at = absurd (cc at)
+    got f (q ∷ qs) zero queue at = let same : q ≡ queue = cc at in ap (λ (q : Queue). Some (f q)) same
+    got f (q ∷ qs) (suc owner) queue at = got f qs owner queue at
+
+-- no such owner
+pub none_found : (queues : List Queue) (count : ℕ) (n : Notice) → AreQueues queues count → length queues ≤ n.owner
+    → find (is_noticed n) (merged_queues queues) ≡ None
+none_found queues count n are past =
+    find_none (is_noticed n) (merged_queues queues) (λ j h. elim (cases_Bool (is_noticed n j)) [
+      | inl t ↦
+          let l = merged_lies queues j h in
+          let owner = (queued queues count are j l).owner_is in
+          let is : j.interval.owner ≡ n.owner = eqb-true _ _ (and_parts _ _ t).0 in
+          let within = slice_get_within queues l.owner l.queue l.owned in
+          absurd (omega arith)
+      | inr f ↦ f
+    ])
+
+-- the interval of a notice is found in its owner's queue, by its number
+pub noticed_at : (queues : List Queue) (count : ℕ) (n : Notice) (queue : Queue) → AreQueues queues count
+    → slice_get queues n.owner ≡ Some queue → queue.first ≤ n.number
+    → find (is_noticed n) (merged_queues queues) ≡ slice_get queue.kept (n.number - queue.first)
+noticed_at queues count n queue are owned from =
+    let i : ℕ = n.number - queue.first in
+    let found_at : (j : KeptInterval) → Has (merged_queues queues) j → is_noticed n j ≡ true
+    → slice_get queue.kept i ≡ Some j = λ j h t.
+    let parts = and_parts _ _ t in
+    let at = in_own_queue queues count are j (merged_lies queues j h) n.owner (eqb-true _ _ parts.0) queue owned in
+    let number = ((are.each n.owner queue owned).each at.0 j at.1).number_is in
+    let is : j.interval.number ≡ n.number = eqb-true _ _ parts.1 in
+    let index : at.0 ≡ i = omega arith in
+    ap (slice_get queue.kept) (sym index) ∙ at.1 in
+    let go : (o : Option KeptInterval) → slice_get queue.kept i ≡ o
+    → find (is_noticed n) (merged_queues queues)
+    ≡ o = λ o. elim o as
+    (λ (o : Option KeptInterval). slice_get queue.kept i ≡ o → find (is_noticed n) (merged_queues queues) ≡ o) [
+      | None ↦ λ e. find_none (is_noticed n) (merged_queues queues)
+          (λ j h. elim (cases_Bool (is_noticed n j)) [ inl t ↦ let there = found_at j h t in cc | inr f ↦ f ])
+      | Some k ↦ λ e.
+          let l : Lies queues k = record { owner = n.owner; queue = queue; index = i; owned = owned; at = e } in
+          let q = queued queues count are k l in
+          let number = q.number_is in
+          let is : k.interval.number ≡ n.number = omega arith in
+          find_least (is_noticed n) (merged_queues queues) k (rises-merged queues) (lies_merged queues count are k l)
+          (and_from _ _ (eq-eqb _ _ q.owner_is) (eq-eqb _ _ is))
+          (λ j h t. let there = found_at j h t in let one : k ≡ j = cc (e, there) in
+          let place = ap (λ (z : KeptInterval). z.place) one in omega arith)
+    ] in
+    go (slice_get queue.kept i) refl
+
+-- no interval has a number below the first one that is kept
+pub none_found_below : (queues : List Queue) (count : ℕ) (n : Notice) (queue : Queue) → AreQueues queues count
+    → slice_get queues n.owner ≡ Some queue → n.number < queue.first
+    → find (is_noticed n) (merged_queues queues) ≡ None
+none_found_below queues count n queue are owned below =
+    find_none (is_noticed n) (merged_queues queues) (λ j h. elim (cases_Bool (is_noticed n j)) [
+      | inl t ↦
+          let parts = and_parts _ _ t in
+          let at =
+          in_own_queue queues count are j (merged_lies queues j h) n.owner (eqb-true _ _ parts.0) queue owned in
+          let number = ((are.each n.owner queue owned).each at.0 j at.1).number_is in
+          let is : j.interval.number ≡ n.number = eqb-true _ _ parts.1 in
+          absurd (omega arith)
+      | inr f ↦ f
+    ])
+
+-- of the interval that is found, the record for the page
+pub record_found : (queues : List Queue) (count : ℕ) (value : Closings) (n : Notice) (o : Option KeptInterval)
+    → queue_closings queues count ≡ value → find (is_noticed n) (merged_queues queues) ≡ o
+    → record_of value n
+    ≡ option_and_then (λ (k : KeptInterval). find (λ (r : Changes). r.page == n.page) k.interval.records) o
+record_found queues count value n o is found =
+    let kepts : value.kept ≡ merged_queues queues = ap (λ (c : Closings). c.kept) (sym is) in
+    ap (λ (ks : List KeptInterval). option_and_then
+    (λ (k : KeptInterval). find (λ (r : Changes). r.page == n.page) k.interval.records) (find (is_noticed n) ks))
+    kepts
+    ∙ ap (option_and_then (λ (k : KeptInterval). find (λ (r : Changes). r.page == n.page) k.interval.records)) found
+
+-- the owner's queue, as it is read from a slice of the queues
+pub queue_read : (queues items : List Queue) (o : ℕ) (queue : Queue) → items ≡ queues → o < length items
+    → queue ≡ get_or items o queue → slice_get queues o ≡ Some queue
+queue_read queues items o queue same inside read =
+    ap (λ (qs : List Queue). slice_get qs o) (sym same) ∙ slice_get_read items (length items) o queue refl inside read

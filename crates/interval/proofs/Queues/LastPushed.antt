@@ -1,0 +1,291 @@
+-- The queues after one more interval, closed last, in its owner's queue.
+use Rattle.std.proofs.Common.{◌≡◌, ◌≢◌, ℕ, zero, suc, ◌<◌, ◌+◌, ◌-◌, ◌^◌, ◌⊎◌, inl, inr, Some, List, [], ◌∷◌, ◌++◌, map, slice_get, slice_index, set, get_or, length, refl, sym, ap, arith, ◌∙◌}
+use Rattle.std.proofs.lemmas.Bool.{cases_eq}
+use Rattle.std.proofs.lemmas.List.{length_push, length-map, map-set, set-get_or}
+use Rattle.std.proofs.lemmas.Option.{slice_get_within, get_or_from_slice_get, slice_get_read}
+use Rattle.base.specs.InOrderOnce.{Has, InOrder}
+use Rattle.base.proofs.Joined.{has-nil, has-cons, has-append}
+use Rattle.base.proofs.SlicesAndCounts.{slice_get-append_left, slice_get-last, push_cases}
+use Rattle.base.proofs.SliceSets.{slice_get-set_same, slice_get-set_other}
+use Rattle.interval.specs.declared.kept_interval.KeptInterval.{KeptInterval}
+use Rattle.interval.specs.SentIntervals.{HasRisingPages, ClosedInterval}
+use Rattle.interval.specs.Closings.{Closings, pushed}
+use Rattle.interval.specs.Queues.{Queue, merged_queues, queue_closings, IsQueue, IsQueued, AreQueues}
+use Rattle.interval.proofs.Order.RisingByPlace.{rises-push, same_rising}
+use Rattle.interval.proofs.Queues.Merged.{Lies, merged_lies, lies_merged, rises-merged, queued}
+
+-- the interval k comes last in the queue of its owner, and is closed last
+pub record Comes (queues : List Queue) (count owner : ℕ) (queue : Queue) (k : KeptInterval) : Type 0 where
+  pub owned : slice_get queues owner ≡ Some queue
+  pub owner_is : k.interval.owner ≡ owner
+  pub number_is : k.interval.number ≡ queue.first + length queue.kept
+  pub place_is : k.place ≡ count
+  pub fits : count + 1 < 2 ^ 64
+  pub pages : HasRisingPages k.interval.records
+
+abbrev pub with_last : Queue → KeptInterval → Queue
+with_last queue k = record { first = queue.first; kept = queue.kept ++ k ∷ [] }
+
+abbrev pub with_queue : List Queue → ℕ → Queue → KeptInterval → List Queue
+with_queue queues owner queue k = set queues owner (with_last queue k)
+
+module _ (queues : List Queue) (count owner : ℕ) (queue : Queue) (k : KeptInterval) (are : AreQueues queues count)
+    (comes : Comes queues count owner queue k) where
+  inside : owner < length queues
+  inside = slice_get_within queues owner queue comes.owned
+
+  -- a queue of the new ones
+  queue_cases : (q : ℕ) (a : Queue) → slice_get (with_queue queues owner queue k) q ≡ Some a
+      → ((q ≡ owner) × (with_last queue k ≡ a)) ⊎ ((q ≢ owner) × (slice_get queues q ≡ Some a))
+  queue_cases q a at = elim (cases_eq q owner) [
+    | inl e ↦
+        let here = slice_get-set_same queues owner (with_last queue k) inside in
+        let there : slice_get (with_queue queues owner queue k) owner ≡ Some a =
+        ap (slice_get (with_queue queues owner queue k)) (sym e) ∙ at in
+        inl (e, cc (here, there))
+    | inr other ↦ inr (other, sym (slice_get-set_other queues owner q (with_last queue k) other) ∙ at)
+  ]
+
+  was_queue : IsQueue owner count queue
+  was_queue = are.each owner queue comes.owned
+
+  queued_last : (i : ℕ) (j : KeptInterval) → slice_get (queue.kept ++ k ∷ []) i ≡ Some j
+      → IsQueued owner (count + 1) (with_last queue k) i j
+  queued_last i j at = elim (push_cases queue.kept k i j at) [
+    | inl old ↦
+        let was = was_queue.each i j old.1 in
+        let before = was.closed in
+        record { owner_is = was.owner_is; number_is = was.number_is; closed = omega arith; pages = was.pages }
+    | inr new ↦
+        let P : KeptInterval → Type 0 = λ j. IsQueued owner (count + 1) (with_last queue k) i j in
+        let place = comes.place_is in
+        let number = comes.number_is in
+        let index = new.0 in
+        let is : P k =
+        record { owner_is = comes.owner_is; number_is = omega arith; closed = omega arith; pages = comes.pages }
+        in
+        rw (← new.1) is
+  ]
+
+  rising_last : InOrder (λ (j k : KeptInterval). j.place < k.place) (queue.kept ++ k ∷ [])
+  rising_last x y a b lt at_x at_y = elim (push_cases queue.kept k y b at_y) [
+    | inl old_y ↦
+        let within = old_y.0 in
+        elim (push_cases queue.kept k x a at_x) [
+          | inl old_x ↦ was_queue.rising x y a b lt old_x.1 old_y.1
+          | inr new_x ↦ let index = new_x.0 in absurd (omega arith)
+        ]
+    | inr new_y ↦
+        let index = new_y.0 in
+        elim (push_cases queue.kept k x a at_x) [
+          | inl old_x ↦
+              let before = (was_queue.each x a old_x.1).closed in
+              let place = comes.place_is in
+              let same : k.place ≡ b.place = ap (λ (z : KeptInterval). z.place) new_y.1 in
+              omega arith
+          | inr new_x ↦ let same = new_x.0 in absurd (omega arith)
+        ]
+  ]
+
+  -- where an interval of the new queues lay before
+  pub lies_from : (j : KeptInterval) → Lies (with_queue queues owner queue k) j → (j ≡ k) ⊎ Lies queues j
+  lies_from j l = elim (queue_cases l.owner l.queue l.owned) [
+    | inl here ↦
+        let at : slice_get (queue.kept ++ k ∷ []) l.index ≡ Some j =
+        ap (λ (q : Queue). slice_get q.kept l.index) here.1 ∙ l.at in
+        elim (push_cases queue.kept k l.index j at) [
+          | inl old ↦ inr (record { owner = owner; queue = queue; index = l.index; owned = comes.owned; at = old.1 })
+          | inr new ↦ inl (sym new.1)
+        ]
+    | inr there ↦ inr (record { owner = l.owner; queue = l.queue; index = l.index; owned = there.1; at = l.at })
+  ]
+
+  pub lies_pushed : (j : KeptInterval) → Lies queues j → Lies (with_queue queues owner queue k) j
+  lies_pushed j l = elim (cases_eq l.owner owner) [
+    | inl e ↦
+        let same : l.queue ≡ queue =
+        let there : slice_get queues owner ≡ Some l.queue = ap (slice_get queues) (sym e) ∙ l.owned in
+        cc (there, comes.owned) in
+        let at : slice_get queue.kept l.index ≡ Some j =
+        ap (λ (q : Queue). slice_get q.kept l.index) (sym same) ∙ l.at in
+        record {
+          owner = owner;
+          queue = with_last queue k;
+          index = l.index;
+          owned = slice_get-set_same queues owner (with_last queue k) inside;
+          at =
+              slice_get-append_left queue.kept (k ∷ []) l.index (slice_get_within queue.kept l.index j at)
+              ∙ at;
+        }
+    | inr other ↦ record {
+      owner = l.owner;
+      queue = l.queue;
+      index = l.index;
+      owned = slice_get-set_other queues owner l.owner (with_last queue k) other ∙ l.owned;
+      at = l.at;
+    }
+  ]
+
+  lies_last : Lies (with_queue queues owner queue k) k
+  lies_last =
+      record {
+        owner = owner;
+        queue = with_last queue k;
+        index = length queue.kept;
+        owned = slice_get-set_same queues owner (with_last queue k) inside;
+        at = slice_get-last queue.kept k;
+      }
+
+  -- k is the only one with its place
+  place_below : (j : KeptInterval) → Lies queues j → j.place < count
+  place_below j l = (queued queues count are j l).closed
+
+  has_last : (q : ℕ) (a : Queue) (j : KeptInterval) → slice_get (with_queue queues owner queue k) q ≡ Some a → Has a.kept j
+      → ((q ≡ owner) × (j ≡ k)) ⊎ ((b : Queue) × (slice_get queues q ≡ Some b) × Has b.kept j)
+  has_last q a j at (i, has) = elim (queue_cases q a at) [
+    | inl here ↦
+        let in_last : slice_get (queue.kept ++ k ∷ []) i ≡ Some j =
+        ap (λ (q : Queue). slice_get q.kept i) here.1 ∙ has in
+        elim (push_cases queue.kept k i j in_last) [
+          | inl old ↦ inr (queue, ap (slice_get queues) here.0 ∙ comes.owned, (i, old.1))
+          | inr new ↦ inl (here.0, sym new.1)
+        ]
+    | inr there ↦ inr (a, there.1, (i, has))
+  ]
+
+  pub are_pushed : AreQueues (with_queue queues owner queue k) (count + 1)
+  are_pushed = record {
+    few = comes.fits;
+    each = λ q a at. elim (queue_cases q a at) [
+      | inl here ↦
+          let is : IsQueue owner (count + 1) (with_last queue k) =
+          record { each = queued_last; rising = rising_last } in
+          rw (here.0, ← here.1) is
+      | inr there ↦
+          let was = are.each q a there.1 in
+          record {
+            each =
+                λ i j at_i. let old = was.each i j at_i in let before = old.closed in
+                record {
+                  owner_is = old.owner_is;
+                  number_is = old.number_is;
+                  closed = omega arith;
+                  pages = old.pages;
+                };
+            rising = was.rising;
+          }
+    ];
+    apart = λ q r a b i j at_q at_r has_i has_j same. elim (has_last q a i at_q has_i) [
+      | inl new_i ↦ elim (has_last r b j at_r has_j) [
+        | inl new_j ↦ new_i.0 ∙ sym new_j.0
+        | inr old_j ↦
+            let below =
+            place_below j
+            (record { owner = r; queue = old_j.0; index = old_j.2.0; owned = old_j.1; at = old_j.2.1 }) in
+            let is : i.place ≡ k.place = ap (λ (z : KeptInterval). z.place) new_i.1 in
+            let place = comes.place_is in
+            absurd (omega arith)
+      ]
+      | inr old_i ↦ elim (has_last r b j at_r has_j) [
+        | inl new_j ↦
+            let below =
+            place_below i
+            (record { owner = q; queue = old_i.0; index = old_i.2.0; owned = old_i.1; at = old_i.2.1 }) in
+            let is : j.place ≡ k.place = ap (λ (z : KeptInterval). z.place) new_j.1 in
+            let place = comes.place_is in
+            absurd (omega arith)
+        | inr old_j ↦ are.apart q r old_i.0 old_j.0 i j old_i.1 old_j.1 old_i.2 old_j.2 same
+      ]
+    ];
+  }
+
+  pub merged_pushed : merged_queues (with_queue queues owner queue k) ≡ merged_queues queues ++ k ∷ []
+  merged_pushed =
+      let place = comes.place_is in
+      let below : (j : KeptInterval) → Has (merged_queues queues) j → j.place < k.place =
+      λ j h. let lt = place_below j (merged_lies queues j h) in omega arith in
+      let to : (j : KeptInterval) → Has (merged_queues (with_queue queues owner queue k)) j
+      → Has (merged_queues queues ++ k ∷ []) j = λ j h.
+      (has-append (merged_queues queues) (k ∷ []) j).1
+      (elim (lies_from j (merged_lies (with_queue queues owner queue k) j h)) [
+        | inl new ↦ inr (0, ap Some (sym new))
+        | inr old ↦ inl (lies_merged queues count are j old)
+      ]) in
+      let from : (j : KeptInterval) → Has (merged_queues queues ++ k ∷ []) j
+      → Has (merged_queues (with_queue queues owner queue k)) j = λ j h. elim
+      ((has-append (merged_queues queues) (k ∷ []) j).0 h) [
+        | inl old ↦ lies_merged (with_queue queues owner queue k) (count + 1) are_pushed j
+            (lies_pushed j (merged_lies queues j old))
+        | inr new ↦ elim ((has-cons k [] j).0 new) [
+          | inl e ↦ rw (← e) (lies_merged (with_queue queues owner queue k) (count + 1) are_pushed k lies_last)
+          | inr none ↦ absurd (has-nil j none)
+        ]
+      ] in
+      same_rising (merged_queues (with_queue queues owner queue k)) (merged_queues queues ++ k ∷ [])
+      (rises-merged (with_queue queues owner queue k)) (rises-push (merged_queues queues) k (rises-merged queues) below)
+      to from
+
+  pub first_pushed : map (λ (q : Queue). q.first) (with_queue queues owner queue k)
+      ≡ map (λ (q : Queue). q.first) queues
+  first_pushed =
+      let at = get_or_from_slice_get queues owner queue queue comes.owned in
+      let same = set-get_or queues owner queue in
+      let old : set queues owner queue ≡ queues = rw at at same in
+      map-set (λ (q : Queue). q.first) queues owner (with_last queue k)
+      ∙ sym (map-set (λ (q : Queue). q.first) queues owner queue) ∙ ap (map (λ (q : Queue). q.first)) old
+
+  pub next_pushed : map (λ (q : Queue). q.first + length q.kept) (with_queue queues owner queue k)
+      ≡ set (map (λ (q : Queue). q.first + length q.kept) queues) owner (k.interval.number + 1)
+  next_pushed =
+      let long = length_push queue.kept k in
+      let number = comes.number_is in
+      let last : queue.first + length (queue.kept ++ k ∷ []) ≡ k.interval.number + 1 = omega arith in
+      map-set (λ (q : Queue). q.first + length q.kept) queues owner (with_last queue k)
+      ∙ ap (set (map (λ (q : Queue). q.first + length q.kept) queues) owner) last
+
+-- the owner's entry of a list that has one for each queue
+pub entry_of : (f : Queue → ℕ) (queues : List Queue) (owner : ℕ) (queue : Queue) → slice_get queues owner ≡ Some queue
+    → slice_index (map f queues) owner ≡ f queue
+entry_of f [] owner queue at = absurd (cc at)
+entry_of f (q ∷ qs) zero queue at = ap f (cc at)
+entry_of f (q ∷ qs) (suc owner) queue at = entry_of f qs owner queue at
+
+-- what `push` requires makes the interval the next one of its queue
+pub pushed_next : (queues : List Queue) (count : ℕ) (value : Closings) (i : ClosedInterval) (owner : ℕ) (queue : Queue)
+    → queue_closings queues count ≡ value → owner ≡ i.owner → i.owner < length value.next
+    → i.number ≡ slice_index value.next i.owner → HasRisingPages i.records → value.pushed < 2 ^ 64 - 1
+    → queue ≡ get_or queues owner queue → Comes queues count owner queue (record { place = count; interval = i })
+pushed_next queues count value i owner queue is same in_range next pages few read =
+    let nexts : map (λ (q : Queue). q.first + length q.kept) queues ≡ value.next = ap (λ (c : Closings). c.next) is in
+    let long = length-map queues (λ (q : Queue). q.first + length q.kept) in
+    let longs = ap length nexts in
+    let inside : owner < length queues = omega arith in
+    let owned : slice_get queues owner ≡ Some queue =
+    slice_get_read queues (length queues) owner queue refl inside read in
+    let entry = entry_of (λ (q : Queue). q.first + length q.kept) queues owner queue owned in
+    let number : i.number ≡ queue.first + length queue.kept =
+    next ∙ ap (slice_index value.next) (sym same) ∙ ap (λ (ns : List ℕ). slice_index ns owner) (sym nexts) ∙ entry in
+    let pushed_is = ap (λ (c : Closings). c.pushed) is in
+    record {
+      owned = owned;
+      owner_is = sym same;
+      number_is = number;
+      place_is = refl;
+      fits = omega arith;
+      pages = pages;
+    }
+
+-- and `push` then does what it says
+pub closings_pushed : (queues : List Queue) (count : ℕ) (value : Closings) (i : ClosedInterval) (owner : ℕ)
+    (queue : Queue)
+    → queue_closings queues count ≡ value → owner ≡ i.owner → AreQueues queues count
+    → Comes queues count owner queue (record { place = count; interval = i })
+    → queue_closings (with_queue queues owner queue (record { place = count; interval = i })) (count + 1) ≡ pushed value i
+closings_pushed queues count value i owner queue is same are comes =
+    let k : KeptInterval = record { place = count; interval = i } in
+    let kepts = merged_pushed queues count owner queue k are comes in
+    let firsts = first_pushed queues count owner queue k are comes in
+    let nexts = next_pushed queues count owner queue k are comes in
+    let now : queue_closings (with_queue queues owner queue k) (count + 1) ≡ pushed (queue_closings queues count) i =
+    rw (kepts, firsts, nexts, ← same) refl in
+    now ∙ ap (λ (c : Closings). pushed c i) is

@@ -1,0 +1,178 @@
+-- What keeps an image, and a lawful copy.
+use Rattle.std.proofs.Common.{ℕ, ◌≡◌, ◌≢◌, ◌<◌, ◌⊎◌, ◌↔◌, ◌/◌, ◌%◌, inl, inr, List, [], ◌∷◌, ◌++◌, Option, Some, replicate, slice_get, slice_set, length, Bool, true, false, ◌==◌, cond, None, eqb-true, eq-eqb, true≢false, arith, refl, sym, ap, subst, ◌∙◌}
+use Rattle.journal.specs.declared.event.Event.{Event}
+use Rattle.journal.specs.declared.event.Kind.{Kind}
+use Rattle.journal.specs.declared.event.Kind.TheVariants.{Store}
+use Rattle.journal.specs.DidEvent.{event}
+use Rattle.journal.specs.Sizes.{Sizes}
+use Rattle.journal.specs.Events.{At, is_taking}
+use Rattle.journal.specs.HappensBeforeEdges.{HappensBefore}
+use Rattle.journal.specs.Pasts.{InPast}
+use Rattle.journal.specs.PageImages.{StoresToPage, page_write, page_after, IsImage, Lawful}
+use Rattle.journal.specs.Blocks.{block_write}
+use Rattle.base.specs.LastWritten.{wrote}
+use Rattle.base.specs.InOrderOnce.{Has, InOrder, IsOnce}
+use Rattle.base.proofs.Joined.{has-nil, has-cons, has-append, in_order-append, in_order_single, has_or_not}
+use Rattle.base.proofs.OnceWithout.{once-append}
+use Rattle.base.proofs.LastWritten.{written-append}
+use Rattle.journal.proofs.Order.CountedAndNumbered.{at_last}
+use Rattle.journal.proofs.Order.HappensBefore.{before_shorter}
+use Rattle.journal.proofs.Order.EdgesIntoPast.{past_back, past_within, past_longer, own_past, past_others}
+use Rattle.journal.proofs.CopyOfPage.Stores.{stores_longer, stores_shorter, stores_within, stores_to, stores_at, page_after_longer}
+
+-- an image stays one, of any places that have the same stores to the page
+pub image_kept : (s : Sizes) (j es : List Event) (among among' : ℕ → Type 0) (n : ℕ) (page : List ℕ)
+    → ((i : ℕ) → StoresToPage s j n i → among i → among' i)
+    → ((i : ℕ) → StoresToPage s (j ++ es) n i → among' i → among i × (i < length j)) → IsImage s j among n page
+    → IsImage s (j ++ es) among' n page
+image_kept s j es among among' n page on back image = record {
+  order = image.order;
+  each = λ i. (
+    λ h. let x = (image.each i).0 h in (on i x.1 x.0, stores_longer s j es n i x.1),
+    λ x. let y = back i x.1 x.0 in (image.each i).1 (y.0, stores_shorter s j es n i y.1 x.1),
+  );
+  once = image.once;
+  extends = λ x y i k less at to before. image.extends x y i k less at to (before_shorter j es (within i (x, at)) before);
+  gives = image.gives ∙ sym (page_after_longer s j es (replicate s.words 0) image.order within);
+}
+  where
+    within : (i : ℕ) → Has image.order i → i < length j
+    within i h = stores_within s j n i ((image.each i).0 h).1
+
+-- an image of some places, of which none comes after others, becomes one of more by the stores at the new ones
+pub image_more : (s : Sizes) (j : List Event) (among among' : ℕ → Type 0) (n : ℕ) (page new : List ℕ)
+    → ((i : ℕ) → StoresToPage s j n i → among i → among' i)
+    → ((i k : ℕ) → StoresToPage s j n i → StoresToPage s j n k → among i → HappensBefore j k i → among k)
+    → ((i : ℕ) → Has new i ↔ (among' i × StoresToPage s j n i × (among i → ⊥))) → IsOnce new
+    → InOrder (λ i k. ¬ HappensBefore j k i) new → IsImage s j among n page
+    → IsImage s j among' n (page_after s j page new)
+image_more s j among among' n page new on closed each once extends image = record {
+  order = image.order ++ new;
+  each =
+      λ i. (
+        λ h. there i ((has-append image.order new i).0 h),
+        λ x. (has-append image.order new i).1
+            (back i x.0 x.1 (has_or_not image.order i)),
+      );
+  once = once-append image.order new image.once once (λ i h m. ((each i).0 m).2 ((image.each i).0 h).0);
+  extends =
+      in_order-append (λ i k. ¬ HappensBefore j k i) image.order new image.extends extends (λ i k h m before. let x =
+      (image.each i).0 h in
+      let y = (each k).0 m in y.2 (closed i k x.1 y.1 x.0 before));
+  gives =
+      ap (λ (ws : List ℕ). page_after s j ws new) image.gives
+      ∙ sym (written-append (λ (i : ℕ). page_write s (slice_get j i)) (replicate s.words 0) image.order new);
+}
+  where
+    there : (i : ℕ) → Has image.order i ⊎ Has new i → among' i × StoresToPage s j n i
+    there i (inl h) = let x = (image.each i).0 h in (on i x.1 x.0, x.1)
+    there i (inr h) = let x = (each i).0 h in (x.0, x.1)
+
+    back : (i : ℕ) → among' i → StoresToPage s j n i → Has image.order i ⊎ (Has image.order i → ⊥)
+        → Has image.order i ⊎ Has new i
+    back i x y (inl h) = inl h
+    back i x y (inr none) = inr ((each i).1 (x, y, λ z. none ((image.each i).1 (z, y))))
+
+-- a copy stays lawful where the events bring its processor no store to the page
+pub lawful_on : (s : Sizes) (j es : List Event) (p n : ℕ) (page : List ℕ)
+    → ((i : ℕ) → StoresToPage s (j ++ es) n i → InPast (j ++ es) p i → InPast j p i) → Lawful s j p n page
+    → Lawful s (j ++ es) p n page
+lawful_on s j es p n page nothing =
+    image_kept s j es (InPast j p) (InPast (j ++ es) p) n page (λ i x. past_longer j es p i)
+    (λ i x past. (nothing i x past, past_within j p i (nothing i x past)))
+
+-- others' events keep it
+pub lawful_others : (s : Sizes) (j es : List Event) (p n : ℕ) (page : List ℕ)
+    → ((k : ℕ) (e : Event) → At es k e → e.processor ≢ p) → Lawful s j p n page → Lawful s (j ++ es) p n page
+lawful_others s j es p n page away = lawful_on s j es p n page (λ i x. (past_others j es p i away).0)
+
+-- an own event that takes nothing and stores nothing in the page keeps it
+pub lawful_quiet : (s : Sizes) (j : List Event) (e : Event) (n : ℕ) (page : List ℕ) → is_taking e.kind ≡ false
+    → ((a v : ℕ) → e.kind ≡ Store a v → a / s.words ≢ n) → Lawful s j e.processor n page
+    → Lawful s (j ++ e ∷ []) e.processor n page
+lawful_quiet s j e n page quiet elsewhere = lawful_on s j (e ∷ []) e.processor n page nothing
+  where
+    nothing : (i : ℕ) → StoresToPage s (j ++ e ∷ []) n i → InPast (j ++ e ∷ []) e.processor i → InPast j e.processor i
+    nothing i x past = elim ((own_past j e i quiet).0 past) [
+      | inl y ↦ y
+      | inr is ↦ (let P : ℕ
+          → Type 0 = λ m. At (j ++ e ∷ []) m e in absurd (elsewhere x.address x.value
+          (stores_at s (j ++ e ∷ []) n i e (subst P (sym is) (at_last j e)) x).1 x.in_page))
+    ]
+
+-- what is new to the past by an own store: its place
+store_is_new : (s : Sizes) (j : List Event) (p n a v : ℕ) → a / s.words ≡ n → (i : ℕ)
+    → Has (length j ∷ []) i
+    ↔ (InPast (j ++ event p (Store a v) ∷ []) p i × StoresToPage s (j ++ event p (Store a v) ∷ []) n i
+    × (InPast j p i → ⊥))
+store_is_new s j p n a v in_page i =
+    (λ h. there (elim ((has-cons (length j) [] i).0 h) [ inl e ↦ e | inr m ↦ absurd (has-nil i m) ]), back)
+  where
+    e : Event
+    e = event p (Store a v)
+
+    there : length j ≡ i → InPast (j ++ e ∷ []) p i × StoresToPage s (j ++ e ∷ []) n i × (InPast j p i → ⊥)
+    there is =
+        let P : ℕ → Type 0 = λ m. StoresToPage s (j ++ e ∷ []) n m in (
+          (own_past j e i refl).1 (inr (sym is)),
+          subst P is
+              (stores_to s (j ++ e ∷ []) n (length j) p a v (at_last j e) in_page),
+          λ old. let within = past_within
+              j p i old in absurd (omega arith),
+        )
+
+    back : InPast (j ++ e ∷ []) p i × StoresToPage s (j ++ e ∷ []) n i × (InPast j p i → ⊥) → Has (length j ∷ []) i
+    back x = elim ((own_past j e i refl).0 x.0) [ inl old ↦ absurd (x.2 old) | inr is ↦ (0, ap Some (sym is)) ]
+
+-- an own store, done to the copy, keeps it lawful
+pub lawful_store : (s : Sizes) (j : List Event) (p n : ℕ) (page : List ℕ) (a v : ℕ) → a / s.words ≡ n
+    → Lawful s j p n page → Lawful s (j ++ event p (Store a v) ∷ []) p n (slice_set page (a % s.words) v)
+lawful_store s j p n page a v in_page lawful =
+    let P : Option Event → Type 0 =
+    λ x. IsImage s (j ++ e ∷ []) (InPast (j ++ e ∷ []) p) n (wrote page (page_write s x)) in
+    subst P (at_last j e) (image_more s (j ++ e ∷ []) (InPast j p) (InPast (j ++ e ∷ []) p) n page (length j ∷ [])
+    (λ i x. past_longer j (e ∷ []) p i) closed (store_is_new s j p n a v in_page)
+    (in_order_single (λ (x y : ℕ). x ≢ y) (length j))
+    (in_order_single (λ i k. ¬ HappensBefore (j ++ e ∷ []) k i) (length j)) old)
+  where
+    e : Event
+    e = event p (Store a v)
+
+    closed : (i k : ℕ) → StoresToPage s (j ++ e ∷ []) n i → StoresToPage s (j ++ e ∷ []) n k → InPast j p i
+        → HappensBefore (j ++ e ∷ []) k i → InPast j p k
+    closed i k x y past before = past_back j p k i (before_shorter j (e ∷ []) (past_within j p i past) before) past
+
+    old : IsImage s (j ++ e ∷ []) (InPast j p) n page
+    old =
+        image_kept s j (e ∷ []) (InPast j p) (InPast j p) n page (λ i x past. past)
+        (λ i x past. (past, past_within j p i past)) lawful
+
+-- an image of places that have the same stores to the page
+pub image_among : (s : Sizes) (j : List Event) (among among' : ℕ → Type 0) (n : ℕ) (page : List ℕ)
+    → ((i : ℕ) → StoresToPage s j n i → among i ↔ among' i) → IsImage s j among n page → IsImage s j among' n page
+image_among s j among among' n page same image = record {
+  order = image.order;
+  each =
+      λ i. (
+        λ h. let x = (image.each i).0 h in
+            ((same i x.1).0 x.0, x.1),
+        λ x. (image.each i).1 ((same i x.1).1 x.0, x.1),
+      );
+  once = image.once;
+  extends = image.extends;
+  gives = image.gives;
+}
+
+-- an own event that takes nothing keeps a copy lawful, with what it stores in the page done to it
+pub lawful_event : (s : Sizes) (j : List Event) (p n : ℕ) (page : List ℕ) (k : Kind) → is_taking k ≡ false
+    → Lawful s j p n page → Lawful s (j ++ event p k ∷ []) p n (wrote page (block_write s n k))
+lawful_event s j p n page (Store a v) quiet lawful = go (a / s.words == n) refl
+  where
+    go : (b : Bool) → (a / s.words == n) ≡ b
+        → Lawful s (j ++ event p (Store a v) ∷ []) p n (wrote page (cond b (Some (a % s.words, v)) None))
+    go true e = lawful_store s j p n page a v (eqb-true (a / s.words) n e) lawful
+    go false e = lawful_quiet s j (event p (Store a v)) n page refl (λ b w is in_page.
+        let same : a ≡ b = cc in
+        let here : (a / s.words == n) ≡ true = eq-eqb (a / s.words) n (ap (λ x. x / s.words) same ∙ in_page) in
+        absurd (true≢false (sym here ∙ e))) lawful
+lawful_event s j p n page k quiet lawful = lawful_quiet s j (event p k) n page quiet (λ a v is. absurd (cc)) lawful

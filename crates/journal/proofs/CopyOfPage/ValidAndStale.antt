@@ -1,0 +1,332 @@
+-- What each call does to a processor's copies under its open block.
+use Rattle.std.proofs.Common.{ℕ, ◌≡◌, ◌≢◌, ◌/◌, ◌%◌, inl, inr, List, [], ◌∷◌, ◌++◌, Some, None, true, replicate, map, length, sum_by, slice_get, ne_eqb, refl, sym, ap, subst, subst₂, ◌∙◌, append_assoc, append-nil, true≢false}
+use Rattle.std.proofs.lemmas.Option.{none-some}
+use Rattle.journal.specs.declared.event.Event.{Event}
+use Rattle.journal.specs.declared.event.Kind.{Kind}
+use Rattle.journal.specs.declared.event.Kind.TheVariants.{Load, Store, Fetch}
+use Rattle.journal.specs.DidEvent.{event}
+use Rattle.journal.specs.Sizes.{Sizes}
+use Rattle.journal.specs.Events.{At, is_taking, interval_at}
+use Rattle.journal.specs.WellFormed.{Does}
+use Rattle.journal.specs.Pasts.{InPast}
+use Rattle.journal.specs.Times.{IsTimeOf}
+use Rattle.journal.specs.PageImages.{InGap, StoresToPage, Lawful, HasCount, GapCounts}
+use Rattle.journal.specs.BroughtCopy.{IsCopy, NoGap, Complete}
+use Rattle.journal.specs.Blocks.{block_write, block_done, IsBlock, BlockAnswers, with_page}
+use Rattle.journal.specs.Counted.{BlockCounts}
+use Rattle.journal.specs.MissingWords.{Missing, MissingInOrder, AreMissingNotices}
+use Rattle.journal.specs.ValidAndStaleCopy.{Touches, IsValidCopy, IsStaleCopy}
+use Rattle.base.specs.InOrderOnce.{Has}
+use Rattle.base.specs.LastWritten.{wrote}
+use Rattle.base.specs.MarkedRecords.{records_applied}
+use Rattle.base.proofs.Joined.{has-nil}
+use Rattle.base.proofs.SlicesAndCounts.{push_cases, push_induction}
+use Rattle.base.proofs.LastWritten.{written_nothing}
+use Rattle.journal.proofs.Order.CountedAndNumbered.{at_longer, at_last}
+use Rattle.journal.proofs.CopyOfPage.LawfulImages.{lawful_others, lawful_on}
+use Rattle.journal.proofs.CopyOfPage.BlockAnswers.{block_done-push, lawful_block, answers_push, answers_with_page}
+use Rattle.journal.proofs.CopyOfPage.Brought.{copy_start, copy_kept}
+use Rattle.journal.proofs.CopyOfPage.OwnSteps.{copy_lawful}
+use Rattle.journal.proofs.CopyOfPage.CompleteBlocks.{copy_of_lawful, complete_no_gap, complete_on, complete_others, complete_block, complete_fetched}
+use Rattle.journal.proofs.Missing.GapsTaken.{nothing_taken}
+use Rattle.journal.proofs.Missing.Counted.{block_counts_push}
+use Rattle.journal.proofs.Missing.CountedLabels.{missing_fetched, missing_counts}
+use Rattle.journal.proofs.Missing.Keeping.{none_missing, missing_some, missing_others, missing_block, missing_taken}
+
+-- at the start each copy is valid and zero
+pub valid_start : (s : Sizes) (p n : ℕ) → IsValidCopy s [] [] p n (replicate s.words 0) (replicate s.words 0)
+valid_start s p n = record {
+  lawful =
+      copy_lawful s [] p n (replicate s.words 0)
+      (λ i g. none-some (event g.store.by (Store g.store.address g.store.value)) g.store.does) (copy_start s p n);
+  gives = refl;
+  full = inl (λ i x past. absurd (none-some (event x.by (Store x.address x.value)) x.does));
+}
+
+-- a valid copy is lawful after the block
+pub valid_lawful : (s : Sizes) (j block : List Event) (p n : ℕ) (base page : List ℕ) → IsBlock p block
+    → IsValidCopy s j block p n base page → Lawful s (j ++ block) p n page
+valid_lawful s j block p n base page is valid = rw (valid.gives) (lawful_block s j block p n base is valid.lawful)
+
+-- and has all of the past
+pub valid_complete : (s : Sizes) (j block : List Event) (p n : ℕ) (base page : List ℕ) → IsBlock p block
+    → IsValidCopy s j block p n base page → Complete s (j ++ block) p n
+valid_complete s j block p n base page is valid =
+    elim valid.full [
+      | inl c ↦ complete_block s j block p n is c
+      | inr f ↦ complete_fetched s j block p n f.0 f.1.0 f.1.1 f.1.2 is f.1.3
+    ]
+
+-- so it lacks nothing
+pub valid_no_gap : (s : Sizes) (j block : List Event) (p n : ℕ) (base page : List ℕ) → IsBlock p block
+    → IsValidCopy s j block p n base page → NoGap s (j ++ block) p n
+valid_no_gap s j block p n base page is valid =
+    complete_no_gap s (j ++ block) p n (valid_complete s j block p n base page is valid)
+
+-- others' events leave it valid
+pub valid_others : (s : Sizes) (j es block : List Event) (p n : ℕ) (base page : List ℕ)
+    → ((k : ℕ) (e : Event) → At es k e → e.processor ≢ p) → IsValidCopy s j block p n base page
+    → IsValidCopy s (j ++ es) block p n base page
+valid_others s j es block p n base page away valid = record {
+  lawful = lawful_others s j es p n base away valid.lawful;
+  gives = valid.gives;
+  full = elim valid.full [ inl c ↦ inl (complete_others s j es p n away c) | inr f ↦ inr f ];
+}
+
+-- and so does a further event of the block, with what it stores in the page done to it
+pub valid_push : (s : Sizes) (j block : List Event) (e : Event) (p n : ℕ) (base page : List ℕ)
+    → IsValidCopy s j block p n base page
+    → IsValidCopy s j (block ++ e ∷ []) p n base (wrote page (block_write s n e.kind))
+valid_push s j block e p n base page valid = record {
+  lawful = valid.lawful;
+  gives = ap (λ (ws : List ℕ). wrote ws (block_write s n e.kind)) valid.gives ∙ sym (block_done-push s n base block e);
+  full =
+      elim valid.full [
+        | inl c ↦ inl c
+        | inr f ↦ inr (
+          f.0,
+          (f.1.0, f.1.1, f.1.2, at_longer block (e ∷ []) f.0 (event p (Fetch f.1.0 n f.1.1 f.1.2)) f.1.3),
+        )
+      ];
+}
+
+-- a block that is handed in leaves it valid
+pub valid_handed : (s : Sizes) (j block : List Event) (p n : ℕ) (base page : List ℕ) → IsBlock p block
+    → IsValidCopy s j block p n base page → IsValidCopy s (j ++ block) [] p n page page
+valid_handed s j block p n base page is valid =
+    record {
+      lawful = valid_lawful s j block p n base page is valid;
+      gives = refl;
+      full = inl (valid_complete s j block p n base page is valid);
+    }
+
+-- a load of a valid copy is one that the block may answer
+pub valid_load : (s : Sizes) (j block : List Event) (p a v : ℕ) (base : ℕ → List ℕ) (over page : List ℕ)
+    → base (a / s.words) ≡ over → IsValidCopy s j block p (a / s.words) over page
+    → slice_get page (a % s.words) ≡ Some v → BlockAnswers s j block p base
+    → BlockAnswers s j (block ++ event p (Load a v) ∷ []) p base
+valid_load s j block p a v base over page is valid at answers =
+    answers_push s j block (event p (Load a v)) p base answers again
+  where
+    P : ℕ → ℕ → Type 0
+    P b w =
+        Lawful s j p (b / s.words) (base (b / s.words))
+        × (slice_get (block_done s (b / s.words) (base (b / s.words)) block) (b % s.words) ≡ Some w)
+
+    again : (b w : ℕ) → ◌≡◌ {A = Event} (event p (Load a v)) (event p (Load b w)) → P b w
+    again b w e =
+        let kinds : Load a v ≡ Load b w = ap (λ (x : Event). x.kind) e in
+        let same_address : a ≡ b = cc in
+        let same_value : v ≡ w = cc in
+        subst₂ P same_address same_value
+        (rw is (valid.lawful, ap (λ (ws : List ℕ). slice_get ws (a % s.words)) (sym valid.gives) ∙ at))
+
+-- a block without events answers no load
+pub answers_start : (s : Sizes) (j : List Event) (p : ℕ) (base : ℕ → List ℕ) → BlockAnswers s j [] p base
+answers_start s j p base =
+    record {
+      lawful = λ k a v d. absurd (none-some (event p (Load a v)) d);
+      answers = λ k a v d. absurd (none-some (event p (Load a v)) d);
+    }
+
+-- what doesn't touch a page stores nothing in it
+untouched_writes : (s : Sizes) (n : ℕ) (k : Kind) → ¬ Touches s n k → block_write s n k ≡ None
+untouched_writes s n (Store a v) away = rw (ne_eqb (a / s.words) n away)
+untouched_writes s n _ away = refl
+
+-- events of which none is p's that touches the page keep p's copy
+pub copy_untouched : (s : Sizes) (j es : List Event) (p n : ℕ) (page : List ℕ)
+    → ((k : ℕ) (e : Event) → At es k e → e.processor ≡ p → ¬ Touches s n e.kind) → IsCopy s j p n page
+    → IsCopy s (j ++ es) p n page
+copy_untouched s j es p n page away copy =
+    push_induction (λ xs. ((k : ℕ) (e : Event) → At xs k e → e.processor ≡ p → ¬ Touches s n e.kind)
+    → IsCopy s (j ++ xs) p n page)
+    (λ _. rw append-nil copy) step es away
+  where
+    is_own : (k : Kind) (f : Event) → f ≡ event p k → (f.processor ≡ p → ¬ Touches s n f.kind) → ¬ Touches s n k
+    is_own k f e away = let P : Event → Type 0 = λ g. g.processor ≡ p → ¬ Touches s n g.kind in subst P e away refl
+
+    step : (xs : List Event) (e : Event)
+        → (((k : ℕ) (f : Event) → At xs k f → f.processor ≡ p → ¬ Touches s n f.kind) → IsCopy s (j ++ xs) p n page)
+        → ((k : ℕ) (f : Event) → At (xs ++ e ∷ []) k f → f.processor ≡ p → ¬ Touches s n f.kind)
+        → IsCopy s (j ++ (xs ++ e ∷ [])) p n page
+    step xs e ih all =
+        let last = all (length xs) e (at_last xs e) in
+        rw (← append_assoc j xs (e ∷ [])) (copy_kept s (j ++ xs) e p n page
+        (λ a v in_page is. is_own (Store a v) e is last in_page)
+        (λ w r d is. is_own (Fetch w n r d) e is last refl)
+        (ih (λ k f at. all k f (at_longer xs (e ∷ []) k f at))))
+
+-- others' events leave a stale copy as it is
+pub stale_others : (s : Sizes) (j es block : List Event) (p n : ℕ) (page : List ℕ) (missing : List Missing)
+    → ((k : ℕ) (e : Event) → At es k e → e.processor ≢ p) → IsStaleCopy s j block p n page missing
+    → IsStaleCopy s (j ++ es) block p n page missing
+stale_others s j es block p n page missing away stale =
+    record {
+      copy = copy_untouched s j es p n page (λ k e at mine. absurd (away k e at mine)) stale.copy;
+      lacks = missing_others s j es p n missing away stale.lacks;
+      untouched = stale.untouched;
+    }
+
+-- and so does a further event of the block that doesn't touch the page
+pub stale_push : (s : Sizes) (j block : List Event) (e : Event) (p n : ℕ) (page : List ℕ) (missing : List Missing)
+    → ¬ Touches s n e.kind → IsStaleCopy s j block p n page missing
+    → IsStaleCopy s j (block ++ e ∷ []) p n page missing
+stale_push s j block e p n page missing away stale =
+    record {
+      copy = stale.copy;
+      lacks = stale.lacks;
+      untouched = λ k f at. elim (push_cases block e k f at) [
+        | inl h ↦ stale.untouched k f h.1
+        | inr h ↦ (let P : Event → Type 0 = λ g. ¬ Touches s n g.kind in subst P h.1 away)
+      ];
+    }
+
+-- a block that is handed in leaves it stale
+pub stale_handed : (s : Sizes) (j block : List Event) (p n : ℕ) (page : List ℕ) (missing : List Missing)
+    → IsBlock p block → IsStaleCopy s j block p n page missing → IsStaleCopy s (j ++ block) [] p n page missing
+stale_handed s j block p n page missing is stale = record {
+  copy = copy_untouched s j block p n page (λ k e at _. stale.untouched k e at) stale.copy;
+  lacks =
+      missing_block s j block p n missing is (λ k w r d f. stale.untouched k (event p (Fetch w n r d)) f refl)
+      stale.lacks;
+  untouched = λ k e at. absurd (none-some e at);
+}
+
+-- and what some interval stored is in its gap
+pub stale_gap : (s : Sizes) (j block : List Event) (p n : ℕ) (page : List ℕ) (x : Missing) (missing : List Missing)
+    → IsBlock p block → IsStaleCopy s j block p n page (x ∷ missing) → (i : ℕ) × InGap s (j ++ block) p n i
+stale_gap s j block p n page x missing is stale =
+    missing_some s (j ++ block) p n x missing (stale_handed s j block p n page (x ∷ missing) is stale).lacks
+
+-- a fetch applies the missing records in closing order, and makes it valid
+pub stale_fetched : (s : Sizes) (j block : List Event) (p n w r d : ℕ) (page : List ℕ) (missing : List Missing)
+    → MissingInOrder missing → IsStaleCopy s j block p n page missing
+    → IsValidCopy s j (block ++ event p (Fetch w n r d) ∷ []) p n
+    (records_applied page (map (λ (x : Missing). x.words) missing))
+    (records_applied page (map (λ (x : Missing). x.words) missing))
+stale_fetched s j block p n w r d page missing order stale = record {
+  lawful = missing_fetched s j p n page missing stale.lacks order stale.copy;
+  gives = sym (written_nothing (λ (f : Event). block_write s n f.kind) new (block ++ e ∷ []) nothing);
+  full = inr (length block, (w, r, d, at_last block e));
+}
+  where
+    e : Event
+    e = event p (Fetch w n r d)
+
+    new : List ℕ
+    new = records_applied page (map (λ (x : Missing). x.words) missing)
+
+    nothing : (k : ℕ) (f : Event) → At (block ++ e ∷ []) k f → block_write s n f.kind ≡ None
+    nothing k f at = elim (push_cases block e k f at) [
+      | inl h ↦ untouched_writes s n f.kind (stale.untouched k f h.1)
+      | inr h ↦ (let P : Event → Type 0 = λ g. block_write s n g.kind ≡ None in subst P h.1 refl)
+    ]
+
+-- the fetch's counts are how many owners, intervals and words the missing list has
+pub stale_counted : (s : Sizes) (j block : List Event) (p n writers : ℕ) (page : List ℕ) (missing : List Missing)
+    → MissingInOrder missing → HasCount (λ (q : ℕ). (x : Missing) × Has missing x × (x.owner ≡ q)) writers
+    → IsStaleCopy s j block p n page missing → BlockCounts s j block p
+    → BlockCounts s j
+    (block ++ event p (Fetch writers n (length missing) (sum_by (λ (x : Missing). length x.words) missing)) ∷ [])
+    p
+stale_counted s j block p n writers page missing order count stale counts =
+    block_counts_push s j block
+    (event p (Fetch writers n (length missing) (sum_by (λ (x : Missing). length x.words) missing))) p new counts
+  where
+    words : ℕ
+    words = sum_by (λ (x : Missing). length x.words) missing
+
+    Result : ℕ → ℕ → ℕ → ℕ → Type 0
+    Result m w r d = GapCounts s j p m w r d × ((i w' r' d' : ℕ) → ¬ Does block i p (Fetch w' m r' d'))
+
+    new : (m w r d : ℕ) → ◌≡◌ {A = Event} (event p (Fetch writers n (length missing) words)) (event p (Fetch w m r d))
+        → Result m w r d
+    new m w r d e =
+        let kinds : Fetch writers n (length missing) words ≡ Fetch w m r d = ap (λ (x : Event). x.kind) e in
+        let a : n ≡ m = cc in
+        let b : writers ≡ w = cc in
+        let c : length missing ≡ r = cc in
+        let f : words ≡ d = cc in
+        subst (λ x. Result m w r x) f (subst (λ x. Result m w x words) c (subst₂
+        (λ x y. Result x y (length missing) words) a b (
+          missing_counts s j p n writers missing stale.lacks
+              order count,
+          λ i w' r' d' g. stale.untouched i (event p (Fetch w' n r' d')) g refl,
+        )))
+
+-- what the block's loads answer is untouched by a fetch of a page that was stale
+pub answers_fetched : (s : Sizes) (j block : List Event) (p n w r d : ℕ) (page new : List ℕ) (missing : List Missing)
+    (base : ℕ → List ℕ)
+    → IsStaleCopy s j block p n page missing → BlockAnswers s j block p base
+    → BlockAnswers s j (block ++ event p (Fetch w n r d) ∷ []) p (with_page n new base)
+answers_fetched s j block p n w r d page new missing base stale answers =
+    answers_push s j block (event p (Fetch w n r d)) p (with_page n new base)
+    (answers_with_page s j block p n new base (λ k a v load. stale.untouched k (event p (Load a v)) load) answers)
+    (λ a v e. absurd (cc (ap (λ (f : Event). f.kind) e)))
+
+-- without a block a valid copy lacks nothing
+pub valid_full : (s : Sizes) (j : List Event) (p n : ℕ) (base page : List ℕ) → IsValidCopy s j [] p n base page
+    → Complete s j p n
+valid_full s j p n base page valid =
+    elim valid.full [ inl c ↦ c | inr f ↦ absurd (none-some (event p (Fetch f.1.0 n f.1.1 f.1.2)) f.1.3) ]
+
+-- an event by which p gets to know of others' adds to what a stale copy lacks
+pub stale_taken : (s : Sizes) (j : List Event) (p n : ℕ) (page : List ℕ) (k : Kind) (t t' : ℕ → ℕ)
+    (missing new : List Missing)
+    → is_taking k ≡ true → IsTimeOf j p t → IsTimeOf (j ++ event p k ∷ []) p t' → AreMissingNotices s j p n t t' new
+    → IsStaleCopy s j [] p n page missing → IsStaleCopy s (j ++ event p k ∷ []) [] p n page (missing ++ new)
+stale_taken s j p n page k t t' missing new takes time after news stale = record {
+  copy = copy_untouched s j (e ∷ []) p n page taking stale.copy;
+  lacks = missing_taken s j p n k t t' missing new takes time after news stale.lacks;
+  untouched = λ m f at. absurd (none-some f at);
+}
+  where
+    e : Event
+    e = event p k
+
+    takes_nothing : (m : Kind) → is_taking m ≡ true → ¬ Touches s n m
+    takes_nothing (Load a v) h = absurd (true≢false (sym h))
+    takes_nothing (Store a v) h = absurd (true≢false (sym h))
+    takes_nothing (Fetch w m r d) h = absurd (true≢false (sym h))
+    takes_nothing _ h = λ x. x
+
+    taking : (m : ℕ) (f : Event) → At (e ∷ []) m f → f.processor ≡ p → ¬ Touches s n f.kind
+    taking m f at _ =
+        elim (push_cases [] e m f at) [
+          | inl h ↦ absurd (none-some f h.1)
+          | inr h ↦ (let P : Event → Type 0 = λ g. ¬ Touches s n g.kind in subst P h.1 (takes_nothing k takes))
+        ]
+
+-- an event by which p gets to know of no store to the page leaves its valid copy so
+pub valid_taken : (s : Sizes) (j : List Event) (p n : ℕ) (base page : List ℕ) (k : Kind) (t t' : ℕ → ℕ)
+    → is_taking k ≡ true → IsTimeOf j p t → IsTimeOf (j ++ event p k ∷ []) p t' → AreMissingNotices s j p n t t' []
+    → IsValidCopy s j [] p n base page → IsValidCopy s (j ++ event p k ∷ []) [] p n page page
+valid_taken s j p n base page k t t' takes time after no_news valid = record {
+  lawful = lawful_on s j (e ∷ []) p n page nothing (subst (Lawful s j p n) (sym valid.gives) valid.lawful);
+  gives = refl;
+  full = inl (complete_on s j (e ∷ []) p n nothing (valid_full s j p n base page valid));
+}
+  where
+    e : Event
+    e = event p k
+
+    nothing : (i : ℕ) → StoresToPage s (j ++ e ∷ []) n i → InPast (j ++ e ∷ []) p i → InPast j p i
+    nothing =
+        nothing_taken s j p n k t t' takes time after (λ q i a v apart does page le less. let x =
+        (no_news.each q (interval_at j q i)).1 (i, (a, v, does, page, refl), apart, le, less) in
+        has-nil x.0 x.1)
+
+-- and else it is stale by the new intervals
+pub valid_staled : (s : Sizes) (j : List Event) (p n : ℕ) (base page : List ℕ) (k : Kind) (t t' : ℕ → ℕ)
+    (new : List Missing)
+    → is_taking k ≡ true → IsTimeOf j p t → IsTimeOf (j ++ event p k ∷ []) p t' → AreMissingNotices s j p n t t' new
+    → IsValidCopy s j [] p n base page → IsStaleCopy s (j ++ event p k ∷ []) [] p n page new
+valid_staled s j p n base page k t t' new takes time after news valid =
+    let complete = valid_full s j p n base page valid in
+    stale_taken s j p n page k t t' [] new takes time after news (record {
+      copy = copy_of_lawful s j p n page complete
+          (subst (Lawful s j p n) (sym valid.gives) valid.lawful);
+      lacks = none_missing s j p n (complete_no_gap s j p n complete);
+      untouched = λ k e at. absurd (none-some e at);
+    })

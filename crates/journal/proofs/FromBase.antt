@@ -1,0 +1,20 @@
+-- What is left of a journal after a cut says, read from the base, what the whole history says.
+-- The cut stands at the end of an episode: all that was cut off happens before all that is left. (Ends, Episodes, Before)
+-- The base keeps what of it still counts: memory, holders, flags (Holding, Noted; nothing where Uncut). So order, races,
+-- loads, copies and form are the same, read either way (Order, Races, Loads, Copies, WellFormed); Whole has the laws.
+-- Opening, Cutting: the first arrivals behind a cut; a cut of what a cut left.
+pub mod Order
+pub mod EndedCounts
+pub mod FirstAndLast
+pub mod Holding
+pub mod WellFormed
+pub mod Races
+pub mod LongerAndShorter
+pub mod ExplainedByLast
+pub mod Uncut
+pub mod CutAgain
+pub mod PageCopies
+pub mod Whole
+pub mod KeptAndHeld
+pub mod EpisodeEnds
+pub mod Opening

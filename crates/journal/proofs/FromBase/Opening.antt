@@ -1,0 +1,129 @@
+-- Behind an arrival of each processor, a journal says what it says from a base.
+use Rattle.std.proofs.Common.{◌≡◌, ◌≢◌, ℕ, ◌+◌, ◌-◌, ◌<◌, ◌≤◌, ◌⊎◌, inl, inr, List, [], ◌++◌, length, take, drop, subst, subst₂, sym, refl, ap, ◌∙◌, arith}
+use Rattle.std.proofs.Math.Seq.{take-add}
+use Rattle.std.proofs.lemmas.Bool.{cases_lt}
+use Rattle.std.proofs.lemmas.Option.{none-some}
+use Rattle.journal.specs.declared.event.Event.{Event}
+use Rattle.journal.specs.declared.event.Kind.{Kind}
+use Rattle.journal.specs.declared.event.Kind.TheVariants.{Arrive}
+use Rattle.journal.specs.DidEvent.{event}
+use Rattle.journal.specs.Events.{At, address_of, count_of, is_arrive, is_depart}
+use Rattle.journal.specs.WellFormed.{Does}
+use Rattle.journal.specs.InRange.{ProcessorsInRange}
+use Rattle.journal.specs.Races.{Race, IsFirstRace, RaceFree}
+use Rattle.journal.specs.Base.{Base, arrivals_cut}
+use Rattle.journal.specs.RacesFrom.{IsFirstRaceFrom, RaceFreeFrom}
+use Rattle.journal.specs.Opening.{IsOpening}
+use Rattle.base.proofs.SlicesAndCounts.{append_cases, slice_get-drop, slice_get-from_take}
+use Rattle.journal.proofs.Order.CountedAndNumbered.{at_within, does_same, count_of-within, numbered}
+use Rattle.journal.proofs.FromBase.Order.{IsEvenFrom}
+use Rattle.journal.proofs.FromBase.Races.{race_split, race_free, first_race}
+
+-- the events of a part stand in the whole
+pub opening_behind : (n m : ℕ) (xs : List Event) (i : ℕ) (e : Event) → At (take m (drop n xs)) i e → At xs (n + i) e
+opening_behind n m xs i e at = sym (slice_get-drop xs n i) ∙ slice_get-from_take (drop n xs) m i e at
+
+module _ (processors : ℕ) (xs : List Event) (x : IsOpening processors xs) where
+  -- where a processor does something, it is its arrival
+  here : (i q : ℕ) (k : Kind) → Does xs i q k → (i ≡ q) × (k ≡ Arrive)
+  here i q k does =
+      let within = at_within xs i (event q k) does in
+      let long = x.long in
+      let is = does_same xs i q i k Arrive does (x.each i (omega arith)) in
+      (sym is.0, is.1)
+
+  opening_arrives_once : (q : ℕ) → q < processors → count_of is_arrive xs q ≡ 1
+  opening_arrives_once q lt = elim (cases_lt 1 (count_of is_arrive xs q)) [
+    | inr le ↦ (let more = count_of-within is_arrive xs q q Arrive (x.each q lt) refl in omega arith)
+    | inl more ↦
+        (let first = numbered is_arrive xs q 0 (omega arith) in
+        let second = numbered is_arrive xs q 1 more in
+        let same : first.place ≡ second.place =
+        (here first.place q first.kind first.does).0 ∙ sym (here second.place q second.kind second.does).0 in
+        let number = first.number in
+        let other = second.number in
+        let alike = ap (λ n. count_of is_arrive (take n xs) q) same in
+        absurd (omega arith))
+  ]
+
+  opening_departs_never : (q : ℕ) → count_of is_depart xs q ≡ 0
+  opening_departs_never q = elim (cases_lt 0 (count_of is_depart xs q)) [
+    | inr le ↦ omega arith
+    | inl more ↦ (let n = numbered is_depart xs q 0 more in let counts = n.counts in
+        absurd (cc (counts, ap (λ k. is_depart k) (here n.place q n.kind n.does).1)))
+  ]
+
+  pub opening_even : (b : Base) (j : List Event) → arrivals_cut b ≡ 1 → ProcessorsInRange processors j → IsEvenFrom b xs j 1
+  opening_even b j one present = record {
+    arrivals = λ m e at. opening_arrives_once e.processor (present m e at);
+    departures = λ m e at. (let none = opening_departs_never e.processor in omega arith);
+  }
+
+  -- and no race begins there
+  pub opening_races : (j : List Event) (i k : ℕ) → i < length xs → ¬ Race (xs ++ j) i k
+  opening_races j i k lt r = elim (append_cases xs j i r.first r.first_at) [
+    | inr left ↦ absurd (omega (arith, left.1))
+    | inl first ↦ (let is = (here i r.first.processor r.first.kind first.1).1 in
+        none-some r.conflict.address (sym (ap (λ a. address_of a) is) ∙ r.conflict.first))
+  ]
+
+-- what stands before a journal for the race checker: arrivals of all where something was cut off, and else nothing
+pub record IsOpened (b : Base) (checked j : List Event) (size : ℕ) : Type 0 where
+  pub opening : List Event
+  pub number : ℕ
+  pub is : checked ≡ opening ++ j
+  pub long : length opening ≡ size
+  pub even : IsEvenFrom b opening j number
+  pub none : (i k : ℕ) → i < length opening → ¬ Race (opening ++ j) i k
+
+-- what is checked of events behind an opening: from its end on where nothing was cut off, and else with it
+pub opened : (b : Base) (processors first count : ℕ) (items : List Event)
+    → IsOpening processors (take processors items) → ProcessorsInRange processors items
+    → ((b.cut ≡ 0) × (first ≡ processors)) ⊎ ((b.cut ≢ 0) × (first ≡ 0))
+    → IsOpened b (take (processors + count - first) (drop first items)) (take count (drop processors items))
+    (processors - first)
+opened b processors first count items opening present (inl none) = record {
+  opening = [];
+  number = 0;
+  is =
+      (let all : processors + count - first ≡ count = let x = none.1 in omega arith in
+      subst₂ (λ (m n : ℕ). take m (drop n items) ≡ take count (drop processors items)) (sym all) (sym none.1)
+      refl);
+  long = (let x = none.1 in omega arith);
+  even = record { arrivals = λ m e at. refl; departures = λ m e at. (let x = none.0 in omega arith) };
+  none = λ i k lt. absurd (omega arith);
+}
+opened b processors first count items opening present (inr some) = record {
+  opening = take processors items;
+  number = 1;
+  is =
+      (let all : processors + count - first ≡ processors + count = let x = some.1 in omega arith in
+      subst₂
+      (λ (m n : ℕ). take m (drop n items) ≡ take processors items ++ take count (drop processors items))
+      (sym all) (sym some.1) (take-add processors count items));
+  long = (let x = some.1 in opening.long ∙ omega arith);
+  even =
+      opening_even processors (take processors items) opening b (take count (drop processors items))
+      (let x = some.0 in omega arith)
+      (λ i e at. present (processors + i) e (opening_behind processors count items i e at));
+  none = opening_races processors (take processors items) opening (take count (drop processors items));
+}
+
+-- so the race checker's answer is one from the base
+module _ (b : Base) (checked j : List Event) (size : ℕ) (x : IsOpened b checked j size) where
+  pub free_from : RaceFree checked → RaceFreeFrom b j
+  free_from free = (race_free b x.opening j x.number x.even x.none).0 (subst RaceFree x.is free)
+
+  pub first_from : (i k : ℕ) → IsFirstRace checked i k
+      → (size ≤ i) × (size ≤ k) × IsFirstRaceFrom b j (i - size) (k - size)
+  first_from i k first =
+      let here = subst (λ xs. IsFirstRace xs i k) x.is first in
+      let split = race_split b x.opening j x.number x.even x.none i k here.race in
+      let long = x.long in
+      let from : i ≡ length x.opening + (i - size) = omega (arith, split.2) in
+      let to : k ≡ length x.opening + (k - size) = omega (arith, split.3) in (
+        omega (arith, split.2),
+        omega (arith, split.3),
+        (first_race b x.opening j x.number x.even x.none (i - size) (k - size)).0
+            (subst₂ (IsFirstRace (x.opening ++ j)) from to here),
+      )

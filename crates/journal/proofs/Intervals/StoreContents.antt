@@ -1,0 +1,232 @@
+-- The record of the events of an interval is the record of their places, and stays so.
+use Rattle.std.proofs.Common.{ℕ, ◌≡◌, ◌<◌, ◌≤◌, ◌/◌, ◌%◌, ◌==◌, List, [], ◌∷◌, ◌++◌, Bool, true, false, cond, Option, Some, None, is_some, filter, slice_get, length, arith, refl, sym, ap, subst, ◌∙◌, eqb-true, eq-eqb, mod-lt, inl, inr, true≢false}
+use Rattle.std.proofs.lemmas.Bool.{cases_lt}
+use Rattle.std.proofs.Math.Seq.{take-append_seam}
+use Rattle.std.proofs.lemmas.Option.{some_pair_parts}
+use Rattle.journal.specs.declared.event.Event.{Event}
+use Rattle.journal.specs.declared.event.Kind.{Kind}
+use Rattle.journal.specs.declared.event.Kind.TheVariants.{Store}
+use Rattle.journal.specs.DidEvent.{event}
+use Rattle.journal.specs.Sizes.{Sizes}
+use Rattle.journal.specs.Events.{At, is_closing, count_of, interval_at}
+use Rattle.journal.specs.WellFormed.{Does}
+use Rattle.journal.specs.PageImages.{page_word_write, page_write}
+use Rattle.journal.specs.Blocks.{block_write}
+use Rattle.journal.specs.ContentsSince.{since, StoresInInterval, IsContent}
+use Rattle.base.specs.InOrderOnce.{Has}
+use Rattle.base.specs.LastWritten.{written}
+use Rattle.base.specs.MarkedRecords.{IsRecordOf}
+use Rattle.base.proofs.SlicesAndCounts.{push_cases}
+use Rattle.base.proofs.Joined.{has-nil}
+use Rattle.base.proofs.FilteredInOrder.{has-filter, in_order-filter}
+use Rattle.base.proofs.LastWritten.{written_map, written_filter, written_same, last_exists}
+use Rattle.base.proofs.Records.{record_moved}
+use Rattle.journal.proofs.Order.CountedAndNumbered.{at_within, at_longer, at_shorter, count_of-front, count_of-mono}
+use Rattle.journal.proofs.CopyOfPage.Stores.{does_kind, store_writes, page_after_longer}
+use Rattle.journal.proofs.Intervals.OpenSince.{AreOpen, open_places}
+
+-- what the event at a place, if there is one, stores in page n
+abbrev pub write_at : Sizes → ℕ → Option Event → Option (ℕ × ℕ)
+write_at s n None = None
+write_at s n (Some e) = block_write s n e.kind
+
+-- what stores in page n is a store to it
+pub write_in_store : (s : Sizes) (n : ℕ) (k : Kind) → is_some (block_write s n k) ≡ true
+    → (a v : ℕ) × (k ≡ Store a v) × (a / s.words ≡ n) × (block_write s n k ≡ page_word_write s k)
+write_in_store s n (Store a v) h = go (a / s.words == n) refl h
+  where
+    go : (b : Bool) → (a / s.words == n) ≡ b → is_some {T = ℕ × ℕ} (cond b (Some (a % s.words, v)) None) ≡ true
+        → (c w : ℕ) × (Store a v ≡ Store c w) × (c / s.words ≡ n)
+        × (block_write s n (Store a v) ≡ page_word_write s (Store a v))
+    go true e g = (a, v, refl, eqb-true (a / s.words) n e, rw e)
+    go false e g = absurd (true≢false (sym g))
+write_in_store s n _ h = absurd (true≢false (sym h))
+
+-- and a store to the page does
+pub store_in : (s : Sizes) (n a v : ℕ) → a / s.words ≡ n → block_write s n (Store a v) ≡ Some (a % s.words, v)
+store_in s n a v page = rw (eq-eqb (a / s.words) n page)
+
+-- what picks nothing writes nothing
+none_picked : (o : Option (ℕ × ℕ)) → is_some o ≡ false → o ≡ None
+none_picked None h = refl
+none_picked (Some p) h = absurd (true≢false h)
+
+-- the test of a place for a store to page n
+picks : Sizes → ℕ → List Event → ℕ → Bool
+picks s n j i = is_some (write_at s n (slice_get j i))
+
+-- a picked place has a store to the page
+picked_store : (s : Sizes) (n : ℕ) (j : List Event) (i : ℕ) (e : Event) → At j i e → picks s n j i ≡ true
+    → (a v : ℕ) × Does j i e.processor (Store a v) × (a / s.words ≡ n)
+unfolding picks
+picked_store s n j i e at h =
+    let x = write_in_store s n e.kind (ap (λ (o : Option Event). is_some (write_at s n o)) (sym at) ∙ h) in
+    (x.0, x.1, does_kind j i e (Store x.0 x.1) at x.2, x.3)
+
+-- the writes of the open interval's events are those of the picked places
+same_writes : (s : Sizes) (n : ℕ) (j : List Event) (p : ℕ) (places : List ℕ) (page : List ℕ) → AreOpen j p places
+    → written (λ (e : Event). block_write s n e.kind) page (since j p)
+    ≡ written (λ (i : ℕ). page_write s (slice_get j i)) page (filter (picks s n j) places)
+unfolding picks
+same_writes s n j p places page open_at =
+    sym (written_map (write_at s n) Some page (since j p))
+    ∙ ap (written (write_at s n) page) (sym open_at.events)
+    ∙ written_map (write_at s n) (slice_get j) page places
+    ∙ sym (written_filter (λ (i : ℕ). write_at s n (slice_get j i)) (picks s n j) page places
+    (λ i h. none_picked (write_at s n (slice_get j i)) h))
+    ∙ written_same (λ (i : ℕ). write_at s n (slice_get j i)) (λ (i : ℕ). page_write s (slice_get j i)) page
+    (filter (picks s n j) places)
+    (λ k i at. same i (slice_get j i) refl ((has-filter (picks s n j) places i).0 (k, at)).1)
+  where
+    same : (i : ℕ) (o : Option Event) → slice_get j i ≡ o → is_some (write_at s n (slice_get j i)) ≡ true
+        → write_at s n (slice_get j i) ≡ page_write s (slice_get j i)
+    same i None e h = absurd (true≢false (sym h ∙ ap (λ (o : Option Event). is_some (write_at s n o)) e))
+    same i (Some f) e h =
+        ap (write_at s n) e
+        ∙ (write_in_store s n f.kind (ap (λ (o : Option Event). is_some (write_at s n o)) (sym e) ∙ h)).4
+        ∙ ap (page_write s) (sym e)
+
+-- the record of the events since the last closing one is the content of the open interval
+pub since_content : (s : Sizes) (j : List Event) (p n : ℕ) (words : List (ℕ × ℕ))
+    → IsRecordOf (λ (e : Event). block_write s n e.kind) (since j p) words
+    → IsContent s j p (count_of is_closing j p) n words
+unfolding picks
+since_content s j p n words record_of = record {
+  places = filter (picks s n j) places;
+  each = λ i. (there i, back i);
+  rising = in_order-filter (λ i m. i < m) (picks s n j) places open_at.rising;
+  sums =
+      record_moved (λ (e : Event). block_write s n e.kind) (λ (i : ℕ). page_write s (slice_get j i)) (since j p)
+      (filter (picks s n j) places) words (λ page. same_writes s n j p places page open_at) record_of;
+}
+  where
+    places : List ℕ
+    places = (open_places j p).0
+
+    open_at : AreOpen j p places
+    open_at = (open_places j p).1
+
+    there : (i : ℕ) → Has (filter (picks s n j) places) i → StoresInInterval s j p (count_of is_closing j p) n i
+    there i h =
+        let m = (has-filter (picks s n j) places i).0 h in
+        let x = (open_at.each i).0 m.0 in
+        let y = picked_store s n j i x.event x.at m.1 in
+        let P : ℕ → Type 0 = λ q. Does j i q (Store y.0 y.1) in
+        (y.0, y.1, subst P x.mine y.2, y.3, x.number)
+
+    back : (i : ℕ) → StoresInInterval s j p (count_of is_closing j p) n i → Has (filter (picks s n j) places) i
+    back i x =
+        let e : Event = event p (Store x.0 x.1) in
+        (has-filter (picks s n j) places i).1 (
+          (open_at.each i).1
+              (record { event = e; at = x.2; mine = refl; open_at = refl; number = x.4 }),
+          ap
+              (λ (o : Option Event). is_some (write_at s n o)) x.2
+              ∙ ap is_some (store_in s n x.0 x.1 x.3),
+        )
+
+-- a store of an interval stays one as the journal goes on
+pub stores_in_longer : (s : Sizes) (j es : List Event) (q k n i : ℕ) → StoresInInterval s j q k n i
+    → StoresInInterval s (j ++ es) q k n i
+stores_in_longer s j es q k n i x =
+    let e : Event = event q (Store x.0 x.1) in
+    let within = at_within j i e x.2 in
+    (x.0, x.1, at_longer j es i e x.2, x.3, count_of-front is_closing j es i q (omega arith) ∙ x.4)
+
+-- and was one before
+pub stores_in_shorter : (s : Sizes) (j es : List Event) (q k n i : ℕ) → i < length j → StoresInInterval s (j ++ es) q k n i
+    → StoresInInterval s j q k n i
+stores_in_shorter s j es q k n i within x = (
+  x.0,
+  x.1,
+  at_shorter j es i (event q (Store x.0 x.1)) within x.2,
+  x.3,
+  sym
+      (count_of-front is_closing j es i q (omega arith))
+      ∙ x.4,
+)
+
+-- what an interval comes to in a page stays as long as it stores nothing more there
+pub content_on : (s : Sizes) (j es : List Event) (q k n : ℕ) (words : List (ℕ × ℕ))
+    → ((i : ℕ) → StoresInInterval s (j ++ es) q k n i → i < length j) → IsContent s j q k n words
+    → IsContent s (j ++ es) q k n words
+content_on s j es q k n words within content = record {
+  places = content.places;
+  each =
+      λ i. (
+        λ h. stores_in_longer s j es q k n i ((content.each i).0 h),
+        λ x. (content.each i).1
+            (stores_in_shorter s j es q k n i (within i x) x),
+      );
+  rising = content.rising;
+  sums =
+      record_moved (λ (i : ℕ). page_write s (slice_get j i)) (λ (i : ℕ). page_write s (slice_get (j ++ es) i))
+      content.places content.places words (λ page. sym (page_after_longer s j es page content.places inside))
+      content.sums;
+}
+  where
+    inside : (i : ℕ) → Has content.places i → i < length j
+    inside i h = let x = (content.each i).0 h in at_within j i (event q (Store x.0 x.1)) x.2
+
+-- through the closing event
+pub content_closing : (s : Sizes) (j : List Event) (e : Event) (q k n : ℕ) (words : List (ℕ × ℕ))
+    → is_closing e.kind ≡ true → IsContent s j q k n words → IsContent s (j ++ e ∷ []) q k n words
+content_closing s j e q k n words closes = content_on s j (e ∷ []) q k n words (λ i x.
+    let f : Event = event q (Store x.0 x.1) in
+    elim (push_cases j e i f x.2)
+    [ inl h ↦ h.0 | inr h ↦ absurd (true≢false (sym closes ∙ ap (λ (g : Event). is_closing g.kind) h.1)) ])
+
+-- and, once the interval is closed, through all events
+pub content_closed : (s : Sizes) (j es : List Event) (q k n : ℕ) (words : List (ℕ × ℕ)) → k < count_of is_closing j q
+    → IsContent s j q k n words → IsContent s (j ++ es) q k n words
+content_closed s j es q k n words closed =
+    content_on s j es q k n words
+    (λ i x. elim (cases_lt i (length j)) [ inl less ↦ less | inr from ↦ absurd (late i x from) ])
+  where
+    late : (i : ℕ) → StoresInInterval s (j ++ es) q k n i → length j ≤ i → ⊥
+    late i x from =
+        let whole : interval_at (j ++ es) q (length j) ≡ count_of is_closing j q =
+        ap (λ (xs : List Event). count_of is_closing xs q) (take-append_seam j es) in
+        let up = count_of-mono is_closing (j ++ es) (length j) i q from in
+        let same = x.4 in
+        omega arith
+
+-- each store of an interval has a word at its offset
+pub content_has : (s : Sizes) (j : List Event) (q k n i : ℕ) (words : List (ℕ × ℕ)) → IsContent s j q k n words
+    → (x : StoresInInterval s j q k n i) → (v : ℕ) × Has words (x.0 % s.words, v)
+content_has s j q k n i words content x =
+    let h = (content.each i).1 x in
+    let last =
+    last_exists (λ (m : ℕ). page_write s (slice_get j m)) content.places h.0 (x.0 % s.words) x.1 i h.1
+    (store_writes s j i q x.0 x.1 x.2) in
+    (last.0, (content.sums.each (x.0 % s.words) last.0).1 last.1)
+
+-- an interval that comes to no word stores nothing in the page
+pub content_none : (s : Sizes) (j : List Event) (q k n i : ℕ) → IsContent s j q k n [] → StoresInInterval s j q k n i → ⊥
+content_none s j q k n i content x = let h = content_has s j q k n i [] content x in has-nil (x.0 % s.words, h.0) h.1
+
+-- each word that it comes to has a store
+pub content_word : (s : Sizes) (j : List Event) (q k n o v : ℕ) (words : List (ℕ × ℕ)) → IsContent s j q k n words
+    → Has words (o, v)
+    → (i : ℕ) × (a : ℕ) × Does j i q (Store a v) × (a / s.words ≡ n) × (a % s.words ≡ o) × (interval_at j q i ≡ k)
+content_word s j q k n o v words content h =
+    let l = (content.sums.each o v).0 h in
+    let x = (content.each l.item).0 (l.place, l.at) in
+    let e = some_pair_parts (x.0 % s.words) o x.1 v (sym (store_writes s j l.item q x.0 x.1 x.2) ∙ l.writes) in
+    let P : ℕ → Type 0 = λ w. Does j l.item q (Store x.0 w) in
+    (l.item, x.0, subst P e.1 x.2, x.3, e.0, x.4)
+
+-- and lies within the page
+pub content_within : (s : Sizes) (j : List Event) (q k n o v : ℕ) (words : List (ℕ × ℕ)) → 0 < s.words
+    → IsContent s j q k n words → Has words (o, v) → o < s.words
+content_within s j q k n o v words some content h =
+    let x = content_word s j q k n o v words content h in
+    let below = mod-lt x.1 some in
+    let same = x.4 in
+    omega arith
+
+-- and an interval that comes to some word stores in the page
+pub content_some : (s : Sizes) (j : List Event) (q k n : ℕ) (w : ℕ × ℕ) (words : List (ℕ × ℕ))
+    → IsContent s j q k n (w ∷ words) → (i : ℕ) × StoresInInterval s j q k n i
+content_some s j q k n w words content =
+    let x = content_word s j q k n w.0 w.1 (w ∷ words) content (0, refl) in (x.0, (x.1, w.1, x.2, x.3, x.5))

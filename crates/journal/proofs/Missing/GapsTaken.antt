@@ -1,0 +1,211 @@
+-- The gap is what lies between two timestamps, and has intervals whole.
+use Rattle.std.proofs.Common.{ℕ, ◌≡◌, ◌≢◌, ◌<◌, ◌≤◌, ◌⊎◌, ◌↔◌, ◌/◌, inl, inr, List, [], ◌∷◌, ◌++◌, true, length, arith, refl, sym, ap, subst, ◌∙◌, true≢false, le_of_lt}
+use Rattle.std.proofs.lemmas.Bool.{cases_eq, cases_lt}
+use Rattle.journal.specs.declared.event.Event.{Event}
+use Rattle.journal.specs.declared.event.Kind.{Kind}
+use Rattle.journal.specs.declared.event.Kind.TheVariants.{Store, Fetch}
+use Rattle.journal.specs.DidEvent.{event}
+use Rattle.journal.specs.Sizes.{Sizes}
+use Rattle.journal.specs.Events.{At, is_closing, is_taking, interval_at}
+use Rattle.journal.specs.HappensBeforeEdges.{HappensBefore}
+use Rattle.journal.specs.WellFormed.{Does}
+use Rattle.journal.specs.Pasts.{UpTo, InPast}
+use Rattle.journal.specs.Times.{ClosesAt, IsTimeOf}
+use Rattle.journal.specs.ClosedIntervals.{ClosedAt}
+use Rattle.journal.specs.PageImages.{StoresToPage, FetchesPage, Mine, InGap, StoredInGap}
+use Rattle.journal.specs.BroughtCopy.{Brought}
+use Rattle.base.proofs.SlicesAndCounts.{append_cases, push_cases}
+use Rattle.journal.proofs.Order.CountedAndNumbered.{at_within, at_longer, at_shorter, at_same, does_same, count_of-front}
+use Rattle.journal.proofs.Order.HappensBefore.{before_shorter}
+use Rattle.journal.proofs.Order.EdgesIntoPast.{up_to_back, past_within, past_longer, own_in_past, past_others}
+use Rattle.journal.proofs.Times.LeavingCloses.{LeavesAt, leaving_at, own_order}
+use Rattle.journal.proofs.Times.PushesCovered.{covered}
+use Rattle.journal.proofs.CopyOfPage.Stores.{stores_to, stores_within, stores_longer, stores_shorter}
+use Rattle.journal.proofs.CopyOfPage.Brought.{brought_longer, brought_past, brought_push, gap_is}
+use Rattle.journal.proofs.Times.Closing.{closes_first, closed_past}
+use Rattle.journal.proofs.Times.IntervalNumbers.{closes_interval, number_closed}
+
+-- another processor's event is not one's own
+pub not_mine : (j : List Event) (p q i : ℕ) (a : Kind) → Does j i q a → q ≢ p → ¬ Mine j p i
+not_mine j p q i a does apart m = apart (ap (λ (e : Event). e.processor) (at_same j i (event q a) m.0 does m.1) ∙ m.2)
+
+-- a store in the gap is another processor's
+pub gaps_apart : (s : Sizes) (j : List Event) (p n q i a v : ℕ) → InGap s j p n i → Does j i q (Store a v) → q ≢ p
+gaps_apart s j p n q i a v g does mine = g.others (event q (Store a v), does, mine)
+
+-- others' events leave the gap
+pub gaps_of_others : (s : Sizes) (j es : List Event) (p n i : ℕ) → ((k : ℕ) (e : Event) → At es k e → e.processor ≢ p)
+    → InGap s (j ++ es) p n i ↔ InGap s j p n i
+gaps_of_others s j es p n i away = (there, back)
+  where
+    there : InGap s (j ++ es) p n i → InGap s j p n i
+    there g =
+        let past = (past_others j es p i away).0 g.past in
+        (gap_is s j p n i).1 (
+          past,
+          stores_shorter s j es n i (past_within j p i past) g.store,
+          λ b.
+              ((gap_is s (j ++ es) p n i).0 g).2 (brought_longer j es p n i b),
+        )
+
+    old : InGap s j p n i → Brought (j ++ es) p n i → ⊥
+    old g (inl m) = g.others (m.0, at_shorter j es i m.0 (past_within j p i g.past) m.1, m.2)
+    old g (inr m) =
+        let f = m.1 in
+        let e : Event = event p (Fetch f.0 n f.1 f.2) in
+        elim (append_cases j es m.0 e f.3) [
+          | inl h ↦ g.new m.0 (f.0, f.1, f.2, h.1) (before_shorter j es h.0 m.2)
+          | inr h ↦ away h.0 e h.2 refl
+        ]
+
+    back : InGap s j p n i → InGap s (j ++ es) p n i
+    back g = (gap_is s (j ++ es) p n i).1 ((past_others j es p i away).1 g.past, stores_longer s j es n i g.store, old g)
+
+-- an event by which p gets to know of others' adds what lies between p's timestamps before and after it
+pub gap_taken : (s : Sizes) (j : List Event) (p n q i a v : ℕ) (k : Kind) (t t' : ℕ → ℕ) → is_taking k ≡ true
+    → IsTimeOf j p t → IsTimeOf (j ++ event p k ∷ []) p t' → Does j i q (Store a v) → a / s.words ≡ n → q ≢ p
+    → InGap s (j ++ event p k ∷ []) p n i
+    ↔ (InGap s j p n i ⊎ ((t q ≤ interval_at j q i) × (interval_at j q i < t' q)))
+gap_taken s j p n q i a v k t t' takes time after does page apart = (there, back)
+  where
+    e : Event
+    e = event p k
+
+    within : i < length j
+    within = at_within j i (event q (Store a v)) does
+
+    store : StoresToPage s (j ++ e ∷ []) n i
+    store = stores_longer s j (e ∷ []) n i (stores_to s j n i q a v does page)
+
+    old : InPast j p i ↔ (interval_at j q i < t q)
+    old = covered j p q i (Store a v) t time does apart
+
+    number : interval_at (j ++ e ∷ []) q i ≡ interval_at j q i
+    number = count_of-front is_closing j (e ∷ []) i q (le_of_lt within)
+
+    new : InPast (j ++ e ∷ []) p i ↔ (interval_at (j ++ e ∷ []) q i < t' q)
+    new = covered (j ++ e ∷ []) p q i (Store a v) t' after (at_longer j (e ∷ []) i (event q (Store a v)) does) apart
+
+    not_fetch : (w r d : ℕ) → e ≢ (event p (Fetch w n r d))
+    not_fetch w r d is = true≢false (sym takes ∙ ap (λ (f : Event). is_taking f.kind) is)
+
+    brought_old : Brought (j ++ e ∷ []) p n i → Brought j p n i
+    brought_old b =
+        elim (brought_push s j e p n i not_fetch store b)
+        [ inl o ↦ o | inr m ↦ (let same = m.0 in absurd (omega (arith, within, same))) ]
+
+    there : InGap s (j ++ e ∷ []) p n i → InGap s j p n i ⊎ ((t q ≤ interval_at j q i) × (interval_at j q i < t' q))
+    there g =
+        let less = new.0 g.past in
+        elim (cases_lt (interval_at j q i) (t q)) [
+          | inl known ↦ inl ((gap_is s j p n i).1 (
+            old.1 known,
+            stores_to s j n i q a v does page,
+            λ b.
+                ((gap_is s (j ++ e ∷ []) p n i).0 g).2 (brought_longer j (e ∷ []) p n i b),
+          ))
+          | inr from ↦ inr (from, omega (arith, less, number))
+        ]
+
+    back : InGap s j p n i ⊎ ((t q ≤ interval_at j q i) × (interval_at j q i < t' q)) → InGap s (j ++ e ∷ []) p n i
+    back (inl g) =
+        (gap_is s (j ++ e ∷ []) p n i).1
+        (past_longer j (e ∷ []) p i g.past, store, λ b. ((gap_is s j p n i).0 g).2 (brought_old b))
+    back (inr x) =
+        (gap_is s (j ++ e ∷ []) p n i).1 (
+          new.1 (omega (arith, x.1, number)),
+          store,
+          λ b. let less = old.0
+              (brought_past j p n i (brought_old b)) in let le = x.0 in omega arith,
+        )
+
+-- no store to the page between the timestamps: nothing comes to the past
+pub nothing_taken : (s : Sizes) (j : List Event) (p n : ℕ) (k : Kind) (t t' : ℕ → ℕ) → is_taking k ≡ true
+    → IsTimeOf j p t → IsTimeOf (j ++ event p k ∷ []) p t'
+    → ((q i a v : ℕ) → q ≢ p → Does j i q (Store a v) → a / s.words ≡ n → t q ≤ interval_at j q i
+    → interval_at j q i < t' q → ⊥)
+    → (i : ℕ) → StoresToPage s (j ++ event p k ∷ []) n i → InPast (j ++ event p k ∷ []) p i → InPast j p i
+nothing_taken s j p n k t t' takes time after none i x past =
+    elim (cases_lt i (length j)) [ inl within ↦ old within (cases_eq x.by p) | inr from ↦ absurd (last from) ]
+  where
+    e : Event
+    e = event p k
+
+    f : Event
+    f = event x.by (Store x.address x.value)
+
+    last : length j ≤ i → ⊥
+    last from =
+        elim (push_cases j e i f x.does) [
+          | inl h ↦ (let less = h.0 in omega arith)
+          | inr h ↦ true≢false (sym takes ∙ ap (λ (g : Event). is_taking g.kind) h.1)
+        ]
+
+    old : i < length j → (x.by ≡ p) ⊎ (x.by ≢ p) → InPast j p i
+    old within (inl mine) = own_in_past j p i f (at_shorter j (e ∷ []) i f within x.does) mine
+    old within (inr apart) =
+        let does : Does j i x.by (Store x.address x.value) = at_shorter j (e ∷ []) i f within x.does in
+        let number : interval_at (j ++ e ∷ []) x.by i ≡ interval_at j x.by i =
+        count_of-front is_closing j (e ∷ []) i x.by (le_of_lt within) in
+        let less = (covered (j ++ e ∷ []) p x.by i (Store x.address x.value) t' after x.does apart).0 past in
+        elim (cases_lt (interval_at j x.by i) (t x.by)) [
+          | inl known ↦ (covered j p x.by i (Store x.address x.value) t time does apart).1 known
+          | inr le ↦ absurd (none x.by i x.address x.value apart does x.in_page le (omega (arith, less, number)))
+        ]
+
+-- with one store of an interval the gap has all of them
+pub gaps_whole : (s : Sizes) (j : List Event) (p n q i m a b v w : ℕ) → InGap s j p n i → Does j i q (Store a v)
+    → Does j m q (Store b w) → b / s.words ≡ n → interval_at j q m ≡ interval_at j q i → InGap s j p n m
+gaps_whole s j p n q i m a b v w g does other page same = record {
+  store = stores_to s j n m q b w other page;
+  others = not_mine j p q m (Store b w) other apart;
+  past =
+      (closed_past j p q m c.0 (Store b w) second other apart).1
+      ((closed_past j p q i c.0 (Store a v) first does apart).0 g.past);
+  new =
+      λ f fetch h. g.new f fetch (before f fetch
+      (leaving_at j f p q m (Store b w) (Fetch fetch.0 n fetch.1 fetch.2) other fetch.3 apart (inr h)));
+}
+  where
+    apart : q ≢ p
+    apart = gaps_apart s j p n q i a v g does
+
+    c : (c : ℕ) × ClosesAt j q c × (interval_at j q c ≡ interval_at j q i)
+    c = number_closed j p q i (Store a v) does apart g.past
+
+    first : ClosedAt j i c.0
+    first = closes_interval j q i c.0 (Store a v) does (λ h. true≢false (sym h)) c.1 (sym c.2)
+
+    second : ClosedAt j m c.0
+    second = closes_interval j q m c.0 (Store b w) other (λ h. true≢false (sym h)) c.1 (same ∙ sym c.2)
+
+    before : (f : ℕ) → FetchesPage j f p n → LeavesAt j q m (UpTo j f) → HappensBefore j i f
+    before f fetch l =
+        let least = closes_first j q m c.0 l.close (Store b w) second other l.from l.closes in
+        let less = first.before in
+        elim (up_to_back j i l.close f
+        (own_order j q i l.close (Store a v) l.closes.kind does l.closes.does (omega arith)) l.inside) [
+          | inl is ↦ (let P : ℕ
+              → Type 0 = λ x. Does j x q (Store a v) in absurd (apart (does_same j f q p (Store a v)
+              (Fetch fetch.0 n fetch.1 fetch.2) (subst P is does) fetch.3).0))
+          | inr h ↦ h
+        ]
+
+-- where the gap is the same, so are the stores in it
+pub stored_on : (s : Sizes) (j es : List Event) (p n : ℕ) → ((i : ℕ) → InGap s (j ++ es) p n i ↔ InGap s j p n i)
+    → (z : ℕ × ℕ × ℕ) → StoredInGap s (j ++ es) p n z ↔ StoredInGap s j p n z
+stored_on s j es p n same z = (there, back)
+  where
+    number : (i : ℕ) → i < length j → interval_at (j ++ es) z.0 i ≡ interval_at j z.0 i
+    number i within = count_of-front is_closing j es i z.0 (le_of_lt within)
+
+    there : StoredInGap s (j ++ es) p n z → StoredInGap s j p n z
+    there g =
+        let old = (same g.0).0 g.3 in
+        let within = stores_within s j n g.0 old.store in
+        (g.0, g.1, at_shorter j es g.0 (event z.0 (Store z.2 g.1)) within g.2, old, sym (number g.0 within) ∙ g.4)
+
+    back : StoredInGap s j p n z → StoredInGap s (j ++ es) p n z
+    back g =
+        let within = stores_within s j n g.0 g.3.store in
+        (g.0, g.1, at_longer j es g.0 (event z.0 (Store z.2 g.1)) g.2, (same g.0).1 g.3, number g.0 within ∙ g.4)

@@ -1,0 +1,134 @@
+-- What a processor does of a script.
+use Rattle.std.specs.Prelude.{ℕ, ◌≡◌, Bool, true, false, Some, List, [], ◌∷◌, ◌++◌, map, length, slice_get, Result, Ok, Err}
+use Rattle.book.specs.declared.refused.Refused.{Refused}
+use Rattle.journal.specs.declared.event.Kind.{Kind}
+use Rattle.journal.specs.declared.event.Kind.TheVariants.{Arrive, Depart, Fetch}
+use Rattle.journal.specs.DidEvent.{event}
+use Rattle.journal.specs.declared.event.Event.{Event}
+use Rattle.lrc_script.specs.declared.script.Instruction.{Instruction}
+use Rattle.lrc_script.specs.declared.script.Instruction.TheVariants.{Cut}
+use Rattle.conformance.specs.Instructions.{AreEventsOfInstruction, AreEventsOfInstructions}
+use Rattle.conformance.specs.Follows.{call_kinds, load_of}
+use Rattle.cluster.specs.Copies.Local.{Local, calls, new_local}
+use Rattle.cluster.specs.Calls.{IsSameProcessor}
+use Rattle.cluster.specs.Clusters.{SharedCluster}
+use Rattle.cluster.specs.Taking.{IsTakeLate, awaited_event}
+use Rattle.conformance.specs.CutInstructions.{HasCutInstruction}
+use Rattle.conformance.specs.WantedFetches.{FetchesAreWanted}
+
+-- a processor's accepted calls, its fetches aside
+abbrev pub calls_made : Local → List Kind
+calls_made m = call_kinds (calls m)
+
+-- each fetch among its calls comes right before an access to its page
+abbrev pub AreCallsWanted : Local → Type 0
+AreCallsWanted m = FetchesAreWanted m.sizes.words (calls m)
+
+-- it has seen no less of the history
+abbrev pub SeesMoreCalls : Local → Local → Type 0
+SeesMoreCalls old new = (rest : List Event) × (new.seen ≡ old.seen ++ rest)
+
+-- it is the same processor, has just these calls besides, and has cut nothing off
+pub record AddsCalls (old new : Local) (kinds : List Kind) : Type 0 where
+  pub same : IsSameProcessor old new
+  pub sees : SeesMoreCalls old new
+  pub calls_are : calls new ≡ calls old ++ map (event old.number) kinds
+  pub uncut : new.own_cut ≡ old.own_cut
+
+-- it has these, by the answer, or none where it was refused
+abbrev pub AddsCallsBy : {A : Type 0} → Local → Local → Result A Refused → (A → List Kind) → Type 0
+AddsCallsBy old new (Ok x) kinds = AddsCalls old new (kinds x)
+AddsCallsBy old new (Err e) kinds = AddsCalls old new []
+
+-- it has a fetch of this page, or no call where it was refused
+abbrev pub AddsFetchBy : {A : Type 0} → Local → Local → Result A Refused → ℕ → Type 0
+AddsFetchBy old new (Ok x) page = (writers records words : ℕ) × AddsCalls old new (Fetch writers page records words ∷ [])
+AddsFetchBy old new (Err e) page = AddsCalls old new []
+
+-- it is the same processor, has made these calls besides, and fetches that they want, and has cut nothing off
+pub record MadeCalls (old new : Local) (kinds : List Kind) : Type 0 where
+  pub same : IsSameProcessor old new
+  pub sees : SeesMoreCalls old new
+  pub more : calls_made new ≡ calls_made old ++ kinds
+  pub wanted : AreCallsWanted old → AreCallsWanted new
+  pub uncut : new.own_cut ≡ old.own_cut
+
+-- the same, but that it may have cut something off where this is so
+pub record MakesBut (cuts : Type 0) (old new : Local) (kinds : List Kind) : Type 0 where
+  pub same : IsSameProcessor old new
+  pub sees : SeesMoreCalls old new
+  pub more : calls_made new ≡ calls_made old ++ kinds
+  pub wanted : AreCallsWanted old → AreCallsWanted new
+  pub uncut : ¬ cuts → new.own_cut ≡ old.own_cut
+
+-- it is the same processor, has made no calls besides but maybe fetches, and has cut nothing off
+pub record MakesNone (old new : Local) : Type 0 where
+  pub same : IsSameProcessor old new
+  pub none : calls_made new ≡ calls_made old
+  pub uncut : new.own_cut ≡ old.own_cut
+
+-- it has made these calls, by the answer, or none where it was refused
+abbrev pub TriesCalls : {A : Type 0} → Local → Local → Result A Refused → (A → List Kind) → Type 0
+TriesCalls old new (Ok x) kinds = MadeCalls old new (kinds x)
+TriesCalls old new (Err e) kinds = MakesNone old new
+
+-- it has done this instruction, and cut nothing off but by a cut
+pub record DidInstruction (old new : Local) (i : Instruction) : Type 0 where
+  pub kinds : List Kind
+  pub are : AreEventsOfInstruction i kinds
+  pub makes : MakesBut (i ≡ Cut) old new kinds
+
+-- it has begun this instruction, handed its block in, and awaits the event that ends it
+pub record BeginsCall (old new : Local) (i : Instruction) : Type 0 where
+  pub first : Kind
+  pub last : Kind
+  pub are : AreEventsOfInstruction i (first ∷ last ∷ [])
+  pub makes : MadeCalls old new (first ∷ [])
+  pub handed : new.block ≡ []
+  pub awaits : new.awaits ≡ Some last
+
+-- it has done this instruction, or begun it
+abbrev pub IsOnItsWay : Local → Local → Instruction → Bool → Type 0
+IsOnItsWay old new i true = DidInstruction old new i
+IsOnItsWay old new i false = BeginsCall old new i
+
+-- it is as it was, and what it awaits hasn't come by what it has seen
+pub record FindsNothing (old new : Local) : Type 0 where
+  pub calls_are : calls new ≡ calls old
+  pub block_is : new.block ≡ old.block
+  pub awaits_is : new.awaits ≡ old.awaits
+  pub late : IsTakeLate new
+
+-- it has taken what it awaited, or that hadn't come
+pub record TriedTake (old new : Local) (taken : Bool) : Type 0 where
+  pub same : IsSameProcessor old new
+  pub sees : SeesMoreCalls old new
+  pub yes : taken ≡ true → calls new ≡ calls old ++ awaited_event old.number old.awaits
+  pub no : taken ≡ false → FindsNothing old new
+  pub uncut : new.own_cut ≡ old.own_cut
+
+-- it has done these instructions
+pub record MakesAll (old new : Local) (is : List Instruction) : Type 0 where
+  pub kinds : List Kind
+  pub are : AreEventsOfInstructions is kinds
+  pub makes : MakesBut (HasCutInstruction is) old new kinds
+
+-- it has done its section, and passed the closing barrier
+pub record Walks (old new : Local) (section : List Instruction) : Type 0 where
+  pub kinds : List Kind
+  pub are : AreEventsOfInstructions section kinds
+  pub makes : MakesBut (HasCutInstruction section) old new (kinds ++ Arrive ∷ Depart ∷ [])
+
+-- it has loaded these words
+abbrev pub MakesLoads : Local → Local → List (ℕ × ℕ) → Type 0
+MakesLoads old new words = MadeCalls old new (map load_of words)
+
+-- processor p of the cluster, before its first call
+abbrev pub new_at : SharedCluster → ℕ → Local
+new_at c p = new_local c.lock p c.sizes
+
+-- each of the cluster's processors has walked its section
+pub record AreWalked (c : SharedCluster) (sections : List (List Instruction)) (ms : List Local) : Type 0 where
+  pub all : length ms ≡ c.sizes.processors
+  pub each : (p : ℕ) (section : List Instruction) (m : Local) → slice_get sections p ≡ Some section
+      → slice_get ms p ≡ Some m → Walks (new_at c p) m section

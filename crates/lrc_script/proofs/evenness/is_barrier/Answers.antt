@@ -1,5 +1,0 @@
-use Rattle.std.proofs.Common.{rules}
-use Rattle.lrc_script.proofs.evenness.is_barrier.Goals as goal
-
-pub returns-in-Barrier : goal.returns-in-Barrier
-returns-in-Barrier c = search rules

@@ -1,5 +1,0 @@
-use Rattle.turn.proofs.Boards.{points}
-use Rattle.turn.proofs.lock_words.RowBoard.lawful.Goals as goal
-
-pub returns : goal.returns
-returns c = points c.args._seats c.requires

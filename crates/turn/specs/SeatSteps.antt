@@ -1,0 +1,60 @@
+-- What each step of the lock tells the seat that makes it.
+use Rattle.std.specs.Prelude.{◌≡◌, ℕ, zero, suc, ◌+◌, ◌^◌, ◌<◌, List, [], ◌∷◌, replicate, ◌==◌, MatchBool, true, false, Option, Some}
+use Rattle.atomic_table.specs.Table.{Me}
+use Rattle.turn.specs.declared.chair.ChairStage.{ChairStage}
+use Rattle.turn.specs.declared.chair.ChairStage.TheVariants.{Outside, Waiting, Inside}
+use Rattle.turn.specs.declared.chair.ChairState.{ChairState}
+use Rattle.turn.specs.declared.chair.ChairRun.{ChairRun}
+use Rattle.turn.specs.Stages.{stage_carries}
+use Rattle.turn.specs.Chairs.{Stands}
+use Rattle.turn.specs.ChairRuns.{chair_run, one_chair}
+use Rattle.turn.specs.Tickets.{chair_state}
+
+module _ {B V : Type 0} where
+  -- a chair that never entered
+  abbrev pub fresh : V → ChairState B V
+  fresh v = chair_state Outside 0 v
+
+  -- the run with n fresh chairs from the place p on
+  abbrev pub fresh_run : V → ℕ → ℕ → ChairRun (ChairState B V)
+  fresh_run v p zero = chair_run false p (fresh v) []
+  fresh_run v p (suc n) = chair_run true p (fresh v) (replicate n (fresh v))
+
+  -- a seat with one chair
+  abbrev pub seat_with : ℕ → ChairStage B → ℕ → V → Me (Option B) (ChairRun (ChairState B V))
+  seat_with p g e v = (one_chair p (chair_state g e v), stage_carries g)
+
+  -- the seat with its chair at another stage
+  abbrev pub seat_at_stage : ChairStage B → Me (Option B) (ChairRun (ChairState B V))
+      → Me (Option B) (ChairRun (ChairState B V))
+  seat_at_stage g me = seat_with me.0.place g me.0.lead.entries me.0.lead.view
+
+  -- the seat has one chair, at this stage
+  abbrev pub IsSeatAtStage : ChairStage B → Me (Option B) (ChairRun (ChairState B V)) → Type 0
+  IsSeatAtStage g me = me ≡ seat_at_stage g me
+
+  -- a draw: the chair waits with the number found, and has entered once more
+  abbrev pub DrawStep : Me (Option B) (ChairRun (ChairState B V)) → ℕ → Me (Option B) (ChairRun (ChairState B V)) → Type 0
+  DrawStep me found after = (after ≡ seat_with me.0.place (Waiting found) (me.0.lead.entries + 1) me.0.lead.view)
+      × (found + 1 < 2 ^ 64)
+
+  -- the chair that waited with the number m is inside, and its seat has the slot with the book, of which the fact holds
+  abbrev pub StepsIn : (B → List V → Type 0) → ℕ → Me (Option B) (ChairRun (ChairState B V))
+      → Me (Option B) (ChairRun (ChairState B V)) → Type 0
+  StepsIn fact m me after = (book : B) × Stands fact book me.0.place me.0.lead.view
+      × (after ≡ ((seat_at_stage (Inside m book) me).0, (0, Some book) ∷ []))
+
+  -- a look: the number found is the chair's own, and it steps in, or nothing changes
+  abbrev pub LookStep : (B → List V → Type 0) → Me (Option B) (ChairRun (ChairState B V)) → ℕ
+      → Me (Option B) (ChairRun (ChairState B V)) → Type 0
+  LookStep fact me found after = (m : ℕ) → me.0.lead.stage ≡ Waiting m
+      → MatchBool (found == m) (StepsIn fact m me after) (after ≡ me)
+
+  -- a leave: the chair, which was inside with the book found, is outside with a new view, and the slot is given back
+  -- with the book
+  abbrev pub LeaveStep : (B → B → ℕ → V → V → Type 0) → Me (Option B) (ChairRun (ChairState B V))
+      → Me (Option B) (ChairRun (ChairState B V)) → Type 0
+  LeaveStep then me after =
+      (after ≡ seat_with me.0.place Outside me.0.lead.entries after.0.lead.view)
+      × ((m : ℕ) (found book : B) → me.0.lead.stage ≡ Inside m found → me.1 ≡ (0, Some book) ∷ []
+      → then found book me.0.place me.0.lead.view after.0.lead.view)
