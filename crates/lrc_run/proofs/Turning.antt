@@ -544,8 +544,8 @@ taken_told s c h (p ∷ ps) ms ns all to sizes way taken begin =
 
 -- who looked in vain saw on
 pub look_seen : (m n : Local) (taken : Bool) → TriedTake m n taken → taken ≡ false → SeesOnlyMore m n
-look_seen m n taken took no =
-    let none = took.no no in
+look_seen m n taken took vain =
+    let none = took.no vain in
     record {
       same = took.same;
       sees = took.sees;

@@ -1,9 +1,11 @@
 //! All processors by turns on one thread, by turns that are drawn.
-ghost use Rattle.std.specs.Prelude.{◌≡◌, ◌≢◌, ◌<◌, ◌≤◌, ◌^◌, ◌++◌, ◌∷◌, [], IfErr, IfOk, IfSome, OnOk, length, slice_index_or, vec_len};
+ghost use Rattle.std.specs.Prelude.{◌≡◌, ◌≢◌, ◌<◌, ◌≤◌, ◌^◌, ◌++◌, ◌∷◌, [], IfErr, IfOk, IfSome, List, OnOk, false, length, slice_index_or, true, vec_len};
 ghost use Rattle.lrc_script.specs.Prelude.{IsLawful, plan_of};
 ghost use Rattle.conformance.specs.declared.cause.Cause.TheVariants as cause;
 ghost use Rattle.conformance.specs.Prelude.{IsEndByTurns, plan_sizes, scheduled};
-ghost use Rattle.lrc_run.specs.Prelude.{AreAtSteps, AreOrderedProcessors, AreTaken, chosen};
+ghost use Rattle.conformance.specs.declared.progress.TurnProgress.{TurnProgress as AProgress};
+ghost use Rattle.cluster.specs.Copies.Prelude.{Local};
+ghost use Rattle.lrc_run.specs.Prelude.{AreAtSteps, AreSeenAfterTurns, AreTaken, IsTurnOfRun, chosen};
 
 use super::pace::Pace;
 use super::{beginnings, end_run, go_round, new_cluster, outside, turn_at};
@@ -83,15 +85,47 @@ fn wander<T: BookTurn, R: Wait>(
     };
     let mut turns = Vec::new(alloc);
     for _ in rt.forever() {
-        if have_arrived(script, all.as_slice()) {
+        let on = go_on(rt, cluster, processors, all, script, &mut pace, &mut turns)?;
+        if !on {
             return Ok(turns);
         }
-        let Some(place) = first_on(rt, cluster, processors, all, script, &pace.order)? else {
-            return Ok(turns);
-        };
-        note(&mut turns, &mut pace, place)?;
     }
     unreachable!()
+}
+
+/// The next turn, if some processor hasn't arrived at the closing barrier and gets on: whether there is one.
+fn go_on<T: BookTurn, R: Wait>(
+    rt: &R,
+    cluster: &Cluster<T>,
+    processors: &mut Vec<Processor<T>>,
+    all: &mut Vec<TurnProgress>,
+    script: &Script,
+    pace: &mut Pace,
+    turns: &mut Vec<usize>,
+) -> Result<bool, RunFault>
+    requires lawful { IsLawful (plan_of script.now) }
+    requires sizes { cluster.now.sizes ≡ plan_sizes (plan_of script.now) }
+    requires way { AreAtSteps cluster.now (plan_of script.now).sections processors.old.items
+        all.old.items }
+    requires some { 0 < pace.old.turns }
+    ensures way { OnOk result (AreAtSteps cluster.now (plan_of script.now).sections processors.new.items
+        all.new.items) }
+    ensures taken { OnOk result ((first : List Local) (start : List AProgress)
+        → AreTaken (plan_of script.now).sections turns.old.items first processors.old.items start all.old.items
+        → AreTaken (plan_of script.now).sections turns.new.items first processors.new.items start all.new.items) }
+    ensures fixed { OnOk result (pace.new.turns ≡ pace.old.turns) }
+    ensures err { IfErr result (λ fault. fault.cause ≢ cause.Stuck) }
+{
+    if have_arrived(script, all.as_slice()) {
+        return Ok(false);
+    }
+    match first_on(rt, cluster, processors, all, script, &pace.order)? {
+        Some(place) => {
+            note(turns, pace, place)?;
+            Ok(true)
+        }
+        None => Ok(false),
+    }
 }
 
 /// Notes whose turn it was, by its place in the order, and goes on to the next order.
@@ -99,6 +133,7 @@ fn note(turns: &mut Vec<usize>, pace: &mut Pace, place: usize) -> Result<(), Run
     requires place { place < vec_len pace.old.order }
     requires turns { 0 < pace.old.turns }
     ensures turns { OnOk result (turns.new.items ≡ turns.old.items ++ slice_index_or pace.old.order.items place 0 ∷ []) }
+    ensures fixed { pace.new.turns ≡ pace.old.turns }
     ensures err { IfErr result (λ fault. fault.cause ≢ cause.Stuck) }
 {
     let noted = match turns.push(pace.order[place]) {
@@ -113,7 +148,6 @@ fn note(turns: &mut Vec<usize>, pace: &mut Pace, place: usize) -> Result<(), Run
 
 /// About how many turns the script takes: one for each instruction, and one for the closing barrier.
 fn turns_of(script: &Script) -> usize
-    requires { IsLawful (plan_of script.now) }
     ensures { 0 < result }
 {
     let mut turns: usize = 1;
@@ -148,7 +182,6 @@ fn first_on<T: BookTurn, R: Wait>(
 ) -> Result<Option<usize>, RunFault>
     requires lawful { IsLawful (plan_of script.now) }
     requires sizes { cluster.now.sizes ≡ plan_sizes (plan_of script.now) }
-    requires order { AreOrderedProcessors (vec_len processors.old) order.now }
     requires way { AreAtSteps cluster.now (plan_of script.now).sections processors.old.items
         all.old.items }
     ensures way { OnOk result (AreAtSteps cluster.now (plan_of script.now).sections processors.new.items
@@ -156,13 +189,40 @@ fn first_on<T: BookTurn, R: Wait>(
     ensures taken { IfOk result (λ place. AreTaken (plan_of script.now).sections (chosen order.now place)
         processors.old.items processors.new.items all.old.items all.new.items) }
     ensures place { IfOk result (λ place. IfSome place (λ k. k < length order.now)) }
-    ensures long { vec_len processors.new ≡ vec_len processors.old }
     ensures err { IfErr result (λ fault. fault.cause ≢ cause.Stuck) }
 {
     for place in 0..order.len() {
-        if turn_at(rt, cluster, processors, all, script, order[place])? {
+        if tried_at(rt, cluster, processors, all, script, order[place])? {
             return Ok(Some(place));
         }
     }
     Ok(None)
+}
+
+/// The turn of processor `p`, if there is one: whether it got on.
+fn tried_at<T: BookTurn, R: Wait>(
+    rt: &R,
+    cluster: &Cluster<T>,
+    processors: &mut Vec<Processor<T>>,
+    all: &mut Vec<TurnProgress>,
+    script: &Script,
+    p: usize,
+) -> Result<bool, RunFault>
+    requires lawful { IsLawful (plan_of script.now) }
+    requires sizes { cluster.now.sizes ≡ plan_sizes (plan_of script.now) }
+    requires way { AreAtSteps cluster.now (plan_of script.now).sections processors.old.items
+        all.old.items }
+    ensures way { OnOk result (AreAtSteps cluster.now (plan_of script.now).sections processors.new.items
+        all.new.items) }
+    ensures turn { IfOk result (λ moved. moved ≡ true → IsTurnOfRun (plan_of script.now).sections p
+        processors.old.items processors.new.items all.old.items all.new.items) }
+    ensures vain { IfOk result (λ moved. moved ≡ false → AreSeenAfterTurns processors.old.items processors.new.items
+        × (all.new.items ≡ all.old.items)) }
+    ensures err { IfErr result (λ fault. fault.cause ≢ cause.Stuck) }
+{
+    if p >= processors.len() {
+        return Ok(false);
+    }
+    let moved = turn_at(rt, cluster, processors, all, script, p)?;
+    Ok(moved)
 }

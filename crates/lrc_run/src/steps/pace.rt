@@ -55,6 +55,7 @@ impl Pace {
     pub(crate) fn go_on(&mut self, place: usize) -> Result<(), AllocError>
         requires place { place < vec_len self.old.order }
         requires turns { 0 < self.old.turns }
+        ensures { self.new.turns ≡ self.old.turns }
     {
         if self.walks {
             order(&mut self.generator, &mut self.order);

@@ -29,7 +29,7 @@ returns-then-have_passed-clause-whole g c =
 pub is_stuck-requires-clause-own : goal.is_stuck-requires-clause-own
 is_stuck-requires-clause-own g c κs within = λ m here.
     let s = plan_of c.args.script.now in
-    let way = ways_turned c.args.cluster.now s.sections c.deref-in-loop.result.now c.loop.processors.items
+    let way = ways_turned c.args.cluster.now s.sections c.deref.result.now c.loop.processors.items
     c.round.new.processors.items c.loop.all.items c.round.new.all.items c.loop.invariant.between.gone.way
     c.in_ok-moved.ensures.turns in
     steps_own_at s c.args.cluster.now c.round.new.processors.items c.round.new.all.items 0 m c.requires.lawful
@@ -38,7 +38,7 @@ is_stuck-requires-clause-own g c κs within = λ m here.
 pub is_stuck-requires-clause-some : goal.is_stuck-requires-clause-some
 is_stuck-requires-clause-some g c κs within =
     let s = plan_of c.args.script.now in
-    let way = ways_turned c.args.cluster.now s.sections c.deref-in-loop.result.now c.loop.processors.items
+    let way = ways_turned c.args.cluster.now s.sections c.deref.result.now c.loop.processors.items
     c.round.new.processors.items c.loop.all.items c.round.new.all.items c.loop.invariant.between.gone.way
     c.in_ok-moved.ensures.turns in
     let some = some_of s c.args.cluster.now c.round.new.processors.items c.round.new.all.items c.requires.lawful
@@ -50,14 +50,14 @@ returns-then-branch-clause-gone g c =
     let s = plan_of c.args.script.now in
     let turned = c.round.new.processors.items in
     let os = c.is_stuck.new.processors.items in
-    let list = c.deref-in-loop.result.now in
+    let list = c.deref.result.now in
     let n = length c.deref_mut.result.now in
     let many : n ≡ c.args.cluster.now.sizes.processors = omega (arith, c.deref_mut.ensures.len, c.loop.invariant.long) in
     let order = c.draw.new.list in
     let rest = drop (length order) c.loop.list.items in
     let fits : c.loop.list.len ≡ length order = omega (arith, c.draw.ensures.below.1, c.deref_mut.ensures.len) in
     let drawn_is : list ≡ order =
-    c.deref-in-loop.ensures.value ∙ ap (λ k. take k (order ++ rest)) fits ∙ take-append_seam order rest in
+    c.deref.ensures.value ∙ ap (λ k. take k (order ++ rest)) fits ∙ take-append_seam order rest in
     let next = next_turn_round c.args.cluster.now s c.args.seed c.args.processors.now.items c.loop.processors.items turned os
     c.args.all.now.items c.loop.all.items c.round.new.all.items c.loop.generator c.draw.new.generator n list
     c.requires.sizes many c.loop.invariant.between (drawn_is ∙ c.draw.ensures.list) c.draw.ensures.state
@@ -74,14 +74,14 @@ loop-preserved g c =
     let s = plan_of c.args.script.now in
     let turned = c.round.new.processors.items in
     let os = c.is_stuck.new.processors.items in
-    let list = c.deref-in-loop.result.now in
+    let list = c.deref.result.now in
     let n = length c.deref_mut.result.now in
     let many : n ≡ c.args.cluster.now.sizes.processors = omega (arith, c.deref_mut.ensures.len, c.loop.invariant.long) in
     let order = c.draw.new.list in
     let rest = drop (length order) c.loop.list.items in
     let fits : c.loop.list.len ≡ length order = omega (arith, c.draw.ensures.below.1, c.deref_mut.ensures.len) in
     let drawn_is : list ≡ order =
-    c.deref-in-loop.ensures.value ∙ ap (λ k. take k (order ++ rest)) fits ∙ take-append_seam order rest in
+    c.deref.ensures.value ∙ ap (λ k. take k (order ++ rest)) fits ∙ take-append_seam order rest in
     let next = next_turn_round c.args.cluster.now s c.args.seed c.args.processors.now.items c.loop.processors.items turned os
     c.args.all.now.items c.loop.all.items c.round.new.all.items c.loop.generator c.draw.new.generator n list
     c.requires.sizes many c.loop.invariant.between (drawn_is ∙ c.draw.ensures.list) c.draw.ensures.state
