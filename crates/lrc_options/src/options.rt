@@ -16,7 +16,7 @@ pub enum Asked {
     Script(Options),
     /// A run of a script by turns is to be told, by `explain`.
     Explain(ExplainOptions),
-    /// A script is to be run by turns under many seeds, by `sample`.
+    /// A script is to be run by many schedules, by `sample`.
     Sample(SampleOptions),
     /// All schedules of a script are to be looked at, by `explore`.
     Explore(ExploreOptions),

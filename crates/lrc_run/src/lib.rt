@@ -10,11 +10,12 @@
 //! verdict is race-free and the history replays (module `laws`). Which fault a run tells, of those that its processors met.
 //! By turns: each round is in the order that the seed draws, from the generator's own definitions on, and what its turns
 //! make of the processors is what they come to; a take that came too early found its processor not ready. Where a run by
-//! turns says that it can't go on, its history is a deadlock: each processor waits, and none is ready.
+//! turns says that it can't go on, its history is a deadlock: each processor waits, and none is ready. By a schedule, given or
+//! answered of turns that were drawn, the same holds of its turns and of the rounds behind them.
 //!
 //! **What is only tested** (in `test_lrc`): that no run is refused needlessly, and that its threads get on side by
-//! side; that the gate is asked before each instruction; that nobody sleeps for ever; and that the calls of one turn of
-//! `step` stand in the history before those of the next.
+//! side; that the gate is asked before each instruction; that nobody sleeps for ever; that the calls of one turn of
+//! `step` stand in the history before those of the next; and in which orders turns are drawn, but for the first.
 #![tactic(auto)]
 
 mod course;
