@@ -26,11 +26,16 @@ replies_text last [] = []
 replies_text last (r ∷ rs) =
     owner_text last r.processor ++ ((codes " " ++ decimal r.word) ++ replies_text (Some r.processor) rs)
 
+-- all replies, if there are some
+abbrev pub all_replies_text : List Reply → List ℕ
+all_replies_text [] = []
+all_replies_text (r ∷ rs) = codes " replies" ++ replies_text None (r ∷ rs)
+
 -- the verdict, the words and the replies
 abbrev pub answers_text : Answered → List ℕ
 answers_text a =
     (if a.racy then codes "racy words" else codes "race-free words")
-    ++ (flat_map word_text a.words ++ (codes " replies" ++ replies_text None a.replies))
+    ++ (flat_map word_text a.words ++ all_replies_text a.replies)
 
 -- what a run came to
 abbrev pub outcome_text : SampleOutcome → List ℕ
