@@ -1,4 +1,4 @@
 use Rattle.lrc_sample.proofs.sampling.outcome_of.Goals as goal
 
-pub returns-in-Ok-in-Whole : goal.returns-in-Ok-in-Whole
-returns-in-Ok-in-Whole c = λ orders end. (c.in-Whole.report, (rw c.in-Whole.is at end, c.in-Ok-in-Whole.ensures))
+pub returns-in-Ok : goal.returns-in-Ok
+returns-in-Ok c = λ orders end. (c.in-Whole.report, (rw c.in-Whole.is at end, c.in-Ok.ensures))
