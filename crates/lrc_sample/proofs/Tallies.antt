@@ -231,3 +231,15 @@ shown_new shows lines o seed schedule shown new a (j, has) = elim (push_cases li
       (let P : TallyLine → Type 0 = λ l. shows l.schedule.turns.items l.outcome in
       subst P last.1 new)
 ]
+
+-- no line up to this one has the outcome
+pub none_more : (lines : List TallyLine) (o : SampleOutcome) (n : ℕ) (item : TallyLine)
+    → ((k : ℕ) (line : TallyLine) → k < n → slice_get lines k ≡ Some line → line.outcome ≢ o)
+    → slice_get lines n ≡ Some item → item.outcome ≢ o → (k : ℕ) (line : TallyLine) → k < n + 1
+    → slice_get lines k ≡ Some line → line.outcome ≢ o
+none_more lines o n item before at other k line less here = elim (cases_eq k n) [
+  | inl is ↦
+      (let same : item ≡ line = same_Some item line (sym at ∙ subst (λ m. slice_get lines m ≡ Some line) is here) in
+      subst (λ (l : TallyLine). l.outcome ≢ o) same other)
+  | inr isnt ↦ before k line (omega (arith, less, isnt)) here
+]
