@@ -1,5 +1,5 @@
 -- A tally of one run more.
-use Rattle.std.proofs.Common.{◌≡◌, ◌≢◌, ◌∙◌, ◌<◌, ◌≤◌, ℕ, inl, inr, zero, suc, List, [], ◌∷◌, ◌++◌, Some, Option, length, slice_get, slice_set, slice_index_or, ap, sym, subst, refl, arith}
+use Rattle.std.proofs.Common.{◌≡◌, ◌≢◌, ◌∙◌, ◌+◌, ◌<◌, ◌≤◌, ℕ, inl, inr, zero, suc, List, [], ◌∷◌, ◌++◌, Some, Option, length, slice_get, slice_set, slice_index_or, ap, sym, subst, refl, arith}
 use Rattle.std.specs.List.{sum_by}
 use Rattle.std.proofs.lemmas.Bool.{cases_eq}
 use Rattle.std.proofs.lemmas.Option.{none-some, same_Some, slice_get-get_or, slice_get_within}
