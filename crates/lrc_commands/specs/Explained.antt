@@ -1,5 +1,5 @@
 -- What the program does with a script that is explained.
-use Rattle.std.specs.Prelude.{ℕ, ◌≡◌, ◌++◌, ⊤, Bool, true, false, IfSome, List, Option, is_some, length, string_bytes}
+use Rattle.std.specs.Prelude.{ℕ, ◌≡◌, ◌++◌, ⊤, Bool, true, false, List, Option, Some, is_some, length, option_map, string_bytes}
 use Rattle.journal.specs.declared.event.Event.{Event}
 use Rattle.lrc_script.specs.Plan.{Plan}
 use Rattle.conformance.specs.declared.ended.Ended.{Ended}
@@ -23,8 +23,8 @@ ExplainedWritten false old new ended = ExplainWritten old new ended
 -- the script's run by turns ended so: by those of the schedule if one is given, else in the orders of the seed
 pub record IsEndAsked (o : ExplainOptions) (script : Plan) (ended : Ended) : Type 0 where
   pub by_seed : is_some o.schedule ≡ false → IsEndByTurns script (turn_orders script o.seed) ended
-  pub by_schedule : IfSome o.schedule (λ text. (turns : List ℕ) × IsScheduleText (string_bytes text) turns
-      × IsEndByTurns script (scheduled script turns) ended)
+  pub by_schedule : (text : List ℕ) → option_map (λ t. string_bytes t) o.schedule ≡ Some text
+      → (turns : List ℕ) × IsScheduleText text turns × IsEndByTurns script (scheduled script turns) ended
 
 -- the script was run by turns as it was asked, as far as it goes, and the run was told or drawn
 pub record IsRunExplained (picture halted : Bool) (o : ExplainOptions) (script : Plan) (old new : Option (List ℕ))

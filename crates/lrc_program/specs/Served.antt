@@ -1,5 +1,5 @@
 -- What the program does with a script.
-use Rattle.std.specs.Prelude.{ℕ, ◌≡◌, ◌≢◌, Bool, true, false, cond, List, Option, Result, Ok, IfSome, is_some, string_bytes}
+use Rattle.std.specs.Prelude.{ℕ, ◌≡◌, ◌≢◌, Bool, true, false, cond, List, Option, Some, Result, Ok, IfSome, is_some, option_map, string_bytes}
 use Rattle.std.specs.Io.KnownBytes.{Appends}
 use Rattle.lrc_script.specs.Lawful.{IsLawful}
 use Rattle.lrc_script.specs.Plan.{Plan}
@@ -26,8 +26,8 @@ pub record IsByTurns (stepped : Plan → LockChoice → Option ℕ → Result Re
     (followed : Plan → LockChoice → List ℕ → Result Ended ScheduleFault → Type 0) (o : Options) (s : Plan)
     (report : Report) : Type 0 where
   pub by_seed : is_some o.schedule ≡ false → stepped s (lock_chosen o) o.seed (Ok report)
-  pub by_schedule : IfSome o.schedule (λ text. (turns : List ℕ) × IsScheduleText (string_bytes text) turns
-      × followed s (lock_chosen o) turns (Ok (Whole report)))
+  pub by_schedule : (text : List ℕ) → option_map (λ t. string_bytes t) o.schedule ≡ Some text
+      → (turns : List ℕ) × IsScheduleText text turns × followed s (lock_chosen o) turns (Ok (Whole report))
 
 -- it came by the command that the options ask for, with their lock, and their tries, their seed or the turns of a schedule;
 -- `ran` is what comes on threads
