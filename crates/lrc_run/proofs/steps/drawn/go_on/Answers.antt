@@ -17,7 +17,7 @@ returns-in_ok-note-in-Some-clause-taken g c = λ first start was.
     let place = c.in-Some.place in
     let P : Option ℕ → Type 0 = λ o. AreTaken sections (chosen c.deref.result.now o) cur new all end in
     let Q : List ℕ → Type 0 = λ os. AreTaken sections (chosen os (Some place)) cur new all end in
-    let one = subst Q c.deref.ensures.value (subst P c.in-Some.is c.in_ok-first_on.ensures.taken) in
+    let one = subst Q c.deref.ensures.value (subst P c.in-Some.is c.in_ok-place.ensures.taken) in
     let R : List ℕ → Type 0 = λ ps. AreTaken sections ps first new start end in
     subst R (sym c.in_ok-note-in-Some.ensures.turns)
     (taken-append sections turns (slice_index_or order place 0 ∷ []) first cur new start all end was one)
@@ -31,6 +31,6 @@ returns-in-None-clause-taken g c = λ first start was.
     let all = c.args.all.now.items in
     let end = c.first_on.new.all.items in
     let P : Option ℕ → Type 0 = λ o. AreTaken sections (chosen c.deref.result.now o) cur new all end in
-    let none = subst P c.in-None.is c.in_ok-first_on.ensures.taken in
+    let none = subst P c.in-None.is c.in_ok-place.ensures.taken in
     let R : List ℕ → Type 0 = λ ps. AreTaken sections ps first new start end in
     subst R (append-nil turns) (taken-append sections turns [] first cur new start all end was none)

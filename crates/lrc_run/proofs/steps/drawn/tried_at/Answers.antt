@@ -9,5 +9,5 @@ returns-clause-way g c =
     c.turn_at.new.processors.items c.args.all.now.items c.turn_at.new.all.items c.requires.way
     c.in_ok-moved.ensures.turn
 
-pub returns-then-p-ge-len-clause-vain : goal.returns-then-p-ge-len-clause-vain
-returns-then-p-ge-len-clause-vain g c = λ _. (seen_same c.args.processors.now.items, refl)
+pub returns-then-p-len-clause-vain : goal.returns-then-p-len-clause-vain
+returns-then-p-len-clause-vain g c = λ _. (seen_same c.args.processors.now.items, refl)
