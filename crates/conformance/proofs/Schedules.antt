@@ -1,5 +1,5 @@
 -- Items of a schedule's text.
-use Rattle.std.proofs.Common.{ℕ, ◌≡◌, ◌+◌, ◌++◌, Some, None, List, [], ◌∷◌, replicate, refl, sym, ap, append_assoc, ◌∙◌}
+use Rattle.std.proofs.Common.{ℕ, ◌≡◌, ◌+◌, ◌++◌, Some, None, List, [], ◌∷◌, replicate, ap, append_assoc, ◌∙◌}
 use Rattle.std.proofs.lemmas.List.{replicate-append-replicate}
 use Rattle.std.specs.Option.{option_map_or}
 use Rattle.lrc_script.specs.LineReading.{parts_of_line}

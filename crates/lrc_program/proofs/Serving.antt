@@ -1,5 +1,5 @@
 -- A script that was read and then printed.
-use Rattle.std.proofs.Common.{ℕ, ◌≡◌, Bool, true, List, Option, Some, None, Result, Ok, Err, OnOk, ap, subst, sym, ◌∙◌}
+use Rattle.std.proofs.Common.{ℕ, ◌≡◌, Bool, true, List, Option, Some, None, Result, Ok, Err, OnOk, subst, ◌∙◌}
 use Rattle.std.specs.Prelude.{IfErr, IfOk, is_some, option_map, string_bytes}
 use Rattle.std.proofs.lemmas.Option.{none-some, same_Some}
 use Rattle.lrc_options.specs.declared.options.Options.{Options}

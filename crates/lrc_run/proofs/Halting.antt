@@ -26,9 +26,8 @@ use Rattle.conformance.specs.Instructions.{AreEventsOfInstruction, AreEventsOfIn
 use Rattle.conformance.proofs.Begins.{begins_after, begins_front, begins_whole, begins_within}
 use Rattle.cluster.specs.Copies.Local.{Local}
 use Rattle.cluster.specs.Clusters.{SharedCluster}
-use Rattle.cluster.specs.Finishing.{AreAllToFinish, HasCallsOf, IsFinished, IsProcessorOf}
+use Rattle.cluster.specs.Finishing.{AreAllToFinish, IsFinished, IsProcessorOf}
 use Rattle.conformance.specs.CutInstructions.{HasCutInstruction, HasNoCutInstruction}
-use Rattle.conformance.specs.Ends.{IsJournalSoFar}
 use Rattle.conformance.specs.declared.progress.TurnProgress.{TurnProgress}
 use Rattle.conformance.specs.declared.progress.TurnProgress.TheVariants.{Next, Passed, Waits}
 use Rattle.conformance.specs.Turns.{instruction_at_turn}

@@ -1,5 +1,5 @@
 -- Turns that a schedule has.
-use Rattle.std.proofs.Common.{ℕ, ◌≡◌, ◌≤◌, Some, List, length, slice_get, subst, sym, ap, ◌∙◌}
+use Rattle.std.proofs.Common.{ℕ, ◌≡◌, ◌≤◌, Some, List, length, slice_get, subst, ap, ◌∙◌}
 use Rattle.std.specs.Prelude.{◌↔◌}
 use Rattle.journal.specs.Sizes.{Sizes}
 use Rattle.lrc_script.specs.Plan.{Plan}

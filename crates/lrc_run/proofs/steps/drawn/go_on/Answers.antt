@@ -1,4 +1,4 @@
-use Rattle.std.proofs.Common.{◌≡◌, ◌++◌, ◌∷◌, ℕ, [], List, Option, Some, None, append-nil, refl, slice_index_or, subst, sym}
+use Rattle.std.proofs.Common.{◌∷◌, ℕ, [], List, Option, Some, append-nil, slice_index_or, subst, sym}
 use Rattle.lrc_script.specs.Plan.{plan_of}
 use Rattle.lrc_run.specs.Orders.{chosen}
 use Rattle.lrc_run.specs.Turns.{AreTaken}

@@ -1,4 +1,4 @@
-use Rattle.std.proofs.Common.{◌≡◌, take, vec_len}
+use Rattle.std.proofs.Common.{take}
 use Rattle.lrc_script.specs.Plan.{plan_of}
 use Rattle.lrc_run.specs.Steps.{AreAtSteps}
 use Rattle.lrc_run.specs.Turns.{AreTaken}
