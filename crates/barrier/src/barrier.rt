@@ -67,7 +67,7 @@ impl Barrier {
     }
 
     /// Lets a processor arrive with its timestamp, and answers whether the episode is complete now:
-    /// exactly where all others had arrived before.
+    /// exactly if all others had arrived before.
     pub fn arrive(&mut self, processor: usize, time: &VTime) -> bool
         requires away { slice_get self.old.stages processor ≡ Some Stage.Away }
         requires long { length time.now ≡ length self.old.stages }

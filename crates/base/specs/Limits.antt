@@ -9,7 +9,7 @@ most_processors = 16
 abbrev pub most_in_block : ℕ
 most_in_block = 256
 
--- events of a journal, but for what `finish` hands in
+-- events of a journal, except what `finish` hands in
 abbrev pub most_events : ℕ
 most_events = 2 ^ 20
 

@@ -1,4 +1,4 @@
--- When a call of the book may be made: what some history that tells the book says.
+-- When a call of the book may be made: by some history that the book represents.
 use Rattle.std.specs.Prelude.{ℕ, ◌≡◌, ◌≢◌, ◌<◌, ◌≤◌, false, Option, List, [], Some, None, length, slice_get, slice_index, slice_index_or, slice_set}
 use Rattle.journal.specs.declared.event.Event.{Event}
 use Rattle.journal.specs.declared.event.Kind.{Kind}
@@ -28,12 +28,12 @@ pub record AllowsIdleBlock (s : Sizes) (b : State) (p : ℕ) (block : List Event
   pub idle : slice_get b.awaits p ≡ Some None
   pub inner : IsBlockOf s p block
 
--- p is a processor, and hands in a block, which is empty where it waits
+-- p is a processor, and hands in a block, which is empty if it waits
 pub record AllowsBlock (s : Sizes) (b : State) (p : ℕ) (block : List Event) : Type 0 where
   pub waits : (w : Option Kind) × (slice_get b.awaits p ≡ Some w) × (w ≢ None → block ≡ [])
   pub inner : IsBlockOf s p block
 
--- by some history, p may hand in this block, which is empty where p waits
+-- by some history, p may hand in this block, which is empty if p waits
 pub record AllowsFlush (b : State) (p : ℕ) (block : List Event) : Type 0 where
   pub by : IsToldBySome b
   pub gives : AllowsBlock by.sizes b p block
@@ -60,7 +60,7 @@ pub record IsProcessor (b : State) (p : ℕ) : Type 0 where
   pub by : IsToldBySome b
   pub processor : p < by.sizes.processors
 
--- some history tells the book, and p waits for this
+-- the book represents some history, and p waits for this
 pub record AllowsTake (b : State) (p : ℕ) (k : Kind) : Type 0 where
   pub by : IsToldBySome b
   pub waits : slice_get b.awaits p ≡ Some (Some k)
@@ -91,7 +91,7 @@ pub record IsSignalled (b : State) (p f : ℕ) (own time : List ℕ) : Type 0 wh
   pub keeps : KeepsClosingsBetween b.closed own time
   pub brings : closings_between b.closed own time ≡ sent_with_message (message_for b p (Await f))
 
--- the intervals may be trimmed after p's timestamp has risen from `before`: where p isn't alone, nothing was left
+-- the intervals may be trimmed after p's timestamp has risen from `before`: if p isn't alone, nothing was left
 -- to trim till then
 pub record AllowsTrim (c : Closings) (times : List (List ℕ)) (p : ℕ) (before : List ℕ) : Type 0 where
   pub within : p < length times

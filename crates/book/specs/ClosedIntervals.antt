@@ -23,7 +23,7 @@ pub record AreIntervalContents (s : Sizes) (h : List Event) (owner number : ℕ)
 abbrev pub AreClosedFromFirst : Closings → Type 0
 AreClosedFromFirst c = (k : KeptInterval) → Has c.kept k → slice_index c.first k.interval.owner ≤ k.interval.number
 
--- the intervals closed so far, but for each owner's first ones, are kept in closing order
+-- the intervals closed so far, except for each owner's first ones, are kept in closing order
 pub record AreClosed (s : Sizes) (h : List Event) (c : Closings) : Type 0 where
   pub count : c.pushed ≡ closed_count h
   pub next_long : length c.next ≡ s.processors

@@ -6,7 +6,7 @@ use Rattle.book.specs.State.{State}
 use Rattle.book.specs.Transitions.{book_handed_in}
 use Rattle.book.specs.Refusals.{IsFullRefusal, IsRoomRefusal}
 
--- the call makes the book `after` of the old one, with this many events in its journal; or it is refused, where the
+-- the call makes the book `after` of the old one, with this many events in its journal; or it is refused, if the
 -- journal or memory has no room, and leaves the book as it was
 pub record EndsIn {A : Type 0} (events : ℕ) (after old new : State) (result : Result A Refused) : Type 0 where
   pub ok : OnOk result (new ≡ after)

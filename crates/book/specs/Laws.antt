@@ -1,4 +1,4 @@
--- The laws of the transitions: a book that is told by a history is told, after the transition, by the history with
+-- The laws of the transitions: a book that represents a history represents, after the transition, the history with
 -- the block and the event after it.
 use Rattle.std.specs.Prelude.{ℕ, ◌≡◌, ◌<◌, Some, List, [], ◌++◌, slice_get, slice_index}
 use Rattle.journal.specs.declared.event.Event.{Event}
@@ -28,11 +28,11 @@ use Rattle.book.specs.Told.{Represents}
 abbrev pub AreOpenRecords : Sizes → List Event → ℕ → List Changes → Type 0
 AreOpenRecords s h p records = AreIntervalContents s h p (count_of is_closing h p) records
 
--- an empty book is told by the empty history
+-- an empty book represents the empty history
 abbrev pub NewLaw : Type 0
 NewLaw = (s : Sizes) → 0 < s.processors → Represents s [] (new_book s)
 
--- a block that is handed in, also by one who waits if it is empty
+-- a block that is handed in, also by a processor that waits, if it is empty
 abbrev pub HandInLaw : Type 0
 HandInLaw = (s : Sizes) (h block : List Event) (b : State) (p : ℕ) → Represents s h b → AllowsBlock s b p block
     → Represents s (h ++ block) (book_handed_in b block)
@@ -78,7 +78,7 @@ pub record IsMessage (s : Sizes) (h : List Event) (b : State) (p : ℕ) (k : Kin
   pub time : IsStamp s.processors h (Brings h p k) m.time
   pub notices : m.notices ≡ closings_between b.closed (time_of b p) m.time
 
--- what has come for one who waits
+-- what has come for a processor that waits
 abbrev pub MessageLaw : Type 0
 MessageLaw = (s : Sizes) (h : List Event) (b : State) (p : ℕ) (k : Kind) (m : Letter) → Represents s h b
     → slice_get b.awaits p ≡ Some (Some k) → message_for b p k ≡ Some m
@@ -90,7 +90,7 @@ TakeLaw = (s : Sizes) (h : List Event) (b : State) (p : ℕ) (k : Kind) (m : Let
     → slice_get b.awaits p ≡ Some (Some k) → message_for b p k ≡ Some m
     → Represents s (did h p k) (book_taken b p k m)
 
--- a cut, after which the same history tells the book
+-- a cut, after which the book represents the same history
 abbrev pub BookCutLaw : Type 0
 BookCutLaw = (s : Sizes) (h : List Event) (old new : State) → Represents s h old → WasBookCut old new → Represents s h new
 

@@ -30,7 +30,7 @@ pub record MailCarries (s : Sizes) (h : List Event) (p : ℕ) (m : Letter) : Typ
   pub allowed : Allowed s h p kind
   pub time : IsStamp s.processors h (Brings h p kind) m.time
 
--- p's message, or none where p is allowed nothing that a message lets it do
+-- p's message, or none if p is allowed nothing that a message lets it do
 abbrev pub IsMail : Sizes → List Event → ℕ → Option Letter → Type 0
 IsMail s h p None = (k : Kind) → ComesByMail k → ¬ Allowed s h p k
 IsMail s h p (Some m) = MailCarries s h p m

@@ -13,14 +13,14 @@ use Rattle.book.specs.State.{State, time_of}
 abbrev pub signal_message : Closings → List ℕ → List ℕ → Letter
 signal_message c t own = record { kind = signal; time = t; notices = closings_between c own t }
 
--- what has come for p, with the timestamp `own`, where it waits for this: the flag's signal as the flag stands now,
+-- what has come for p, with the timestamp `own`, if it waits for this: the flag's signal as the flag stands now,
 -- else its mail
 abbrev pub message_among : Closings → List (Option (List ℕ)) → List (Option Letter) → List ℕ → ℕ → Kind → Option Letter
 message_among c flags mail own p (Await f) =
     option_map (λ (t : List ℕ). signal_message c t own) (slice_index_or flags f None)
 message_among c flags mail own p _ = slice_index_or mail p None
 
--- p's message where it waits for this
+-- p's message if it waits for this
 abbrev pub message_for : State → ℕ → Kind → Option Letter
 message_for b p k = message_among b.closed b.flags b.transit (time_of b p) p k
 
@@ -34,6 +34,6 @@ abbrev pub sent_with_message : Option Letter → List SentRecord
 sent_with_message None = []
 sent_with_message (Some m) = m.notices
 
--- what a take by p would bring: nothing where p waits for nothing, or where that hasn't come
+-- what a take by p would bring: nothing if p waits for nothing, or if that hasn't come
 abbrev pub brought : State → ℕ → List SentRecord
 brought b p = sent_with_message (option_and_then (message_for b p) (slice_index_or b.awaits p None))

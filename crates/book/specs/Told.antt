@@ -27,7 +27,7 @@ pub record HoldsSome (log : Log) (h : List Event) : Type 0 where
   pub taken : List Event
   pub rest : HoldsRestOfHistory log taken h
 
--- the book is told by the history
+-- the book represents the history
 pub record Represents (s : Sizes) (h : List Event) (b : State) : Type 0 where
   pub well_formed : WellFormed s h
   pub sizes : HasSizes s b
@@ -44,7 +44,7 @@ pub record Represents (s : Sizes) (h : List Event) (b : State) : Type 0 where
   pub within : DropsOnlyCoveredIntervals b.closed.first b.times
   pub tight : 1 < s.processors → IsTight b.closed.first b.times
 
--- some history tells the book
+-- the book represents some history
 pub record IsToldBySome (b : State) : Type 0 where
   pub sizes : Sizes
   pub history : List Event

@@ -1,5 +1,5 @@
 -- The transitions of the book, as functions of its value.
--- Names: a value after something is a past participle, as in the crates below (`asked` is a lock's). Where a crate
+-- Names: a value after something is a past participle, as in the crates below (`asked` is a lock's). If a crate
 -- below has the participle, the whole book's has `book_` before it; what a transition makes of one part has that
 -- part's name before it (`mail_`, `barrier_`, `flag_`). A message is its kind and `_to`, of the closed intervals, the
 -- message's time and the receiver's timestamp.
@@ -80,7 +80,7 @@ grant_to c t own = record { kind = grant; time = t; notices = closings_between c
 abbrev pub book_grant : State → ℕ → List ℕ → Letter
 book_grant b p t = grant_to b.closed t (time_of b p)
 
--- the message, where nobody holds the lock
+-- the message, if nobody holds the lock
 abbrev pub if_free : Option ℕ → Letter → Option Letter
 if_free None m = Some m
 if_free (Some q) m = None

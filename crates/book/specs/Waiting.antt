@@ -24,14 +24,14 @@ pub record WaitsInVain (b : State) (p : ℕ) : Type 0 where
   pub waits : slice_get b.awaits p ≡ Some (Some kind)
   pub come : message_has_come b.flags b.transit p kind ≡ false
 
--- some history that ends with this closing event of p tells the book
+-- the book represents some history that ends with this closing event of p
 pub record HasClosed (b : State) (p : ℕ) (k : Kind) : Type 0 where
   pub sizes : Sizes
   pub history : List Event
   pub told : Represents sizes (did history p k) b
   pub closes : is_closing k ≡ true
 
--- after this event of p the book names q: who holds the released lock next, who waits for the departure where p may
+-- after this event of p the book names q: who holds the released lock next, who waits for the departure if p may
 -- depart, and who waits for the flag that was set
 abbrev pub IsNamed : State → ℕ → Kind → ℕ → Type 0
 IsNamed b p (Release l) q = ((lock_at b.locks l).holder ≡ Some q) × (q < most_processors) × IsDoneWaiting b (Acquire l) q

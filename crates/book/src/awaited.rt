@@ -18,7 +18,7 @@ pub enum Awaited {
 }
 
 impl Awaited {
-    /// What is awaited after a call of this kind: None where the call doesn't wait.
+    /// What is awaited after a call of this kind: None if the call doesn't wait.
     pub fn after(kind: Kind) -> Option<Awaited>
         ensures { option_map awaited_kind result ≡ awaited kind }
     {

@@ -95,8 +95,8 @@ impl Book {
         })
     }
 
-    /// Hands in a block of loads, stores and fetches of `processor`, which is empty where `processor` waits.
-    /// JournalFull exactly where the journal would have more than 2^20 events.
+    /// Hands in a block of loads, stores and fetches of `processor`, which is empty if `processor` waits.
+    /// JournalFull exactly if the journal would have more than 2^20 events.
     pub fn hand_in(&mut self, processor: usize, block: &[Event]) -> Result<(), Refused>
         requires call { AllowsFlush self.old processor block.now }
         requires short { length block.now ≤ most_in_block }
@@ -168,7 +168,7 @@ impl Book {
     }
 
     /// Asks for a lock that `processor` doesn't hold: closes the interval, and puts `processor` into the lock's line.
-    /// Where nobody holds the lock, the grant is posted, with what the lock's last release knew and `processor`
+    /// If nobody holds the lock, the grant is posted, with what the lock's last release knew and `processor`
     /// doesn't. Otherwise as `watch`.
     pub fn ask(
         &mut self,
@@ -231,7 +231,7 @@ impl Book {
     }
 
     /// Arrives at the barrier: closes the interval, and joins the timestamp of `processor` after that into the
-    /// episode's. Where all others have arrived, the episode is complete, and each processor gets its
+    /// episode's. If all others have arrived, the episode is complete, and each processor gets its
     /// departure, with what it doesn't know. Otherwise as `watch`.
     pub fn arrive(
         &mut self,
@@ -259,8 +259,8 @@ impl Book {
     }
 
     /// Takes what `processor` waits for: its grant, its departure, or the signal of its flag as the flag stands now,
-    /// with what it is to perform. NotYet exactly where that hasn't come: where `processor` isn't ready in any history
-    /// that tells the book. Else JournalFull exactly where the journal would have more than 2^20 events.
+    /// with what it is to perform. NotYet exactly if that hasn't come: if `processor` isn't ready in any history
+    /// that the book represents. Else JournalFull exactly if the journal would have more than 2^20 events.
     /// Intervals that everyone has performed are dropped then; a refused call drops none.
     pub fn take(&mut self, processor: usize) -> Result<Message, Refused>
         requires call { AllowsSomeTake self.old processor }
@@ -356,7 +356,7 @@ impl Book {
 
     /// Whom `processor` has let go on by this event, with which it has just closed its interval: who holds the lock
     /// next that it released, all that wait for the departure if it completed the episode, all that wait for the flag
-    /// that it set. Of the others nobody has begun to be ready by this event. It takes no memory. It costs nothing
+    /// that it set. No other processor becomes ready by this event. It takes no memory. It costs nothing
     /// after an ask, a watch, and an arrival that completes nothing, and the same however many processors there are
     /// after a release.
     pub fn let_on(&self, processor: usize, kind: Kind) -> Waiters
@@ -386,8 +386,8 @@ impl Book {
         Box::into_inner(self.parts).journal
     }
 
-    /// How many notices of the page a take by `processor` would bring now: none where `processor` waits for nothing, or
-    /// where what it waits for isn't there. It takes no memory.
+    /// How many notices of the page a take by `processor` would bring now: none if `processor` waits for nothing, or
+    /// if what it waits for isn't there. It takes no memory.
     pub fn due(&self, processor: usize, page: usize) -> usize
         requires call { IsProcessor self.now processor }
         ensures { result ≡ count_by (is_of_page page) (brought self.now processor) }

@@ -3,12 +3,12 @@
 ghost use Rattle.book.specs.Prelude.{NewLaw, HandInLaw, LastLaw, AskLaw, ReleaseLaw, ArriveLaw, SetLaw, WatchLaw};
 ghost use Rattle.book.specs.Prelude.{TakeLaw, BookCutLaw, MessageLaw, NewsLaw, NewsOrderLaw};
 
-/// An empty book is told by the empty history.
+/// An empty book represents the empty history.
 pub fn new_law()
     ensures { NewLaw }
 {}
 
-/// A book that is told by a history is told, after a block, by the history with the block.
+/// A book that represents a history represents, after a block, the history with the block.
 pub fn hand_in_law()
     ensures { HandInLaw }
 {}
@@ -48,7 +48,7 @@ pub fn take_law()
     ensures { TakeLaw }
 {}
 
-/// A book that is told by a history is told by the same history after its journal was cut.
+/// A book that represents a history represents the same history after its journal was cut.
 pub fn cut_law()
     ensures { BookCutLaw }
 {}

@@ -1,17 +1,18 @@
-//! The protocol's state behind the lock, as one value: the journal, the closed intervals, the
-//! distributed locks, the barrier, the flags, the timestamps, what each processor waits for, and the
-//! messages on their way (Keleher, Cox and Zwaenepoel, Lazy Release Consistency for Software
-//! Distributed Shared Memory, ISCA 1992).
+//! The book: what the processors of a cluster share, as one value behind the book lock.
 //!
-//! **What contracts see**: a [`Book`] as its parts' own values in one record, `State`; each call's new
-//! value is a function of the old one (`specs/Transitions`). When a call may be made is said by some
-//! history that tells the book (`specs/Calls`, `specs/Told`).
+//! It has the journal, the closed intervals, the distributed locks, the barrier, the flags, the timestamps, what each
+//! processor waits for, and the messages on their way (Keleher, Cox and Zwaenepoel, Lazy Release Consistency for
+//! Software Distributed Shared Memory, ISCA 1992, sections 3 and 4).
 //!
-//! **What is proved**: each call is its function or is refused with the book as before; and, in [`laws`],
-//! that a book which a history tells is told after each call by that history with the call's events, and
-//! after a cut by the same history: the journal then holds what is left of it.
+//! **What contracts see**: a [`Book`] as its parts' own values in one record, `State`. Each call's new value is a
+//! function of the old one (specs/Transitions). A call may be made if some history that the book represents allows it
+//! (specs/Calls, specs/Told).
 //!
-//! **What is only tested**: (in `test_memory`): the texts of [`Refused`], the rows of the book's calls.
+//! **What is proved**: each call computes its function, or is refused and changes nothing. If a history represents the
+//! book before a call, that history with the call's events represents it after ([`laws`]); after a cut the same history
+//! does, and the journal holds what is left of it.
+//!
+//! **What is only tested** (in `test_memory`): the texts of [`Refused`], the rows of the book's calls.
 #![tactic(auto)]
 
 mod awaited;

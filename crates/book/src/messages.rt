@@ -13,7 +13,7 @@ use std::alloc::{AllocError, Global};
 use transit::{Message, Transit};
 use vtime::VTime;
 
-/// The grant of a lock that is released at this time, for the one who holds it next: with what that one
+/// The grant of a lock that is released at this time, for the next holder: with what that one
 /// has to learn once the interval is closed.
 pub(crate) fn grant_to(
     next: Option<usize>,

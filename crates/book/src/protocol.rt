@@ -57,7 +57,7 @@ impl Model for Protocol {
 }
 
 impl Protocol {
-    /// The departures of all, where the episode is complete with the arrival of the interval's owner, at
+    /// The departures of all, if the episode is complete with the arrival of the interval's owner, at
     /// the time `own`.
     pub(crate) fn departures_with(
         &self,

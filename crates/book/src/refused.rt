@@ -7,8 +7,8 @@ use journal::CutFault;
 use std::alloc::AllocError;
 use thiserror::Error;
 
-/// Why a call on a processor or a cluster is refused. After a refusal all is as before, but that a
-/// call that entered the book has spent one of its entries.
+/// Why a call on a processor or a cluster is refused. After a refusal all is as before, except that
+/// a call that entered the book has spent one of its entries.
 #[derive(Clone, Copy, Debug, PartialEq, Eq, Error)]
 pub enum Refused {
     /// The address or the page is past the end.

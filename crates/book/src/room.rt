@@ -7,7 +7,7 @@ ghost use Rattle.book.specs.Prelude.{IsFullRefusal, IsRoomRefusal};
 use crate::refused::Refused;
 use journal::{Event, Journal};
 
-/// Events that the journal holds at most, but for what `finish` hands in.
+/// Events that the journal holds at most, except what `finish` hands in.
 pub(crate) const LIMIT: usize = 1 << 20;
 
 /// Makes room for `additional` more events and those that are owing.

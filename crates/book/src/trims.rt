@@ -19,7 +19,7 @@ fn least(times: &[VTime], q: usize) -> u64
 }
 
 /// Drops the intervals that all of these timestamps cover, after that of `processor` has risen from `before`. Of an
-/// owner whose entry hasn't risen nothing is left to drop, but where there is no processor beside `processor`.
+/// owner whose entry hasn't risen nothing is left to drop, unless `processor` is the only one.
 pub(crate) fn trim(closed: &mut Closed, times: &[VTime], processor: usize, before: &VTime)
     requires { AllowsTrim closed.old times.now processor before.now }
     ensures { closed.new ≡ trimmed_by closed.old times.now (length times.now) }

@@ -17,7 +17,7 @@ pub record HasWord (m : Local) (a v : ℕ) : Type 0 where
   pub at : slice_get m.copies (a / m.sizes.words) ≡ Some copy
   pub word : slice_get copy.page.words (a % m.sizes.words) ≡ Some v
 
--- the processor after a store of v at address a, where c is its copy of the page
+-- the processor after a store of v at address a, c being its copy of the page
 abbrev pub stored_at : Local → ℕ → ℕ → Copied → Local
 stored_at m a v c = record (noted m (Store a v)) {
   copies = slice_set m.copies (a / m.sizes.words) (replica_written_at c (a % m.sizes.words) v);
@@ -53,7 +53,7 @@ abbrev pub AreNewestStores : Sizes → List Event → ℕ → ℕ → List ℕ �
 AreNewestStores s j p n old new = (o v : ℕ) → slice_get new o ≡ Some v
     → IsLastStoreInGap s j p n o v ⊎ ((slice_get old o ≡ Some v) × HasNoStoreInGap s j p n o)
 
--- the processor after a fetch of page n with these counts, where c is its copy of the page
+-- the processor after a fetch of page n with these counts, c being its copy of the page
 abbrev pub fetched_at : Local → ℕ → Copied → MissingCounts → Local
 fetched_at m n c k =
     record (noted m (Fetch k.writers n k.records k.words)) { copies = slice_set m.copies n (replica_fetched c) }

@@ -10,7 +10,7 @@ use Rattle.cluster.specs.Refusals.{flush_refusal}
 use Rattle.cluster.specs.Entering.{EnteredAndDid}
 use Rattle.cluster.specs.Covers.{HasCoverage, IsAllowed}
 
--- all is the same, but that lists of missing records may have memory for more
+-- all is the same, except that lists of missing records may have memory for more
 pub record IsSameAfterCall (m n : Local) : Type 0 where
   pub copies : AreSameCopies m.copies n.copies
   pub same : n ≡ record m { copies = n.copies }
@@ -25,7 +25,7 @@ pub record IsCallRefusedInside (many : ℕ) (absent : Local → Type 0) (old new
   pub entered : EnteredAndDid IsSameAfterCall old new
   pub why : (e ≡ NotYet) ⊎ (e ≡ JournalFull) ⊎ (e ≡ NoMemory)
   pub not_yet : e ≡ NotYet ↔ absent new
-  -- whoever comes too early got no room
+  -- a call that comes too early got no room
   pub early : e ≡ NotYet → new.copies ≡ old.copies
   pub full : ¬ absent new → e ≡ JournalFull ↔ (most_events + new.cut < length new.seen + many)
 
@@ -39,7 +39,7 @@ pub record IsSameProcessor (old new : Local) : Type 0 where
 abbrev pub IsCallUnmade : (Local → Type 0) → Local → Local → Refused → Type 0
 IsCallUnmade absent old new e = (e ≡ NoMemory) × (new ≡ old) × ((m : Local) → ¬ absent m)
 
--- A call that enters the book: it is refused before it enters where there is a reason for it, which the processor
+-- A call that enters the book: it is refused before it enters if there is a reason for it, which the processor
 -- knows by itself; else it enters, and is done or refused, or memory was refused before it could enter.
 pub record IsCall (first : Option Refused) (many : ℕ) (absent : Local → Type 0) (done : Local → Local → Type 0)
     (added : List Event) (old new : Local) (refused : Option Refused) : Type 0 where

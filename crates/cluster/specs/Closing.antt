@@ -49,7 +49,7 @@ pub record MayMake (m : Local) (k : Kind) : Type 0 where
   pub idle : m.awaits ≡ None
   pub held : MayHold m.held k
 
--- a call that closes the interval by this event, where the test finds no reason against it
+-- a call that closes the interval by this event, if the test finds no reason against it
 abbrev pub IsClosingCall : Option Refused → Kind → Local → Local → Option Refused → Type 0
 IsClosingCall test k old new refused =
     IsCall (refusal_or_spent test old) (length old.block + 1) Nothing (IsClosedBy k) (event old.number k ∷ []) old new refused

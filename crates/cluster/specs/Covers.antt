@@ -15,7 +15,7 @@ use Rattle.cluster.specs.Copies.PageReplica.{Copied}
 use Rattle.cluster.specs.Copies.Local.{Local, calls}
 use Rattle.cluster.specs.KeptViews.{LockInvariant, view_having_seen}
 
--- the lock may have a book that is told by this history, with what p has seen at p's place
+-- the lock may have a book that represents this history, with what p has seen at p's place
 pub record LockAllows (m : Local) (h : List Event) : Type 0 where
   pub book : State
   pub views : List View
@@ -27,7 +27,7 @@ abbrev pub IsAllowed : Local → Type 0
 IsAllowed m = (h : List Event) × LockAllows m h
 
 -- by this history and p's open block: p's part of it is its calls, its timestamp counts its past, and its copy of a
--- page is valid exactly where nothing is missing, and then it is what p's past makes of the page
+-- page is valid exactly if nothing is missing, and then it is what p's past makes of the page
 pub record IsCovered (m : Local) (h : List Event) : Type 0 where
   pub well_formed : WellFormed m.sizes (h ++ m.block)
   pub calls_are : events_of h m.number ++ m.block ≡ calls m

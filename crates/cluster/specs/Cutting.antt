@@ -42,7 +42,7 @@ IsCuttingRefusal s h cut _ = ⊥
 abbrev pub IsCuttingFault : Log → Refused → Type 0
 IsCuttingFault log e = (f : CutFault) × (e ≡ book_cut_refusal f) × IsCutFault log f
 
--- the call is refused where the entries are spent; else it enters, and cuts, or leaves all as it found it
+-- the call is refused if the entries are spent; else it enters, and cuts, or leaves all as it found it
 pub record IsCuttingCall (old new : Local) (refused : Option Refused) : Type 0 where
   pub same : IsSameProcessor old new
   pub outside : (e : Refused) → flush_refusal old ≡ Some e → (refused ≡ Some e) × (new ≡ old)

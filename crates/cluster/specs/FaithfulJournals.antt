@@ -28,8 +28,8 @@ pub record IsJournalOf (s : Sizes) (c h : List Event) (j : Log) : Type 0 where
   pub addresses_are : j.addresses ≡ addresses s
   pub holds : HoldsRestOfHistory j c h
 
--- an audit answers what the processor has seen then, which goes on from what it had seen, and where its own events are
--- its calls
+-- an audit answers what the processor has seen then, which goes on from what it had seen, and in which its own events
+-- are its calls
 pub record IsAudit (old new : Local) (j : Log) : Type 0 where
   pub journal : IsJournalOf new.sizes (take new.cut new.seen) new.seen j
   pub faithful : IsFaithful new.sizes new.seen

@@ -44,7 +44,7 @@ IsSeenInViews views h = (p : ℕ) × (v : View) × (slice_get views p ≡ Some v
 abbrev pub all_cut : List View → ℕ
 all_cut views = sum_by (λ v. v.own_cut) views
 
--- the history tells the book, its loads are explained and its fetches count their gaps, and it goes on from
+-- the book represents the history, its loads are explained and its fetches count their gaps, and it goes on from
 -- what each processor has seen, who knows of no more cut off than was; somebody has seen all of it; and what was cut
 -- off is what the processors' own cuts took
 pub record LockInvariant (s : Sizes) (h : List Event) (b : State) (views : List View) : Type 0 where

@@ -30,8 +30,8 @@ abbrev pub AllowedLaw : Type 0
 AllowedLaw = (m n : Local) → n.number ≡ m.number → n.sizes ≡ m.sizes → n.seen ≡ m.seen → n.cut ≡ m.cut
     → n.own_cut ≡ m.own_cut → IsAllowed m → IsAllowed n
 
--- a valid copy of one who has done something in the journal or its block is the base's page after the stores to it in
--- the past within these, whatever book the lock has
+-- a valid copy of a processor that has done something in the journal or its block is the base's page after the stores
+-- to it in the past within these, whatever book the lock has
 abbrev pub FromBaseLaw : Type 0
 FromBaseLaw = (m : Local) (h : List Event) (a : LockAllows m h) (n : ℕ) (c : Copied)
     → HasCoverage m → n < m.sizes.pages → slice_get m.copies n ≡ Some c → c.page.access ≡ Valid

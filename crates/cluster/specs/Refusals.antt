@@ -20,12 +20,12 @@ abbrev pub serves : Option Copied → Bool
 serves None = false
 serves (Some c) = may_use_replica c.page.access
 
--- the words of the copy, where it may be used
+-- the words of the copy, if it may be used
 abbrev pub words_in : Option Copied → Option (List ℕ)
 words_in None = None
 words_in (Some c) = words_if (may_use_replica c.page.access) c
 
--- the words of p's copy of page n, where it is valid
+-- the words of p's copy of page n, if it is valid
 abbrev pub page_of : Local → ℕ → Option (List ℕ)
 page_of m n = words_in (slice_get m.copies n)
 

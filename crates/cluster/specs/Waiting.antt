@@ -10,7 +10,7 @@ use Rattle.cluster.specs.Covers.{HasCoverage, IsAllowed}
 use Rattle.cluster.specs.Entering.{EnteredAndDid}
 use Rattle.cluster.specs.Taking.{IsTakeLate}
 
--- what is answered where a look came to this: after a sleep something may have come
+-- what is answered if a look came to this: after a sleep something may have come
 abbrev pub waited_answer : Option Waited → Waited
 waited_answer None = MayHaveCome
 waited_answer (Some w) = w
@@ -25,9 +25,9 @@ pub record HasLookedAndWaits (old new : Local) (answer : Result Waited Refused) 
   pub ok : IsOk answer
   pub exact : IsDeadlock new.sizes new.seen → answer ≡ Ok Stuck
 
--- A call that waits changes nothing but an entry that is spent, and what the processor has seen. It does nothing where
--- nothing is awaited, and is refused where the entries are spent; else it looks. 'Stuck' is said of a deadlock alone, and
--- 'deserted' only where what is awaited has not come, by what the processor has seen
+-- A call that waits changes nothing but an entry that is spent, and what the processor has seen. It does nothing if
+-- nothing is awaited, and is refused if the entries are spent; else it looks. 'Stuck' is said of a deadlock alone, and
+-- 'deserted' only if what is awaited has not come, by what the processor has seen
 pub record IsWaitingCall (old new : Local) (answer : Result Waited Refused) : Type 0 where
   pub kept : new ≡ record old { entries = new.entries; seen = new.seen; cut = new.cut }
   pub idle : old.awaits ≡ None → (answer ≡ Ok MayHaveCome) × (new ≡ old)

@@ -6,7 +6,7 @@
 //! **Nothing is lost between a look and a sleep**, whatever the order of steps:
 //! - All looks at the book and all changes of it are made inside its lock, so they stand in one order.
 //! - A processor forgets inside, in the visit in which it looks and finds nothing. It forgets nowhere else.
-//! - Who changes the book so that others get on tells them after leaving. So where something has come for a processor
+//! - Who changes the book so that others get on tells them after leaving. So if something has come for a processor
 //!   since its look, that change was made in a later visit than its forgetting, and it is told after that: before its
 //!   sleep, which then doesn't begin, since the word is compared as the sleep begins; or in its sleep, which ends.
 //! - Who ends says so first, and then tells all. A processor forgets first, and then reads who has ended. So one that
@@ -90,7 +90,7 @@ impl Bell {
         }
     }
 
-    /// Sleeps until it is told, or for no reason for a shorter time. Where it was told, it doesn't sleep.
+    /// Sleeps until it is told; it may wake earlier for no reason. If it was told, it doesn't sleep.
     fn sleep<R: Wait>(&self, rt: &R) {
         let _found = self
             .word
@@ -128,7 +128,7 @@ impl Bells {
         }
     }
 
-    /// These are ready: they wait in vain no more. Called inside the book, by whoever let them go on.
+    /// These are ready: they wait in vain no more. Called inside the book, by the processor that let them go on.
     pub(crate) fn ready(&self, waiters: Waiters) {
         for p in waiters {
             if let Some(bell) = self.bells.get(p) {
@@ -137,7 +137,7 @@ impl Bells {
         }
     }
 
-    /// Tells these. Called after leaving the book, by whoever let them go on.
+    /// Tells these. Called after leaving the book, by the processor that let them go on.
     pub(crate) fn tell(&self, waiters: Waiters) {
         for p in waiters {
             if let Some(bell) = self.bells.get(p) {

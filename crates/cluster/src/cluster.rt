@@ -50,7 +50,7 @@ impl<T: BookTurn> Cluster<T> {
     /// A cluster of these sizes, and its processors in the order of their numbers: 1 to 16 processors, 1 to
     /// 64 pages of 1 to 64 words, and up to 32 locks and flags.
     ///
-    /// [`BadSize`](Refused::BadSize) exactly where a size is outside these; else the only error is
+    /// [`BadSize`](Refused::BadSize) exactly if a size is outside these; else the only error is
     /// [`NoMemory`](Refused::NoMemory).
     pub fn new(
         alloc: Global,

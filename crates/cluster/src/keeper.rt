@@ -17,8 +17,8 @@ pub struct View {
     pub own_cut: u64,
 }
 
-/// The keeper of the book: the journal holds what is left of some history, which tells everything in the book, each of
-/// its loads is explained, and it goes on from what each processor has seen.
+/// The keeper of the book, with its lock invariant: the book represents some history, of which the journal holds what
+/// is left. Each load of it is explained, and it goes on from what each processor has seen.
 pub struct Rule;
 
 impl Keeper<Book> for Rule {

@@ -7,7 +7,7 @@ use book::Book;
 use turn::Turn;
 
 /// Whenever the lock is free, the longest that a processor has seen is the whole history, all events cut off and then
-/// the journal's, and what each other has seen is a beginning of it.
+/// the journal's, and what each other has seen is a prefix of it.
 pub fn seen_law()
     ensures { SeenLaw }
 {}

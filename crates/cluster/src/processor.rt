@@ -148,7 +148,7 @@ impl<T: BookTurn> Processor<T> {
         self.number
     }
 
-    /// Its copy of the page: None where that lacks records, or past the last page.
+    /// Its copy of the page: None if that lacks records, or past the last page.
     pub fn page(&self, page: usize) -> Option<&[u32]>
         ensures { option_map (λ words. words.now) result ≡ page_of self.now page }
     {
@@ -200,7 +200,7 @@ impl<T: BookTurn> Processor<T> {
     /// one event of the open block.
     ///
     /// The first of these that applies: [`OutOfRange`](Refused::OutOfRange) past the last address,
-    /// [`Invalid`](Refused::Invalid) where the copy of the address's page lacks records,
+    /// [`Invalid`](Refused::Invalid) if the copy of the address's page lacks records,
     /// [`Waiting`](Refused::Waiting) between a call that waits and its take, and
     /// [`BlockFull`](Refused::BlockFull) at 256 events.
     pub fn load(&mut self, address: usize) -> Result<u32, Refused>
@@ -246,7 +246,7 @@ impl<T: BookTurn> Processor<T> {
     ///
     /// The first of these that applies: [`OutOfRange`](Refused::OutOfRange) past the last page,
     /// [`Waiting`](Refused::Waiting), [`BlockFull`](Refused::BlockFull), and
-    /// [`AlreadyValid`](Refused::AlreadyValid) where the copy lacks nothing.
+    /// [`AlreadyValid`](Refused::AlreadyValid) if the copy lacks nothing.
     pub fn fetch(&mut self, page: usize) -> Result<(), Refused>
         ensures refused { result_err result ≡ fetch_refusal self.old page }
         ensures err { OnErr result (self.new ≡ self.old) }

@@ -3,7 +3,7 @@
 /// What [`Cluster::wait`](crate::Cluster::wait) answers.
 #[derive(Clone, Copy, Debug, PartialEq, Eq)]
 pub enum Waited {
-    /// What the processor awaits may have come, or it awaits nothing: a [`take`](crate::Cluster::take) tells.
+    /// What the processor awaits may have come, or it awaits nothing: a [`take`](crate::Cluster::take) tells which.
     MayHaveCome,
     /// Nothing can happen any more: each processor waits, and what it waits for has come for none.
     Stuck,

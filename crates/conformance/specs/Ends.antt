@@ -17,7 +17,7 @@ use Rattle.conformance.specs.Reports.{FetchesAreNeeded, IsReportOf}
 
 -- the journal has the script's sizes and holds what is left, after some of it was cut off, of a history that is well
 -- formed and explained, fetches what is missing, where an access wants it, and begins the script, and that is a deadlock:
--- each processor waits, and none is ready; and nothing is cut off where the script has no cut
+-- each processor waits, and none is ready; and nothing is cut off if the script has no cut
 pub record IsJournalSoFar (s : Plan) (j : Log) : Type 0 where
   pub processors : j.processors ≡ s.processors
   pub addresses_are : j.addresses ≡ plan_addresses s

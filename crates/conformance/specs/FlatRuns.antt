@@ -16,7 +16,7 @@ pub record IsFlatRun (s : Plan) (g : List Event) : Type 0 where
   pub follows : Follows s g
   pub replays : Replays (replicate (plan_addresses s) 0) g
 
--- g is such a history, and is h but for values; so it has the same races
+-- g is such a history, and is h, except for values; so it has the same races
 pub record IsRecomputedFlat (s : Plan) (h g : List Event) : Type 0 where
   pub like : SameButValues h g
   pub flat : IsFlatRun s g

@@ -16,7 +16,7 @@ abbrev pub RecomputedLaw : Type 0
 RecomputedLaw = (s : Plan) (h : List Event) → WellFormed (plan_sizes s) h → Follows s h
     → (g : List Event) × IsRecomputedFlat s h g
 
--- and in one way only: flat runs of a lawful script that are the same but for values are the same
+-- and in one way only: flat runs of a lawful script that are the same except for values are the same
 abbrev pub OnlyLaw : Type 0
 OnlyLaw = (s : Plan) (f g : List Event) → IsLawful s → IsFlatRun s f → IsFlatRun s g → SameButValues f g → f ≡ g
 

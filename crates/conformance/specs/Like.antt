@@ -1,4 +1,4 @@
--- Histories that are the same but for the values that loads answer and that stores store.
+-- Histories that are the same except for the values that loads answer and that stores store.
 use Rattle.std.specs.Prelude.{◌≡◌, List, map}
 use Rattle.journal.specs.declared.event.Event.{Event}
 use Rattle.journal.specs.declared.event.Kind.{Kind}
@@ -15,6 +15,6 @@ valueless k = k
 abbrev pub without_value : Event → Event
 without_value e = event e.processor (valueless e.kind)
 
--- place by place the same event but for its value
+-- place by place the same event except for its value
 abbrev pub SameButValues : List Event → List Event → Type 0
 SameButValues h g = map without_value h ≡ map without_value g

@@ -47,7 +47,7 @@ pub record ReportsHistory (s : Plan) (r : Report) (h : List Event) : Type 0 wher
   pub words_are : r.traffic.words ≡ words h
 
 -- the journal has the script's sizes and holds what is left, after some of it was cut off, of a history of which the
--- report tells; and nothing is cut off where the script has no cut
+-- report tells; and nothing is cut off if the script has no cut
 pub record IsReportOf (s : Plan) (r : Report) : Type 0 where
   pub processors : r.journal.processors ≡ s.processors
   pub addresses_are : r.journal.addresses ≡ plan_addresses s

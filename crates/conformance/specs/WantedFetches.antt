@@ -1,10 +1,10 @@
--- Fetches of a script's run: none is made but for the access right after it.
+-- Fetches of a script's run: each is made right before an access that wants its page.
 use Rattle.std.specs.Prelude.{ℕ, ◌≡◌, ◌/◌, List, [], ◌∷◌}
 use Rattle.journal.specs.declared.event.Event.{Event}
 use Rattle.journal.specs.declared.event.Kind.{Kind}
 use Rattle.journal.specs.declared.event.Kind.TheVariants.{Load, Store, Fetch}
 
--- it loads or stores a word of this page, where a page has so many words
+-- it loads or stores a word of this page, if a page has so many words
 abbrev pub IsWantedAccess : ℕ → ℕ → Kind → Type 0
 IsWantedAccess words page (Load a v) = a / words ≡ page
 IsWantedAccess words page (Store a v) = a / words ≡ page

@@ -1,13 +1,14 @@
-//! When a history of events follows a script, and what a run of a script is: its report, its faults, and the trait `Runs`.
+//! When a history of events follows a script, and what a run of a script is: definitions, their laws, faults, and the trait
+//! `Runs` of what runs scripts.
 //!
-//! **What contracts see.** A history follows a script's plan (`Follows`) where each processor's calls, its fetches
+//! **What contracts see.** A history follows a script's plan (`Follows`) if each processor's calls, its fetches
 //! aside, are what its section says, the closing barrier, and at processor 0 the loads of the shown addresses. It is a
-//! flat run of the script (`IsFlatRun`) where it is well formed besides, and replays on one flat memory.
+//! flat run of the script (`IsFlatRun`) if it is well formed besides, and replays on one flat memory.
 //!
-//! **What is proved** (module `laws`). Each well formed history that follows a script is, but for values, a flat run of it
-//! with the same races (`IsRecomputedFlat`), and where the script is lawful of one only. So where no flat run of a script, in
-//! which nothing is fetched, has a race (`NeverRacesFlat`), no history that follows it has one, and one whose loads are
-//! explained replays.
+//! **What is proved** (module `laws`). Each well formed history that follows a script is, except for values, a flat run
+//! of it with the same races (`IsRecomputedFlat`); if the script is lawful, of one only. So if no flat run of a script
+//! without fetches has a race (`NeverRacesFlat`), no history that follows it has one, and one whose loads are explained
+//! replays.
 #![tactic(auto)]
 
 mod cause;

@@ -26,9 +26,9 @@ pub enum LockChoice {
 
 /// Runs lawful scripts. Whatever report it answers is one of the script.
 ///
-/// What comes of a run is told by `ran`, `stepped` and `followed`, whose meaning is each implementor's own. So who promises
-/// one of them, whatever runs the scripts, had this very call made: on threads or by turns, with this lock, and these
-/// tries, this seed or this schedule.
+/// `ran`, `stepped` and `followed` say what comes of a run; each implementor gives them their meaning. So code that promises
+/// one of them for any implementor has made this very call: on threads or by turns, with this lock, and these tries, this
+/// seed or this schedule.
 pub trait Runs {
     ghost use Rattle.lrc_script.specs.Plan.{Plan};
     ghost use Rattle.lrc_report.specs.declared.report.Report.{Report};
@@ -77,7 +77,7 @@ pub trait Runs {
         ensures stuck { IfErr result (λ fault. fault.cause ≡ cause.Stuck
             → IsStuckByTurns (plan_of script.now) (turn_orders (plan_of script.now) seed) fault.processor) };
 
-    /// Runs the script as `step` does, but that a run that can't go on is no fault: it answers the journal so far.
+    /// Runs the script as `step` does, except that a run that can't go on is no fault: it answers the journal so far.
     fn step_as_far<R: Wait>(
         &self,
         rt: &R,

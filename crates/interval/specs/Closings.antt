@@ -8,7 +8,7 @@ use Rattle.interval.specs.declared.kept_interval.KeptInterval.{KeptInterval}
 use Rattle.interval.specs.SentIntervals.{ClosedInterval, SentRecord}
 
 -- `kept` is in closing order. For each owner, `first` is the number of its first interval that is kept, or
--- of its next one where none is, and `next` the number of its next one. `pushed` counts all ever closed
+-- of its next one if none is, and `next` the number of its next one. `pushed` counts all ever closed
 pub record Closings : Type 0 where
   pub kept : List KeptInterval
   pub first : List ℕ
@@ -74,6 +74,6 @@ is_of_page page s = s.notice.page == page
 abbrev pub is_noticed : Notice → KeptInterval → Bool
 is_noticed n k = k.interval.owner == n.owner && k.interval.number == n.number
 
--- the record that the notice announces, where its interval is kept and has one
+-- the record that the notice announces, if its interval is kept and has one
 abbrev pub record_of : Closings → Notice → Option Changes
 record_of c n = option_and_then (λ k. find (λ r. r.page == n.page) k.interval.records) (find (is_noticed n) c.kept)

@@ -57,7 +57,7 @@ impl Closed {
         requires fits { self.old.pushed < 2 ^ 64 - 1 }
         ensures ok { OnOk result (self.new ≡ pushed self.old interval) }
 
-        // Who is not to perform the interval is sent what was sent before.
+        // A processor that isn't to perform the interval is sent what was sent before.
         ensures same_news { OnOk result ((old new : List ℕ) → slice_index new interval.owner ≤ interval.number
             → closings_between self.new old new ≡ closings_between self.old old new) }
         ensures err { OnErr result (self.new ≡ self.old) }
@@ -71,7 +71,7 @@ impl Closed {
         Ok(())
     }
 
-    /// What has to be sent to one who has performed `old` and is to perform `new`: the records of the
+    /// What has to be sent to a processor that has performed `old` and is to perform `new`: the records of the
     /// kept intervals that `new` covers and `old` doesn't, in closing order, and within one interval by
     /// rising page. It costs a look at every owner, a sort of the intervals that are sent, and a step for
     /// each record; what else is kept costs nothing. It takes memory for those intervals and for what it
@@ -164,7 +164,7 @@ impl Closed {
         Ok(news)
     }
 
-    /// The record that a notice announces: `None` where its interval was trimmed or never was.
+    /// The record that a notice announces: `None` if its interval was trimmed or never was.
     pub fn record_of(&self, notice: &Notice) -> Option<&Record>
         ensures { option_copied result ≡ record_of self.now notice.now }
     {
@@ -175,7 +175,7 @@ impl Closed {
         queue.numbered(notice.number)?.interval.record(notice.page)
     }
 
-    /// The number of the owner's first interval that is kept, or of its next one where none is.
+    /// The number of the owner's first interval that is kept, or of its next one if none is.
     pub fn first(&self, owner: usize) -> u64
         requires { owner < length self.now.first }
         ensures value { slice_get self.now.first owner ≡ Some result }
@@ -190,7 +190,7 @@ impl Closed {
         requires { owner < length self.old.first }
         ensures value { self.new ≡ trimmed self.old owner to }
 
-        // Who has performed the intervals that are dropped is sent what was sent before.
+        // A processor that has performed the dropped intervals is sent what was sent before.
         ensures same_news { (old new : List ℕ) → to ≤ slice_index old owner
             → closings_between self.new old new ≡ closings_between self.old old new }
     {

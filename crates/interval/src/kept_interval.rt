@@ -45,7 +45,7 @@ impl Interval {
         record_in(self.shared_records(), page)
     }
 
-    /// Counts its records, by pages: entry i of the counts grows by one where there is a record of page
+    /// Counts its records, by pages: entry i of the counts grows by one if there is a record of page
     /// `base + i`. Other pages are not counted.
     pub(crate) fn count_pages(&self, base: usize, counts: &mut [usize])
         requires { CountsHaveRoom base (pages_of_records self.now.records) counts.old }

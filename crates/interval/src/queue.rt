@@ -35,7 +35,7 @@ impl Queue {
         }
     }
 
-    /// The number of the first interval, or of the next one where none is kept.
+    /// The number of the first interval, or of the next one if none is kept.
     pub(crate) fn first(&self) -> u64
         ensures { result ≡ self.now.first }
     {

@@ -21,6 +21,6 @@ no_base addresses = record {
   spent = record { messages = 0; records = 0; words = 0 };
 }
 
--- how many arrivals of each processor were cut off and not departed from: one, where anything was
+-- how many arrivals of each processor were cut off and not departed from: one, if anything was
 abbrev pub arrivals_cut : Base → ℕ
 arrivals_cut b = min b.cut 1

@@ -35,13 +35,13 @@ abbrev pub SameLaw : Type 0
 SameLaw = (s : Sizes) (b : Base) (c j : List Event)
     → WellFormed s (c ++ j) → IsBaseOf s.processors (addresses s) c b → BaseSaysTheSame s b c j
 
--- a history is well formed exactly where what was cut off is, and what is left from the base
+-- a history is well formed exactly if what was cut off is, and what is left from the base
 abbrev pub WellFormedLaw : Type 0
 WellFormedLaw = (s : Sizes) (b : Base) (c j : List Event)
     → IsBaseOf s.processors (addresses s) c b → WellFormed s (c ++ j) ↔ (WellFormed s c × WellFormedFrom s b j)
 
 -- what was cut off of an explained history replays, and what is left replays from the base up to its first race, or
--- whole where it has none
+-- whole if it has none
 pub record ReplaysFromBase (s : Sizes) (b : Base) (c j : List Event) : Type 0 where
   pub cut : Replays (replicate (addresses s) 0) c
   pub left : RaceFreeFrom b j → Replays b.memory j
@@ -51,13 +51,14 @@ abbrev pub FlatLaw : Type 0
 FlatLaw = (s : Sizes) (b : Base) (c j : List Event)
     → WellFormed s (c ++ j) → Explained (c ++ j) → IsBaseOf s.processors (addresses s) c b → ReplaysFromBase s b c j
 
--- a copy of one who has done something since is the base's page after the stores to it in the past within what is left
+-- a copy of a processor that has done something since is the base's page after the stores to it in the past within what
+-- is left
 abbrev pub CopyLaw : Type 0
 CopyLaw = (s : Sizes) (b : Base) (c j : List Event) (p n : ℕ) (page : List ℕ)
     → WellFormed s (c ++ j) → IsBaseOf s.processors (addresses s) c b → ¬ IsAway j p → n < s.pages
     → Lawful s (c ++ j) p n page → LawfulFrom s b j p n page
 
--- where d, which follows what was cut off, is cut off in turn, the base after it is that of both
+-- if d, which follows what was cut off, is cut off in turn, the base after it is that of both
 abbrev pub CutTwiceLaw : Type 0
 CutTwiceLaw = (s : Sizes) (b after : Base) (c d : List Event)
     → WellFormed s (c ++ d) → IsBaseOf s.processors (addresses s) c b

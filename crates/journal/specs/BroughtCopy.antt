@@ -20,6 +20,6 @@ pub record IsCopy (s : Sizes) (j : List Event) (p n : ℕ) (page : List ℕ) : T
 abbrev pub NoGap : Sizes → List Event → ℕ → ℕ → Type 0
 NoGap s j p n = (i : ℕ) → ¬ InGap s j p n i
 
--- p's past of the page is in its copy, where that is one
+-- p's past of the page is in its copy, if that is one
 abbrev pub Complete : Sizes → List Event → ℕ → ℕ → Type 0
 Complete s j p n = (i : ℕ) → StoresToPage s j n i → InPast j p i → Brought j p n i

@@ -7,7 +7,7 @@ use Rattle.std.specs.BTreeMap.{BTreeMap, get}
 abbrev pub entry : List (List ℕ) → ℕ → ℕ → ℕ
 entry clocks n q = slice_index (slice_index_or clocks n []) q
 
--- entry q of the timestamp that is kept under the number n, 0 where there is none
+-- entry q of the timestamp that is kept under the number n, 0 if there is none
 abbrev pub map_entry : BTreeMap ℕ (List ℕ) → ℕ → ℕ → ℕ
 map_entry clocks n q = slice_index (unwrap_or (get nat_cmp clocks n) []) q
 

@@ -17,7 +17,7 @@ pub record LatestStore (j : List Event) (k a v : ℕ) : Type 0 where
   pub before : HappensBefore j place k
   pub latest : (i q w : ℕ) → Does j i q (Store a w) → HappensBefore j i k → ¬ HappensBefore j place i
 
--- v is what a load of a at place k may answer: a latest store of its past, or 0 where there is none
+-- v is what a load of a at place k may answer: a latest store of its past, or 0 if there is none
 abbrev pub IsAnswer : List Event → ℕ → ℕ → ℕ → Type 0
 IsAnswer j k a v = ((v ≡ 0) × Untouched j k a) ⊎ LatestStore j k a v
 

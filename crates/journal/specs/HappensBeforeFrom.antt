@@ -1,4 +1,4 @@
--- Happens-before from a base: where something was cut off, the journal's k-th arrivals lead to its (k+1)-th departures.
+-- Happens-before from a base: if something was cut off, the journal's k-th arrivals lead to its (k+1)-th departures.
 use Rattle.std.specs.Prelude.{ℕ, ◌≡◌, ◌+◌, ◌<◌, ◌⊎◌, List, take}
 use Rattle.journal.specs.declared.event.Event.{Event}
 use Rattle.journal.specs.declared.event.Kind.TheVariants.{Arrive, Depart}

@@ -1,4 +1,4 @@
--- Which journals a cluster can make from a base: some locks are held and some flags set; where something was cut off,
+-- Which journals a cluster can make from a base: some locks are held and some flags set; if something was cut off,
 -- every processor has arrived and none departed.
 use Rattle.std.specs.Prelude.{ℕ, ◌≡◌, ◌≢◌, ◌+◌, ◌<◌, ◌≤◌, ◌⊎◌, List, take}
 use Rattle.journal.specs.declared.event.Event.{Event}
@@ -27,7 +27,7 @@ HoldsFrom b j p l = Holds j p l ⊎ StillHoldsFrom b j p l
 abbrev pub IsSetFrom : Base → List Event → ℕ → Type 0
 IsSetFrom b j f = Has b.flags f ⊎ ((k q : ℕ) × Does j k q (Set f))
 
--- p's last event is this: one of these, or where it has done nothing here, its arrival that was cut off
+-- p's last event is this: one of these, or if it has done nothing here, its arrival that was cut off
 abbrev pub LastFrom : Base → List Event → ℕ → Kind → Type 0
 LastFrom b j p k = ((i : ℕ) × LastIs j p i k) ⊎ ((k ≡ Arrive) × (b.cut ≢ 0) × IsAway j p)
 

@@ -67,7 +67,7 @@ fn set(flags: &mut Vec<usize>, kind: Kind) -> Result<(), AllocError>
 }
 
 impl Kept {
-    /// Where nothing was cut off. The only error is running out of memory.
+    /// The base while nothing is cut off. The only error is running out of memory.
     pub(crate) fn new(alloc: Global, addresses: usize) -> Result<Kept, AllocError>
         ensures base { IfOk result (λ k. base_of k ≡ no_base addresses) }
         ensures kept { IfOk result (λ k. IsBaseState addresses k) }

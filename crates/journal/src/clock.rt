@@ -18,7 +18,7 @@ pub(crate) fn zeros(alloc: Global, count: usize) -> Result<Vec<Clock>, AllocErro
     vec![in alloc; [0; 16]; count]
 }
 
-/// Raises each entry to the other timestamp's, where that is greater.
+/// Raises each entry to the other timestamp's, if that is greater.
 pub(crate) fn join(clock: &mut Clock, other: &Clock)
     ensures { (q : ℕ) → slice_index clock.new q
         ≡ max (slice_index clock.old q) (slice_index other.now q) }
@@ -53,7 +53,7 @@ pub(crate) fn others_are_within_clock(clock: &Clock, other: &Clock, processor: u
     within
 }
 
-/// The timestamp that is kept under this number, zeros where there is none.
+/// The timestamp that is kept under this number, zeros if there is none.
 pub(crate) fn clock_at(clocks: &BTreeMap<usize, Clock>, number: usize) -> Clock
     ensures { (q : ℕ) → slice_index result q ≡ map_entry clocks.now number q }
 {

@@ -154,7 +154,7 @@ impl Clocks {
         self.departures[processor] += 1;
     }
 
-    /// Lets go of the first episode that is kept, where every processor has departed from it.
+    /// Lets go of the first episode that is kept, if every processor has departed from it.
     fn let_go(&mut self)
         requires some { 0 < self.old.present }
         requires few { self.old.present ≤ most_processors }

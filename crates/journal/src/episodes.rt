@@ -12,7 +12,7 @@ use crate::kinds::arrives;
 pub(crate) struct Episodes {
     /// How often each processor has arrived.
     arrivals: [u32; 16],
-    /// How many events there are up to the last arrival of the last complete episode; None where no episode is
+    /// How many events there are up to the last arrival of the last complete episode; None if no episode is
     /// complete.
     pub(crate) last: Option<usize>,
 }

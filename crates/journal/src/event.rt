@@ -35,7 +35,7 @@ pub enum Kind {
     Release(usize),
     /// Came to the barrier.
     Arrive,
-    /// Went on from the barrier, where all have arrived.
+    /// Went on from the barrier, when all have arrived.
     Depart,
     /// Set this flag.
     Set(usize),

@@ -125,7 +125,7 @@ impl Journal {
         &events[self.processors..]
     }
 
-    /// The words of the memory after the events that were cut off; zeros where nothing was. It takes no
+    /// The words of the memory after the events that were cut off; zeros if nothing was. It takes no
     /// memory.
     pub fn base(&self) -> &[u32]
         ensures { result.now ≡ self.now.base.memory }
@@ -142,8 +142,8 @@ impl Journal {
         self.kept.cut
     }
 
-    /// Makes room for `additional` more events. Where memory is refused, all is as before; it never is
-    /// where there is room already.
+    /// Makes room for `additional` more events. If memory is refused, all is as before; it never is
+    /// if there is room already.
     pub fn reserve(&mut self, additional: usize) -> Result<(), AllocError>
         ensures ok { OnOk result (self.new
             ≡ record self.old { room = max self.old.room additional }) }
@@ -205,7 +205,7 @@ impl Journal {
         })
     }
 
-    /// Does the events to one flat memory in the journal's order, from the base: None where some load's
+    /// Does the events to one flat memory in the journal's order, from the base: None if some load's
     /// reply isn't its word at that place, else the words at the end. The only error is running out of memory.
     pub fn replay(&self) -> Result<Option<Vec<u32>>, AllocError>
         ensures replays { IfOk result (λ o. IsSome o ↔ Replays self.now.base.memory self.now.events) }
@@ -225,7 +225,7 @@ impl Journal {
             (λ r. IsFirstRaceFrom self.now.base (take count self.now.events) r.0 r.1)) }
         ensures in_range { AddressesInRange (length self.now.base.memory) self.now.events }
     {
-        // Where nothing was cut off, nobody has arrived before.
+        // If nothing was cut off, nobody has arrived before.
         let first = if self.kept.cut == 0 {
             self.processors
         } else {
@@ -244,10 +244,10 @@ impl Journal {
         }
     }
 
-    /// The first race of the events that are left: None where there is none, else the pair with the least
+    /// The first race of the events that are left: None if there is none, else the pair with the least
     /// second place and, among these, the least first one. The only error is running out of memory.
     ///
-    /// Two accesses of one address race where one of them is a store, two processors make them, and
+    /// Two accesses of one address race if one of them is a store, two processors make them, and
     /// neither happens before the other (Adve and Hill 1990).
     pub fn first_race(&self) -> Result<Option<(usize, usize)>, AllocError>
         ensures first { IfOk result (λ o. MatchOption o (RaceFreeFrom self.now.base self.now.events)
@@ -269,7 +269,7 @@ impl Journal {
         traffic_after(self.kept.spent, self.events())
     }
 
-    /// How many events a cut takes: None where no episode is complete. It takes no memory.
+    /// How many events a cut takes: None if no episode is complete. It takes no memory.
     fn part(&self) -> Option<usize>
         ensures place { MatchOption result (NoEpisodeCut self.now.processors self.now.events)
             (λ n. IsEpisodeCut self.now.processors self.now.events n) }
@@ -306,7 +306,7 @@ impl Journal {
         self.race = None;
     }
 
-    /// Cuts off the events up to the last arrival of the last complete episode of the barrier, where they
+    /// Cuts off the events up to the last arrival of the last complete episode of the barrier, if they
     /// have no race, and keeps what they leave: the memory, the locks' holders, the flags that are set,
     /// their number and their cost.
     ///

@@ -9,7 +9,7 @@ pub fn same_law()
     ensures { SameLaw }
 {}
 
-/// A history is well formed exactly where what was cut off is, and what is left is from the base.
+/// A history is well formed exactly if what was cut off is, and what is left is from the base.
 pub fn well_formed_law()
     ensures { WellFormedLaw }
 {}
@@ -31,7 +31,7 @@ pub fn cut_law()
     ensures { CutTwiceLaw }
 {}
 
-/// Where nothing was cut off, a journal says from the base what it says without one.
+/// If nothing was cut off, a journal says from the base what it says without one.
 pub fn uncut_law()
     ensures { UncutLaw }
 {}

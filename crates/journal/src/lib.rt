@@ -1,13 +1,13 @@
-//! The journal of a cluster: its events in the order in which they were handed in, and what can be
-//! said of them alone.
+//! The journal of a cluster: its events in the order in which they were handed in, and what follows
+//! from them alone.
 //!
 //! **What contracts see.** A `Journal` is a `Log` (specs/Log): sizes, events, room. What an event may be
 //! is in specs/Events and WellFormed; order, pasts and timestamps in HappensBeforeEdges, Pasts and Times; what
 //! copies of pages have and lack in PageImages, ValidAndStaleCopy and MissingWords.
 //!
-//! **What is proved.** `replay`, `first_race` and `traffic` answer exactly what FlatMemory, RaceConflicts
-//! and MessagesRecordsWords define, and up to its first race an explained journal replays. Lemmas for the crates above lie in
-//! proofs/, a folder a topic. `Clocks` has the timestamps of a journal that is taken an event at a time (`AreClocks`).
+//! **What is proved.** `replay`, `first_race` and `traffic` answer exactly what FlatMemory, Races and
+//! Traffic define, and up to its first race an explained journal replays. Lemmas for the crates above lie in proofs/, a
+//! folder a topic. `Clocks` has the timestamps of a journal that is taken an event at a time (`AreClocks`).
 //!
 //! **What is only tested** (in `test_memory`): that memory isn't refused needlessly, and that a journal of 2^20 events is
 //! checked in a test's time.

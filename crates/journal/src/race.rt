@@ -14,7 +14,7 @@ use crate::event::{Event, Kind};
 use crate::kinds::{closes, is_access};
 use std::alloc::{AllocError, Global};
 
-/// An access, as FastTrack's epoch: who made it, and one more than the number of its interval; 0 where there
+/// An access, as FastTrack's epoch: who made it, and one more than the number of its interval; 0 if there
 /// is none.
 #[derive(Clone, Copy)]
 struct Epoch {
@@ -119,7 +119,7 @@ impl Access {
 #[derive(Drop)]
 struct Accesses {
     last: Vec<Access>,
-    /// Of each address with several last loads, of each processor the number of one of them, 0 where there is
+    /// Of each address with several last loads, of each processor the number of one of them, 0 if there is
     /// none.
     loads: Vec<Clock>,
 }
@@ -215,7 +215,7 @@ fn first_racing(events: &[Event], place: usize, event: Event, time: &Clock) -> O
 
 impl Accesses {
     /// The first event that races with the event at this place, whose processor has this timestamp before
-    /// it. The events before are only gone through where one of them may.
+    /// it. The events before are only gone through if one of them may.
     fn race_at(&self, events: &[Event], place: usize, event: Event, time: &Clock) -> Option<usize>
         requires at { slice_get events.now place ≡ Some event }
         requires few { length events.now ≤ most_held + most_processors }
@@ -236,17 +236,17 @@ impl Accesses {
 }
 
 /// The pair of the first race of these events, of `processors` processors, at most `MOST_PROCESSORS`, and `addresses`
-/// addresses: the least second place, and with it the least first one; None where no events race. The only error is
+/// addresses: the least second place, and with it the least first one; None if no events race. The only error is
 /// running out of memory.
 ///
 /// Nothing was cut off before them. They need not be ones that a cluster can make, and none of them is copied.
 ///
 /// Before the first race all stores of an address happen before the last one, or are it. So a timestamp that
 /// counts the last store's interval counts them all, and of the loads since then mostly the last one is enough
-/// too; only where these are unordered, the last one of each processor is looked at. The least first place is
+/// too; only if these are unordered, the last one of each processor is looked at. The least first place is
 /// looked for once, at the end.
 ///
-/// An access takes a constant time, but for unordered loads; such a load, and an event of a lock, a flag or the
+/// An access takes a constant time, except for unordered loads; such a load, and an event of a lock, a flag or the
 /// barrier, takes time in the order of the processors, and for a lock or a flag of a number from 1024 on the
 /// logarithm of how many of these occur besides. It takes memory in the order of the addresses, the locks and
 /// flags that occur and the open episodes, times the processors, and a table of 64 KiB at most for the locks

@@ -37,7 +37,7 @@ fn replay_events(memory: &mut [u32], events: &[Event]) -> bool
     true
 }
 
-/// The memory after these events are done to it in their order, from the base; None where some load's
+/// The memory after these events are done to it in their order, from the base; None if some load's
 /// reply isn't its word at that place. The only error is running out of memory.
 pub(crate) fn replay_of(
     alloc: Global,

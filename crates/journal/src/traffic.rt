@@ -59,7 +59,7 @@ pub(crate) fn traffic_after(spent: Traffic, events: &[Event]) -> Traffic
     }
 }
 
-/// The traffic of these events, of which at most `MOST_HELD` may be, by the counts that their fetches tell. It takes no
+/// The traffic of these events, of which at most `MOST_HELD` may be, by the counts of their fetches. It takes no
 /// memory.
 pub fn traffic_of(events: &[Event]) -> Traffic
     requires { length events.now ≤ most_held }

@@ -29,7 +29,7 @@ with_lock s l k = record s { locks = slice_set s.locks l k }
 abbrev pub lock_line : Lock → List ℕ
 lock_line k = option_to_list k.holder ++ k.queue
 
--- p joins the line: it holds the lock where nobody does, and is last in the queue otherwise
+-- p joins the line: it holds the lock if nobody does, and is last in the queue otherwise
 abbrev pub queued : Option ℕ → Lock → ℕ → Lock
 queued None k p = record k { holder = Some p }
 queued (Some q) k p = record k { queue = k.queue ++ p ∷ [] }
@@ -48,7 +48,7 @@ abbrev pub released_lock : Lock → List ℕ → Lock
 released_lock k time = passed_lock k.queue time
 
 -- nobody stands twice in the line of n processors,
--- and somebody is queued only where the lock is held
+-- and somebody is queued only if the lock is held
 pub record IsOrderlyLock (n : ℕ) (k : Lock) : Type 0 where
   pub once : IsOnce (lock_line k)
   pub within : (p : ℕ) → Has (lock_line k) p → p < n

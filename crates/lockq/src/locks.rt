@@ -103,7 +103,7 @@ impl Model for Locks {
 
 impl Locks {
     /// `locks` locks that nobody has asked for, among `processors` processors (1 to 16).
-    /// Answers `AllocError` where memory for them is refused.
+    /// Answers `AllocError` if memory for them is refused.
     pub fn new(alloc: Global, locks: usize, processors: usize) -> Result<Self, AllocError>
         requires some { 1 ≤ processors }
         requires most { processors ≤ most_processors }
@@ -121,7 +121,7 @@ impl Locks {
     }
 
     /// Puts a processor into the line at a lock, and answers whether its grant is due now: it is
-    /// where nobody holds the lock.
+    /// if nobody holds the lock.
     pub fn ask(&mut self, lock: usize, processor: usize) -> bool
         requires lock { lock < length self.old.locks }
         requires processor { processor < self.old.processors }
@@ -167,7 +167,7 @@ impl Locks {
         lock.queue.front().copied()
     }
 
-    /// The time of a lock's last release: zero where it was never released.
+    /// The time of a lock's last release: zero if it was never released.
     pub fn time(&self, lock: usize) -> &VTime
         requires { lock < length self.now.locks }
         ensures value { result.now ≡ (lock_at self.now lock).time }

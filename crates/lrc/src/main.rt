@@ -1,8 +1,8 @@
 //! `lrc`: runs scripts of a shared memory and prints the final words, a race verdict and the traffic; explains a run;
 //! samples the runs of a script; looks at all its schedules; or judges a trace.
 //!
-//! What it does with a script that it runs, and what is proved of it, is in crate `lrc_program`; the rest is in `lrc_commands`.
-//! Here what runs scripts is handed in.
+//! Crate `lrc_program` says how a script is run, and what is proved of that; `lrc_commands` has the other commands.
+//! What runs scripts is handed in here.
 #![tactic(auto)]
 
 mod progress;

@@ -1,4 +1,4 @@
-//! How far a command is, said on standard error where that is a terminal: how many runs of a sample are done, how many
+//! How far a command is, said on standard error if that is a terminal: how many runs of a sample are done, how many
 //! states a search has found.
 ghost use Rattle.std.specs.Prelude.{◌<◌, IfOk};
 ghost use Rattle.std.specs.Thread.{IsSync};
@@ -19,16 +19,16 @@ use std::time::Instant;
 /// For how many seconds nothing is said.
 const PAUSE: u64 = 2;
 
-/// When to say how far a command is: now and then, where standard error is a terminal.
+/// When to say how far a command is: now and then, if standard error is a terminal.
 #[derive(Drop)]
 struct Pauses<'a> {
     rt: &'a HostRuntime,
-    /// When something was said last, or when the command began. None where nothing is said at all.
+    /// When something was said last, or when the command began. None if nothing is said at all.
     said: Cell<Option<Instant>>,
 }
 
 impl<'a> Pauses<'a> {
-    /// Begins with a pause. Where standard error is no terminal, or there is no clock, it never ends.
+    /// Begins with a pause. If standard error is no terminal, or there is no clock, it never ends.
     fn new(rt: &'a HostRuntime) -> Pauses<'a> {
         let said = if rt.stderr().is_terminal() {
             Instant::now(rt).ok()
@@ -100,7 +100,7 @@ impl<'a, T> Counted<'a, T> {
         }
     }
 
-    /// Counts one run more, and says how many are done where the pause is over.
+    /// Counts one run more, and says how many are done if the pause is over.
     fn count(&self) {
         let done = self.done.get().saturating_add(1);
         self.done.set(done);

@@ -12,7 +12,7 @@ use lrc_run::OnCluster;
 use std::fs::File;
 use std::sync::Wait;
 
-/// Judges the trace of the file, or of standard input where no file is given.
+/// Judges the trace of the file, or of standard input if no file is given.
 pub(crate) fn check_file(rt: &HostRuntime, options: &TraceOptions) -> u8 {
     let alloc = rt.alloc();
     let (mut out, mut err) = (rt.stdout(), rt.stderr());
@@ -25,7 +25,7 @@ pub(crate) fn check_file(rt: &HostRuntime, options: &TraceOptions) -> u8 {
     }
 }
 
-/// Explains a run of the file's script, or of that of standard input where no file is given.
+/// Explains a run of the file's script, or of that of standard input if no file is given.
 pub(crate) fn explain_file<R: Wait>(rt: &HostRuntime, handle: &R, options: &ExplainOptions) -> u8 {
     let alloc = rt.alloc();
     let (mut out, mut err) = (rt.stdout(), rt.stderr());
@@ -54,7 +54,7 @@ pub(crate) fn explain_file<R: Wait>(rt: &HostRuntime, handle: &R, options: &Expl
     }
 }
 
-/// Samples the file's script, or that of standard input where no file is given.
+/// Samples the file's script, or that of standard input if no file is given.
 pub(crate) fn sample_file<R: Wait>(rt: &HostRuntime, handle: &R, options: &SampleOptions) -> u8 {
     let alloc = rt.alloc();
     let (mut out, mut err) = (rt.stdout(), rt.stderr());
@@ -84,7 +84,7 @@ pub(crate) fn sample_file<R: Wait>(rt: &HostRuntime, handle: &R, options: &Sampl
     }
 }
 
-/// Looks at all schedules of the file's script, or of that of standard input where no file is given.
+/// Looks at all schedules of the file's script, or of that of standard input if no file is given.
 pub(crate) fn explore_file(rt: &HostRuntime, options: &ExploreOptions) -> u8 {
     let alloc = rt.alloc();
     let (mut out, mut err) = (rt.stdout(), rt.stderr());

@@ -11,7 +11,7 @@ study_status_of (Trace line fault) = 2
 study_status_of Long = 4
 study_status_of Untold = 4
 
--- the status of a fault, or that of running out of memory where there was none to say it
+-- the status of a fault, or that of running out of memory if there was none to say it
 abbrev pub IsStudyStatusOf : StudyFault → ℕ → Type 0
 IsStudyStatusOf fault status = (status ≡ study_status_of fault) ⊎ (status ≡ 4)
 

@@ -151,10 +151,10 @@ pub fn check_program<S: Read, W: Write, E: Write>(
     ensures unfaithful { result ≡ 6 → IsUnfaithfulTrace options.now.lax (S.remaining source.old) }
     // What is refused as a trace is none.
     ensures refused { result ≡ 2 → IsNoTraceOf (S.remaining source.old) }
-    // But for status 4, what was found is written whole or not at all.
+    // At any status but 4, what was found is written whole or not at all.
     ensures early { result ≢ 0 → result ≢ 6 → result ≢ 4
         → Keeps (W.contents out.old) (W.contents out.new) }
-    // Where a trace was judged, no line goes to the error output.
+    // If a trace was judged, no line goes to the error output.
     ensures quiet { (result ≡ 0) ⊎ (result ≡ 6) → Keeps (E.contents err.old) (E.contents err.new) }
 {
     match check_source(alloc, options.lax, source, out) {

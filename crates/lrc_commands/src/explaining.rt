@@ -19,7 +19,7 @@ use std::alloc::{AllocError, Global};
 use std::io::{Read, Write};
 use std::sync::Wait;
 
-/// The line that standard error gets of a run that can't go on; None where it ended.
+/// The line that standard error gets of a run that can't go on; None if it ended.
 fn halt_line(alloc: Global, file: Option<&str>, ended: &Ended) -> Result<Option<String>, AllocError>
     ensures { IfOk result (λ line. is_some line ≡ is_halted ended.now) }
 {
@@ -77,7 +77,7 @@ fn end_of<T: Runs, R: Wait>(
     }
 }
 
-/// Runs a script and tells the run, or draws it. Answers the line that standard error gets where it can't go on: there is
+/// Runs a script and tells the run, or draws it. Answers the line that standard error gets if it can't go on: there is
 /// memory for that before anything is written.
 fn print_run<T: Runs, R: Wait, W: Write>(
     runs: &T,
@@ -119,8 +119,8 @@ fn explain_script<T: Runs, R: Wait, S: Read, W: Write>(
     print_run(runs, rt, alloc, options, &script, out)
 }
 
-/// Runs the script of `source` by turns as the options say, and tells the run on `out`, or draws it there. Where there is
-/// none, or where it can't go on, one line goes to `err`. Answers the exit status. The file that the options name isn't
+/// Runs the script of `source` by turns as the options say, and tells the run on `out`, or draws it there. If there is
+/// none, or if it can't go on, one line goes to `err`. Answers the exit status. The file that the options name isn't
 /// opened here.
 pub fn explain_program<T: Runs, R: Wait, S: Read, W: Write, E: Write>(
     runs: &T,
@@ -141,7 +141,7 @@ pub fn explain_program<T: Runs, R: Wait, S: Read, W: Write, E: Write>(
         (S.remaining source.old) (W.contents out.old) (W.contents out.new) }
     // What is refused as a script is none.
     ensures refused { result ≡ 2 → IsNoScript (S.remaining source.old) }
-    // But for status 4, a run is told whole or not at all.
+    // At any status but 4, a run is told whole or not at all.
     ensures early { result ≢ 0 → result ≢ 3 → result ≢ 4
         → Keeps (W.contents out.old) (W.contents out.new) }
     // Of a run that ended, no line goes to the error output.

@@ -14,7 +14,7 @@ use lrc_script::script::Script;
 use std::alloc::Global;
 use std::io::{Read, Write};
 
-/// The exit status where the search was given up.
+/// The exit status if the search was given up.
 const UNDECIDED: u8 = 7;
 
 /// Whether the search came to its end.
@@ -83,10 +83,10 @@ pub fn explore_program<S: Read, W: Write, E: Write, P: Progress>(
         (W.contents out.old) (W.contents out.new) }
     // What is refused as a script is none.
     ensures refused { result ≡ 2 → IsNoScript (S.remaining source.old) }
-    // But for status 4, the text is written whole or not at all.
+    // At any status but 4, the text is written whole or not at all.
     ensures early { result ≢ 0 → result ≢ 7 → result ≢ 4
         → Keeps (W.contents out.old) (W.contents out.new) }
-    // Where it was written, no line goes to the error output.
+    // If it was written, no line goes to the error output.
     ensures quiet { result ≡ 0 → Keeps (E.contents err.old) (E.contents err.new) }
     ensures quiet_too { result ≡ 7 → Keeps (E.contents err.old) (E.contents err.new) }
 {

@@ -23,7 +23,7 @@ use std::alloc::{AllocError, Global};
 use std::io;
 use std::io::Write;
 
-/// The exit status where a run can't go on.
+/// The exit status if a run can't go on.
 pub(crate) const HALTED: u8 = 3;
 
 /// Why a command that studies a script or a trace ends without an answer.
@@ -35,7 +35,7 @@ pub enum StudyFault {
     Trace(usize, TraceFault),
     /// There are more bytes than any trace has.
     Long,
-    /// A run's journal isn't one of the script's processors, or isn't there where the run can't go on. That doesn't come
+    /// A run's journal isn't one of the script's processors, or isn't there if the run can't go on. That doesn't come
     /// of runs on a cluster.
     Untold,
 }
@@ -77,7 +77,7 @@ impl StudyFault {
         }
     }
 
-    /// Says on `err` in one write why there is no answer, and answers the exit status. Where there is no memory for the
+    /// Says on `err` in one write why there is no answer, and answers the exit status. If there is no memory for the
     /// line, it says that, with the status of that.
     pub(crate) fn say<E: Write>(self, alloc: Global, file: Option<&str>, err: &mut E) -> u8
         ensures { IsStudyStatusOf self result }

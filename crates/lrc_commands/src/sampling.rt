@@ -74,9 +74,9 @@ pub fn sample_program<T: Runs, R: Wait, S: Read, W: Write, E: Write>(
         (W.contents out.old) (W.contents out.new) }
     // What is refused as a script is none.
     ensures refused { result ≡ 2 → IsNoScript (S.remaining source.old) }
-    // But for status 4, the text is written whole or not at all.
+    // At any status but 4, the text is written whole or not at all.
     ensures early { result ≢ 0 → result ≢ 4 → Keeps (W.contents out.old) (W.contents out.new) }
-    // Where it was written, no line goes to the error output.
+    // If it was written, no line goes to the error output.
     ensures quiet { result ≡ 0 → Keeps (E.contents err.old) (E.contents err.new) }
 {
     match sample_script(runs, rt, alloc, options, source, out) {

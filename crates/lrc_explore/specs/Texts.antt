@@ -59,7 +59,7 @@ IsExploreText explored text = IsTextOf explored.states explored.verdict text
 abbrev pub ExploreWritten : Option (List ℕ) → Option (List ℕ) → Explored → Type 0
 ExploreWritten old new explored = (text : List ℕ) × IsExploreText explored text × Appends old new text
 
--- but for a failed output nothing was
+-- unless the output failed, nothing was
 abbrev pub ExploreUnwritten : Option (List ℕ) → Option (List ℕ) → ExploreFault → Type 0
 ExploreUnwritten old new Output = ⊤
 ExploreUnwritten old new _ = new ≡ old

@@ -1,4 +1,4 @@
-//! What each processor waits for where a schedule can't go on.
+//! What each processor waits for if a schedule can't go on.
 
 use crate::numbers::put_number;
 use explore::Hang;

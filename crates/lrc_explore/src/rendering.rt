@@ -101,7 +101,7 @@ fn put_undecided(text: &mut Vec<u8>, states: usize) -> Result<(), AllocError>
     text.extend_from_slice(b" states\n")
 }
 
-/// Puts the text of what was found of a script that shows these addresses where nothing was.
+/// Puts the text of what was found of a script that shows these addresses, into a text that is empty.
 fn put_explored(
     text: &mut Vec<u8>,
     alloc: Global,
@@ -147,7 +147,7 @@ fn write_text<W: Write>(text: &[u8], out: &mut W) -> Result<(), ExploreFault>
     }
 }
 
-/// Writes what was found of all schedules of the script, in one write where the writer takes all of it, and flushes the
+/// Writes what was found of all schedules of the script, in one write if the writer takes all of it, and flushes the
 /// writer:
 ///
 /// ```text
@@ -161,7 +161,7 @@ fn write_text<W: Write>(text: &[u8], out: &mut W) -> Result<(), ExploreFault>
 ///
 /// An outcome's line has each shown address with its word at the end, and for each processor that loads what its own
 /// loads answered, in order. The lines stand in rising order of the replies: of processor 0 first, those that show the
-/// words among them, as its last ones. Where some schedule can't go on, behind `hangs` come its events, and a line for
+/// words among them, as its last ones. If some schedule can't go on, behind `hangs` come its events, and a line for
 /// each processor that waits. Of a script that races come the events of a schedule whose last one races, then `race` and
 /// the lines of the two. Of a search that was given up there is one line.
 ///
@@ -169,7 +169,7 @@ fn write_text<W: Write>(text: &[u8], out: &mut W) -> Result<(), ExploreFault>
 ///
 /// # Errors
 ///
-/// Output where a write or the flush fails; NoMemory, after which nothing was written.
+/// Output if a write or the flush fails; NoMemory, after which nothing was written.
 pub fn render<W: Write>(
     alloc: Global,
     script: &Script,

@@ -135,7 +135,7 @@ TakesNames names _ = ⊥
 abbrev pub option_number : Text → ℕ
 option_number t = digits_value 10 (without_leading_plus t)
 
--- the number that is given, where the text is one of 64 bits
+-- the number that is given, if the text is one of 64 bits
 pub record IsOptionNumberRead (given : Option Text) (n : Option ℕ) : Type 0 where
   pub read : (t : Text) → given ≡ Some t → IsNumeral 10 (without_leading_plus t) → option_number t < 2 ^ 64
       → n ≡ Some (option_number t)

@@ -23,7 +23,7 @@ pub(crate) const MOST_TRIES: u64 = 1_000_000_000;
 /// The greatest seed, and the most states.
 pub(crate) const MOST_SEED: u64 = u32::MAX as u64;
 
-/// The locks that may stand round the book, the one that is taken where none is given first.
+/// The locks that may stand round the book, the one that is taken if none is given first.
 pub(crate) static LOCKS: [&str; 2] = ["array", "ticket"];
 
 /// The option of this name whose value is a number in this range.
@@ -105,7 +105,7 @@ fn flag_arg<'a>(alloc: Global, name: &'a str, help: &'a str) -> Arg<'a>
         .help(help)
 }
 
-/// The command with one more option, where it could be made.
+/// The command with one more option, if it could be made.
 fn with_option<'a>(
     command: Result<Command<'a>, AllocError>,
     option: Arg<'a>,
@@ -117,7 +117,7 @@ fn with_option<'a>(
     command?.arg(option)
 }
 
-/// The command with one more below it, where both could be made.
+/// The command with one more below it, if both could be made.
 fn with_command<'a>(
     above: Result<Command<'a>, AllocError>,
     below: Result<Command<'a>, AllocError>,

@@ -1,9 +1,9 @@
 //! The options of the program `lrc`, by the words of its command line: which script is to be run, and how.
 //!
-//! **What contracts see.** `Options` as they are; `AreGivenOptions` says what options the words give, by the matches that
-//! clap states for a simple command.
+//! **What contracts see.** `Options` as they are; `AreGivenOptions` says what options the words give, by the matches
+//! that clap states for a simple command.
 //!
-//! **What is proved.** Where `options` answers options, the words give them; where it answers a fault, they have one
+//! **What is proved.** If `options` answers options, the words give them. If it answers a fault, the words have one
 //! of that kind, or memory ran out. A question for help or the version is such a fault.
 //!
 //! **What is only tested**, by whole runs of the program `lrc`. The texts of faults and help, and which of its words a

@@ -14,7 +14,7 @@ pub enum Commands {
 pub enum Asked {
     /// A script is to be run, by `run` or `step`.
     Script(Options),
-    /// A run of a script by turns is to be told, by `explain`.
+    /// A run of a script by turns is to be explained, by `explain`.
     Explain(ExplainOptions),
     /// A script is to be run by many schedules, by `sample`.
     Sample(SampleOptions),
@@ -24,7 +24,7 @@ pub enum Asked {
     Trace(TraceOptions),
 }
 
-/// Which run of a script is to be told, and how.
+/// Which run of a script is to be explained, and how.
 #[derive(Drop)]
 pub struct ExplainOptions {
     /// The file to read the script from, or None for standard input.
@@ -68,13 +68,13 @@ pub struct TraceOptions {
     pub lax: bool,
 }
 
-/// The tries where none are given.
+/// The tries if none are given.
 pub(crate) const DEFAULT_TRIES: u64 = 1_000_000;
 
-/// The seeds where none are given.
+/// The seeds if none are given.
 pub(crate) const DEFAULT_SEEDS: u32 = 1000;
 
-/// The states where no number is given.
+/// The states if no number is given.
 pub(crate) const DEFAULT_MOST: u32 = 1_000_000;
 
 /// How a script is to be run.

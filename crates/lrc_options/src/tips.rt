@@ -6,7 +6,7 @@ use clap::error::ErrorKind;
 use clap::{Command, Error};
 use std::alloc::{AllocError, Global};
 
-/// Each command with each option that it has. Of the commands that have an option the first one is told.
+/// Each command with each option that it has. Of the commands that have an option the first one is named.
 const OPTIONS: [(&str, &str); 15] = [
     ("run", "--tries"),
     ("run", "--lock"),
@@ -92,7 +92,7 @@ fn option_of(word: &str) -> &str {
     }
 }
 
-/// The first option before `--` that the words give to a command that lacks it, where another one has it.
+/// The first option before `--` that the words give to a command that lacks it, if another one has it.
 fn misuse_of(words: &[String]) -> Option<Misuse<'_>> {
     let command = words.get(1)?.as_str();
     if !is_command(command) {
@@ -117,7 +117,7 @@ fn misuse_of(words: &[String]) -> Option<Misuse<'_>> {
     None
 }
 
-/// A fault of usage; where a command was given an option that another one has, it says so.
+/// A fault of usage; if a command was given an option that another one has, it says so.
 pub(crate) fn with_tip(alloc: Global, words: &[String], fault: Error) -> Result<Error, AllocError>
     ensures { IfOk result (λ e. kind_of e ≡ kind_of fault) }
 {

@@ -19,7 +19,7 @@ status_of (Schedule turn misfit) = 5
 status_of (Run fault) = status_of_cause fault.cause
 status_of _ = 4
 
--- the status of a fault, or that of running out of memory where there was none to say it
+-- the status of a fault, or that of running out of memory if there was none to say it
 abbrev pub IsStatusOf : ProgramFault → ℕ → Type 0
 IsStatusOf fault status = (status ≡ status_of fault) ⊎ (status ≡ status_of NoMemory)
 

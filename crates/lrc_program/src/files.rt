@@ -9,7 +9,7 @@ use std::fs::File;
 use std::sync::Wait;
 use std::thread::Threads;
 
-/// Runs the script of the file, or of standard input where no file is given, and answers the status. The handle is what
+/// Runs the script of the file, or of standard input if no file is given, and answers the status. The handle is what
 /// threads are started by.
 pub fn run_file<T: Runs, R: Threads + Wait + Sync>(
     rt: &HostRuntime,

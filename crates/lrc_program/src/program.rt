@@ -107,7 +107,7 @@ pub fn read_script<S: Read>(alloc: Global, source: &mut S) -> Result<Script, Pro
     Ok(parse(alloc, &bytes)?)
 }
 
-/// Runs a script and writes its report. It stands apart from the reading since nothing is to be dropped where the run
+/// Runs a script and writes its report. It stands apart from the reading since nothing is to be dropped if the run
 /// ends with a fault.
 fn print_report<T: Runs, R: Threads + Wait + Sync, W: Write>(
     runs: &T,
@@ -150,12 +150,12 @@ fn run_script<T: Runs, R: Threads + Wait + Sync, S: Read, W: Write>(
     print_report(runs, rt, alloc, options, &script, out)
 }
 
-/// Says the line on `err` in one write, and answers the status. Where there was no memory for the line, it says that,
+/// Says the line on `err` in one write, and answers the status. If there was no memory for the line, it says that,
 /// with the status of that.
 pub fn say_line<E: Write>(line: Result<String, AllocError>, status: u8, err: &mut E) -> u8
     ensures { (result ≡ status) ⊎ (result ≡ 4) }
 {
-    // Where standard error takes nothing, the status still tells.
+    // If standard error takes nothing, the status still tells.
     match line {
         Ok(line) => {
             let _ = err.write_all(line.as_bytes());
@@ -169,7 +169,7 @@ pub fn say_line<E: Write>(line: Result<String, AllocError>, status: u8, err: &mu
 }
 
 /// Says on `err` in one write why the program ends without a report on the file's script, and answers the fault's
-/// exit status. Where there is no memory for the line, it says that, with the status of that.
+/// exit status. If there is no memory for the line, it says that, with the status of that.
 pub fn say<E: Write>(alloc: Global, file: Option<&str>, fault: ProgramFault, err: &mut E) -> u8
     ensures { IsStatusOf fault result }
 {
@@ -193,9 +193,9 @@ pub fn program<T: Runs, R: Threads + Wait + Sync, S: Read, W: Write, E: Write>(
         (S.remaining source.old) (W.contents out.old) (W.contents out.new) }
     // What is refused as a script is none.
     ensures refused { result ≡ 2 → IsNoScript (S.remaining source.old) }
-    // But for status 4, a report is written whole or not at all.
+    // At any status but 4, a report is written whole or not at all.
     ensures early { result ≢ 0 → result ≢ 4 → Keeps (W.contents out.old) (W.contents out.new) }
-    // Where it was written, no line goes to the error output.
+    // If it was written, no line goes to the error output.
     ensures quiet { result ≡ 0 → Keeps (E.contents err.old) (E.contents err.new) }
 {
     match run_script(runs, rt, alloc, options, source, out) {

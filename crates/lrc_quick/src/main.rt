@@ -1,7 +1,7 @@
 //! `lrc_quick`: the commands `run` and `step` of `lrc`, alone.
 //!
-//! It stands on fewer crates than `lrc`, so it is proved sooner. `./lrc` builds it where one of these commands is the first
-//! that is given.
+//! It stands on fewer crates than `lrc`, so it is proved sooner. `./lrc` builds it if one of these commands is the
+//! first that is given.
 #![tactic(auto)]
 
 use lrc_options::command_line::options;
@@ -12,7 +12,7 @@ use std::process::ExitCode;
 use std::sync::Wait;
 use std::thread::Threads;
 
-/// The exit status where another command is asked for.
+/// The exit status if another command is asked for.
 const NOT_HERE: u8 = 5;
 
 /// Says that this program has no such command.

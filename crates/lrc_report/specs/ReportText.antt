@@ -56,18 +56,18 @@ event_lines i (e ∷ es) = event_line i e ++ event_lines (i + 1) es
 abbrev pub summary_text : Report → List ℕ
 summary_text r = flat_map word_line r.shown.items ++ verdict_line r.racy ++ traffic_line r.traffic
 
--- how many events were cut off, where any was
+-- how many events were cut off, if any was
 abbrev pub cut_line : ℕ → List ℕ
 cut_line n = if nat_lt 0 n then codes "cut " ++ decimal n ++ codes "\n" else []
 
--- how many events were cut off, where any was, and a line for each that is left, numbered on from there
+-- how many events were cut off, if any was, and a line for each that is left, numbered on from there
 abbrev pub left_text : Log → List ℕ
 left_text j = cut_line j.base.cut ++ event_lines j.base.cut j.events
 
--- the lines of the journal, where they are asked for
+-- the lines of the journal, if they are asked for
 abbrev pub journal_text : Report → Bool → List ℕ
 journal_text r journal = if journal then left_text r.journal else []
 
--- a report, with its journal where that is asked for
+-- a report, with its journal if that is asked for
 abbrev pub report_text : Report → Bool → List ℕ
 report_text r journal = summary_text r ++ journal_text r journal

@@ -1,11 +1,12 @@
 //! A run's report, and its text.
 //!
-//! **What contracts see.** A `Report` as it is; `report_text` is its text, with its journal where that is asked for. A
+//! **What contracts see.** A `Report` as it is; `report_text` is its text, with its journal if that is asked for. A
 //! writer by the bytes that it was given (`contents`).
 //!
 //! **What is proved.** `render` writes the text of a report and nothing else; after a fault a beginning of it.
 //!
-//! **What is only tested** (in `test_lrc`). That many lines are few writes, and that a fault comes just where a write fails.
+//! **What is only tested** (in `test_lrc`). That many lines are few writes, and that a fault comes exactly if a write
+//! fails.
 #![tactic(auto)]
 
 mod line;

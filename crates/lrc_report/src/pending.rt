@@ -79,7 +79,7 @@ impl Pending {
         Ok(())
     }
 
-    /// Adds the bytes at the end, and writes all that waits where they don't fit. After OutFault a beginning
+    /// Adds the bytes at the end, and writes all that waits if they don't fit. After OutFault a beginning
     /// of what waited and of the bytes was written.
     pub fn take<W: Write>(&mut self, out: &mut W, bytes: &[u8]) -> Result<(), OutFault>
         ensures { WritesThrough (W.contents out.old) (W.contents out.new) self.old self.new bytes.now result }

@@ -182,7 +182,7 @@ pub fn write_events<W: Write>(
     Ok(())
 }
 
-/// Writes how many events were cut off, where any was.
+/// Writes how many events were cut off, if any was.
 fn write_cut<W: Write>(out: &mut W, pending: &mut Pending, cut: u64) -> Result<(), OutFault>
     ensures { WritesThrough (W.contents out.old) (W.contents out.new) pending.old pending.new (cut_line cut)
         result }
@@ -209,7 +209,7 @@ fn write_summary<W: Write>(
     write_traffic(out, pending, report.traffic)
 }
 
-/// Writes how many events were cut off, where any was, and a line for each that is left.
+/// Writes how many events were cut off, if any was, and a line for each that is left.
 fn write_left<W: Write>(
     out: &mut W,
     pending: &mut Pending,
@@ -224,7 +224,7 @@ fn write_left<W: Write>(
     write_events(out, pending, cut, events)
 }
 
-/// Writes the lines of the journal, where they are asked for.
+/// Writes the lines of the journal, if they are asked for.
 fn write_journal<W: Write>(
     out: &mut W,
     pending: &mut Pending,
@@ -252,14 +252,13 @@ fn finish<W: Write>(out: &mut W, pending: &mut Pending) -> Result<(), OutFault>
     }
 }
 
-/// Writes the report: a line `word ADDRESS VALUE` for each shown address, the verdict, the traffic, and where
-/// the journal is asked for a line `cut NUMBER` where events were cut off, and a line for each event that is
-/// left, numbered from that number. It writes some thousand bytes at a time, then flushes the writer, and takes no
-/// memory.
+/// Writes the report: a line `word ADDRESS VALUE` for each shown address, the verdict and the traffic. If the
+/// journal is asked for, a line `cut NUMBER` follows if events were cut off, and a line for each event that is left,
+/// numbered from there. It writes some thousand bytes at a time, then flushes the writer, and takes no memory.
 ///
 /// # Errors
 ///
-/// OutFault where a write fails or takes no byte, or the flush fails; a beginning of the text was written then.
+/// OutFault if a write fails or takes no byte, or the flush fails; a beginning of the text was written then.
 pub fn render<W: Write>(report: &Report, journal: bool, out: &mut W) -> Result<(), OutFault>
     ensures { Writes (W.contents out.old) (W.contents out.new) (report_text report.now journal)
         result }
@@ -274,7 +273,7 @@ pub fn render<W: Write>(report: &Report, journal: bool, out: &mut W) -> Result<(
 ///
 /// # Errors
 ///
-/// OutFault where memory for the text was refused; a beginning of the lines was added then.
+/// OutFault if memory for the text was refused; a beginning of the lines was added then.
 pub fn put_report(text: &mut Vec<u8>, report: &Report) -> Result<(), OutFault>
     ensures { Writes (Some text.old.items) (Some text.new.items) (report_text report.now false) result }
 {

@@ -27,6 +27,6 @@ pub record IsFirstFailedOutcome {X : Type 0} (outcomes : List (Result X Cause)) 
   pub so : is_stuck_cause f.cause ≡ stuck
   pub least : (p : ℕ) (cause : Cause) → FailedOutcome outcomes p cause → is_stuck_cause cause ≡ stuck → f.processor ≤ p
 
--- the least processor's that isn't stuck; where there is none, the least's that is
+-- the least processor's that isn't stuck; if there is none, the least's that is
 abbrev pub IsFaultOfOutcome : {X : Type 0} → List (Result X Cause) → RunFault → Type 0
 IsFaultOfOutcome outcomes f = IsFirstFailedOutcome outcomes false f ⊎ (NoOutcomeFailedSo outcomes false × IsFirstFailedOutcome outcomes true f)

@@ -35,12 +35,12 @@ pub record AddsCalls (old new : Local) (kinds : List Kind) : Type 0 where
   pub calls_are : calls new ≡ calls old ++ map (event old.number) kinds
   pub uncut : new.own_cut ≡ old.own_cut
 
--- it has these, by the answer, or none where it was refused
+-- it has these, by the answer, or none if it was refused
 abbrev pub AddsCallsBy : {A : Type 0} → Local → Local → Result A Refused → (A → List Kind) → Type 0
 AddsCallsBy old new (Ok x) kinds = AddsCalls old new (kinds x)
 AddsCallsBy old new (Err e) kinds = AddsCalls old new []
 
--- it has a fetch of this page, or no call where it was refused
+-- it has a fetch of this page, or no call if it was refused
 abbrev pub AddsFetchBy : {A : Type 0} → Local → Local → Result A Refused → ℕ → Type 0
 AddsFetchBy old new (Ok x) page = (writers records words : ℕ) × AddsCalls old new (Fetch writers page records words ∷ [])
 AddsFetchBy old new (Err e) page = AddsCalls old new []
@@ -53,7 +53,7 @@ pub record MadeCalls (old new : Local) (kinds : List Kind) : Type 0 where
   pub wanted : AreCallsWanted old → AreCallsWanted new
   pub uncut : new.own_cut ≡ old.own_cut
 
--- the same, but that it may have cut something off where this is so
+-- the same, except that it may have cut something off if this is so
 pub record MakesBut (cuts : Type 0) (old new : Local) (kinds : List Kind) : Type 0 where
   pub same : IsSameProcessor old new
   pub sees : SeesMoreCalls old new
@@ -67,7 +67,7 @@ pub record MakesNone (old new : Local) : Type 0 where
   pub none : calls_made new ≡ calls_made old
   pub uncut : new.own_cut ≡ old.own_cut
 
--- it has made these calls, by the answer, or none where it was refused
+-- it has made these calls, by the answer, or none if it was refused
 abbrev pub TriesCalls : {A : Type 0} → Local → Local → Result A Refused → (A → List Kind) → Type 0
 TriesCalls old new (Ok x) kinds = MadeCalls old new (kinds x)
 TriesCalls old new (Err e) kinds = MakesNone old new

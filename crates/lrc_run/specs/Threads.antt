@@ -19,7 +19,7 @@ pub record ThreadErrand : Type 0 where
   pub processor : Local
   pub section : List Instruction
 
--- a thread for each processor, with its section, or None where it couldn't be started
+-- a thread for each processor, with its section, or None if it couldn't be started
 pub record AreThreadsStarted (ms : List Local) (sections : List (List Instruction)) (threads : List (Option ThreadErrand))
     : Type 0 where
   pub all : length threads ≡ length ms

@@ -56,7 +56,7 @@ AreTurned sections (p ∷ ps) old new all to =
     (between : List Local) × (half : List TurnProgress) × IsTurnOfRun sections p old between all half
     × AreTurned sections ps between new half to
 
--- it is as it was, but that it may have seen more of the history
+-- it is as it was, except that it may have seen more of the history
 pub record SeesOnlyMore (old new : Local) : Type 0 where
   pub same : IsSameProcessor old new
   pub sees : SeesMoreCalls old new

@@ -13,8 +13,8 @@ use lrc_script::script::Script;
 use std::alloc::{AllocError, Global};
 use std::sync::Wait;
 
-/// Where all processors have walked their sections: processor 0 loads what the script shows, and the cluster is
-/// finished. Refused as the loads are, and where memory is.
+/// Ends a run after all processors have walked their sections: processor 0 loads what the script shows, and the
+/// cluster is finished. Refused as the loads are, and if memory is.
 pub(crate) fn conclude<T: BookTurn + Drop, R: Wait>(
     rt: &R,
     alloc: Global,
@@ -31,7 +31,7 @@ pub(crate) fn conclude<T: BookTurn + Drop, R: Wait>(
     Ok(report(cluster, processors, shown)?)
 }
 
-/// Finishes the cluster, and reports of its journal. Refused only where memory is.
+/// Finishes the cluster, and reports of its journal. Refused only if memory is.
 fn report<T: BookTurn>(
     cluster: Cluster<T>,
     processors: Vec<Processor<T>>,

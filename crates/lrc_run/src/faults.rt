@@ -28,8 +28,8 @@ fn first_fault<X>(outcomes: &[Result<X, Cause>], stuck: bool) -> Option<RunFault
     None
 }
 
-/// The fault of a run: that of the least processor whose cause isn't Stuck, and where there is none, that of
-/// the least with Stuck; None where none failed.
+/// The fault of a run: that of the least processor whose cause isn't Stuck, and if there is none, that of
+/// the least with Stuck; None if none failed.
 fn fault_of<X>(outcomes: &[Result<X, Cause>]) -> Option<RunFault>
     ensures some { IfSome result (λ fault. IsFaultOfOutcome outcomes.now fault) }
     ensures none { IfNone result (NoOutcomeFailed outcomes.now) }
@@ -40,7 +40,7 @@ fn fault_of<X>(outcomes: &[Result<X, Cause>]) -> Option<RunFault>
     }
 }
 
-/// What they all came to, where none failed.
+/// What they all came to, if none failed.
 fn all_of<X: Drop>(alloc: Global, outcomes: Vec<Result<X, Cause>>) -> Result<Vec<X>, AllocError>
     requires { NoOutcomeFailed outcomes.items }
     ensures { IfOk result (λ all. map Ok all.items ≡ outcomes.items) }
@@ -56,8 +56,8 @@ fn all_of<X: Drop>(alloc: Global, outcomes: Vec<Result<X, Cause>>) -> Result<Vec
 }
 
 /// What all processors came to, by what came of them in the order of their numbers. An error is the fault of
-/// the least processor whose cause isn't Stuck, and where there is none, of the least with Stuck; or
-/// [`NoMemory`](book::Refused::NoMemory) with processor 0, where none failed.
+/// the least processor whose cause isn't Stuck, and if there is none, of the least with Stuck; or
+/// [`NoMemory`](book::Refused::NoMemory) with processor 0, if none failed.
 pub(crate) fn gathered<X: Drop>(
     alloc: Global,
     outcomes: Vec<Result<X, Cause>>,

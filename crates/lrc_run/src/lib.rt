@@ -1,17 +1,17 @@
 //! Runs of scripts on a cluster: each processor on a thread of its own, or all by turns on one.
 //!
-//! **What contracts see.** A script as its plan. A `Report` (of `lrc_report`) is one of the plan (`IsReportOf`) where its
+//! **What contracts see.** A script as its plan. A `Report` (of `lrc_report`) is one of the plan (`IsReportOf`) if its
 //! journal has the plan's sizes and holds what is left, after some of it was cut off, of a history that is well formed and
 //! explained and follows the plan, and in which each fetch comes right before an access that wants its page; the verdict,
-//! the shown words and the traffic are those of the whole history (`Tells`).
+//! the shown words and the traffic are those of the whole history (`ReportsHistory`).
 //!
-//! **What is proved.** Whatever the lock, the threads' way and the seed: a report that is answered is one of the plan. Its
-//! history's replies can be recomputed on one flat memory, with the same races; where the script never races there, the
-//! verdict is race-free and the history replays (module `laws`). Which fault a run tells, of those that its processors met.
-//! By turns: each round is in the order that the seed draws, from the generator's own definitions on, and what its turns
-//! make of the processors is what they come to; a take that came too early found its processor not ready. Where a run by
-//! turns says that it can't go on, its history is a deadlock: each processor waits, and none is ready. By a schedule, given or
-//! answered of turns that were drawn, the same holds of its turns and of the rounds behind them.
+//! **What is proved.** Whatever the lock, the order of the threads and the seed: a report that is answered is one of
+//! the plan. Its history's replies can be recomputed on one flat memory, with the same races; if the script never races
+//! there, the verdict is race-free and the history replays (module `laws`). Which fault a run tells, of those that its
+//! processors met. By turns: each round is in the order that the seed draws, by the generator's own definitions, and
+//! the processors come to what their turns make of them; a take that came too early found its processor not ready. If a
+//! run by turns says that it can't go on, its history is a deadlock: each processor waits, and none is ready.
+//! By a schedule, given or answered of turns that were drawn, the same holds of its turns and of the rounds behind them.
 //!
 //! **What is only tested** (in `test_lrc`): that no run is refused needlessly, and that its threads get on side by
 //! side; that the gate is asked before each instruction; that nobody sleeps for ever; that the calls of one turn of

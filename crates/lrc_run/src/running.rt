@@ -39,9 +39,9 @@ pub fn run<R: Threads + Wait + Sync, G: Gate + Sync>(
 /// processor 0 loads what is shown, and the cluster is finished.
 ///
 /// What a processor waits for is looked for `tries` times, and then it ends with [`Stuck`](Cause::Stuck); between two
-/// looks its thread sleeps. It ends so at once where that can't come any more: each processor waits so, or has ended. An
-/// error is the fault of the least processor whose cause isn't Stuck, and where there is none, of the least with Stuck.
-/// Memory that is refused outside of the threads is told with processor 0.
+/// looks its thread sleeps. It ends so at once if that can't come any more: each processor waits so, or has ended. An
+/// error is the fault of the least processor whose cause isn't Stuck, and if there is none, of the least with Stuck.
+/// A fault outside of the threads, such as refused memory, names processor 0.
 pub fn run_with<T: BookTurn + Send + Drop, R: Threads + Wait + Sync, G: Gate + Sync>(
     rt: &R,
     alloc: Global,
@@ -64,7 +64,7 @@ pub fn run_with<T: BookTurn + Send + Drop, R: Threads + Wait + Sync, G: Gate + S
     }
 }
 
-/// Outside of the threads a cause is told with processor 0.
+/// A cause outside of the threads, which names processor 0.
 fn of_first(cause: Cause) -> RunFault {
     RunFault {
         processor: 0,

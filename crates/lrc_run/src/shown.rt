@@ -10,7 +10,7 @@ use std::alloc::{AllocError, Global};
 use std::sync::Wait;
 
 /// Loads the addresses in their order, each as a script's `load`: answers each with its word. Refused as the
-/// loads are, and where memory is.
+/// loads are, and if memory is.
 pub(crate) fn show<T: BookTurn, R: Wait>(
     rt: &R,
     alloc: Global,

@@ -34,7 +34,7 @@ use std::sync::Wait;
 /// Runs the script on one thread, in rounds in which each processor has a turn: by rising number, or with a seed
 /// in orders that are drawn by it. Two calls with the same script and seed give the same report.
 ///
-/// The fault is [`Stuck`](Cause::Stuck) of the least processor that waits, where each waits for what can't come any
+/// The fault is [`Stuck`](Cause::Stuck) of the least processor that waits, if each waits for what can't come any
 /// more; a call's refusal with the processor whose turn it was; and what is refused outside of turns with processor 0.
 pub fn step<R: Wait>(
     rt: &R,
@@ -72,7 +72,7 @@ pub fn step_with<T: BookTurn + Drop, R: Wait>(
     }
 }
 
-/// The same with the array lock, but that a script that can't go on is no fault: then it answers the journal so far.
+/// The same with the array lock, except that a script that can't go on is no fault: then it answers the journal so far.
 pub fn step_as_far<R: Wait>(
     rt: &R,
     alloc: Global,

@@ -1,7 +1,7 @@
 //! Laws, as contracts of functions that do nothing: the check proves each by its name.
 ghost use Rattle.lrc_script.specs.Prelude.{MostBytesLaw};
 
-/// The text of a lawful script has at most `MOST_BYTES` bytes: whoever reads one more knows that it is none.
+/// The text of a lawful script has at most `MOST_BYTES` bytes: a text that has one more is none.
 pub fn most_bytes_law()
     ensures { MostBytesLaw }
 {}

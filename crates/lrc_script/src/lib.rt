@@ -4,8 +4,8 @@
 //! instructions, its shown addresses. `IsLawful` says which plans are scripts, `text` what their bytes are.
 //! `IsFault` says what a fault says of the bytes.
 //!
-//! **What is proved.** `script::parse` answers a script only where it is lawful and the bytes are its text,
-//! and a fault only where they are no lawful script's, with its line; `Display` writes the text, of at most
+//! **What is proved.** `script::parse` answers a script only if it is lawful and the bytes are its text,
+//! and a fault only if they are no lawful script's, with its line; `Display` writes the text, of at most
 //! `MOST_BYTES` bytes (module `laws`).
 //!
 //! **What is only tested** (in `test_lrc`): which fault is answered among several on one line, the texts of the

@@ -146,7 +146,7 @@ impl Few {
     }
 }
 
-/// The numbers that the words are, where they are numbers and two at most.
+/// The numbers that the words are, if they are numbers and two at most.
 pub fn few_numbers(words: Option<&[u8]>) -> Option<Few>
     ensures numbers { IfSome result (λ few. numbers_read_after [] (parts_left_of_line 32 words.entry)
         ≡ Ok (few_items few)) }

@@ -88,8 +88,8 @@ pub struct Script {
 ///
 /// # Errors
 ///
-/// `BadLine`, `BadNumber` and `BadSize` come only where the line gives no sizes that a script may have, and say
-/// what is wrong with it. `NoMemory` comes where a growth was refused.
+/// `BadLine`, `BadNumber` and `BadSize` come only if the line gives no sizes that a script may have, and say
+/// what is wrong with it. `NoMemory` comes if a growth was refused.
 pub fn read_sizes(alloc: Global, line: &[u8]) -> Result<Script, ScriptFault>
     // What is read are sizes that a script may have, and the line is theirs.
     ensures found { IfOk result (λ s. IsHeadedFront (plan_of s)
@@ -116,8 +116,8 @@ pub fn read_sizes(alloc: Global, line: &[u8]) -> Result<Script, ScriptFault>
 ///
 /// # Errors
 ///
-/// Each but `NoMemory` comes only where no lawful script has these bytes as its text, and says what is wrong
-/// with its line. `NoMemory` comes where a growth was refused while that line was read.
+/// Each but `NoMemory` comes only if no lawful script has these bytes as its text, and says what is wrong
+/// with its line. `NoMemory` comes if a growth was refused while that line was read.
 pub fn parse(alloc: Global, bytes: &[u8]) -> Result<Script, (usize, ScriptFault)>
     // What is read is a lawful script, and the bytes are its text.
     ensures found { IfOk result (λ s. IsLawful (plan_of s) × (bytes.now ≡ text (plan_of s))) }

@@ -19,7 +19,7 @@ pub enum Access {
 
 /// A processor's copy of a page of 1 to 64 words.
 ///
-/// A word is dirty where it was stored to since the copy was made or last cleaned, also where the
+/// A word is dirty if it was stored to since the copy was made or last cleaned, also if the
 /// store wrote the value that was there: dirty bits stand in the place of the twins and diffs of
 /// Keleher, Cox and Zwaenepoel 1992, section 3. Bit i of `dirty` is that of word i.
 #[derive(Debug, Drop)]
@@ -46,7 +46,7 @@ impl Model for Page {
 }
 
 impl Page {
-    /// A page of `words` words (1 to 64), valid and zero. Answers `AllocError` where memory for them
+    /// A page of `words` words (1 to 64), valid and zero. Answers `AllocError` if memory for them
     /// is refused.
     pub fn zero(alloc: Global, words: usize) -> Result<Self, AllocError>
         requires some { 0 < words }
@@ -138,9 +138,9 @@ impl Page {
         overwrite(&mut self.words, changes.words());
     }
 
-    /// The record of the dirty words, as words of page `page`: `None` where no word is dirty.
-    /// Costs in the order of what is dirty. Takes memory only where some word is dirty, and answers
-    /// `AllocError` where that is refused.
+    /// The record of the dirty words, as words of page `page`: `None` if no word is dirty.
+    /// Costs in the order of what is dirty. Takes memory only if some word is dirty, and answers
+    /// `AllocError` if that is refused.
     pub fn harvest(&self, page: usize) -> Result<Option<Record>, AllocError>
         ensures clean { IsClean self.now → result ≡ Ok None }
         ensures none { IfOk result (λ r. IfNone r (IsClean self.now)) }

@@ -33,7 +33,7 @@ impl Record {
         Record { page, words }
     }
 
-    /// The same of words that may be in any order: `None` exactly where their offsets don't rise
+    /// The same of words that may be in any order: `None` exactly if their offsets don't rise
     /// strictly.
     pub fn from_words(page: usize, words: Vec<(usize, u32)>) -> Option<Self>
         ensures some { IsSome result ↔ IsRising words.items }

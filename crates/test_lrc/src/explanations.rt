@@ -1,14 +1,14 @@
-//! A caller of sources, why, lrc_explain and lrc_picture who knows nothing of them but their contracts.
+//! A caller of `judge`, `causes`, `lrc_explain` and `lrc_picture` that knows nothing of them but their contracts, with
+//! histories worked by hand.
 //!
-//! **What is only tested** here:
-//! - that the words of the specs of sources and why mean what they are to mean, by histories worked by hand; and that they
-//!   refuse no memory needlessly;
-//! - the text of a run, that it is one write, and that a journal with a processor too many is refused;
-//! - that each event has its mark and its label in a picture's file, each event that was let through its arrows, each complete
-//!   episode its bar, the first race its frames and each processor that waits its cross; that the file is one element, closed
-//!   at its end; that memory isn't refused needlessly, and that each refusal is answered.
-//!
-//! Histories worked by hand, and what is told of them.
+//! **What is only tested** here (and by whole runs, in `tests/program`):
+//! - that the words of the specs of `judge` and `causes` mean what they are to mean, and that they refuse no memory
+//!   needlessly;
+//! - the texts of histories that no whole run has; that a text is one write; and that a journal with a processor too
+//!   many is refused;
+//! - that each event has its mark and its label in a picture's file, each event that was let through its arrows, each
+//!   complete episode its bar, the first race its frames and each processor that waits its cross; that the file is one
+//!   element, closed at its end; that memory isn't refused needlessly, and that each refusal is answered.
 ghost use Rattle.std.specs.Prelude.{◌<◌, ◌≤◌, IsTrue, length};
 ghost use Rattle.base.specs.Prelude.{most_held, most_processors};
 ghost use Rattle.journal.specs.Prelude.{AddressInRange, AddressesInRange, ProcessorsInRange};
@@ -36,7 +36,7 @@ fn events_of(alloc: Global, rows: &[Row]) -> Result<Vec<Event>, AllocError> {
     Ok(events)
 }
 
-/// The history of these rows; where memory is refused once, it is asked for again.
+/// The history of these rows; if memory is refused once, it is asked for again.
 fn history(alloc: Global, rows: &[Row]) -> Result<Vec<Event>, AllocError> {
     match events_of(alloc, rows) {
         Ok(events) => Ok(events),

@@ -20,7 +20,7 @@ module _ {C : Type 0} where
   chairs_after_first p c [] = chair_run false p c []
   chairs_after_first p c (x ∷ xs) = chair_run true p x xs
 
-  -- the run that is left when its first chair goes to a new seat: none where there is no other chair
+  -- the run that is left when its first chair goes to a new seat: none if there is no other chair
   abbrev pub rest_of_chairs : ChairRun C → ChairRun C
   rest_of_chairs h = chairs_after_first (h.place + 1) h.lead h.others
 

@@ -66,7 +66,7 @@ module _ {B V : Type 0} where
   abbrev pub Stands : (B → List V → Type 0) → B → ℕ → V → Type 0
   Stands fact b p v = (views : List V) × (slice_get views p ≡ Some v) × fact b views
 
-  -- whatever the other views are: where the fact held of the book as it was found, some new view is told of and
+  -- whatever the other views are: if the fact held of the book as it was found, some new view is told of and
   -- keeps it with the book handed in
   abbrev pub MayHandIn : (B → List V → Type 0) → (B → B → ℕ → V → V → Type 0) → B → B → ℕ → V → Type 0
   MayHandIn fact then found book p v =

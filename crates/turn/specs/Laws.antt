@@ -30,7 +30,7 @@ module _ {B V : Type 0} where
     pub least : (k j m n : ℕ) (b : B) → InsideAt chairs k m b → HasTicket chairs j n → m ≤ n
     -- the slot is empty only while a chair is inside
     pub empty : homes ≡ none ∷ [] → (k m : ℕ) × (b : B) × InsideAt chairs k m b
-    -- the keeper's fact holds of the book in the slot
+    -- the lock invariant holds of the book in the slot
     pub kept : (b : B) → homes ≡ some (Some b) ∷ [] → fact b (map view_of chairs)
 
 -- in each state that meets the rule of a lock with n chairs, of which each may enter `limit` times,

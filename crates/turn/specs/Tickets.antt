@@ -61,5 +61,5 @@ pub record TicketTurns {B V : Type 0} (fact : B → List V → Type 0) (shows : 
   -- the book is out only while a chair is inside
   pub lies : homes ≡ shelf out book
   pub taken : out ≡ true → (k m : ℕ) × (c : ChairState B V) × (slice_get chairs k ≡ Some c) × (c.stage ≡ Inside m book)
-  -- the keeper's fact holds of the book as it lies or was taken, and all views
+  -- the lock invariant holds of the book as it lies or was taken, and all views
   pub kept : fact book (map view_of chairs)

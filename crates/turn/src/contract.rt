@@ -54,7 +54,7 @@ pub trait Turn<B, K: Keeper<B>>: Sized + Sync {
     // How many chairs it has.
     ghost size: { Self → ℕ };
 
-    /// A lock with `seats` chairs, in the order of their places. Where memory runs out the book is dropped.
+    /// A lock with `seats` chairs, in the order of their places. If memory runs out the book is dropped.
     fn new(alloc: Global, book: B, seats: usize) -> Result<(Self, Vec<Chair<B, K>>), AllocError>
     where
         B: Drop,
@@ -67,7 +67,7 @@ pub trait Turn<B, K: Keeper<B>>: Sized + Sync {
 
     /// Waits for the chair's turn, and answers the book. It takes no memory.
     ///
-    /// [`Spent`] where the chair has entered [`ENTRIES`](Turn::ENTRIES) times; then nothing has changed.
+    /// [`Spent`] if the chair has entered [`ENTRIES`](Turn::ENTRIES) times; then nothing has changed.
     fn enter<R: Wait>(&self, rt: &R, chair: &mut Chair<B, K>) -> Result<(Held, B), Spent>
         requires own { lock chair.old ≡ id self.now }
         requires outside { IsOutside chair.old }

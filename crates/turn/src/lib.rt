@@ -1,7 +1,8 @@
-//! A lock round one value, under a fact that the user names.
+//! A lock round one value, with an invariant that the user names.
 //!
-//! A [`Keeper`] names a fact over the value, the book, and the list of all chairs' views. It holds whenever the lock is
-//! free. A [`Turn`] is a lock that keeps it: whoever enters gets the book, with the fact, and owes it again on leaving.
+//! A [`Keeper`] names the lock invariant: a fact over the value (the book) and the list of all chairs' views, which
+//! holds whenever the lock is free. A [`Turn`] is a lock that keeps it: a chair that enters gets the book with that
+//! fact, and owes it again on leaving.
 //! Two locks meet the contract, from one text: the ticket lock (Reed and Kanodia, "Synchronization with eventcounts and
 //! sequencers", CACM 1979; Mellor-Crummey and Scott, "Algorithms for scalable synchronization on shared-memory
 //! multiprocessors", ACM TOCS 1991, section 2.2) and the array lock (Anderson, "The performance of spin lock
@@ -22,8 +23,8 @@
 //! **What contracts see** (`specs/Chairs`): of a chair its `lock`, `place`, `view`, `entries`, and whether it `IsOutside`
 //! or `IsInside` with the book that it took; of a lock its `id`, `size` and `ENTRIES`. Lists are read by `slice_get`.
 //!
-//! **What is proved**: the keeper's fact whenever the lock is free; [`Spent`] exactly after that many entries, with nothing
-//! changed; `turns_law` of both locks, that the numbers are served in turn and one chair at most is inside.
+//! **What is proved**: the lock invariant whenever the lock is free; [`Spent`] exactly after that many entries, with
+//! nothing changed; `turns_law` of both locks, that the numbers are served in turn and one chair at most is inside.
 //!
 //! **What is only tested**: that waiting chairs get in, though their threads sleep; the words of both boards. Fairness, time
 //! and that `enter` returns are neither proved nor promised.

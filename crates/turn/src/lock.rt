@@ -101,7 +101,7 @@ type LockSeat<B, V> = Seat<Option<B>, ChairRun<ChairState<B, V>>>;
 const NEXT: usize = 0;
 
 /// How often a waiting thread looks before it sleeps, with a pause of the processor after each look. The pauses don't grow,
-/// since in a queue the one that looks too late stops everybody behind it. It doesn't yield either: where there are more
+/// since in a queue the one that looks too late stops everybody behind it. It doesn't yield either: if there are more
 /// threads than idle processors, a yield lets threads run that wait as it does.
 const LOOKS_AWAKE: u32 = 128;
 
@@ -140,7 +140,7 @@ impl<B, K: Keeper<B>, W: Board, const ENTRIES: u64> TurnLock<B, K, W, ENTRIES> {
         self.table.shared.fetch_add::<Draw>(seat, NEXT, 1)
     }
 
-    // The steps 'look' and 'enter': one load of the chair's word. Where it finds another number, nothing changes; where
+    // The steps 'look' and 'enter': one load of the chair's word. If it finds another number, nothing changes; if
     // it finds the chair's own, the chair is inside, and its seat alone has the slot with the book.
     fn look(&self, seat: &mut LockSeat<B, K::View>, word: usize, number: u64) -> bool
         requires own { seat.old.table_id ≡ self.now.table.shared.table_id }
@@ -262,7 +262,7 @@ impl<B, K: Keeper<B>, W: Board, const ENTRIES: u64> TurnLock<B, K, W, ENTRIES> {
         W::pass::<_, _, _, _, StepOut<M>>(&self.table.shared, seat, self.layout.seats, number);
     }
 
-    // Wakes whoever sleeps at the next number's word. It comes after the step 'leave': who sleeps is looked for last.
+    // Wakes the thread that sleeps at the next number's word. It comes after the step 'leave': sleepers are looked for last.
     fn wake_next_turn(&self, number: u64)
         requires { number + 1 < 2 ^ 64 }
     {

@@ -7,7 +7,7 @@
 //! that hasn't begun by then doesn't begin, since the kernel finds another word.
 //!
 //! The kernel compares the low half of a word. So no thread sleeps on a low half that its own number has: a sleep never
-//! begins once the number is there, whatever the word was before. The two differ anyway where a lock has fewer than 2^32
+//! begins once the number is there, whatever the word was before. The two differ anyway if a lock has fewer than 2^32
 //! chairs, since the word is behind the number by at most the number of chairs.
 //!
 //! A sleep may also end for no reason, or by a wake that is for another thread at the same word. Then the thread looks, and
@@ -17,7 +17,7 @@ use std::sync::atomic::AtomicU64;
 use std::sync::atomic::Ordering::SeqCst;
 
 /// How many threads sleep, or are about to. The count stands beside the lock's table, and no rule speaks of it. It has a
-/// cache line of its own, which whoever leaves reads.
+/// cache line of its own, which each leave reads.
 #[derive(Drop)]
 pub struct Sleepers {
     count: CachePadded<AtomicU64>,

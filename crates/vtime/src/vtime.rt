@@ -134,7 +134,7 @@ fn tick_entry(entries: &mut [u64], q: usize)
     entries[q] += 1;
 }
 
-/// Raises each entry of `mine` to that of `theirs` where that is greater.
+/// Raises each entry of `mine` to that of `theirs` if that is greater.
 fn join_entries(mine: &mut [u64], theirs: &[u64])
     requires { length theirs.now ≡ length mine.old }
     ensures value { mine.new ≡ join mine.old theirs.now }

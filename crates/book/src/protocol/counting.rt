@@ -10,7 +10,7 @@ use interval::Sent;
 use vtime::VTime;
 
 impl Protocol {
-    /// How many notices of each page a take by `processor` would bring now, where `processor` waits for the flag.
+    /// How many notices of each page a take by `processor` would bring now, if `processor` waits for the flag.
     pub(crate) fn count_by_flag(&self, processor: usize, flag: usize, counts: &mut [usize])
         requires call { AllowsTake self.now processor (Await flag) }
         ensures each { EachIndex counts.new (λ n. slice_index counts.new n
@@ -24,7 +24,7 @@ impl Protocol {
         }
     }
 
-    /// The same where `processor` waits for a grant or a departure.
+    /// The same if `processor` waits for a grant or a departure.
     pub(crate) fn count_by_message(&self, processor: usize, counts: &mut [usize])
         requires processor { processor < length self.now.transit }
         ensures each { EachIndex counts.new (λ n. slice_index counts.new n
@@ -38,7 +38,7 @@ impl Protocol {
         }
     }
 
-    /// How many notices of the page, where `processor` waits for the flag.
+    /// How many notices of the page, if `processor` waits for the flag.
     pub(crate) fn count_page_by_flag(&self, processor: usize, flag: usize, page: usize) -> usize
         requires call { AllowsTake self.now processor (Await flag) }
         ensures { result
@@ -51,7 +51,7 @@ impl Protocol {
         }
     }
 
-    /// The timestamps of `processor` and of the flag for which `processor` waits, where that is set.
+    /// The timestamps of `processor` and of the flag for which `processor` waits, if that is set.
     fn signalled(&self, processor: usize, flag: usize) -> Option<(&VTime, &VTime)>
         requires call { AllowsTake self.now processor (Await flag) }
         ensures set { IfSome result (λ x. IsSignalled self.now processor flag x.0.now x.1.now) }
@@ -61,7 +61,7 @@ impl Protocol {
         Some((&self.times[processor], time))
     }
 
-    /// The same where `processor` waits for a grant or a departure.
+    /// The same if `processor` waits for a grant or a departure.
     pub(crate) fn count_page_by_message(&self, processor: usize, page: usize) -> usize
         requires processor { processor < length self.now.transit }
         ensures { result

@@ -45,17 +45,17 @@ interval_closed m k = record m {
   awaits = awaited k;
 }
 
--- the copy d is c, but for its room
+-- the copy d is c, except for its room
 pub record IsSameCopy (c d : Copied) : Type 0 where
   pub page : d.page ≡ c.page
   pub missing : d.missing ≡ c.missing
 
--- each copy is as it was, but for its room
+-- each copy is as it was, except for its room
 pub record AreSameCopies (old new : List Copied) : Type 0 where
   pub all : length new ≡ length old
   pub each : (n : ℕ) (c d : Copied) → slice_get old n ≡ Some c → slice_get new n ≡ Some d → IsSameCopy c d
 
--- the copy d is c after these records of its page came: as it was where none came, else stale, and it lacks what it
+-- the copy d is c after these records of its page came: as it was if none came, else stale, and it lacks what it
 -- lacked and these, in closing order
 pub record IsAfterNews (c : Copied) (news : List SentRecord) (d : Copied) : Type 0 where
   pub none : news ≡ [] → IsSameCopy c d

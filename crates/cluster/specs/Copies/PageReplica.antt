@@ -34,7 +34,7 @@ abbrev pub may_use_replica : Access → Bool
 may_use_replica Valid = true
 may_use_replica Invalid = false
 
--- the words of a copy, where it may be used
+-- the words of a copy, if it may be used
 abbrev pub words_if : Bool → Copied → Option (List ℕ)
 words_if true c = Some c.page.words
 words_if false c = None

@@ -16,10 +16,10 @@ impl<T: BookTurn> Cluster<T> {
     /// from then on it waits for the lock until a [`take`](Cluster::take) succeeds.
     ///
     /// The first of these that applies: [`BadLock`](Refused::BadLock) past the last lock,
-    /// [`Waiting`](Refused::Waiting) where it waits already, [`AlreadyHeld`](Refused::AlreadyHeld),
-    /// [`SeatSpent`](Refused::SeatSpent) where it has entered the book as often as it may; else
-    /// [`JournalFull`](Refused::JournalFull) exactly where the journal would have more than 2^20 events, or
-    /// [`NoMemory`](Refused::NoMemory). A refused call leaves the processor as it was, but that it may have seen
+    /// [`Waiting`](Refused::Waiting) if it waits already, [`AlreadyHeld`](Refused::AlreadyHeld),
+    /// [`SeatSpent`](Refused::SeatSpent) if it has entered the book as often as it may; else
+    /// [`JournalFull`](Refused::JournalFull) exactly if the journal would have more than 2^20 events, or
+    /// [`NoMemory`](Refused::NoMemory). A refused call leaves the processor as it was, except that it may have seen
     /// more of the journal.
     pub fn ask<R: Wait>(
         &self,
@@ -34,8 +34,8 @@ impl<T: BookTurn> Cluster<T> {
         self.close(rt, processor, Kind::Ask(lock))
     }
 
-    /// Releases a lock that the processor holds: hands its open block in and closes its interval, which the next
-    /// one to acquire the lock gets to know of.
+    /// Releases a lock that the processor holds: hands its open block in and closes its interval. The next
+    /// processor to acquire the lock learns of it.
     ///
     /// Refused as [`ask`](Cluster::ask) is, with [`NotHeld`](Refused::NotHeld) in the place of `AlreadyHeld`.
     pub fn release<R: Wait>(
@@ -63,8 +63,8 @@ impl<T: BookTurn> Cluster<T> {
         self.close(rt, processor, Kind::Arrive)
     }
 
-    /// Sets a flag, which stays set: hands the open block in and closes the interval, which whoever awaits the
-    /// flag from then on gets to know of.
+    /// Sets a flag, which stays set: hands the open block in and closes the interval. Each
+    /// processor that awaits the flag from then on learns of it.
     ///
     /// The first of these that applies: [`BadFlag`](Refused::BadFlag) past the last flag,
     /// [`Waiting`](Refused::Waiting), and then as for [`ask`](Cluster::ask).

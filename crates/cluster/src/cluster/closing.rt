@@ -20,7 +20,7 @@ use std::sync::{Arc, Wait};
 
 impl<T: BookTurn> Cluster<T> {
     /// Hands the block in, closes the interval by this event, and from then on waits for what comes after it,
-    /// where the processor may. The records are harvested before the book is entered.
+    /// if the processor may. The records are harvested before the book is entered.
     pub(super) fn close<R: Wait>(
         &self,
         rt: &R,

@@ -15,12 +15,12 @@ impl<T: BookTurn> Cluster<T> {
     /// off stays the beginning of the history; the journal keeps the memory after it, who holds which lock, which
     /// flags are set, and what it cost. It hands nothing in, and a processor that waits may call it too.
     ///
-    /// The first of these that applies: [`SeatSpent`](Refused::SeatSpent) where the processor has entered the book as
-    /// often as it may, [`NoEpisode`](Refused::NoEpisode) exactly where no episode is complete in the journal,
-    /// [`BaseFull`](Refused::BaseFull) exactly where more than 2^30 events would be cut off in all; else
+    /// The first of these that applies: [`SeatSpent`](Refused::SeatSpent) if the processor has entered the book as
+    /// often as it may, [`NoEpisode`](Refused::NoEpisode) exactly if no episode is complete in the journal,
+    /// [`BaseFull`](Refused::BaseFull) exactly if more than 2^30 events would be cut off in all; else
     /// [`Racy`](Refused::Racy) with the first race of the events to be cut off, by their places in the journal, or
-    /// [`NoMemory`](Refused::NoMemory). A refused call leaves the processor as it was, but that it may have seen more
-    /// of the journal.
+    /// [`NoMemory`](Refused::NoMemory). A refused call leaves the processor as it was, except that it may have seen
+    /// more of the journal.
     pub fn cut<R: Wait>(&self, rt: &R, processor: &mut Processor<T>) -> Result<(), Refused>
         requires own { processor.old.lock ≡ self.now.lock }
         ensures { IsCuttingCall processor.old processor.new (result_err result) }

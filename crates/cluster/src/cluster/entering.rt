@@ -15,7 +15,7 @@ use turn::{Chair, Held, Spent};
 impl<T: BookTurn> Cluster<T> {
     /// Waits for the chair's turn, and takes the book.
     ///
-    /// [`SeatSpent`](Refused::SeatSpent) exactly where the chair has entered as often as it may.
+    /// [`SeatSpent`](Refused::SeatSpent) exactly if the chair has entered as often as it may.
     // It stands in its callers, since a take that comes too early does little else.
     #[inline(always)]
     pub(super) fn take_book<R: Wait>(

@@ -13,9 +13,9 @@ use std::sync::Wait;
 impl<T: BookTurn> Cluster<T> {
     /// Hands the processor's open block in, which is empty then.
     ///
-    /// [`SeatSpent`](Refused::SeatSpent) where it has entered the book as often as it may. Else
-    /// [`JournalFull`](Refused::JournalFull) exactly where the journal would have more than 2^20 events, and
-    /// [`NoMemory`](Refused::NoMemory). A refused call leaves the processor as it was, but that it may have seen
+    /// [`SeatSpent`](Refused::SeatSpent) if it has entered the book as often as it may. Else
+    /// [`JournalFull`](Refused::JournalFull) exactly if the journal would have more than 2^20 events, and
+    /// [`NoMemory`](Refused::NoMemory). A refused call leaves the processor as it was, except that it may have seen
     /// more of the journal.
     pub fn flush<R: Wait>(&self, rt: &R, processor: &mut Processor<T>) -> Result<(), Refused>
         requires own { processor.old.lock ≡ self.now.lock }

@@ -27,14 +27,14 @@ use vtime::VTime;
 const MOST_PAGES: usize = 64;
 
 impl<T: BookTurn> Cluster<T> {
-    /// Takes what the processor waits for, the lock, the end of the barrier's episode or the flag's signal: it gets to
-    /// know of all that happened before that, and its copies of the pages that others stored to there are invalid.
+    /// Takes what the processor waits for, the lock, the end of the barrier's episode or the flag's signal. It
+    /// learns of all that happened before that, and its copies of the pages that others stored to there become invalid.
     /// It costs what it is sent.
     ///
     /// The first of these that applies: [`NothingAwaited`](Refused::NothingAwaited),
-    /// [`SeatSpent`](Refused::SeatSpent), [`NotYet`](Refused::NotYet) exactly where that hasn't come yet;
-    /// else [`JournalFull`](Refused::JournalFull) exactly where the journal has 2^20 events, or
-    /// [`NoMemory`](Refused::NoMemory). A refused call leaves the processor as it was, but that it may have seen
+    /// [`SeatSpent`](Refused::SeatSpent), [`NotYet`](Refused::NotYet) exactly if that hasn't come yet;
+    /// else [`JournalFull`](Refused::JournalFull) exactly if the journal has 2^20 events, or
+    /// [`NoMemory`](Refused::NoMemory). A refused call leaves the processor as it was, except that it may have seen
     /// more of the journal.
     pub fn take<R: Wait>(&self, rt: &R, processor: &mut Processor<T>) -> Result<(), Refused>
         requires own { processor.old.lock ≡ self.now.lock }
@@ -51,8 +51,8 @@ impl<T: BookTurn> Cluster<T> {
     }
 }
 
-/// Takes what `p` waits for from the book, and makes room for it in the copies' lists. Whoever waits looks again and
-/// again, so it asks first whether that has come.
+/// Takes what `p` waits for from the book, and makes room for it in the copies' lists. A processor that waits looks
+/// again and again, so it asks first whether that has come.
 fn receive(book: &mut Book, p: usize, replicas: &mut Vec<Replica>) -> Result<Message, Refused>
     requires call { AllowsSomeTake book.old p }
     requires few { vec_len replicas.old ≤ 64 }
@@ -74,8 +74,8 @@ fn receive(book: &mut Book, p: usize, replicas: &mut Vec<Replica>) -> Result<Mes
     receive_ready(book, p, replicas)
 }
 
-/// The same where that has come. Where the journal is full nothing is taken, so no growth is tried. It is called, since
-/// whoever comes too early would else set up all its locals.
+/// The same if that has come. If the journal is full nothing is taken, so no growth is tried. It is called, since
+/// otherwise an early take pays for these locals.
 #[inline(never)]
 fn receive_ready(book: &mut Book, p: usize, replicas: &mut Vec<Replica>) -> Result<Message, Refused>
     requires call { AllowsSomeTake book.old p }

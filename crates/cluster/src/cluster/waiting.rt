@@ -15,7 +15,7 @@ use std::sync::Wait;
 
 impl<T: BookTurn> Cluster<T> {
     /// Waits until what the processor awaits may have come, and takes nothing: a [`take`](Cluster::take) does. It answers
-    /// at once where it awaits nothing, and otherwise enters the book once, as a take does, and looks. Where that has
+    /// at once if it awaits nothing, and otherwise enters the book once, as a take does, and looks. If that has
     /// come, or nothing can come any more, it answers so; else it pauses, and then sleeps, until it is told that something
     /// has come. It may answer [`MayHaveCome`](Waited::MayHaveCome) though nothing has.
     ///
@@ -23,8 +23,8 @@ impl<T: BookTurn> Cluster<T> {
     /// waits for has come for none. No event can follow, so all later calls find the same; `flush`, `audit` and `cut` are
     /// answered as ever. [`Deserted`](Waited::Deserted) if each processor waits so or has [`ended`](Cluster::end).
     ///
-    /// The only refusal is [`SeatSpent`](Refused::SeatSpent), exactly where it awaits something and has entered the book
-    /// as often as it may. The processor stays as it was, but that it may have seen more of the journal.
+    /// The only refusal is [`SeatSpent`](Refused::SeatSpent), exactly if it awaits something and has entered the book
+    /// as often as it may. The processor stays as it was, except that it may have seen more of the journal.
     pub fn wait<R: Wait>(&self, rt: &R, processor: &mut Processor<T>) -> Result<Waited, Refused>
         requires own { processor.old.lock ≡ self.now.lock }
         ensures { IsWaitingCall processor.old processor.new result }
@@ -39,13 +39,13 @@ impl<T: BookTurn> Cluster<T> {
     }
 
     /// Says that the processor with this number makes no more calls, so that nobody waits for it in vain: a thread that
-    /// ends early says it, and who could not start one. It waits for nothing, enters nothing and takes no memory.
+    /// ends early says it, and code that could not start one. It waits for nothing, enters nothing and takes no memory.
     pub fn end(&self, processor: usize) {
         self.bells.end(processor);
     }
 }
 
-/// What processor `p` finds: an answer, or None where it has to sleep. Where nothing has come it forgets what it was told.
+/// What processor `p` finds: an answer, or None if it has to sleep. If nothing has come it forgets what it was told.
 fn look(bells: &Bells, book: &Book, p: usize) -> Option<Waited>
     requires call { AllowsSomeTake book.now p }
     ensures stuck { (s : Sizes) (h : List Event) → Represents s h book.now
@@ -66,7 +66,7 @@ fn look(bells: &Bells, book: &Book, p: usize) -> Option<Waited>
     None
 }
 
-/// Answers what was found, and tells all others where nothing can come any more; or waits until `p` is told.
+/// Answers what was found, and tells all others if nothing can come any more; or waits until `p` is told.
 fn settle<R: Wait>(rt: &R, bells: &Bells, p: usize, found: Option<Waited>) -> Waited
     ensures { result ≡ waited_answer found }
 {

@@ -12,7 +12,7 @@ use std::sync::Arc;
 /// The records of the dirty words, one a page and by rising page, to be shared. `stored` marks each page with a dirty
 /// word, and others if need be: only pages with a mark are looked at.
 ///
-/// Takes memory only where some page is marked, and answers `AllocError` where that is refused.
+/// Takes memory only if some page is marked, and answers `AllocError` if that is refused.
 pub fn harvest(
     alloc: Global,
     replicas: &[Replica],

@@ -9,7 +9,7 @@ use std::alloc::AllocError;
 /// Makes room in each copy's list for as many more records as the count at the page's place says. Pages and lists are
 /// as they were, whatever it answers.
 ///
-/// Takes memory only where a count is above 0 and its room is missing, and answers `AllocError` where that is refused.
+/// Takes memory only if a count is above 0 and its room is missing, and answers `AllocError` if that is refused.
 pub fn make_room(replicas: &mut [Replica], counts: &[usize]) -> Result<(), AllocError>
     requires { length counts.now ≤ length replicas.old }
     ensures same { AreSameCopies replicas.old replicas.new }

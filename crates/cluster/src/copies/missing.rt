@@ -66,7 +66,7 @@ impl Backlog {
         &self.ring[index - first]
     }
 
-    /// Makes room for `count` more. Answers `AllocError` where memory for them is refused.
+    /// Makes room for `count` more. Answers `AllocError` if memory for them is refused.
     pub(crate) fn reserve(&mut self, count: usize) -> Result<(), AllocError>
         ensures records { self.new.records ≡ self.old.records }
         ensures ok { OnOk result (count ≤ self.new.room) }
@@ -98,7 +98,7 @@ impl Backlog {
         self.start = 0;
     }
 
-    /// How many records were closed no later than `place`, where they are in closing order. It looks from the place
+    /// How many records were closed no later than `place`, if they are in closing order. It looks from the place
     /// of the last one that was put.
     fn place_of(&self, place: u64) -> usize
         requires { MissingInOrder (map news_of_notice self.now.records) }
@@ -109,7 +109,7 @@ impl Backlog {
         self.on_from(start, place)
     }
 
-    /// The last place up to `from` right behind a record that was closed no later than `place`; 0 where there is none.
+    /// The last place up to `from` right behind a record that was closed no later than `place`; 0 if there is none.
     fn back_from(&self, from: usize, place: u64) -> usize
         requires within { from ≤ length self.now.records }
         ensures within { result ≤ from }
@@ -123,7 +123,7 @@ impl Backlog {
         at
     }
 
-    /// How many records were closed no later than `place`, where those before `from` were.
+    /// How many records were closed no later than `place`, if those before `from` were.
     fn on_from(&self, from: usize, place: u64) -> usize
         requires within { from ≤ length self.now.records }
         requires before { (i : ℕ) (x : SentRecord) → i < from

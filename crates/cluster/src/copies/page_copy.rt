@@ -51,7 +51,7 @@ impl Model for Replica {
 }
 
 impl Replica {
-    /// A valid copy of `words` zeros (1 to 64). Answers `AllocError` where memory for them is refused.
+    /// A valid copy of `words` zeros (1 to 64). Answers `AllocError` if memory for them is refused.
     pub fn zero(alloc: Global, words: usize) -> Result<Replica, AllocError>
         requires some { 0 < words }
         requires few { words ≤ 64 }
@@ -70,7 +70,7 @@ impl Replica {
         self.page.access() == Access::Valid
     }
 
-    /// Its words, where it lacks nothing.
+    /// Its words, if it lacks nothing.
     pub fn words(&self) -> Option<&[u32]>
         ensures { option_map (λ words. words.now) result
             ≡ words_if (may_use_replica self.now.page.access) self.now }
@@ -113,7 +113,7 @@ impl Replica {
         }
     }
 
-    /// The record of its dirty words, as words of page `page`, where there are some. Takes memory only then.
+    /// The record of its dirty words, as words of page `page`, if there are some. Takes memory only then.
     pub(crate) fn harvest(&self, page: usize) -> Result<Option<Record>, AllocError>
         ensures clean { IsClean self.now.page → result ≡ Ok None }
         ensures none { IfOk result (λ r. IfNone r (IsClean self.now.page)) }
@@ -129,7 +129,7 @@ impl Replica {
         self.page.clean();
     }
 
-    /// Makes room for `count` more records. Answers `AllocError` where memory for them is refused.
+    /// Makes room for `count` more records. Answers `AllocError` if memory for them is refused.
     pub(crate) fn reserve(&mut self, count: usize) -> Result<(), AllocError>
         ensures same { IsSameCopy self.old self.new }
         ensures ok { OnOk result (count ≤ self.new.room) }

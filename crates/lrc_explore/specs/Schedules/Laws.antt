@@ -73,7 +73,7 @@ pub record IsStuck (s : Plan) (h : List Event) : Type 0 where
   pub begun : IsUnfinished s h
   pub stuck : (p : ℕ) (k : Kind) → is_fetch k ≡ false → WellFormed (plan_sizes s) (did h p k) → ¬ BeginsScript s (did h p k)
 
--- where a search finds a script race-free and no hang, no history of it is stuck
+-- if a search finds a script race-free and no hang, no history of it is stuck
 abbrev pub NeverStuckLaw : Type 0
 NeverStuckLaw = (s : Plan) (outcomes : Vec Outcome) (h : List Event) → IsFoundRaceFree s outcomes None → ¬ IsStuck s h
 
@@ -85,7 +85,7 @@ pub record CanContinue (s : Plan) (h : List Event) : Type 0 where
   pub well_formed : WellFormed (plan_sizes s) (did h processor kind)
   pub begins : BeginsScript s (did h processor kind)
 
--- where a search finds a lawful script race-free and no hang, each history of it that isn't whole may go on by some call
+-- if a search finds a lawful script race-free and no hang, each history of it that isn't whole may go on by some call
 abbrev pub GoesOnLaw : Type 0
 GoesOnLaw = (s : Plan) (outcomes : Vec Outcome) (h : List Event) → IsLawful s → IsFoundRaceFree s outcomes None
     → IsUnfinished s h → CanContinue s h

@@ -34,7 +34,7 @@ impl<T: BookTurn> Promise<Result<Processor<T>, Cause>> for SectionWalked<T> {
     ghost kept_by = { λ p r. IfOk r (λ m. Walks p.was.value m p.section.value.items) };
 }
 
-/// A processor's thread, where it could be started. Contracts see it as what it was started with.
+/// A processor's thread, if it could be started. Contracts see it as what it was started with.
 #[derive(Drop)]
 struct Thread<T: BookTurn> {
     handle: Option<PromisedHandle<Result<Processor<T>, Cause>, SectionWalked<T>>>,
@@ -160,7 +160,7 @@ fn start_threads<'s, 'x: 's, T: BookTurn + Send + Drop, R: Threads + Wait + Sync
 
 /// Moves each processor into a thread of its own, which walks the processor's section, and waits for all threads:
 /// what came of the processors, in their order. [`Thread`](Cause::Thread) came of one whose thread couldn't be
-/// started; the others go their way.
+/// started; the others run on.
 pub(super) fn walk_all<'x, T: BookTurn + Send + Drop, R: Threads + Wait + Sync, G: Gate + Sync>(
     rt: &'x R,
     alloc: Global,

@@ -12,7 +12,7 @@ use book::Refused;
 use cluster::{BookTurn, Cluster, Processor};
 use std::sync::Wait;
 
-/// The word at the address, of a copy that is fetched where it is stale. Refused as the load, the fetch or the
+/// The word at the address, of a copy that is fetched if it is stale. Refused as the load, the fetch or the
 /// flush is; neither as [`Invalid`](Refused::Invalid) nor as [`BlockFull`](Refused::BlockFull).
 pub(crate) fn load<T: BookTurn, R: Wait>(
     rt: &R,
@@ -71,7 +71,7 @@ pub(crate) fn add<T: BookTurn, R: Wait>(
     store(rt, cluster, processor, address, reply.wrapping_add(value))
 }
 
-/// Fetches the page, after a flush where the block is full.
+/// Fetches the page, after a flush if the block is full.
 fn fetch<T: BookTurn, R: Wait>(
     rt: &R,
     cluster: &Cluster<T>,
@@ -90,7 +90,7 @@ fn fetch<T: BookTurn, R: Wait>(
     }
 }
 
-/// Loads, after a flush where the block is full.
+/// Loads, after a flush if the block is full.
 fn load_roomy<T: BookTurn, R: Wait>(
     rt: &R,
     cluster: &Cluster<T>,
@@ -109,7 +109,7 @@ fn load_roomy<T: BookTurn, R: Wait>(
     }
 }
 
-/// Stores, after a flush where the block is full.
+/// Stores, after a flush if the block is full.
 fn store_roomy<T: BookTurn, R: Wait>(
     rt: &R,
     cluster: &Cluster<T>,

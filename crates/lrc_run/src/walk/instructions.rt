@@ -12,7 +12,7 @@ use cluster::{BookTurn, Cluster, Processor};
 use lrc_script::script::Instruction;
 use std::sync::Wait;
 
-/// Does the instruction, or begins it where it waits for something: answers whether it is done. Refused as its calls
+/// Does the instruction, or begins it if it waits for something: answers whether it is done. Refused as its calls
 /// are.
 pub(crate) fn begin<T: BookTurn, R: Wait>(
     rt: &R,
@@ -38,7 +38,7 @@ fn waits(instruction: Instruction) -> bool
     )
 }
 
-/// Makes the calls that do the instruction, or the one that begins it where it waits for something. Refused as its
+/// Makes the calls that do the instruction, or the one that begins it if it waits for something. Refused as its
 /// calls are.
 fn call<T: BookTurn, R: Wait>(
     rt: &R,
@@ -67,7 +67,7 @@ fn call<T: BookTurn, R: Wait>(
     }
 }
 
-/// Cuts the journal off where it may be: one that has no complete episode of the barrier, or a race before its last
+/// Cuts the journal off if it may be: one that has no complete episode of the barrier, or a race before its last
 /// one, stays whole. Else refused as the cut is.
 fn cut<T: BookTurn, R: Wait>(
     rt: &R,

@@ -1,4 +1,4 @@
-//! Texts of histories worked by hand, and what is written where something fails.
+//! Texts of histories that no whole run has, and what is written if something fails.
 ghost use Rattle.std.specs.Prelude.{◌≡◌, ◌≤◌};
 ghost use Rattle.base.specs.Prelude.{most_processors};
 
@@ -15,7 +15,7 @@ use std::io::Write;
 use std::process::Abort;
 use std::test::Fail;
 
-/// Puts an event at the journal's end, where its sizes are these and it may have the event.
+/// Puts an event at the journal's end, if its sizes are these and it may have the event.
 fn put(journal: &mut Journal, processors: usize, addresses: usize, event: Event) -> Result<(), Fail>
     requires processors { journal.old.processors ≡ processors }
     requires addresses { journal.old.addresses ≡ addresses }
@@ -77,18 +77,14 @@ fn ended(alloc: Global, journal: Journal, racy: Option<bool>) -> Result<Ended, F
 
 /// The run of a case.
 fn run_of(alloc: Global, case: Case) -> Result<Ended, Fail> {
-    let mut journal = journal_of(alloc, case)?;
-    if case.is_cut {
-        journal.cut().map_err(|_| "not cut")?;
-    }
-    ended(alloc, journal, case.racy)
+    ended(alloc, journal_of(alloc, case)?, case.racy)
 }
 
 /// Whether the case has its text.
 fn has_text(alloc: Global, case: Case) -> Result<bool, Fail> {
     let run = run_of(alloc, case)?;
     let mut out = Vec::new(alloc);
-    let answer = render(alloc, case.processors, case.words, &run, &mut out);
+    let answer = render(alloc, case.processors, None, &run, &mut out);
     Ok(answer.is_ok() && out.as_slice() == case.text.as_bytes())
 }
 
@@ -119,7 +115,7 @@ impl Write for Counts {
     }
 }
 
-/// What a run answers by this writer, where it is told as one of so many processors, and the writes that it takes.
+/// What a run answers by this writer, if it is told as one of so many processors, and the writes that it takes.
 fn answer_of(
     alloc: Global,
     case: Case,

@@ -157,7 +157,7 @@ fn a_chair_is_spent_after_its_entries(rt: HostRuntime) -> Result<(), Fail> {
     Ok(())
 }
 
-// Opens a lock over a shared book, and drops it: each time the book is dropped too, also where memory is refused.
+// Opens a lock over a shared book, and drops it: each time the book is dropped too, also if memory is refused.
 fn drops_its_book<T: Turn<Arc<u8>, Anything> + Drop, R: Abort>(rt: &R, alloc: Global)
     requires { 3 * T.ENTRIES < 2 ^ 64 }
 {

@@ -1,11 +1,4 @@
-//! Histories worked by hand, with the texts that they are to have.
-
-mod lanes;
-mod loads;
-mod messages;
-mod races;
-mod stale_pages;
-mod waits;
+//! Histories that no whole run has, with the texts that they are to have. The others are cases of `tests/program`.
 
 use journal::Kind;
 
@@ -14,42 +7,42 @@ use journal::Kind;
 pub struct Case {
     pub processors: usize,
     pub addresses: usize,
-    /// How many words a page has, where that is told.
-    pub words: Option<usize>,
     /// Each event: its processor, and what it did.
     pub events: &'static [(usize, Kind)],
-    /// Whether the journal is cut.
-    pub is_cut: bool,
-    /// The report's verdict; None where the run can't go on.
+    /// The report's verdict; None if the run can't go on.
     pub racy: Option<bool>,
     pub text: &'static str,
 }
 
 /// All of them.
-pub const CASES: [Case; 25] = [
-    messages::BY_LOCK,
-    messages::BY_FLAG,
-    messages::BY_BARRIER,
-    loads::STALE,
-    loads::OVERWRITTEN,
-    loads::STALE_AGAIN,
-    loads::TWO_LATEST,
-    races::RACE_AFTER_LOCK,
-    waits::QUEUE,
-    lanes::CUT,
-    races::RACE_AFTER_CUT,
-    lanes::RUNS_ON,
-    lanes::SIXTEEN,
-    lanes::EMPTY,
-    waits::DEADLOCK,
-    waits::ALL_WAIT,
-    waits::ROUND_THE_BARRIER,
-    messages::OVER_A_THIRD,
-    messages::FAR,
-    stale_pages::RECORDS,
-    stale_pages::MANY_PAGES,
-    stale_pages::CUT_PAGES,
-    waits::CIRCLE_OF_THREE,
-    waits::CHAIN,
-    waits::KEPT_LOCK,
-];
+pub const CASES: [Case; 2] = [KEPT_LOCK, EMPTY];
+
+/// A lock that its holder kept to its end.
+const KEPT_LOCK: Case = Case {
+    processors: 2,
+    addresses: 2,
+    events: &[(0, Kind::Ask(0)), (0, Kind::Acquire(0)), (1, Kind::Ask(0))],
+    racy: None,
+    text: "   p0         p1
+0  ask 0
+1  acquire 0         nobody held it before
+2             ask 0  waits: p0 holds lock 0
+
+p0 waits for nothing
+p1 waits for lock 0, held by p0
+",
+};
+
+/// Nothing was done.
+const EMPTY: Case = Case {
+    processors: 2,
+    addresses: 1,
+    events: &[],
+    racy: Some(false),
+    text: "   p0  p1
+
+word 0 7
+verdict race-free
+traffic 2 3 4
+",
+};
