@@ -48,7 +48,8 @@ fn scheduled_report<T: Runs, R: Wait>(
     ensures runs { IfErr result (λ fault. IsScriptsStatus fault → ⊥) }
 {
     let schedule = Schedule::parse(alloc, text)?;
-    match runs.step_by(rt, alloc, script, lock, &schedule)? {
+    let ended = runs.step_by(rt, alloc, script, lock, &schedule)?;
+    match ended {
         Ended::Whole(report) => Ok(report),
         Ended::Halted(halt) => Err(ProgramFault::from(RunFault {
             processor: halt.processor,
