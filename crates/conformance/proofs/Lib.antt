@@ -6,3 +6,4 @@ pub mod Script
 pub mod Recomputing
 pub mod WithoutFetches
 pub mod WantedFetches
+pub mod Schedules

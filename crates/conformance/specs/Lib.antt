@@ -7,8 +7,10 @@ pub mod Laws
 pub mod Prelude
 pub mod ByTurns
 pub mod CutInstructions
+pub mod Draws
 pub mod Ends
 pub mod WantedFetches
 pub mod Orders
 pub mod Reports
+pub mod Schedules
 pub mod Turns

@@ -4,7 +4,9 @@ pub use Rattle.conformance.specs.Follows.{plan_sizes}
 pub use Rattle.conformance.specs.Laws.{OnlyLaw, RaceFreeLaw, RecomputedLaw}
 pub use Rattle.conformance.specs.ByTurns.{IsEndByTurns, IsHaltByTurns, IsReportByTurns, IsStuckByTurns, turn_orders}
 pub use Rattle.conformance.specs.CutInstructions.{HasCutInstruction, HasNoCutInstruction}
+pub use Rattle.conformance.specs.Draws.{Drawing, drawing_of, lowered, next_drawing}
 pub use Rattle.conformance.specs.Ends.{IsEndOf, IsJournalSoFar}
 pub use Rattle.conformance.specs.Orders.{order_drawn, order_generator, ordered, round_order}
 pub use Rattle.conformance.specs.Reports.{HasRace, IsReportOf, ReportsHistory}
+pub use Rattle.conformance.specs.Schedules.{IsMisfit, IsScheduleFault, IsScheduleText, item_text, item_turns, schedule_text, scheduled, turns_text}
 pub use Rattle.conformance.specs.Turns.{AreReachedByTurns, AreScriptTurns, TurnStage, instruction_at_turn, progress_after_turn}

@@ -16,8 +16,10 @@ mod ended;
 pub mod laws;
 mod progress;
 mod runs;
+mod schedule;
 
 pub use cause::{Cause, RunFault};
 pub use ended::{Ended, Halt};
 pub use progress::TurnProgress;
 pub use runs::{LockChoice, Runs};
+pub use schedule::{DrawnRun, MOST_TURNS, Misfit, Schedule, ScheduleFault};

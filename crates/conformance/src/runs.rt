@@ -1,12 +1,14 @@
 //! What runs scripts.
-ghost use Rattle.std.specs.Prelude.{ℕ, ◌≡◌, ◌<◌, IfErr, IfOk, Option, Result};
+ghost use Rattle.std.specs.Prelude.{ℕ, ◌≡◌, ◌<◌, IfErr, IfOk, List, Option, Result};
 ghost use Rattle.std.specs.Thread.{IsSync};
 ghost use Rattle.lrc_script.specs.Prelude.{IsLawful, plan_of};
-ghost use Rattle.conformance.specs.Prelude.{IsEndByTurns, IsEndOf, IsReportByTurns, IsReportOf, IsStuckByTurns, turn_orders};
+ghost use Rattle.conformance.specs.Prelude.{IsEndByTurns, IsEndOf, IsReportByTurns, IsReportOf, IsScheduleFault, IsStuckByTurns};
+ghost use Rattle.conformance.specs.Prelude.{turn_orders, scheduled};
 ghost use Rattle.conformance.specs.declared.cause.Cause.TheVariants as cause;
 
 use crate::cause::RunFault;
 use crate::ended::Ended;
+use crate::schedule::{DrawnRun, Schedule, ScheduleFault};
 use lrc_report::Report;
 use lrc_script::script::Script;
 use std::alloc::Global;
@@ -24,20 +26,25 @@ pub enum LockChoice {
 
 /// Runs lawful scripts. Whatever report it answers is one of the script.
 ///
-/// `ran` and `stepped` say what comes of a run; each implementor gives them their meaning. So code that promises one of
-/// them for any implementor has made this very call: on threads or by turns, with this lock, and these tries or this
-/// seed.
+/// `ran`, `stepped` and `followed` say what comes of a run; each implementor gives them their meaning. So code that promises
+/// one of them for any implementor has made this very call: on threads or by turns, with this lock, and these tries, this
+/// seed or this schedule.
 pub trait Runs {
     ghost use Rattle.lrc_script.specs.Plan.{Plan};
     ghost use Rattle.lrc_report.specs.declared.report.Report.{Report};
     ghost use Rattle.conformance.specs.declared.cause.RunFault.{RunFault};
     ghost use Rattle.conformance.specs.declared.runs.LockChoice.{LockChoice};
+    ghost use Rattle.conformance.specs.declared.ended.Ended.{Ended};
+    ghost use Rattle.conformance.specs.declared.schedule.ScheduleFault.{ScheduleFault};
 
     // What comes of a script by `run` with this lock and so many tries.
     ghost ran: { Plan → LockChoice → ℕ → Result Report RunFault → Type 0 } = { λ _ _ _ _. Unit {0} };
 
     // What comes of it by `step` with this lock and this seed.
     ghost stepped: { Plan → LockChoice → Option ℕ → Result Report RunFault → Type 0 } = { λ _ _ _ _. Unit {0} };
+
+    // What comes of it by `step_by` with this lock and this schedule.
+    ghost followed: { Plan → LockChoice → List ℕ → Result Ended ScheduleFault → Type 0 } = { λ _ _ _ _. Unit {0} };
 
     /// Runs the script with a thread for each processor, started by this handle. What a processor waits for is tried for `tries` times in a row.
     fn run<R: Threads + Wait + Sync>(
@@ -82,4 +89,34 @@ pub trait Runs {
         requires { IsLawful (plan_of script.now) }
         ensures end { IfOk result (IsEndOf (plan_of script.now)) }
         ensures turns { IfOk result (IsEndByTurns (plan_of script.now) (turn_orders (plan_of script.now) seed)) };
+
+    /// Runs the script by turns on one thread, as far as it goes: first the schedule's turns, and when these are over rounds
+    /// by rising number. Each turn of the schedule is one in which its processor gets on; one that isn't is refused.
+    fn step_by<R: Wait>(
+        &self,
+        rt: &R,
+        alloc: Global,
+        script: &Script,
+        lock: LockChoice,
+        schedule: &Schedule,
+    ) -> Result<Ended, ScheduleFault>
+        requires { IsLawful (plan_of script.now) }
+        ensures end { IfOk result (IsEndOf (plan_of script.now)) }
+        ensures followed { followed (plan_of script.now) lock schedule.now.turns.items result }
+        ensures turns { IfOk result
+            (IsEndByTurns (plan_of script.now) (scheduled (plan_of script.now) schedule.now.turns.items)) }
+        ensures fault { IfErr result (IsScheduleFault (plan_of script.now) schedule.now.turns.items) };
+
+    /// Runs the script by turns that the seed draws, as far as it goes, and answers them as a schedule.
+    fn step_drawn<R: Wait>(
+        &self,
+        rt: &R,
+        alloc: Global,
+        script: &Script,
+        lock: LockChoice,
+        seed: u64,
+    ) -> Result<DrawnRun, RunFault>
+        requires { IsLawful (plan_of script.now) }
+        ensures { IfOk result (λ run. IsEndByTurns (plan_of script.now)
+            (scheduled (plan_of script.now) run.schedule.turns.items) run.ended) };
 }

@@ -5,7 +5,7 @@ ghost use Rattle.std.specs.Thread.{IsSync};
 ghost use Rattle.lrc_script.specs.Prelude.{IsLawful, plan_of};
 ghost use Rattle.conformance.specs.Prelude.{IsEndOf, IsReportOf};
 
-use conformance::{Ended, LockChoice, RunFault, Runs};
+use conformance::{DrawnRun, Ended, LockChoice, RunFault, Runs, Schedule, ScheduleFault};
 use explore::Progress;
 use lrc_report::Report;
 use lrc_script::script::Script;
@@ -80,7 +80,7 @@ impl Progress for Found<'_> {
     }
 }
 
-/// Runs scripts as `runs` does, and says now and then how many runs by turns are done of so many.
+/// Runs scripts as `runs` does, and says now and then how many runs by schedules, given or drawn, are done of so many.
 #[derive(Drop)]
 pub(crate) struct Counted<'a, T> {
     pauses: Pauses<'a>,
@@ -116,6 +116,8 @@ impl<T: Runs> Runs for Counted<'_, T> {
 
     ghost stepped = { T.stepped };
 
+    ghost followed = { T.followed };
+
     fn run<R: Threads + Wait + Sync>(
         &self,
         rt: &R,
@@ -135,9 +137,7 @@ impl<T: Runs> Runs for Counted<'_, T> {
         lock: LockChoice,
         seed: Option<u64>,
     ) -> Result<Report, RunFault> {
-        let result = self.runs.step(rt, alloc, script, lock, seed);
-        self.count();
-        result
+        self.runs.step(rt, alloc, script, lock, seed)
     }
 
     fn step_as_far<R: Wait>(
@@ -149,5 +149,31 @@ impl<T: Runs> Runs for Counted<'_, T> {
         seed: Option<u64>,
     ) -> Result<Ended, RunFault> {
         self.runs.step_as_far(rt, alloc, script, lock, seed)
+    }
+
+    fn step_by<R: Wait>(
+        &self,
+        rt: &R,
+        alloc: Global,
+        script: &Script,
+        lock: LockChoice,
+        schedule: &Schedule,
+    ) -> Result<Ended, ScheduleFault> {
+        let result = self.runs.step_by(rt, alloc, script, lock, schedule);
+        self.count();
+        result
+    }
+
+    fn step_drawn<R: Wait>(
+        &self,
+        rt: &R,
+        alloc: Global,
+        script: &Script,
+        lock: LockChoice,
+        seed: u64,
+    ) -> Result<DrawnRun, RunFault> {
+        let result = self.runs.step_drawn(rt, alloc, script, lock, seed);
+        self.count();
+        result
     }
 }

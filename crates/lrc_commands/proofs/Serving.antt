@@ -1,17 +1,39 @@
 -- A script that was read and then studied.
-use Rattle.std.proofs.Common.{◌≡◌, ℕ, Bool, List, Option, Some, None, Result, Ok, Err, OnOk, refl}
-use Rattle.std.specs.Prelude.{IfErr, IfOk, is_some}
+use Rattle.std.proofs.Common.{◌≡◌, ◌∙◌, ℕ, Bool, true, List, subst, Option, Some, None, Result, Ok, Err, OnOk, refl}
+use Rattle.std.specs.Prelude.{IfErr, IfOk, is_some, option_map, string_bytes}
+use Rattle.std.proofs.lemmas.Option.{none-some, same_Some}
+use Rattle.conformance.specs.declared.ended.Ended.{Ended}
+use Rattle.conformance.specs.ByTurns.{IsEndByTurns, turn_orders}
+use Rattle.conformance.specs.Schedules.{IsScheduleText, scheduled}
 use Rattle.std.specs.Io.KnownBytes.{Keeps}
 use Rattle.lrc_script.specs.Plan.{Plan}
 use Rattle.lrc_explain.specs.declared.fault.ExplainFault.{ExplainFault}
 use Rattle.lrc_explain.specs.declared.fault.ExplainFault.TheVariants as explain
 use Rattle.lrc_explain.specs.Texts.{ExplainUnwritten}
 use Rattle.lrc_program.specs.Served.{IsNoScript, IsScriptRead}
+use Rattle.lrc_options.specs.declared.options.ExplainOptions.{ExplainOptions}
 use Rattle.lrc_commands.specs.declared.fault.StudyFault.{StudyFault}
-use Rattle.lrc_commands.specs.Explained.{IsExplained, IsRunExplained}
+use Rattle.lrc_commands.specs.Explained.{IsEndAsked, IsExplained, IsRunExplained}
 use Rattle.lrc_commands.specs.Sampled.{IsSampleWritten, IsSampled}
 use Rattle.lrc_commands.specs.Searched.{IsSearchWritten, SearchWritten}
 use Rattle.lrc_commands.specs.Statuses.{IsInputsStatus}
+
+-- it ended by a schedule's turns
+pub serves_scheduled_end : (o : ExplainOptions) (s : Plan) (text turns : List ℕ) (e : Ended)
+    → Some text ≡ option_map (λ t. string_bytes t) o.schedule → true ≡ is_some o.schedule → IsScheduleText text turns
+    → IsEndByTurns s (scheduled s turns) e → IsEndAsked o s e
+serves_scheduled_end o s text turns e given some reads by = record {
+  by_seed = λ none. absurd (cc);
+  by_schedule = λ other is.
+      let P : List ℕ → Type 0 = λ t. IsScheduleText t turns in
+      (turns, subst P (same_Some text other (given ∙ is)) reads, by);
+}
+
+-- or by rounds
+pub serves_end : (o : ExplainOptions) (s : Plan) (e : Ended) → None ≡ option_map (λ t. string_bytes t) o.schedule
+    → IsEndByTurns s (turn_orders s o.seed) e → IsEndAsked o s e
+serves_end o s e given by =
+    record { by_seed = λ _. by; by_schedule = λ other is. absurd (none-some other (given ∙ is)) }
 
 -- it was sampled
 pub serves_sample : {A : Type 0} (runs : ℕ) (script : Plan) (source old new : Option (List ℕ))
@@ -21,12 +43,14 @@ serves_sample runs script source old new (Ok x) read written = record { script =
 serves_sample runs script source old new (Err fault) read written = tt
 
 -- it was explained
-pub serves_explanation : {A : Type 0} (picture : Bool) (seed : Option ℕ) (script : Plan) (source old new : Option (List ℕ))
+pub serves_explanation : {A : Type 0} (picture : Bool) (o : ExplainOptions) (script : Plan)
+    (source old new : Option (List ℕ))
     (result : Result (Option A) StudyFault) → IsScriptRead source script
-    → IfOk result (λ line. IsRunExplained picture (is_some line) seed script old new)
-    → IfOk result (λ line. IsExplained picture (is_some line) seed source old new)
-serves_explanation picture seed script source old new (Ok line) read told = record { script = script; read = read; run = told }
-serves_explanation picture seed script source old new (Err fault) read told = tt
+    → IfOk result (λ line. IsRunExplained picture (is_some line) o script old new)
+    → IfOk result (λ line. IsExplained picture (is_some line) o source old new)
+serves_explanation picture o script source old new (Ok line) read told =
+    record { script = script; read = read; run = told }
+serves_explanation picture o script source old new (Err fault) read told = tt
 
 -- its schedules were looked at
 pub serves_search : (most : ℕ) (script : Plan) (source old new : Option (List ℕ)) (result : Result Bool StudyFault)

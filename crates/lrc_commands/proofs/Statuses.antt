@@ -42,6 +42,7 @@ program_status_small : (fault : ProgramFault) → status_of fault ≤ 5
 program_status_small (program.Words reason) = omega arith
 program_status_small (program.Unreadable reason) = omega arith
 program_status_small (program.Script line fault) = omega arith
+program_status_small (program.Schedule turn misfit) = omega arith
 program_status_small (program.Run fault) = cause_status_small fault.cause
 program_status_small program.Output = omega arith
 program_status_small program.NoMemory = omega arith

@@ -3,5 +3,5 @@ pub use Rattle.lrc_commands.specs.Statuses.{IsStatusBeforeAnswer, IsInputsStatus
 pub use Rattle.lrc_commands.specs.JudgedTraces.{HasTraceText, IsFaithfulTrace, IsJudgedAs, IsNoTraceOf, IsTraceReadSoFar, IsUnfaithfulTrace}
 pub use Rattle.lrc_commands.specs.JudgedTraces.{is_judged_faithful}
 pub use Rattle.lrc_commands.specs.Sampled.{IsSampleWritten, IsSampled}
-pub use Rattle.lrc_commands.specs.Explained.{IsExplainedBehind, IsExplained, IsRunExplained, ExplainedWritten, is_halted}
+pub use Rattle.lrc_commands.specs.Explained.{IsExplainedBehind, IsEndAsked, IsExplained, IsRunExplained, ExplainedWritten, is_halted}
 pub use Rattle.lrc_commands.specs.Searched.{IsSearchWritten, SearchWritten, is_search_decided}

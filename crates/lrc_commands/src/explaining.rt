@@ -3,12 +3,13 @@ ghost use Rattle.std.specs.Prelude.{◌≡◌, ◌≢◌, IfErr, IfOk, OnOk, is_
 ghost use Rattle.std.specs.Io.KnownBytes.{Keeps};
 ghost use Rattle.lrc_script.specs.Prelude.{IsLawful, plan_of};
 ghost use Rattle.lrc_program.specs.Prelude.{IsNoScript};
-ghost use Rattle.lrc_commands.specs.Prelude.{IsStatusBeforeAnswer, IsExplained, IsInputsStatus, IsRunExplained, ExplainedWritten, is_halted};
+ghost use Rattle.lrc_commands.specs.Prelude.{IsStatusBeforeAnswer, IsEndAsked, IsExplained, IsInputsStatus, IsRunExplained, ExplainedWritten};
+ghost use Rattle.lrc_commands.specs.Prelude.{is_halted};
 
 use crate::drawing::draw;
 use crate::fault::{HALTED, StudyFault};
 use crate::locks::lock_of;
-use conformance::{Cause, Ended, RunFault, Runs};
+use conformance::{Cause, Ended, RunFault, Runs, Schedule};
 use lrc_explain::render;
 use lrc_options::options::ExplainOptions;
 use lrc_program::fault::ProgramFault;
@@ -54,6 +55,28 @@ fn print_end<W: Write>(
     Ok(())
 }
 
+/// Runs a script by turns, as the options say.
+fn end_of<T: Runs, R: Wait>(
+    runs: &T,
+    rt: &R,
+    alloc: Global,
+    options: &ExplainOptions,
+    script: &Script,
+) -> Result<Ended, StudyFault>
+    requires { IsLawful (plan_of script.now) }
+    ensures end { IfOk result (IsEndAsked options.now (plan_of script.now)) }
+    ensures runs { IfErr result (λ fault. IsInputsStatus fault → ⊥) }
+{
+    let lock = lock_of(options.ticket);
+    match options.schedule.as_deref() {
+        Some(text) => {
+            let schedule = Schedule::parse(alloc, text)?;
+            Ok(runs.step_by(rt, alloc, script, lock, &schedule)?)
+        }
+        None => Ok(runs.step_as_far(rt, alloc, script, lock, options.seed)?),
+    }
+}
+
 /// Runs a script and tells the run, or draws it. Answers the line that standard error gets if it can't go on: there is
 /// memory for that before anything is written.
 fn print_run<T: Runs, R: Wait, W: Write>(
@@ -66,13 +89,12 @@ fn print_run<T: Runs, R: Wait, W: Write>(
 ) -> Result<Option<String>, StudyFault>
     requires { IsLawful (plan_of script.now) }
     ensures told { IfOk result (λ line. IsRunExplained options.now.picture (is_some line)
-        options.now.seed (plan_of script.now) (W.contents out.old) (W.contents out.new)) }
+        options.now (plan_of script.now) (W.contents out.old) (W.contents out.new)) }
     ensures runs { IfErr result (λ fault. IsInputsStatus fault → ⊥) }
     ensures early { IfErr result
         (λ fault. IsStatusBeforeAnswer fault → Keeps (W.contents out.old) (W.contents out.new)) }
 {
-    let lock = lock_of(options.ticket);
-    let ended = runs.step_as_far(rt, alloc, script, lock, options.seed)?;
+    let ended = end_of(runs, rt, alloc, options, script)?;
     let line = halt_line(alloc, options.file.as_deref(), &ended)?;
     print_end(alloc, script, options.picture, &ended, out)?;
     Ok(line)
@@ -88,7 +110,7 @@ fn explain_script<T: Runs, R: Wait, S: Read, W: Write>(
     out: &mut W,
 ) -> Result<Option<String>, StudyFault>
     ensures explained { IfOk result (λ line. IsExplained options.now.picture (is_some line)
-        options.now.seed (S.remaining source.old) (W.contents out.old) (W.contents out.new)) }
+        options.now (S.remaining source.old) (W.contents out.old) (W.contents out.new)) }
     ensures refused { IfErr result (λ fault. IsInputsStatus fault → IsNoScript (S.remaining source.old)) }
     ensures early { IfErr result
         (λ fault. IsStatusBeforeAnswer fault → Keeps (W.contents out.old) (W.contents out.new)) }
@@ -110,10 +132,12 @@ pub fn explain_program<T: Runs, R: Wait, S: Read, W: Write, E: Write>(
     err: &mut E,
 ) -> u8
     // The script that was read was run by turns to its end, and the run was told whole.
-    ensures whole { result ≡ 0 → IsExplained options.now.picture false options.now.seed
+    ensures whole { result ≡ 0 → IsExplained options.now.picture false
+        options.now
         (S.remaining source.old) (W.contents out.old) (W.contents out.new) }
     // It was run so as far as it goes, and can't go on; so far it was told whole.
-    ensures halted { result ≡ 3 → IsExplained options.now.picture true options.now.seed
+    ensures halted { result ≡ 3 → IsExplained options.now.picture true
+        options.now
         (S.remaining source.old) (W.contents out.old) (W.contents out.new) }
     // What is refused as a script is none.
     ensures refused { result ≡ 2 → IsNoScript (S.remaining source.old) }

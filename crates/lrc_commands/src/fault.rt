@@ -10,7 +10,7 @@ ghost use Rattle.lrc_commands.specs.declared.fault.StudyFault.TheVariants as stu
 ghost use Rattle.lrc_program.specs.declared.fault.ProgramFault.TheVariants as program;
 ghost use Rattle.lrc_commands.specs.Prelude.{IsStatusBeforeAnswer, IsInputsStatus, IsStudyStatusOf, study_status_of};
 
-use conformance::RunFault;
+use conformance::{RunFault, ScheduleFault};
 use lrc_check::CheckFault;
 use lrc_check::traces::fault::TraceFault;
 use lrc_explain::ExplainFault;
@@ -114,6 +114,14 @@ impl From<RunFault> for StudyFault {
     ghost from_gives = { λ _ fault. IsInputsStatus fault → ⊥ };
 
     fn from(fault: RunFault) -> StudyFault {
+        StudyFault::Program(ProgramFault::from(fault))
+    }
+}
+
+impl From<ScheduleFault> for StudyFault {
+    ghost from_gives = { λ _ fault. IsInputsStatus fault → ⊥ };
+
+    fn from(fault: ScheduleFault) -> StudyFault {
         StudyFault::Program(ProgramFault::from(fault))
     }
 }

@@ -58,7 +58,7 @@ fn sample_script<T: Runs, R: Wait, S: Read, W: Write>(
     print_sample(runs, rt, alloc, options, &script, out)
 }
 
-/// Runs the script of `source` by turns without a seed and with as many seeds as the options say: writes what that came
+/// Runs the script of `source` in rounds, and by the turns that as many seeds as the options say draw: writes what that came
 /// to to `out`, or one line to `err`, and answers the exit status. The file that the options name isn't opened here.
 pub fn sample_program<T: Runs, R: Wait, S: Read, W: Write, E: Write>(
     runs: &T,

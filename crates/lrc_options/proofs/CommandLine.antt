@@ -1,11 +1,11 @@
 -- What the getters of clap's matches read, by the rows.
-use Rattle.std.proofs.Common.{◌≡◌, ◌⊎◌, ◌∙◌, ◌<◌, ◌≤◌, ◌^◌, ℕ, Bool, true, false, List, Option, Some, None, Result, Ok, Err, [], ◌∷◌, inl, refl, subst, sym, ap, ap₂, codes}
-use Rattle.std.specs.Prelude.{◌||◌, IfOk, option_map}
+use Rattle.std.proofs.Common.{◌≡◌, ◌⊎◌, ◌∙◌, ◌<◌, ◌≤◌, ◌^◌, ℕ, Bool, true, false, List, Option, Some, None, Result, Ok, Err, [], ◌∷◌, inl, inr, refl, subst, sym, ap, ap₂, codes}
+use Rattle.std.specs.Prelude.{◌||◌, IfErr, IfOk, OnOk, is_some, option_map}
 use Rattle.std.specs.Option.{option_map_or}
 use Rattle.std.specs.Str.{bytes_eq}
 use Rattle.std.specs.Str.Parse.{IsNumeral, ParsesUnsigned, without_leading_plus}
 use Rattle.std.proofs.lemmas.Option.{same_Some}
-use Rattle.clap.specs.Words.{App, FailsBy, HasKind, IsAmong, Kinds, Row, Rule, Text, ReadsOne, first_of, first_value, one_of, one_text, rows_of, with_rule}
+use Rattle.clap.specs.Words.{App, FailsBy, fault_of, HasKind, IsAmong, Kinds, Row, Rule, Text, ReadsOne, first_of, first_value, one_of, one_text, rows_of, subcommand_of, with_rule}
 use Rattle.clap.specs.declared.builder.command.Command.{Command}
 use Rattle.clap.specs.declared.parser.matches.Found.{Found}
 use Rattle.clap.specs.declared.error.Error.{Error}
@@ -13,7 +13,8 @@ use Rattle.clap.proofs.WalkLemmas.{first_value-rows, one_text-rows}
 use Rattle.clap.specs.Values.{kind_of}
 use Rattle.clap.specs.declared.builder.value_parser.ValueParser.{ValueParser}
 use Rattle.clap.specs.declared.error.kind.ErrorKind.TheVariants.{OutOfMemory}
-use Rattle.lrc_options.specs.CommandLine.{IsCommand, IsOptionNumberRead, IsNumberOption, IsSeedOption, IsFlagOption, IsRefusedCommandLine, TakesNames, option_number, most_seed}
+use Rattle.lrc_options.specs.declared.options.Asked.{Asked}
+use Rattle.lrc_options.specs.CommandLine.{IsCommand, IsOptionNumberRead, IsNumberOption, IsSeedOption, IsFlagOption, IsRefusedCommandLine, IsUnanswered, TakesNames, AreAskedOptionsOf, AreGivenOptions, flagged_rules, has_both, lrc_rules, option_number, most_seed}
 
 -- a text that is a number is read as that
 option_number_reads : {E : Type 0} (t : Text) (G : List ℕ → Result ℕ E → Type 0) (r : Option ℕ) → ReadsOne G t r
@@ -127,6 +128,23 @@ pub with_option_rule : {E : Type 0} (r : Result Command E) (a : App) (given rule
     → IfOk r (IsCommand (with_rule a given)) → IfOk r (IsCommand (with_rule a rule))
 with_option_rule r a given rule is = subst (λ (x : Rule). IfOk r (IsCommand (with_rule a x))) is
 
+-- and so of one with a rule of its own
+pub own_rule_is : {E : Type 0} (r : Result Command E) (name : Text) (given rule : Rule) (locks : ValueParser) (flag : Rule)
+    → given ≡ rule → IfOk r (IsCommand (flagged_rules name given locks flag))
+    → IfOk r (IsCommand (flagged_rules name rule locks flag))
+own_rule_is r name given rule locks flag is =
+    subst (λ (x : Rule). IfOk r (IsCommand (flagged_rules name x locks flag))) is
+
+-- what is there stays there, as something else
+pub is_some_map : {A B : Type 0} (f : A → B) (o : Option A) → is_some (option_map f o) ≡ is_some o
+is_some_map f None = refl
+is_some_map f (Some x) = refl
+
+-- what holds of an error, where there is one, makes what follows from it hold
+pub if_err_map : {T E : Type 0} {P Q : E → Type 0} (r : Result T E) → ((e : E) → P e → Q e) → IfErr r P → IfErr r Q
+if_err_map (Ok x) follows holds = tt
+if_err_map (Err e) follows holds = follows e holds
+
 -- two readings of one thing
 abbrev pub both_of : {A : Type 0} → (A → Text) → (A → List Row) → A → Text × List Row
 both_of f g b = (f b, g b)
@@ -156,4 +174,32 @@ same_kind kinds a b is has = subst (λ k. (k ≡ OutOfMemory) ⊎ IsAmong k kind
 -- running out of memory refuses any words
 pub out_of_memory : (locks : ValueParser) (words : List Text) (e : Error)
     → TakesNames (codes "array" ∷ codes "ticket" ∷ []) locks → kind_of e ≡ OutOfMemory → IsRefusedCommandLine words e
-out_of_memory locks words e are is = record { locks = locks; locks_are = are; kind = inl is }
+out_of_memory locks words e are is = record { locks = locks; locks_are = are; kind = inl (inl is) }
+
+-- and so does a seed beside a schedule
+pub refused_by : (locks : ValueParser) (words : List Text) (name : Text) (rows : List Row) (e : Error)
+    → TakesNames (codes "array" ∷ codes "ticket" ∷ []) locks → subcommand_of (lrc_rules locks) words ≡ Some (name, rows)
+    → IsUnanswered rows e → IsRefusedCommandLine words e
+refused_by locks words name rows e are command (inl memory) = out_of_memory locks words e are memory
+refused_by locks words name rows e are command (inr both) = record {
+  locks = locks;
+  locks_are = are;
+  kind = inr (record { name = name; rows = rows; command = command; both = both.0; kind = both.1 });
+}
+
+-- what is answered is what the words ask for
+pub given_by : (locks : ValueParser) (words : List Text) (name : Text) (rows : List Row) (result : Result Asked Error)
+    → TakesNames (codes "array" ∷ codes "ticket" ∷ []) locks → fault_of (lrc_rules locks) words ≡ []
+    → subcommand_of (lrc_rules locks) words ≡ Some (name, rows) → OnOk result (has_both rows ≡ false)
+    → IfOk result (AreAskedOptionsOf name rows) → IfOk result (AreGivenOptions words)
+given_by locks words name rows (Ok asked) are none command one told = record {
+  locks = locks;
+  locks_are = are;
+  faultless = none;
+  name = name;
+  rows = rows;
+  command = command;
+  one = one;
+  asked = told;
+}
+given_by locks words name rows (Err e) are none command one told = tt

@@ -1,17 +1,18 @@
 -- What the program's words give.
-use Rattle.std.specs.Prelude.{ℕ, ◌≡◌, ◌<◌, ◌≤◌, ◌-◌, ◌^◌, Bool, true, false, List, [], ◌∷◌, Option, Some, None, IfSome, codes, map, option_map, string_bytes}
+use Rattle.std.specs.Prelude.{ℕ, ◌≡◌, ◌<◌, ◌≤◌, ◌-◌, ◌^◌, ◌⊎◌, ◌&&◌, Bool, true, false, List, [], ◌∷◌, Option, Some, None, IfSome, codes, is_some, map, option_map, string_bytes}
 use Rattle.std.specs.Option.{option_map_or}
 use Rattle.std.specs.Str.{bytes_eq}
 use Rattle.std.specs.Str.Parse.{IsNumeral, digits_value, without_leading_plus}
 use Rattle.clap.specs.Words.{App, app_of, HasKind, Row, Rule, Text, new_app, new_rule, with_rule, with_subcommand, subcommand_of, first_of, one_of, fault_of}
 use Rattle.clap.specs.Simple.{on_top}
-use Rattle.clap.specs.Values.{IsUnsignedIn}
+use Rattle.clap.specs.Values.{IsUnsignedIn, kind_of}
 use Rattle.clap.specs.declared.builder.action.ArgAction.TheVariants.{SetTrue}
 use Rattle.clap.specs.declared.builder.command.Command.{Command}
 use Rattle.clap.specs.declared.builder.command.Command.TheViews.{out-Command}
 use Rattle.clap.specs.declared.builder.value_parser.ValueParser.{ValueParser}
 use Rattle.clap.specs.declared.builder.value_parser.ValueParser.TheVariants as vp
 use Rattle.clap.specs.declared.error.Error.{Error}
+use Rattle.clap.specs.declared.error.kind.ErrorKind.TheVariants.{ArgumentConflict, OutOfMemory}
 use Rattle.lrc_options.specs.declared.options.Asked.{Asked}
 use Rattle.lrc_options.specs.declared.options.Asked.TheVariants.{Explain, Explore, Sample, Script, Trace}
 use Rattle.lrc_options.specs.declared.options.ExplainOptions.{ExplainOptions}
@@ -49,6 +50,9 @@ tries_rule = record (number_rule (codes "tries") 1 most_tries) { defaults = code
 
 abbrev pub seed_rule : Rule
 seed_rule = number_rule (codes "seed") 0 most_seed
+
+abbrev pub schedule_rule : Rule
+schedule_rule = option_rule (codes "schedule")
 
 abbrev pub seeds_rule : Rule
 seeds_rule = record (number_rule (codes "seeds") 1 most_seed) { defaults = codes "1000" ∷ [] }
@@ -91,11 +95,11 @@ abbrev pub run_rules : ValueParser → App
 run_rules locks = flagged_rules (codes "run") tries_rule locks journal_rule
 
 abbrev pub step_rules : ValueParser → App
-step_rules locks = flagged_rules (codes "step") seed_rule locks journal_rule
+step_rules locks = with_rule (flagged_rules (codes "step") seed_rule locks journal_rule) schedule_rule
 
 -- `lrc explain`
 abbrev pub explain_rules : ValueParser → App
-explain_rules locks = flagged_rules (codes "explain") seed_rule locks svg_rule
+explain_rules locks = with_rule (flagged_rules (codes "explain") seed_rule locks svg_rule) schedule_rule
 
 -- `lrc sample`
 abbrev pub sample_rules : ValueParser → App
@@ -162,6 +166,7 @@ pub record AreOptionsOf (name : Text) (rows : List Row) (o : Options) : Type 0 w
   pub file : option_map (λ f. string_bytes f) o.file ≡ first_of (codes "FILE") rows
   pub tries : IsNumberOption 1 most_tries default_tries (one_of (codes "tries") rows) o.tries
   pub seed : IsSeedOption (one_of (codes "seed") rows) o.seed
+  pub schedule : option_map (λ t. string_bytes t) o.schedule ≡ first_of (codes "schedule") rows
   pub ticket : o.ticket ≡ option_map_or (λ t. bytes_eq t (codes "ticket")) (first_of (codes "lock") rows) false
   pub journal : IsFlagOption (one_of (codes "journal") rows) o.journal
 
@@ -189,6 +194,7 @@ pub record AreExploreOptionsOf (rows : List Row) (o : ExploreOptions) : Type 0 w
 pub record AreExplainOptionsOf (rows : List Row) (o : ExplainOptions) : Type 0 where
   pub file : option_map (λ f. string_bytes f) o.file ≡ first_of (codes "FILE") rows
   pub seed : IsSeedOption (one_of (codes "seed") rows) o.seed
+  pub schedule : option_map (λ t. string_bytes t) o.schedule ≡ first_of (codes "schedule") rows
   pub ticket : o.ticket ≡ ticket_option rows
   pub picture : IsFlagOption (one_of (codes "svg") rows) o.picture
 
@@ -204,7 +210,11 @@ AreAskedOptionsOf name rows (Script o) = (bytes_eq name (codes "explain") ≡ fa
     × (bytes_eq name (codes "check") ≡ false)
     × AreOptionsOf name rows o
 
--- what the words ask for, by the matches of a simple command, which find no fault in them
+-- whether a seed and a schedule are given
+abbrev pub has_both : List Row → Bool
+has_both rows = is_some (first_of (codes "seed") rows) && is_some (first_of (codes "schedule") rows)
+
+-- what the words ask for, by the matches of a simple command, which find no fault in them, and no seed beside a schedule
 pub record AreGivenOptions (words : List Text) (o : Asked) : Type 0 where
   pub locks : ValueParser
   pub locks_are : TakesNames (codes "array" ∷ codes "ticket" ∷ []) locks
@@ -212,10 +222,23 @@ pub record AreGivenOptions (words : List Text) (o : Asked) : Type 0 where
   pub name : Text
   pub rows : List Row
   pub command : subcommand_of (lrc_rules locks) words ≡ Some (name, rows)
+  pub one : has_both rows ≡ false
   pub asked : AreAskedOptionsOf name rows o
 
--- memory ran out, or the matches of that command find a fault of this kind in the words
+-- the words give a seed and a schedule, and the fault says so
+pub record IsConflict (locks : ValueParser) (words : List Text) (e : Error) : Type 0 where
+  pub name : Text
+  pub rows : List Row
+  pub command : subcommand_of (lrc_rules locks) words ≡ Some (name, rows)
+  pub both : has_both rows ≡ true
+  pub kind : kind_of e ≡ ArgumentConflict
+
+-- a command whose rows these are isn't answered: memory ran out, or a seed and a schedule are given
+abbrev pub IsUnanswered : List Row → Error → Type 0
+IsUnanswered rows e = (kind_of e ≡ OutOfMemory) ⊎ ((has_both rows ≡ true) × (kind_of e ≡ ArgumentConflict))
+
+-- memory ran out, or the matches of that command find a fault of this kind in the words, or a seed beside a schedule
 pub record IsRefusedCommandLine (words : List Text) (e : Error) : Type 0 where
   pub locks : ValueParser
   pub locks_are : TakesNames (codes "array" ∷ codes "ticket" ∷ []) locks
-  pub kind : HasKind (fault_of (lrc_rules locks) words) e
+  pub kind : HasKind (fault_of (lrc_rules locks) words) e ⊎ IsConflict locks words e

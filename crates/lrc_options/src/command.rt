@@ -3,14 +3,14 @@ ghost use Rattle.std.specs.Prelude.{◌≡◌, IfOk, false, true};
 ghost use Rattle.clap.specs.Words.{App, app_of, rule_of, with_rule, with_subcommand};
 ghost use Rattle.clap.specs.declared.builder.command.Command.TheViews.{out-Command};
 ghost use Rattle.clap.specs.declared.builder.value_parser.ValueParser.TheVariants as vp;
-ghost use Rattle.lrc_options.specs.CommandLine.{flag_rule, lock_rule, most_rule, number_rule, seed_rule, seeds_rule};
+ghost use Rattle.lrc_options.specs.CommandLine.{flag_rule, lock_rule, most_rule, number_rule, schedule_rule, seed_rule, seeds_rule};
 ghost use Rattle.lrc_options.specs.CommandLine.{IsCommand, bare_rules, check_rules, explain_rules, explore_rules, file_rules};
 ghost use Rattle.lrc_options.specs.CommandLine.{flagged_rules, lrc_rules, run_rules, sample_rules, script_rules, step_rules};
 ghost use Rattle.lrc_options.specs.CommandLine.{tries_rule};
 
 use crate::help::{
-    ABOUT, AFTER, AFTER_RUN_AND_STEP, EXPLAIN, EXPLORE, JOURNAL, LAX, MOST, SAMPLE, SCRIPT,
-    SCRIPT_FILE, SEED, SEEDS, SVG, TRACE, TRACE_FILE, TRIES, VERSION,
+    ABOUT, AFTER, AFTER_RUN_AND_STEP, EXPLAIN, EXPLORE, JOURNAL, LAX, MOST, SAMPLE, SCHEDULE,
+    SCRIPT, SCRIPT_FILE, SEED, SEEDS, SVG, TRACE, TRACE_FILE, TRIES, VERSION,
 };
 use crate::options::Commands;
 use clap::builder::ValueParser;
@@ -52,6 +52,17 @@ fn seed_arg<'a>(alloc: Global) -> Arg<'a>
     ensures own { result.global ≡ false }
 {
     number_arg(alloc, "seed", 0, MOST_SEED, SEED)
+}
+
+/// `--schedule S`.
+fn schedule_arg<'a>(alloc: Global) -> Arg<'a>
+    ensures rule { rule_of result ≡ schedule_rule }
+    ensures own { result.global ≡ false }
+{
+    Arg::new(alloc, "schedule")
+        .long("schedule")
+        .value_name("S")
+        .help(SCHEDULE)
 }
 
 /// `--seeds N`.
@@ -186,7 +197,8 @@ fn step_command<'a>(alloc: Global, locks: &'a [&'a str]) -> Result<Command<'a>, 
 {
     let about = "Runs the processors by turns on one thread: the same words give the same report";
     let own = seed_arg(alloc);
-    flagged_command(alloc, "step", about, SCRIPT, own, locks, "journal", JOURNAL)
+    let command = flagged_command(alloc, "step", about, SCRIPT, own, locks, "journal", JOURNAL);
+    with_option(command, schedule_arg(alloc))
 }
 
 /// `lrc explain`.
@@ -195,14 +207,15 @@ fn explain_command<'a>(alloc: Global, locks: &'a [&'a str]) -> Result<Command<'a
 {
     let about = "Runs the processors as step does, and tells the run event by event";
     let own = seed_arg(alloc);
-    flagged_command(alloc, "explain", about, EXPLAIN, own, locks, "svg", SVG)
+    let command = flagged_command(alloc, "explain", about, EXPLAIN, own, locks, "svg", SVG);
+    with_option(command, schedule_arg(alloc))
 }
 
 /// `lrc sample`.
 fn sample_command<'a>(alloc: Global, locks: &'a [&'a str]) -> Result<Command<'a>, AllocError>
     ensures { IfOk result (IsCommand (sample_rules (vp.Names locks.entry))) }
 {
-    let about = "Runs the script under many seeds as step does, and tells each kind of result once";
+    let about = "Runs the script by many drawn schedules, and tells each kind of result once";
     script_command(alloc, "sample", about, SAMPLE, seeds_arg(alloc), locks)
 }
 

@@ -1,19 +1,19 @@
 //! Reads the program's words.
-ghost use Rattle.std.specs.Prelude.{◌≡◌, IfOk, IfErr, false, map, option_map, string_bytes, codes};
+ghost use Rattle.std.specs.Prelude.{◌≡◌, IfOk, IfErr, OnOk, false, is_some, map, option_map, string_bytes, codes};
 ghost use Rattle.std.specs.Option.{option_map_or};
 ghost use Rattle.std.specs.Str.{bytes_eq};
 ghost use Rattle.clap.specs.Words.{first_of, one_of, rows_of, found_of};
 ghost use Rattle.lrc_options.specs.CommandLine.{IsOptionNumberRead, IsNumberOption, IsSeedOption, IsFlagOption, AreAskedOptionsOf, AreOptionsOf};
 ghost use Rattle.lrc_options.specs.CommandLine.{AreExplainOptionsOf, AreExploreOptionsOf, AreSampleOptionsOf};
-ghost use Rattle.lrc_options.specs.CommandLine.{AreTraceOptionsOf, default_most, ticket_option};
-ghost use Rattle.lrc_options.specs.CommandLine.{AreGivenOptions, IsRefusedCommandLine, most_tries, most_seed, default_tries, default_seeds};
+ghost use Rattle.lrc_options.specs.CommandLine.{AreTraceOptionsOf, default_most, has_both, ticket_option};
+ghost use Rattle.lrc_options.specs.CommandLine.{AreGivenOptions, IsRefusedCommandLine, IsUnanswered, most_tries, most_seed, default_tries, default_seeds};
 
 use crate::command::{LOCKS, MOST_SEED, MOST_TRIES, lrc_command};
 use crate::options::{
     Asked, Commands, DEFAULT_MOST, DEFAULT_SEEDS, DEFAULT_TRIES, ExplainOptions, ExploreOptions,
     Options, SampleOptions, TraceOptions,
 };
-use crate::tips::with_tip;
+use crate::tips::{both_given, with_tip};
 use clap::{ArgMatches, Error};
 use std::alloc::{AllocError, Global};
 
@@ -98,27 +98,43 @@ fn is_lax(matches: &ArgMatches<'_>) -> bool
     matches.get_flag("lax")
 }
 
-/// The file that is named.
-fn file_of(alloc: Global, matches: &ArgMatches<'_>) -> Result<Option<String>, AllocError>
+/// The text that is given for this.
+fn text_of(alloc: Global, matches: &ArgMatches<'_>, id: &str) -> Result<Option<String>, AllocError>
     ensures { IfOk result (λ f. option_map (λ s. string_bytes s) f
-        ≡ first_of (codes "FILE") (rows_of (found_of matches.now))) }
+        ≡ first_of id.now (rows_of (found_of matches.now))) }
 {
-    match matches.get_str("FILE") {
-        Some(file) => Ok(Some(String::from_str(alloc, file)?)),
+    match matches.get_str(id) {
+        Some(text) => Ok(Some(String::from_str(alloc, text)?)),
         None => Ok(None),
     }
+}
+
+/// Whether something is given for this.
+fn is_given(matches: &ArgMatches<'_>, id: &str) -> bool
+    ensures { result ≡ is_some (first_of id.now (rows_of (found_of matches.now))) }
+{
+    matches.get_str(id).is_some()
+}
+
+/// Whether a seed and a schedule are given.
+fn has_both(matches: &ArgMatches<'_>) -> bool
+    ensures { result ≡ has_both (rows_of (found_of matches.now)) }
+{
+    is_given(matches, "seed") && is_given(matches, "schedule")
 }
 
 /// The options that the name of a command on a script, and its matches, give.
 fn options_of(alloc: Global, name: &str, matches: &ArgMatches<'_>) -> Result<Options, AllocError>
     ensures { IfOk result (AreOptionsOf name.now (rows_of (found_of matches.now))) }
 {
-    let file = file_of(alloc, matches)?;
+    let file = text_of(alloc, matches, "FILE")?;
+    let schedule = text_of(alloc, matches, "schedule")?;
     Ok(Options {
         step: name == "step",
         file,
         tries: tries_of(matches),
         seed: seed_of(matches),
+        schedule,
         ticket: is_ticket(matches),
         journal: wants_journal(matches),
     })
@@ -128,10 +144,12 @@ fn options_of(alloc: Global, name: &str, matches: &ArgMatches<'_>) -> Result<Opt
 fn explain_options_of(alloc: Global, matches: &ArgMatches<'_>) -> Result<ExplainOptions, AllocError>
     ensures { IfOk result (AreExplainOptionsOf (rows_of (found_of matches.now))) }
 {
-    let file = file_of(alloc, matches)?;
+    let file = text_of(alloc, matches, "FILE")?;
+    let schedule = text_of(alloc, matches, "schedule")?;
     Ok(ExplainOptions {
         file,
         seed: seed_of(matches),
+        schedule,
         ticket: is_ticket(matches),
         picture: wants_picture(matches),
     })
@@ -141,7 +159,7 @@ fn explain_options_of(alloc: Global, matches: &ArgMatches<'_>) -> Result<Explain
 fn sample_options_of(alloc: Global, matches: &ArgMatches<'_>) -> Result<SampleOptions, AllocError>
     ensures { IfOk result (AreSampleOptionsOf (rows_of (found_of matches.now))) }
 {
-    let file = file_of(alloc, matches)?;
+    let file = text_of(alloc, matches, "FILE")?;
     Ok(SampleOptions {
         file,
         seeds: seeds_of(matches),
@@ -153,7 +171,7 @@ fn sample_options_of(alloc: Global, matches: &ArgMatches<'_>) -> Result<SampleOp
 fn explore_options_of(alloc: Global, matches: &ArgMatches<'_>) -> Result<ExploreOptions, AllocError>
     ensures { IfOk result (AreExploreOptionsOf (rows_of (found_of matches.now))) }
 {
-    let file = file_of(alloc, matches)?;
+    let file = text_of(alloc, matches, "FILE")?;
     Ok(ExploreOptions {
         file,
         most: most_of(matches),
@@ -164,7 +182,7 @@ fn explore_options_of(alloc: Global, matches: &ArgMatches<'_>) -> Result<Explore
 fn trace_options_of(alloc: Global, matches: &ArgMatches<'_>) -> Result<TraceOptions, AllocError>
     ensures { IfOk result (AreTraceOptionsOf (rows_of (found_of matches.now))) }
 {
-    let file = file_of(alloc, matches)?;
+    let file = text_of(alloc, matches, "FILE")?;
     Ok(TraceOptions {
         file,
         lax: is_lax(matches),
@@ -188,22 +206,34 @@ fn asked_of(alloc: Global, name: &str, matches: &ArgMatches<'_>) -> Result<Asked
     }
 }
 
+/// The same, or that a seed and a schedule are given.
+fn answer_of(alloc: Global, name: &str, matches: &ArgMatches<'_>) -> Result<Asked, Error>
+    ensures one { OnOk result (has_both (rows_of (found_of matches.now)) ≡ false) }
+    ensures asked { IfOk result (AreAskedOptionsOf name.now (rows_of (found_of matches.now))) }
+    ensures unanswered { IfErr result (IsUnanswered (rows_of (found_of matches.now))) }
+{
+    if has_both(matches) {
+        return Err(both_given(alloc, name)?);
+    }
+    Ok(asked_of(alloc, name, matches)?)
+}
+
 /// Reads the words, the program's name first: `lrc run [FILE] [--tries N] [--lock KIND] [--journal]`,
-/// `lrc step [FILE] [--seed N] [--lock KIND] [--journal]`, `lrc explain [FILE] [--seed N] [--lock KIND] [--svg]`,
-/// `lrc sample [FILE] [--seeds N] [--lock KIND]`, `lrc explore [FILE] [--most N]` or `lrc check [FILE] [--lax]`.
+/// `lrc step [FILE] [--seed N | --schedule S] [--lock KIND] [--journal]`,
+/// `lrc explain [FILE] [--seed N | --schedule S] [--lock KIND] [--svg]`, `lrc sample [FILE] [--seeds N] [--lock KIND]`, `lrc explore [FILE] [--most N]` or `lrc check [FILE] [--lax]`.
 /// Help names the commands that the program has; the words of the others are read all the same.
 ///
 /// # Errors
 ///
 /// clap's, of just the kind that its own function of the command finds in the words: words that give no such command,
-/// a question for help; or running out of memory.
+/// a question for help; a conflict, if they give a seed and a schedule; or running out of memory.
 pub fn options<'a>(alloc: Global, words: &'a [String], commands: Commands) -> Result<Asked, Error>
     ensures given { IfOk result (AreGivenOptions (map (λ w. string_bytes w) words.entry.now)) }
     ensures refused { IfErr result (IsRefusedCommandLine (map (λ w. string_bytes w) words.entry.now)) }
 {
     match lrc_command(alloc, LOCKS.as_slice(), commands)?.try_get_matches_from(words) {
         Ok(matches) => match matches.subcommand() {
-            Some((name, given)) => Ok(asked_of(alloc, name, given)?),
+            Some((name, given)) => answer_of(alloc, name, given),
             None => unreachable!("a command is required"),
         },
         Err(fault) => Err(with_tip(alloc, words, fault)?),

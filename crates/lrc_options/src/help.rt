@@ -66,11 +66,12 @@ pub(crate) const EXPLAIN: &str = "The script is as `lrc run --help` tells it. Wh
 Statuses: 0 done; 2 the script is refused; 3 no progress: the run is told so far; 4 a limit, running out of
 memory, or a failed write; 5 usage, or the file can't be read.";
 
-/// What is printed of a script's runs under many seeds.
+/// What is printed of a script's runs by many schedules.
 pub(crate) const SAMPLE: &str =
     "The script is as `lrc run --help` tells it. What is printed, the most frequent result first:
-  runs R                   there were R runs, each as `lrc step` makes it
-  result K S RESULT        K of them came to this; the first one had seed S, or `-` for none. RESULT is one of
+  runs R                   there were R runs, whose processors went at different speeds
+  result K RESULT schedule S
+                           K of them came to this; `lrc step --schedule S` shows it. RESULT is one of
     race-free words A V .. replies pP V ..
                            address A has V in the end, and the loads of processor P answered V .., in order, as
                            far as the journal has them
@@ -121,8 +122,11 @@ pub(crate) const TRIES: &str = "a thread gives up after N consecutive answers th
 pub(crate) const SEED: &str =
     "draws the order of each round, in place of 0, 1, ..; up to 4294967295";
 
+pub(crate) const SCHEDULE: &str =
+    "gives the processors that have their turns first, as 0:3,1: processor 0 three times, then processor 1";
+
 pub(crate) const SEEDS: &str =
-    "runs it without a seed, and with the seeds 0 to N - 1; N is up to 4294967295";
+    "runs it in rounds, and by the turns that the seeds 0 to N - 1 draw; N is up to 4294967295";
 
 pub(crate) const MOST: &str = "gives up after N states; N is up to 4294967295";
 

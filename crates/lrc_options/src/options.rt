@@ -16,7 +16,7 @@ pub enum Asked {
     Script(Options),
     /// A run of a script by turns is to be explained, by `explain`.
     Explain(ExplainOptions),
-    /// A script is to be run by turns under many seeds, by `sample`.
+    /// A script is to be run by many schedules, by `sample`.
     Sample(SampleOptions),
     /// All schedules of a script are to be looked at, by `explore`.
     Explore(ExploreOptions),
@@ -31,6 +31,8 @@ pub struct ExplainOptions {
     pub file: Option<String>,
     /// What the orders of the rounds are drawn from, or None for 0, 1, .. in each.
     pub seed: Option<u64>,
+    /// The text of the schedule by which the run is made, or None if it is made in rounds alone.
+    pub schedule: Option<String>,
     /// Whether the book's lock is the ticket lock, and not the array lock.
     pub ticket: bool,
     /// Whether a picture of the run is printed, as an SVG file, and not its text.
@@ -42,7 +44,7 @@ pub struct ExplainOptions {
 pub struct SampleOptions {
     /// The file to read the script from, or None for standard input.
     pub file: Option<String>,
-    /// How many seeds the script is run with, beside the run without one: those from 0 on. It is 1 at least.
+    /// How many seeds draw turns of a run, beside the run that goes in rounds alone: those from 0 on. It is 1 at least.
     pub seeds: u32,
     /// Whether the book's lock is the ticket lock, and not the array lock.
     pub ticket: bool,
@@ -86,6 +88,8 @@ pub struct Options {
     pub tries: u64,
     /// What the orders of the rounds of `step` are drawn from, or None for 0, 1, .. in each; None under `run`.
     pub seed: Option<u64>,
+    /// The text of the schedule by which `step` goes, or None for rounds alone; None under `run`.
+    pub schedule: Option<String>,
     /// Whether the book's lock is the ticket lock, and not the array lock.
     pub ticket: bool,
     /// Whether the journal's lines are printed too.

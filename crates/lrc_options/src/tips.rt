@@ -1,4 +1,4 @@
-//! What a fault of usage says of an option that another command has.
+//! What a fault of usage says of options: of one that another command has, of two that exclude each other.
 ghost use Rattle.std.specs.Prelude.{◌≡◌, IfOk};
 ghost use Rattle.clap.specs.Words.{kind_of};
 
@@ -7,14 +7,16 @@ use clap::{Command, Error};
 use std::alloc::{AllocError, Global};
 
 /// Each command with each option that it has. Of the commands that have an option the first one is named.
-const OPTIONS: [(&str, &str); 13] = [
+const OPTIONS: [(&str, &str); 15] = [
     ("run", "--tries"),
     ("run", "--lock"),
     ("run", "--journal"),
     ("step", "--seed"),
+    ("step", "--schedule"),
     ("step", "--lock"),
     ("step", "--journal"),
     ("explain", "--seed"),
+    ("explain", "--schedule"),
     ("explain", "--lock"),
     ("explain", "--svg"),
     ("sample", "--seeds"),
@@ -48,6 +50,16 @@ impl Misuse<'_> {
         let mut lrc = Command::new(alloc, "lrc").override_usage(&usage);
         lrc.error(ErrorKind::UnknownArgument, &text)
     }
+}
+
+/// The fault of usage that a command is given a seed and a schedule.
+pub(crate) fn both_given(alloc: Global, command: &str) -> Result<Error, AllocError>
+    ensures { IfOk result (λ e. kind_of e ≡ ErrorKind.ArgumentConflict) }
+{
+    let text = "the argument '--seed <N>' cannot be used with '--schedule <S>'";
+    let usage = format!(in alloc; "lrc {command} [OPTIONS] [FILE]")?;
+    let mut lrc = Command::new(alloc, "lrc").override_usage(&usage);
+    lrc.error(ErrorKind::ArgumentConflict, text)
 }
 
 /// Whether it is a command.

@@ -3,7 +3,7 @@ use Rattle.std.proofs.Common.{◌≡◌, ◌≢◌, ◌∙◌, ℕ, inl, inr, sy
 use Rattle.conformance.specs.declared.cause.Cause.{Cause}
 use Rattle.conformance.specs.declared.cause.Cause.TheVariants.{Stuck, Gate, Thread, Refused}
 use Rattle.lrc_program.specs.declared.fault.ProgramFault.{ProgramFault}
-use Rattle.lrc_program.specs.declared.fault.ProgramFault.TheVariants.{Words, Unreadable, Script, Run, Output, NoMemory}
+use Rattle.lrc_program.specs.declared.fault.ProgramFault.TheVariants.{Words, Unreadable, Script, Schedule, Run, Output, NoMemory}
 use Rattle.lrc_program.specs.Statuses.{status_of_cause, status_of, IsStatusOf, IsScriptsStatus, IsStatusBeforeOutput}
 
 -- a run's fault has status 3 or 4
@@ -25,6 +25,7 @@ pub status_some : (fault : ProgramFault) → status_of fault ≢ 0
 status_some (Words reason) is = absurd (omega (arith, is))
 status_some (Unreadable reason) is = absurd (omega (arith, is))
 status_some (Script line fault) is = absurd (omega (arith, is))
+status_some (Schedule turn misfit) is = absurd (omega (arith, is))
 status_some (Run fault) is = status_of_cause_some fault.cause is
 status_some Output is = absurd (omega (arith, is))
 status_some NoMemory is = absurd (omega (arith, is))
@@ -34,6 +35,7 @@ pub status_of_scripts : (fault : ProgramFault) → status_of fault ≡ 2 → IsS
 status_of_scripts (Words reason) is = absurd (omega (arith, is))
 status_of_scripts (Unreadable reason) is = absurd (omega (arith, is))
 status_of_scripts (Script line fault) is = tt
+status_of_scripts (Schedule turn misfit) is = absurd (omega (arith, is))
 status_of_scripts (Run fault) is = absurd (status_of_cause_others fault.cause is)
 status_of_scripts Output is = absurd (omega (arith, is))
 status_of_scripts NoMemory is = absurd (omega (arith, is))
@@ -43,6 +45,7 @@ pub before : (fault : ProgramFault) → status_of fault ≢ 4 → IsStatusBefore
 before (Words reason) isnt = tt
 before (Unreadable reason) isnt = tt
 before (Script line fault) isnt = tt
+before (Schedule turn misfit) isnt = tt
 before (Run fault) isnt = tt
 before Output isnt = absurd (isnt refl)
 before NoMemory isnt = tt

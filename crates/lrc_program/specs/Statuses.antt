@@ -3,7 +3,7 @@ use Rattle.std.specs.Prelude.{ℕ, ◌≡◌, ◌⊎◌, ⊤}
 use Rattle.conformance.specs.declared.cause.Cause.{Cause}
 use Rattle.conformance.specs.declared.cause.Cause.TheVariants.{Stuck}
 use Rattle.lrc_program.specs.declared.fault.ProgramFault.{ProgramFault}
-use Rattle.lrc_program.specs.declared.fault.ProgramFault.TheVariants.{Words, Unreadable, Script, Run, Output, NoMemory}
+use Rattle.lrc_program.specs.declared.fault.ProgramFault.TheVariants.{Words, Unreadable, Script, Schedule, Run, Output, NoMemory}
 
 -- a run without progress has a status of its own
 abbrev pub status_of_cause : Cause → ℕ
@@ -15,6 +15,7 @@ abbrev pub status_of : ProgramFault → ℕ
 status_of (Words reason) = 5
 status_of (Unreadable reason) = 5
 status_of (Script line fault) = 2
+status_of (Schedule turn misfit) = 5
 status_of (Run fault) = status_of_cause fault.cause
 status_of _ = 4
 

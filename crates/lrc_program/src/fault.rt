@@ -5,7 +5,7 @@ ghost use Rattle.lrc_program.specs.Prelude.{IsScriptsStatus, status_of};
 ghost use Rattle.lrc_program.specs.declared.fault.ProgramFault.TheVariants as program;
 
 use book::Refused;
-use conformance::{Cause, RunFault};
+use conformance::{Cause, Misfit, RunFault, ScheduleFault};
 use lrc_report::render::OutFault;
 use lrc_script::fault::ScriptFault;
 use std::alloc::{AllocError, Global};
@@ -26,6 +26,9 @@ pub enum ProgramFault {
     /// The script has a fault, in this line.
     #[error("line {0}: {1}")]
     Script(usize, ScriptFault),
+    /// The schedule that the words give doesn't fit the script at this turn, counted from 1.
+    #[error("schedule: turn {0}: {1}")]
+    Schedule(usize, Misfit),
     /// A processor went no further.
     #[error("{0}")]
     Run(RunFault),
@@ -53,13 +56,13 @@ impl ProgramFault {
         }
     }
 
-    /// The exit status: 5 for words or a script that can't be read, 2 for a script that is refused, 3 for a run
+    /// The exit status: 5 for words or a script that can't be read and for a schedule that doesn't fit, 2 for a script that is refused, 3 for a run
     /// without progress, else 4.
     pub fn status(self) -> u8
         ensures { result ≡ status_of self }
     {
         match self {
-            ProgramFault::Words(_) | ProgramFault::Unreadable(_) => 5,
+            ProgramFault::Words(_) | ProgramFault::Unreadable(_) | ProgramFault::Schedule(..) => 5,
             ProgramFault::Script(..) => 2,
             ProgramFault::Run(
                 RunFault {
@@ -110,6 +113,17 @@ impl From<RunFault> for ProgramFault {
         match fault.cause {
             Cause::Refused(Refused::NoMemory) => ProgramFault::NoMemory,
             _ => ProgramFault::Run(fault),
+        }
+    }
+}
+
+impl From<ScheduleFault> for ProgramFault {
+    ghost from_gives = { λ _ fault. IsScriptsStatus fault → ⊥ };
+
+    fn from(fault: ScheduleFault) -> ProgramFault {
+        match fault {
+            ScheduleFault::Run(fault) => ProgramFault::from(fault),
+            ScheduleFault::Misfit(turn, misfit) => ProgramFault::Schedule(turn, misfit),
         }
     }
 }

@@ -1,13 +1,14 @@
 //! The program over its reader and its writers.
-ghost use Rattle.std.specs.Prelude.{◌≡◌, ◌≢◌, ◌<◌, ◌⊎◌, IfErr, IfOk, OnOk};
+ghost use Rattle.std.specs.Prelude.{ℕ, ◌≡◌, ◌≢◌, ◌<◌, ◌⊎◌, IfErr, IfOk, List, Ok, OnOk};
 ghost use Rattle.std.specs.Io.KnownBytes.{Keeps};
 ghost use Rattle.lrc_script.specs.Prelude.{IsLawful, plan_of};
-ghost use Rattle.conformance.specs.Prelude.{IsReportOf};
-ghost use Rattle.lrc_program.specs.Prelude.{IsServedAsAsked, IsNoScript, IsScriptPrinted, IsScriptRead, IsServed, IsStatusBeforeOutput};
+ghost use Rattle.conformance.specs.Prelude.{IsReportOf, IsScheduleText};
+ghost use Rattle.conformance.specs.declared.ended.Ended.TheVariants.{Whole};
+ghost use Rattle.lrc_program.specs.Prelude.{IsServedAsAsked, IsByTurns, IsNoScript, IsScriptPrinted, IsScriptRead, IsServed, IsStatusBeforeOutput};
 ghost use Rattle.lrc_program.specs.Prelude.{IsScriptsStatus, IsStatusOf, lock_chosen};
 
 use crate::fault::ProgramFault;
-use conformance::{LockChoice, RunFault, Runs};
+use conformance::{Cause, Ended, LockChoice, RunFault, Runs, Schedule};
 use lrc_options::options::Options;
 use lrc_report::Report;
 use lrc_report::render::render;
@@ -31,6 +32,52 @@ fn lock_of(options: &Options) -> LockChoice
     }
 }
 
+/// Has the script run by the turns of the schedule that this text gives.
+fn scheduled_report<T: Runs, R: Wait>(
+    runs: &T,
+    rt: &R,
+    alloc: Global,
+    script: &Script,
+    lock: LockChoice,
+    text: &str,
+) -> Result<Report, ProgramFault>
+    requires { IsLawful (plan_of script.now) }
+    ensures report { IfOk result (IsReportOf (plan_of script.now)) }
+    ensures followed { IfOk result (λ report. (turns : List ℕ) × IsScheduleText text.now turns
+        × T.followed (plan_of script.now) lock turns (Ok (Whole report))) }
+    ensures runs { IfErr result (λ fault. IsScriptsStatus fault → ⊥) }
+{
+    let schedule = Schedule::parse(alloc, text)?;
+    let ended = runs.step_by(rt, alloc, script, lock, &schedule)?;
+    match ended {
+        Ended::Whole(report) => Ok(report),
+        Ended::Halted(halt) => Err(ProgramFault::from(RunFault {
+            processor: halt.processor,
+            cause: Cause::Stuck,
+        })),
+    }
+}
+
+/// Has the script run by turns as the options say.
+fn stepped_report<T: Runs, R: Wait>(
+    runs: &T,
+    rt: &R,
+    alloc: Global,
+    options: &Options,
+    script: &Script,
+) -> Result<Report, ProgramFault>
+    requires { IsLawful (plan_of script.now) }
+    ensures report { IfOk result (IsReportOf (plan_of script.now)) }
+    ensures asked { IfOk result (IsByTurns T.stepped T.followed options.now (plan_of script.now)) }
+    ensures runs { IfErr result (λ fault. IsScriptsStatus fault → ⊥) }
+{
+    let lock = lock_of(options);
+    match options.schedule.as_deref() {
+        Some(text) => scheduled_report(runs, rt, alloc, script, lock, text),
+        None => Ok(runs.step(rt, alloc, script, lock, options.seed)?),
+    }
+}
+
 /// Has the script run as the options say.
 fn report_of<T: Runs, R: Threads + Wait + Sync>(
     runs: &T,
@@ -38,18 +85,17 @@ fn report_of<T: Runs, R: Threads + Wait + Sync>(
     alloc: Global,
     options: &Options,
     script: &Script,
-) -> Result<Report, RunFault>
+) -> Result<Report, ProgramFault>
     requires tries { 0 < options.now.tries }
     requires lawful { IsLawful (plan_of script.now) }
     ensures report { IfOk result (IsReportOf (plan_of script.now)) }
-    ensures asked { IsServedAsAsked T.ran T.stepped options.now (plan_of script.now) result }
+    ensures asked { IfOk result (IsServedAsAsked T.ran T.stepped T.followed options.now (plan_of script.now)) }
+    ensures runs { IfErr result (λ fault. IsScriptsStatus fault → ⊥) }
 {
-    let lock = lock_of(options);
     if options.step {
-        runs.step(rt, alloc, script, lock, options.seed)
-    } else {
-        runs.run(rt, alloc, script, lock, options.tries)
+        return stepped_report(runs, rt, alloc, options, script);
     }
+    Ok(runs.run(rt, alloc, script, lock_of(options), options.tries)?)
 }
 
 /// Reads a script: all that the source has.
@@ -74,7 +120,7 @@ fn print_report<T: Runs, R: Threads + Wait + Sync, W: Write>(
 ) -> Result<(), ProgramFault>
     requires tries { 0 < options.now.tries }
     requires lawful { IsLawful (plan_of script.now) }
-    ensures printed { OnOk result (IsScriptPrinted (IsServedAsAsked T.ran T.stepped options.now) options.now.journal (plan_of script.now)
+    ensures printed { OnOk result (IsScriptPrinted (IsServedAsAsked T.ran T.stepped T.followed options.now) options.now.journal (plan_of script.now)
         (W.contents out.old) (W.contents out.new)) }
     ensures early { IfErr result
         (λ fault. IsStatusBeforeOutput fault → Keeps (W.contents out.old) (W.contents out.new)) }
@@ -95,7 +141,7 @@ fn run_script<T: Runs, R: Threads + Wait + Sync, S: Read, W: Write>(
     out: &mut W,
 ) -> Result<(), ProgramFault>
     requires { 0 < options.now.tries }
-    ensures served { OnOk result (IsServed (IsServedAsAsked T.ran T.stepped options.now) options.now.journal
+    ensures served { OnOk result (IsServed (IsServedAsAsked T.ran T.stepped T.followed options.now) options.now.journal
         (S.remaining source.old) (W.contents out.old) (W.contents out.new)) }
     ensures refused { IfErr result (λ fault. IsScriptsStatus fault → IsNoScript (S.remaining source.old)) }
     ensures early { IfErr result
@@ -144,7 +190,7 @@ pub fn program<T: Runs, R: Threads + Wait + Sync, S: Read, W: Write, E: Write>(
 ) -> u8
     requires { 0 < options.now.tries }
     // The script that was read was run as the options ask, and the report of that run was written, whole.
-    ensures served { result ≡ 0 → IsServed (IsServedAsAsked T.ran T.stepped options.now) options.now.journal
+    ensures served { result ≡ 0 → IsServed (IsServedAsAsked T.ran T.stepped T.followed options.now) options.now.journal
         (S.remaining source.old) (W.contents out.old) (W.contents out.new) }
     // What is refused as a script is none.
     ensures refused { result ≡ 2 → IsNoScript (S.remaining source.old) }

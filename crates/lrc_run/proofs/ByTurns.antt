@@ -1,44 +1,113 @@
 -- What comes of processors that took their turns from the start on.
-use Rattle.std.proofs.Common.{ℕ, ◌≡◌, ◌==◌, cond, Option, List, [], ◌++◌, map, sym, ap, subst, ◌∙◌}
+use Rattle.std.proofs.Common.{ℕ, zero, suc, ◌≡◌, ◌==◌, cond, Option, None, List, [], ◌++◌, length, map, replicate, refl, sym, ap, subst, ◌∙◌, append_assoc, append-nil}
 use Rattle.std.specs.Prelude.{All}
 use Rattle.std.proofs.lemmas.Option.{get_or_from_slice_get, slice_get_within}
 use Rattle.journal.specs.declared.event.Event.{Event}
 use Rattle.journal.specs.Events.{events_of}
+use Rattle.journal.specs.Sizes.{Sizes}
 use Rattle.lrc_script.specs.Lawful.{IsLawful}
 use Rattle.lrc_script.specs.Plan.{Plan}
 use Rattle.lrc_report.specs.declared.report.Report.{Report}
 use Rattle.conformance.specs.Follows.{calls_of, call_kinds, load_of, plan_sizes}
 use Rattle.cluster.specs.Copies.Local.{Local}
 use Rattle.cluster.specs.Clusters.{IsNewCluster, SharedCluster}
-use Rattle.cluster.specs.Finishing.{IsFinished}
 use Rattle.conformance.specs.declared.ended.Ended.{Ended}
 use Rattle.conformance.specs.declared.ended.Ended.TheVariants.{Halted, Whole}
 use Rattle.conformance.specs.declared.ended.Halt.{Halt}
 use Rattle.conformance.specs.declared.progress.TurnProgress.{TurnProgress}
-use Rattle.conformance.specs.declared.progress.TurnProgress.TheVariants.{Passed}
+use Rattle.conformance.specs.declared.progress.TurnProgress.TheVariants.{Next, Passed}
 use Rattle.conformance.specs.ByTurns.{IsEndByTurns, IsHaltByTurns, IsReportByTurns, turn_orders}
 use Rattle.conformance.specs.Ends.{IsEndOf}
-use Rattle.conformance.specs.Turns.{AreReachedByTurns, TurnStage}
-use Rattle.lrc_run.specs.FollowedReports.{IsReportAfter}
-use Rattle.lrc_run.specs.Turns.{AreTurnedBy, SeesDeadlock}
-use Rattle.lrc_run.proofs.Halting.{IsHaltJournalWith, halted_all, halted_is}
-use Rattle.lrc_run.proofs.Turning.{AllBegin, turn_rounds_told, turn_stage_from, turn_stages}
+use Rattle.conformance.specs.Schedules.{scheduled}
+use Rattle.conformance.specs.Turns.{AreReachedByTurns, AreScriptTurns, TurnStage, turn_stage, turns_of}
+use Rattle.lrc_run.specs.FollowedReports.{IsEndAfter, IsHaltJournalWith, IsReportAfter}
+use Rattle.lrc_run.specs.Steps.{AreAtSteps}
+use Rattle.lrc_run.specs.Turns.{AreTaken, AreTurnedBy, HaveGoneRound}
+use Rattle.lrc_run.proofs.Halting.{halted_all}
+use Rattle.lrc_run.proofs.Stepping.{steps_begin}
+use Rattle.lrc_run.proofs.Turning.{AllBegin, nothing_made, turn_rounds_told, seen_same, turn_stage_from, turn_stages, turn_stages_start, taken_told, turns-append, way_taken}
 
--- by turns from the start on all have come to where they are
-turns_reached : (s : Plan) (c : SharedCluster) (seed : Option ℕ) (h : List Event) (ms ns : List Local) (all : List TurnProgress)
-    → c.sizes ≡ plan_sizes s → IsNewCluster c ms → AreTurnedBy c s seed ms ns all → AllBegin ns h
-    → AreReachedByTurns s (turn_orders s seed) h (turn_stages ns all)
-turns_reached s c seed h ms ns all sizes new by begin =
-    record { rounds = by.count; turns = turn_rounds_told s c h (turn_orders s seed) by.count ms ns all sizes new by.rounds begin }
+-- the turns from the start on are told of a history that goes on from what all have seen at their end
+told_start : (s : Plan) (c : SharedCluster) (turns : List ℕ) (seed : Option ℕ) (h : List Event) (ms ns : List Local)
+    (all : List TurnProgress) → c.sizes ≡ plan_sizes s → IsNewCluster c ms → (by : AreTurnedBy c s turns seed ms ns all)
+    → AllBegin ns h → AreScriptTurns s h (turns ++ turns_of (turn_orders s seed) by.gone.count)
+    (replicate s.processors (turn_stage (Next 0) [])) (turn_stages ns all)
+told_start s c turns seed h ms ns all sizes new by begin =
+    let n = s.processors in
+    let orders = turn_orders s seed in
+    let k = by.gone.count in
+    let start : List TurnProgress = replicate n (Next 0) in
+    let many : length ms ≡ n = new.all ∙ ap (λ (x : Sizes). x.processors) sizes in
+    let way = steps_begin c s.sections ms start n new (sym many) refl in
+    let between = way_taken c s.sections turns ms by.between start by.half way by.first in
+    let rounds = turn_rounds_told s c h orders k by.between ns by.half all sizes between by.gone.rounds begin in
+    let first = taken_told s c h turns ms by.between start by.half sizes way by.first rounds.0 in
+    let P : List TurnStage → Type 0 = λ xs. AreScriptTurns s h (turns ++ turns_of orders k) xs (turn_stages ns all) in
+    subst P (turn_stages_start ms n many (nothing_made c ms new))
+    (turns-append s h turns (turns_of orders k) (turn_stages ms start) (turn_stages by.between by.half) (turn_stages ns all) first.1
+    rounds.1)
+
+-- so many are the script's processors
+many_of : (s : Plan) (c : SharedCluster) (ms : List Local) (n : ℕ) → c.sizes ≡ plan_sizes s → IsNewCluster c ms → n ≡ length ms
+    → n ≡ s.processors
+many_of s c ms n sizes new many = many ∙ new.all ∙ ap (λ (x : Sizes). x.processors) sizes
+
+-- new processors took these turns, and went round then
+pub by_taken : (s : Plan) (c : SharedCluster) (turns : List ℕ) (seed : Option ℕ) (ms between ns : List Local)
+    (start half all : List TurnProgress) (n : ℕ) → c.sizes ≡ plan_sizes s → IsNewCluster c ms → n ≡ length ms
+    → start ≡ replicate n (Next 0) → AreTaken s.sections turns ms between start half
+    → HaveGoneRound c s seed between ns half all → AreTurnedBy c s turns seed ms ns all
+by_taken s c turns seed ms between ns start half all n sizes new many is taken gone =
+    let P : List TurnProgress → Type 0 = λ xs. AreTaken s.sections turns ms between xs half in
+    record {
+      between = between;
+      half = half;
+      first = subst P (is ∙ ap (λ k. replicate k (Next 0)) (many_of s c ms n sizes new many)) taken;
+      gone = gone;
+    }
+
+-- or went round at once
+pub by_rounds : (s : Plan) (c : SharedCluster) (seed : Option ℕ) (ms ns : List Local) (start all : List TurnProgress) (n : ℕ)
+    → c.sizes ≡ plan_sizes s → IsNewCluster c ms → n ≡ length ms → start ≡ replicate n (Next 0)
+    → HaveGoneRound c s seed ms ns start all → AreTurnedBy c s [] seed ms ns all
+by_rounds s c seed ms ns start all n sizes new many is gone =
+    by_taken s c [] seed ms ms ns start start all n sizes new many is (seen_same ms, refl) gone
+
+-- all have come so far by turns in these orders, in each history that goes on from what they have seen
+abbrev pub AreTold : Plan → (ℕ → List ℕ) → List Local → List TurnProgress → Type 0
+AreTold s orders ns all = (h : List Event) → AllBegin ns h → AreReachedByTurns s orders h (turn_stages ns all)
+
+-- in the orders of a seed
+pub by_seed : (s : Plan) (c : SharedCluster) (seed : Option ℕ) (ms ns : List Local) (all : List TurnProgress)
+    → c.sizes ≡ plan_sizes s → IsNewCluster c ms → AreTurnedBy c s [] seed ms ns all → AreTold s (turn_orders s seed) ns all
+by_seed s c seed ms ns all sizes new by =
+    λ h begin. record { rounds = by.gone.count; turns = told_start s c [] seed h ms ns all sizes new by begin }
+
+-- the turns of a schedule, and of rounds behind them
+scheduled_turns : (s : Plan) (turns : List ℕ) (k : ℕ)
+    → turns_of (scheduled s turns) (suc k) ≡ turns ++ turns_of (turn_orders s None) k
+scheduled_turns s turns zero = sym (append-nil turns)
+scheduled_turns s turns (suc k) = ap (λ ps. ps ++ turn_orders s None k) (scheduled_turns s turns k)
+    ∙ append_assoc turns (turns_of (turn_orders s None) k) (turn_orders s None k)
+
+-- by a schedule
+pub by_schedule : (s : Plan) (c : SharedCluster) (turns : List ℕ) (ms ns : List Local) (all : List TurnProgress)
+    → c.sizes ≡ plan_sizes s → IsNewCluster c ms → AreTurnedBy c s turns None ms ns all → AreTold s (scheduled s turns) ns all
+by_schedule s c turns ms ns all sizes new by = λ h begin.
+    let k = by.gone.count in
+    let P : List ℕ → Type 0 = λ ps. AreScriptTurns s h ps (replicate s.processors (turn_stage (Next 0) [])) (turn_stages ns all) in
+    record {
+      rounds = suc k;
+      turns = subst P (sym (scheduled_turns s turns k)) (told_start s c turns None h ms ns all sizes new by begin);
+    }
 
 -- the report of a run by turns: all have passed the closing barrier
-pub report_by_turns : (s : Plan) (c : SharedCluster) (seed : Option ℕ) (ms ns : List Local) (all : List TurnProgress) (r : Report)
-    → c.sizes ≡ plan_sizes s → IsNewCluster c ms → AreTurnedBy c s seed ms ns all → All (λ x. x ≡ Passed) all
-    → IsReportAfter s r ns → IsReportByTurns s (turn_orders s seed) r
-report_by_turns s c seed ms ns all r sizes new by passed after = record {
+report_by_turns : (s : Plan) (orders : ℕ → List ℕ) (ns : List Local) (all : List TurnProgress) (r : Report)
+    → AreTold s orders ns all → All (λ x. x ≡ Passed) all → IsReportAfter s r ns → IsReportByTurns s orders r
+report_by_turns s orders ns all r told passed after = record {
   report = after.is;
   stages = turn_stages ns all;
-  reached = turns_reached s c seed after.is.history ms ns all sizes new by after.begin;
+  reached = told after.is.history after.begin;
   passed = λ p x here.
       let is = turn_stage_from ns all p x here in
       ap (λ (y : TurnStage). y.progress) is.is ∙ sym (get_or_from_slice_get all p is.at Passed is.at_is)
@@ -50,26 +119,31 @@ report_by_turns s c seed ms ns all r sizes new by passed after = record {
 }
 
 -- the journal of one that is stuck
-pub halt_by_turns : (s : Plan) (c : SharedCluster) (seed : Option ℕ) (ms ns : List Local) (all : List TurnProgress) (halt : Halt)
-    → IsLawful s → c.sizes ≡ plan_sizes s → IsNewCluster c ms → AreTurnedBy c s seed ms ns all → SeesDeadlock ns
-    → halt.processor ≡ 0 → IsFinished c.sizes ns halt.journal → IsHaltByTurns s (turn_orders s seed) halt
-halt_by_turns s c seed ms ns all halt lawful sizes new by stuck first finished =
-    with_journal (halted_is s c ns all halt.journal lawful sizes by.way stuck finished)
-  where
-    with_journal : IsHaltJournalWith s halt.journal ns → IsHaltByTurns s (turn_orders s seed) halt
-    with_journal told = record {
-      journal = told.is;
-      least = first;
-      stages = turn_stages ns all;
-      reached = turns_reached s c seed told.is.history ms ns all sizes new by (λ p m here. (told.each p m here).begins);
-      calls_are = λ p x here.
-          let is = turn_stage_from ns all p x here in
-          let m = is.processor in
-          let number = ((halted_all s c ns all lawful sizes by.way).each p m is.processor_is).number in
-          let own = told.each p m is.processor_is in
-          ap call_kinds (ap (events_of told.is.history) (sym number) ∙ own.calls_are)
-          ∙ ap (λ (y : TurnStage). y.calls) (sym is.is);
-    }
+halt_by_turns : (s : Plan) (c : SharedCluster) (orders : ℕ → List ℕ) (ns : List Local) (all : List TurnProgress) (halt : Halt)
+    → IsLawful s → c.sizes ≡ plan_sizes s → AreAtSteps c s.sections ns all → AreTold s orders ns all
+    → IsHaltJournalWith s halt.journal ns → halt.processor ≡ 0 → IsHaltByTurns s orders halt
+halt_by_turns s c orders ns all halt lawful sizes way told with_calls first = record {
+  journal = with_calls.is;
+  least = first;
+  stages = turn_stages ns all;
+  reached = told with_calls.is.history (λ p m here. (with_calls.each p m here).begins);
+  calls_are = λ p x here.
+      let is = turn_stage_from ns all p x here in
+      let m = is.processor in
+      let number = ((halted_all s c ns all lawful sizes way).each p m is.processor_is).number in
+      let own = with_calls.each p m is.processor_is in
+      ap call_kinds (ap (events_of with_calls.is.history) (sym number) ∙ own.calls_are)
+      ∙ ap (λ (y : TurnStage). y.calls) (sym is.is);
+}
+
+-- how it ended
+pub end_by : (s : Plan) (c : SharedCluster) (orders : ℕ → List ℕ) (ns : List Local) (all : List TurnProgress) (e : Ended)
+    → IsLawful s → c.sizes ≡ plan_sizes s → AreAtSteps c s.sections ns all → AreTold s orders ns all
+    → IsEndAfter s ns all e → IsEndByTurns s orders e
+end_by s c orders ns all (Whole report) lawful sizes way told after =
+    report_by_turns s orders ns all report told after.1 after.0
+end_by s c orders ns all (Halted halt) lawful sizes way told after =
+    halt_by_turns s c orders ns all halt lawful sizes way told after.0 after.1
 
 -- what a run by turns came to is an end of the script
 pub end_of_turns : (s : Plan) (orders : ℕ → List ℕ) (e : Ended) → IsEndByTurns s orders e → IsEndOf s e

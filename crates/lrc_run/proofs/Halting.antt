@@ -26,12 +26,12 @@ use Rattle.conformance.specs.Instructions.{AreEventsOfInstruction, AreEventsOfIn
 use Rattle.conformance.proofs.Begins.{begins_after, begins_front, begins_whole, begins_within}
 use Rattle.cluster.specs.Copies.Local.{Local}
 use Rattle.cluster.specs.Clusters.{SharedCluster}
-use Rattle.cluster.specs.Finishing.{AreAllToFinish, HasCallsOf, IsFinished, IsProcessorOf}
+use Rattle.cluster.specs.Finishing.{AreAllToFinish, IsFinished, IsProcessorOf}
 use Rattle.conformance.specs.CutInstructions.{HasCutInstruction, HasNoCutInstruction}
-use Rattle.conformance.specs.Ends.{IsJournalSoFar}
 use Rattle.conformance.specs.declared.progress.TurnProgress.{TurnProgress}
 use Rattle.conformance.specs.declared.progress.TurnProgress.TheVariants.{Next, Passed, Waits}
 use Rattle.conformance.specs.Turns.{instruction_at_turn}
+use Rattle.lrc_run.specs.FollowedReports.{IsHaltJournalWith}
 use Rattle.lrc_run.specs.Steps.{AreAtSteps, IsAtStep}
 use Rattle.lrc_run.specs.Turns.{SeesDeadlock}
 use Rattle.lrc_run.specs.MakesCalls.{AreCallsWanted, calls_made, new_at}
@@ -134,11 +134,6 @@ halt_deadlock_last s h front well_formed (e ∷ rest, is) stuck =
     ∙ ap (slice_get (front ++ e ∷ rest)) (sym none) ∙ slice_get-append_right front (e ∷ rest) 0 in
     let before : take (length front) h ≡ front = ap (take (length front)) is ∙ take-append_seam front (e ∷ rest) in
     absurd (deadlock_law s front e stuck (subst (λ es. MayFollow s es e) before (well_formed (length front) e at)))
-
--- the journal so far is of the script, and its history has the calls of these processors
-pub record IsHaltJournalWith (s : Plan) (j : Log) (ms : List Local) : Type 0 where
-  pub is : IsJournalSoFar s j
-  pub each : (p : ℕ) (m : Local) → slice_get ms p ≡ Some m → HasCallsOf is.history m
 
 -- the journal of a finished cluster whose processors are on their way
 pub halted_is : (s : Plan) (c : SharedCluster) (ms : List Local) (all : List TurnProgress) (j : Log) → IsLawful s → c.sizes ≡ plan_sizes s

@@ -10,3 +10,4 @@ pub mod Failing
 pub mod JoinedThreads
 pub mod Halting
 pub mod ByTurns
+pub mod Scheduling

@@ -2,7 +2,8 @@
 use Rattle.std.proofs.Common.{ℕ, zero, suc, ◌≡◌, ◌<◌, Bool, true, false, Option, Some, List, [], ◌∷◌, ◌++◌, length, replicate, get_or, slice_get, slice_set, refl, sym, ap, subst, subst₂, ◌∙◌, inl, inr, append-nil, arith}
 use Rattle.std.proofs.lemmas.Bool.{cases_eq}
 use Rattle.std.proofs.lemmas.Option.{none-some, same_Some, slice_get-get_or, slice_get_within}
-use Rattle.base.proofs.SliceSets.{slice_get-set_other, slice_get-set_same}
+use Rattle.std.proofs.lemmas.List.{length-set}
+use Rattle.base.proofs.SliceSets.{slice_get-set_found, slice_get-set_other, slice_get-set_same}
 use Rattle.journal.specs.declared.event.Event.{Event}
 use Rattle.journal.specs.declared.event.Kind.{Kind}
 use Rattle.journal.specs.DidEvent.{event}
@@ -26,11 +27,11 @@ use Rattle.conformance.specs.Orders.{order_drawn, order_generator_after, order_g
 use Rattle.conformance.specs.Turns.{AreScriptTurns, IsScriptTurn, TurnLooksInVain, TurnStage, instruction_at_turn, progress_after_turn, turn_stage, turns_of}
 use Rattle.lrc_run.specs.FollowedReports.{IsBeginning}
 use Rattle.lrc_run.specs.Steps.{AreAtSteps, IsAtStep}
-use Rattle.lrc_run.specs.Turns.{AreTurnRounds, AreSeenAfterTurns, AreTurned, AreTurnedBy, IsTurnOfRun, SeesOnlyMore, TakesTurn}
+use Rattle.lrc_run.specs.Turns.{AreTurnRounds, AreSeenAfterTurns, AreTaken, AreTurned, HaveGoneRound, IsTurnOfRun, SeesOnlyMore, TakesTurn}
 use Rattle.lrc_run.specs.MakesCalls.{IsOnItsWay, MakesBut, SeesMoreCalls, TriedTake, calls_made, new_at}
 use Rattle.lrc_run.proofs.FollowedReports.{begins_less}
 use Rattle.lrc_run.proofs.SeesAndMakes.{last_is_no_fetch, sees_same_processor, sees_same, sees_then, makes_same_wanted}
-use Rattle.lrc_run.proofs.Stepping.{step_after_instruction, step_after_look, steps_begin, steps_turned, same_after_step}
+use Rattle.lrc_run.proofs.Stepping.{step_after_instruction, step_after_look, steps_turned, same_after_step}
 
 -- one turn more
 pub turned_more : (sections : List (List Instruction)) (ps : List ℕ) (p : ℕ) (ms ns os : List Local)
@@ -281,7 +282,7 @@ turns_told s c h (p ∷ ps) ms ns all to sizes way turned begin =
     ]
 
 -- turns, and then more of them
-turns-append : (s : Plan) (h : List Event) (ps qs : List ℕ) (xs ys zs : List TurnStage) → AreScriptTurns s h ps xs ys
+pub turns-append : (s : Plan) (h : List Event) (ps qs : List ℕ) (xs ys zs : List TurnStage) → AreScriptTurns s h ps xs ys
     → AreScriptTurns s h qs ys zs → AreScriptTurns s h (ps ++ qs) xs zs
 turns-append s h [] qs xs ys zs first next = let P : List TurnStage → Type 0 = λ x. AreScriptTurns s h qs x zs in subst P first next
 turns-append s h (p ∷ ps) qs xs ys zs first next =
@@ -376,103 +377,205 @@ turn_way_seen c sections ms ns all way on = record {
 }
 
 -- where all are after rounds
-turn_way_rounds : (c : SharedCluster) (s : Plan) (orders : ℕ → List ℕ) (k : ℕ) (ms ns : List Local) (all : List TurnProgress)
-    → c.sizes ≡ plan_sizes s → IsNewCluster c ms → AreTurnRounds s orders k ms ns all → AreAtSteps c s.sections ns all
-turn_way_rounds c s orders zero ms ns all sizes new rounds =
-    let n = s.processors in
-    let many : n ≡ length ms = sym (new.all ∙ ap (λ (x : Sizes). x.processors) sizes) in
-    let P : List Local → Type 0 = λ xs. AreAtSteps c s.sections xs all in
-    subst P (sym rounds.0) (steps_begin c s.sections ms all n new many rounds.1)
-turn_way_rounds c s orders (suc k) ms ns all sizes new rounds =
+turn_way_rounds : (c : SharedCluster) (s : Plan) (orders : ℕ → List ℕ) (k : ℕ) (ms ns : List Local) (start all : List TurnProgress)
+    → AreAtSteps c s.sections ms start → AreTurnRounds s orders k ms start ns all → AreAtSteps c s.sections ns all
+turn_way_rounds c s orders zero ms ns start all way rounds =
+    let P : List Local → List TurnProgress → Type 0 = λ xs ys. AreAtSteps c s.sections xs ys in
+    subst₂ P (sym rounds.0) (sym rounds.1) way
+turn_way_rounds c s orders (suc k) ms ns start all way rounds =
     let round = rounds.3 in
     turn_way_seen c s.sections round.turned ns all (ways_turned c s.sections (orders k) rounds.0 round.turned rounds.1 all
-    (turn_way_rounds c s orders k ms rounds.0 rounds.1 sizes new rounds.2) round.turns) round.seen
+    (turn_way_rounds c s orders k ms rounds.0 start rounds.1 way rounds.2) round.turns) round.seen
 
 -- rounds are told of a history that goes on from what all have seen at their end
 pub turn_rounds_told : (s : Plan) (c : SharedCluster) (h : List Event) (orders : ℕ → List ℕ) (k : ℕ) (ms ns : List Local)
-    (all : List TurnProgress) → c.sizes ≡ plan_sizes s → IsNewCluster c ms → AreTurnRounds s orders k ms ns all → AllBegin ns h
-    → AreScriptTurns s h (turns_of orders k) (replicate s.processors (turn_stage (Next 0) [])) (turn_stages ns all)
-turn_rounds_told s c h orders zero ms ns all sizes new rounds begin =
-    let n = s.processors in
-    let many : length ms ≡ n = new.all ∙ ap (λ (x : Sizes). x.processors) sizes in
-    let P : List Local → List TurnProgress → Type 0 = λ xs ys. turn_stages xs ys ≡ replicate n (turn_stage (Next 0) []) in
-    subst₂ P (sym rounds.0) (sym rounds.1) (turn_stages_start ms n many (nothing_made c ms new))
-turn_rounds_told s c h orders (suc k) ms ns all sizes new rounds begin =
+    (start all : List TurnProgress) → c.sizes ≡ plan_sizes s → AreAtSteps c s.sections ms start
+    → AreTurnRounds s orders k ms start ns all → AllBegin ns h
+    → AllBegin ms h × AreScriptTurns s h (turns_of orders k) (turn_stages ms start) (turn_stages ns all)
+turn_rounds_told s c h orders zero ms ns start all sizes way rounds begin =
+    let P : List Local → Type 0 = λ xs. AllBegin xs h in
+    let Q : List Local → List TurnProgress → Type 0 = λ xs ys. turn_stages xs ys ≡ turn_stages ms start in
+    (subst P rounds.0 begin, subst₂ Q (sym rounds.0) (sym rounds.1) refl)
+turn_rounds_told s c h orders (suc k) ms ns start all sizes way rounds begin =
     let round = rounds.3 in
-    let way = turn_way_rounds c s orders k ms rounds.0 rounds.1 sizes new rounds.2 in
-    let told = turns_told s c h (orders k) rounds.0 round.turned rounds.1 all sizes way round.turns
+    let between = turn_way_rounds c s orders k ms rounds.0 start rounds.1 way rounds.2 in
+    let told = turns_told s c h (orders k) rounds.0 round.turned rounds.1 all sizes between round.turns
     (begin_before round.turned ns h round.seen begin) in
-    let before = turn_rounds_told s c h orders k ms rounds.0 rounds.1 sizes new rounds.2 told.0 in
-    let P : List TurnStage → Type 0 = λ xs. AreScriptTurns s h (turns_of orders k ++ orders k)
-    (replicate s.processors (turn_stage (Next 0) [])) xs in
-    subst P (sym (turn_stages_seen round.turned ns all round.seen))
-    (turns-append s h (turns_of orders k) (orders k) (replicate s.processors (turn_stage (Next 0) []))
-    (turn_stages rounds.0 rounds.1) (turn_stages round.turned all) before told.1)
+    let before = turn_rounds_told s c h orders k ms rounds.0 start rounds.1 sizes way rounds.2 told.0 in
+    let P : List TurnStage → Type 0 = λ xs. AreScriptTurns s h (turns_of orders k ++ orders k) (turn_stages ms start) xs in (
+      before.0,
+      subst P (sym (turn_stages_seen round.turned ns all round.seen))
+          (turns-append s h (turns_of orders k) (orders k) (turn_stages ms start) (turn_stages rounds.0 rounds.1)
+          (turn_stages round.turned all) before.1 told.1),
+    )
 
--- where all are after a round, and the generator then
-pub record IsBetweenTurns (c : SharedCluster) (s : Plan) (seed : Option ℕ) (old new : List Local) (all : List TurnProgress)
+-- where all are between two rounds, and the generator then
+pub record IsBetweenTurns (c : SharedCluster) (s : Plan) (seed : Option ℕ) (old new : List Local) (start all : List TurnProgress)
     (generator : Option Lcg) : Type 0 where
-  pub by : AreTurnedBy c s seed old new all
-  pub drawn_is : generator ≡ order_generator_after seed s.processors by.count
+  pub gone : HaveGoneRound c s seed old new start all
+  pub drawn_is : generator ≡ order_generator_after seed s.processors gone.count
 
 -- before the first one
 pub before_turn_rounds : (c : SharedCluster) (s : Plan) (seed : Option ℕ) (ms : List Local) (all : List TurnProgress)
-    (generator : Option Lcg) (n : ℕ) → c.sizes ≡ plan_sizes s → IsNewCluster c ms → n ≡ length ms → all ≡ replicate n (Next 0)
-    → generator ≡ order_generator seed → IsBetweenTurns c s seed ms ms all generator
-before_turn_rounds c s seed ms all generator n sizes new many are is = record {
-  by = record {
-    way = steps_begin c s.sections ms all n new many are;
-    count = 0;
-    rounds = (
-      refl,
-      are ∙ ap (λ k. replicate k (Next 0))
-          (many ∙ new.all ∙ ap (λ (x : Sizes). x.processors) sizes),
-    );
-  };
-  drawn_is = is;
-}
+    (generator : Option Lcg) → AreAtSteps c s.sections ms all → generator ≡ order_generator seed
+    → IsBetweenTurns c s seed ms ms all all generator
+before_turn_rounds c s seed ms all generator way is =
+    record { gone = record { way = way; count = 0; rounds = (refl, refl) }; drawn_is = is }
 
 -- and after one more
-pub next_turn_round : (c : SharedCluster) (s : Plan) (seed : Option ℕ) (ms ns turned os : List Local) (all to : List TurnProgress)
+pub next_turn_round : (c : SharedCluster) (s : Plan) (seed : Option ℕ) (ms ns turned os : List Local) (start all to : List TurnProgress)
     (old new : Option Lcg) (n : ℕ) (list : List ℕ) → c.sizes ≡ plan_sizes s → n ≡ c.sizes.processors
-    → IsBetweenTurns c s seed ms ns all old → list ≡ (order_drawn old n).0 → new ≡ (order_drawn old n).1
-    → AreTurned s.sections list ns turned all to → AreSeenAfterTurns turned os → IsBetweenTurns c s seed ms os to new
-next_turn_round c s seed ms ns turned os all to old new n list sizes many was order state turns seen =
+    → IsBetweenTurns c s seed ms ns start all old → list ≡ (order_drawn old n).0 → new ≡ (order_drawn old n).1
+    → AreTurned s.sections list ns turned all to → AreSeenAfterTurns turned os → IsBetweenTurns c s seed ms os start to new
+next_turn_round c s seed ms ns turned os start all to old new n list sizes many was order state turns seen =
     let count = many ∙ ap (λ (x : Sizes). x.processors) sizes in
-    let k = was.by.count in
+    let gone = was.gone in
+    let k = gone.count in
     let P : Option Lcg → ℕ → Type 0 = λ g m. list ≡ (order_drawn g m).0 in
     let Q : Option Lcg → ℕ → Type 0 = λ g m. new ≡ (order_drawn g m).1 in
     let order_is : list ≡ turn_orders s seed k = subst₂ P was.drawn_is count order in
     let R : List ℕ → Type 0 = λ ps. AreTurned s.sections ps ns turned all to in
     record {
-      by = record {
-        way = turn_way_seen c s.sections turned os to (ways_turned c s.sections list ns turned all to was.by.way turns) seen;
+      gone = record {
+        way = turn_way_seen c s.sections turned os to (ways_turned c s.sections list ns turned all to gone.way turns) seen;
         count = suc k;
-        rounds = (ns, all, was.by.rounds, record { turned = turned; turns = subst R order_is turns; seen = seen });
+        rounds = (ns, all, gone.rounds, record { turned = turned; turns = subst R order_is turns; seen = seen });
       };
       drawn_is = subst₂ Q was.drawn_is count state;
     }
 
 -- who did nothing saw on
+pub sees_on : (m n : Local) → m ≡ n → SeesOnlyMore m n
+sees_on m n e = record {
+  same = record {
+    lock = ap (λ (x : Local). x.lock) (sym e);
+    number = ap (λ (x : Local). x.number) (sym e);
+    sizes = ap (λ (x : Local). x.sizes) (sym e);
+  };
+  sees = sees_same m n (ap (λ (x : Local). x.seen) (sym e));
+  calls_are = ap calls (sym e);
+  block_is = ap (λ (x : Local). x.block) (sym e);
+  awaits_is = ap (λ (x : Local). x.awaits) (sym e);
+  uncut = ap (λ (x : Local). x.own_cut) (sym e);
+}
+
+-- and who saw on twice saw on
+sees_on_then : (l m n : Local) → SeesOnlyMore l m → SeesOnlyMore m n → SeesOnlyMore l n
+sees_on_then l m n first next = record {
+  same = sees_same_processor l m n first.same next.same;
+  sees = sees_then l m n first.sees next.sees;
+  calls_are = next.calls_are ∙ first.calls_are;
+  block_is = next.block_is ∙ first.block_is;
+  awaits_is = next.awaits_is ∙ first.awaits_is;
+  uncut = next.uncut ∙ first.uncut;
+}
+
 pub seen_same : (ms : List Local) → AreSeenAfterTurns ms ms
 seen_same ms = record {
   all = refl;
   each = λ p m n here there. sees_on m n (same_Some m n (sym here ∙ there));
 }
-  where
-    sees_on : (m n : Local) → m ≡ n → SeesOnlyMore m n
-    sees_on m n e = record {
-      same = record {
-        lock = ap (λ (x : Local). x.lock) (sym e);
-        number = ap (λ (x : Local). x.number) (sym e);
-        sizes = ap (λ (x : Local). x.sizes) (sym e);
-      };
-      sees = sees_same m n (ap (λ (x : Local). x.seen) (sym e));
-      calls_are = ap calls (sym e);
-      block_is = ap (λ (x : Local). x.block) (sym e);
-      awaits_is = ap (λ (x : Local). x.awaits) (sym e);
-      uncut = ap (λ (x : Local). x.own_cut) (sym e);
+
+pub seen_then : (ms ns os : List Local) → AreSeenAfterTurns ms ns → AreSeenAfterTurns ns os → AreSeenAfterTurns ms os
+seen_then ms ns os first next = record {
+  all = next.all ∙ first.all;
+  each = λ p m o here there.
+      let between = before_at ns os p o next there in
+      sees_on_then m between.0 o (first.each p m between.0 here between.1) (next.each p between.0 o between.1 there);
+}
+
+-- a turn, told as one of those that are taken
+pub one_taken : (sections : List (List Instruction)) (p : ℕ) (ms ns os : List Local) (all to : List TurnProgress)
+    → AreSeenAfterTurns ms ns → IsTurnOfRun sections p ns os all to → AreTaken sections (p ∷ []) ms os all to
+one_taken sections p ms ns os all to on turn = (ns, os, to, on, turn, (seen_same os, refl))
+
+-- those who saw on first take the same turns
+taken_after : (sections : List (List Instruction)) (ps : List ℕ) (ms ns os : List Local) (all to : List TurnProgress)
+    → AreSeenAfterTurns ms ns → AreTaken sections ps ns os all to → AreTaken sections ps ms os all to
+taken_after sections [] ms ns os all to on taken = (seen_then ms ns os on taken.0, taken.1)
+taken_after sections (p ∷ ps) ms ns os all to on taken =
+    (taken.0, taken.1, taken.2, seen_then ms ns taken.0 on taken.3, taken.4, taken.5)
+
+-- turns that are taken, and then more of them
+pub taken-append : (sections : List (List Instruction)) (ps qs : List ℕ) (ms ns os : List Local) (all to end : List TurnProgress)
+    → AreTaken sections ps ms ns all to → AreTaken sections qs ns os to end → AreTaken sections (ps ++ qs) ms os all end
+taken-append sections [] qs ms ns os all to end first next =
+    let P : List TurnProgress → Type 0 = λ xs. AreTaken sections qs ms os xs end in
+    subst P first.1 (taken_after sections qs ms ns os to end first.0 next)
+taken-append sections (p ∷ ps) qs ms ns os all to end first next = (
+  first.0,
+  first.1,
+  first.2,
+  first.3,
+  first.4,
+  taken-append sections ps qs first.1 ns os first.2 to end first.5 next,
+)
+
+-- where all are after turns that are taken
+pub way_taken : (c : SharedCluster) (sections : List (List Instruction)) (ps : List ℕ) (ms ns : List Local)
+    (all to : List TurnProgress) → AreAtSteps c sections ms all → AreTaken sections ps ms ns all to
+    → AreAtSteps c sections ns to
+way_taken c sections [] ms ns all to way taken =
+    let P : List TurnProgress → Type 0 = λ xs. AreAtSteps c sections ns xs in
+    subst P (sym taken.1) (turn_way_seen c sections ms ns all way taken.0)
+way_taken c sections (p ∷ ps) ms ns all to way taken =
+    way_taken c sections ps taken.1 ns taken.2 to
+    (way_turned c sections p taken.0 taken.1 all taken.2 (turn_way_seen c sections ms taken.0 all way taken.3) taken.4) taken.5
+
+-- they are told of a history that goes on from what all have seen at their end
+pub taken_told : (s : Plan) (c : SharedCluster) (h : List Event) (ps : List ℕ) (ms ns : List Local) (all to : List TurnProgress)
+    → c.sizes ≡ plan_sizes s → AreAtSteps c s.sections ms all → AreTaken s.sections ps ms ns all to → AllBegin ns h
+    → AllBegin ms h × AreScriptTurns s h ps (turn_stages ms all) (turn_stages ns to)
+taken_told s c h [] ms ns all to sizes way taken begin =
+    (begin_before ms ns h taken.0 begin, ap (turn_stages ns) taken.1 ∙ turn_stages_seen ms ns all taken.0)
+taken_told s c h (p ∷ ps) ms ns all to sizes way taken begin =
+    let seen = taken.0 in
+    let between = taken.1 in
+    let half = taken.2 in
+    let on = turn_way_seen c s.sections ms seen all way taken.3 in
+    let later = taken_told s c h ps between ns half to sizes (way_turned c s.sections p seen between all half on taken.4)
+    taken.5 begin in
+    let one = turns_told s c h (p ∷ []) seen between all half sizes on (between, half, taken.4, (refl, refl)) later.0 in
+    let P : List TurnStage → Type 0 = λ xs. AreScriptTurns s h (p ∷ ps) xs (turn_stages ns to) in (
+      begin_before ms seen h taken.3 one.0,
+      subst P (turn_stages_seen ms seen all taken.3)
+          (turns-append s h (p ∷ []) ps (turn_stages seen all) (turn_stages between half) (turn_stages ns to) one.1 later.1),
+    )
+
+-- who looked in vain saw on
+pub look_seen : (m n : Local) (taken : Bool) → TriedTake m n taken → taken ≡ false → SeesOnlyMore m n
+look_seen m n taken took vain =
+    let none = took.no vain in
+    record {
+      same = took.same;
+      sees = took.sees;
+      calls_are = none.calls_are;
+      block_is = none.block_is;
+      awaits_is = none.awaits_is;
+      uncut = took.uncut;
     }
+
+-- and so all did, if one of them
+pub one_seen : (ms : List Local) (p : ℕ) (m x : Local) → slice_get ms p ≡ Some m → SeesOnlyMore m x
+    → AreSeenAfterTurns ms (slice_set ms p x)
+one_seen ms p m x here on = record { all = length-set ms p x; each = each }
+  where
+    each : (q : ℕ) (y z : Local) → slice_get ms q ≡ Some y → slice_get (slice_set ms p x) q ≡ Some z → SeesOnlyMore y z
+    each q y z before after = elim (cases_eq q p) [
+      | inl is ↦ (let M : ℕ → Type 0 = λ k. slice_get ms k ≡ Some y in
+          let N : ℕ → Type 0 = λ k. slice_get (slice_set ms p x) k ≡ Some z in
+          let one = same_Some m y (sym here ∙ subst M is before) in
+          let two = slice_get-set_found ms p x z (subst N is after) in
+          let P : Local → Local → Type 0 = λ a b. SeesOnlyMore a b in
+          subst₂ P one two on)
+      | inr isnt ↦ sees_on y z (same_Some y z (sym before ∙ sym (slice_get-set_other ms p q x isnt) ∙ after))
+    ]
+
+-- what is put where it was changes nothing
+pub set_same : {A : Type 0} (xs : List A) (p : ℕ) (x y : A) → slice_get xs p ≡ Some x → y ≡ x → slice_set xs p y ≡ xs
+set_same [] p x y here is = refl
+set_same (z ∷ xs) zero x y here is = ap (λ w. w ∷ xs) (is ∙ sym (same_Some z x here))
+set_same (z ∷ xs) (suc p) x y here is = ap (λ ws. z ∷ ws) (set_same xs p x y here is)
 
 -- a script has some processor
 pub some_of : (s : Plan) (c : SharedCluster) (ms : List Local) (all : List TurnProgress) → IsLawful s → c.sizes ≡ plan_sizes s

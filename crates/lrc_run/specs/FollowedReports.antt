@@ -1,5 +1,5 @@
 -- The end of a run.
-use Rattle.std.specs.Prelude.{ℕ, ◌≡◌, ◌==◌, cond, Some, List, [], ◌∷◌, ◌++◌, map, slice_get}
+use Rattle.std.specs.Prelude.{ℕ, ◌≡◌, ◌==◌, All, cond, Some, List, [], ◌∷◌, ◌++◌, map, slice_get}
 use Rattle.journal.specs.declared.event.Event.{Event}
 use Rattle.journal.specs.declared.event.Kind.TheVariants.{Arrive, Depart}
 use Rattle.journal.specs.declared.event.Kind.{Kind}
@@ -13,7 +13,13 @@ use Rattle.cluster.specs.Copies.Local.{Local}
 use Rattle.cluster.specs.Clusters.{SharedCluster}
 use Rattle.cluster.specs.Finishing.{AreAllToFinish, HasCallsOf}
 use Rattle.conformance.specs.CutInstructions.{HasCutInstruction}
+use Rattle.conformance.specs.Ends.{IsJournalSoFar}
 use Rattle.conformance.specs.Reports.{IsReportOf}
+use Rattle.conformance.specs.declared.ended.Ended.{Ended}
+use Rattle.conformance.specs.declared.ended.Ended.TheVariants.{Halted, Whole}
+use Rattle.conformance.specs.declared.progress.TurnProgress.{TurnProgress}
+use Rattle.conformance.specs.declared.progress.TurnProgress.TheVariants.{Passed}
+use Rattle.journal.specs.Log.{Log}
 use Rattle.lrc_run.specs.MakesCalls.{AreCallsWanted, calls_made}
 
 -- all that a processor made is its section, the closing barrier and these loads, and fetches that they want, and it cut
@@ -50,3 +56,13 @@ pub record IsReportAfter (s : Plan) (r : Report) (ms : List Local) : Type 0 wher
   pub begin : (p : ℕ) (m : Local) → slice_get ms p ≡ Some m → IsBeginning m.seen is.history
   pub calls_are : (p : ℕ) (m : Local) → slice_get ms p ≡ Some m
       → calls_of is.history p ≡ calls_made m ++ cond (p == 0) (map load_of r.shown.items) []
+
+-- the journal so far is of the script, and its history has the calls of these processors
+pub record IsHaltJournalWith (s : Plan) (j : Log) (ms : List Local) : Type 0 where
+  pub is : IsJournalSoFar s j
+  pub each : (p : ℕ) (m : Local) → slice_get ms p ≡ Some m → HasCallsOf is.history m
+
+-- how the run ended of which these processors have come so far: all have passed the closing barrier, or it can't go on
+abbrev pub IsEndAfter : Plan → List Local → List TurnProgress → Ended → Type 0
+IsEndAfter s ms all (Whole report) = IsReportAfter s report ms × All (λ x. x ≡ Passed) all
+IsEndAfter s ms all (Halted halt) = IsHaltJournalWith s halt.journal ms × (halt.processor ≡ 0)

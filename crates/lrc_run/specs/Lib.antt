@@ -6,5 +6,6 @@ pub mod Orders
 pub mod FollowedReports
 pub mod Laws
 pub mod FailedOutcomes
+pub mod Scheduled
 pub mod Threads
 pub mod Prelude

@@ -1,12 +1,13 @@
 -- The words that contracts name, passed on from one place. Declares nothing.
 pub use Rattle.lrc_run.specs.MakesCalls.{AddsCallsBy, AreWalked, DidInstruction, AddsFetchBy, IsOnItsWay, MakesLoads, MadeCalls, TriedTake, TriesCalls, Walks}
 pub use Rattle.lrc_run.specs.Steps.{AreAtSteps, IsAtStep}
-pub use Rattle.lrc_run.specs.Turns.{AreSeenAfterTurns, AreTurned, AreTurnedBy, IsTurnOfRun, SeesDeadlock, SeesOnlyMore, TakesTurn}
-pub use Rattle.lrc_run.specs.Orders.{AreOrderedProcessors}
-pub use Rattle.lrc_run.specs.FollowedReports.{HaveFollowed, IsReportAfter, IsReportWith}
+pub use Rattle.lrc_run.specs.Turns.{AreSeenAfterTurns, AreTaken, AreTurned, HaveGoneRound, IsTurnOfRun, SeesDeadlock, SeesOnlyMore, TakesTurn}
+pub use Rattle.lrc_run.specs.Orders.{AreOrderedProcessors, chosen}
+pub use Rattle.lrc_run.specs.FollowedReports.{HaveFollowed, IsEndAfter, IsReportAfter, IsReportWith}
 pub use Rattle.conformance.specs.Orders.{ordered}
 pub use Rattle.conformance.specs.Reports.{IsReportOf}
 pub use Rattle.conformance.specs.Turns.{instruction_at_turn, progress_after_turn}
+pub use Rattle.lrc_run.specs.Scheduled.{IsTurnFault}
 pub use Rattle.lrc_run.specs.Laws.{RaceFreeReportLaw}
 pub use Rattle.lrc_run.specs.FailedOutcomes.{IsFaultOfOutcome, IsFirstFailedOutcome, NoOutcomeFailed, NoOutcomeFailedSo, is_stuck_cause}
 pub use Rattle.lrc_run.specs.Threads.{AreThreadResults, AreThreadResultsOf, AreThreadsStarted, ThreadErrand, IsThreadResultOf}

@@ -77,20 +77,36 @@ pub record IsTurnRound (sections : List (List Instruction)) (order : List ℕ) (
   pub turns : AreTurned sections order old turned all to
   pub seen : AreSeenAfterTurns turned new
 
--- rounds in these orders, from the first instructions on
-abbrev pub AreTurnRounds : Plan → (ℕ → List ℕ) → ℕ → List Local → List Local → List TurnProgress → Type 0
-AreTurnRounds s orders zero old new all = (new ≡ old) × (all ≡ replicate s.processors (Next 0))
-AreTurnRounds s orders (suc k) old new all =
-    (between : List Local) × (half : List TurnProgress) × AreTurnRounds s orders k old between half
+-- rounds in these orders, from where they are
+abbrev pub AreTurnRounds : Plan → (ℕ → List ℕ) → ℕ → List Local → List TurnProgress → List Local → List TurnProgress → Type 0
+AreTurnRounds s orders zero old start new all = (new ≡ old) × (all ≡ start)
+AreTurnRounds s orders (suc k) old start new all =
+    (between : List Local) × (half : List TurnProgress) × AreTurnRounds s orders k old start between half
     × IsTurnRound s.sections (orders k) between new half all
 
 -- in what processor 0 has seen each processor waits, and none is ready
 abbrev pub SeesDeadlock : List Local → Type 0
 SeesDeadlock ms = (m : Local) × (slice_get ms 0 ≡ Some m) × IsDeadlock m.sizes m.seen
 
--- new processors of the script's cluster have come so far by turns, in rounds of this seed's orders
-pub record AreTurnedBy (c : SharedCluster) (s : Plan) (seed : Option ℕ) (old new : List Local) (all : List TurnProgress)
+-- processors that were on their way through the script have gone on, in rounds of this seed's orders
+pub record HaveGoneRound (c : SharedCluster) (s : Plan) (seed : Option ℕ) (old new : List Local) (start all : List TurnProgress)
     : Type 0 where
   pub way : AreAtSteps c s.sections new all
   pub count : ℕ
-  pub rounds : AreTurnRounds s (turn_orders s seed) count old new all
+  pub rounds : AreTurnRounds s (turn_orders s seed) count old start new all
+
+-- the turns of these processors, one after another; before each of them, and after the last, all may see more
+abbrev pub AreTaken : List (List Instruction) → List ℕ → List Local → List Local → List TurnProgress → List TurnProgress
+    → Type 0
+AreTaken sections [] old new all to = AreSeenAfterTurns old new × (to ≡ all)
+AreTaken sections (p ∷ ps) old new all to =
+    (seen : List Local) × (between : List Local) × (half : List TurnProgress) × AreSeenAfterTurns old seen
+    × IsTurnOfRun sections p seen between all half × AreTaken sections ps between new half to
+
+-- new processors of the script's cluster have taken these turns, and then gone on in rounds of this seed's orders
+pub record AreTurnedBy (c : SharedCluster) (s : Plan) (turns : List ℕ) (seed : Option ℕ) (old new : List Local)
+    (all : List TurnProgress) : Type 0 where
+  pub between : List Local
+  pub half : List TurnProgress
+  pub first : AreTaken s.sections turns old between (replicate s.processors (Next 0)) half
+  pub gone : HaveGoneRound c s seed between new half all

@@ -11,10 +11,11 @@
 //! processors met. By turns: each round is in the order that the seed draws, by the generator's own definitions, and
 //! the processors come to what their turns make of them; a take that came too early found its processor not ready. If a
 //! run by turns says that it can't go on, its history is a deadlock: each processor waits, and none is ready.
+//! By a schedule, given or answered of turns that were drawn, the same holds of its turns and of the rounds behind them.
 //!
 //! **What is only tested** (in `test_lrc`): that no run is refused needlessly, and that its threads get on side by
-//! side; that the gate is asked before each instruction; that nobody sleeps for ever; and that the calls of one turn of
-//! `step` stand in the history before those of the next.
+//! side; that the gate is asked before each instruction; that nobody sleeps for ever; that the calls of one turn of
+//! `step` stand in the history before those of the next; and in which orders turns are drawn, but for the first.
 #![tactic(auto)]
 
 mod course;
@@ -34,4 +35,7 @@ pub use gate::{Gate, Open, Stopped};
 pub use on_cluster::OnCluster;
 pub use orders::order;
 pub use running::{run, run_with};
-pub use steps::{step, step_as_far, step_as_far_with, step_with};
+pub use steps::{
+    step, step_as_far, step_as_far_with, step_by, step_by_with, step_drawn, step_drawn_with,
+    step_with,
+};

@@ -5,9 +5,12 @@ ghost use Rattle.conformance.specs.Prelude.{IsEndOf, IsReportOf};
 
 use crate::gate::Open;
 use crate::running::{run, run_with};
-use crate::steps::{step, step_as_far, step_as_far_with, step_with};
+use crate::steps::{
+    step, step_as_far, step_as_far_with, step_by, step_by_with, step_drawn, step_drawn_with,
+    step_with,
+};
 use cluster::TicketBookLock;
-use conformance::{Ended, LockChoice, RunFault, Runs};
+use conformance::{DrawnRun, Ended, LockChoice, RunFault, Runs, Schedule, ScheduleFault};
 use lrc_report::Report;
 use lrc_script::script::Script;
 use std::alloc::Global;
@@ -60,6 +63,34 @@ impl Runs for OnCluster {
         match lock {
             LockChoice::Array => step_as_far(rt, alloc, script, seed),
             LockChoice::Ticket => step_as_far_with::<TicketBookLock, R>(rt, alloc, script, seed),
+        }
+    }
+
+    fn step_by<R: Wait>(
+        &self,
+        rt: &R,
+        alloc: Global,
+        script: &Script,
+        lock: LockChoice,
+        schedule: &Schedule,
+    ) -> Result<Ended, ScheduleFault> {
+        match lock {
+            LockChoice::Array => step_by(rt, alloc, script, schedule),
+            LockChoice::Ticket => step_by_with::<TicketBookLock, R>(rt, alloc, script, schedule),
+        }
+    }
+
+    fn step_drawn<R: Wait>(
+        &self,
+        rt: &R,
+        alloc: Global,
+        script: &Script,
+        lock: LockChoice,
+        seed: u64,
+    ) -> Result<DrawnRun, RunFault> {
+        match lock {
+            LockChoice::Array => step_drawn(rt, alloc, script, seed),
+            LockChoice::Ticket => step_drawn_with::<TicketBookLock, R>(rt, alloc, script, seed),
         }
     }
 }

@@ -1,5 +1,5 @@
 //! All processors by turns on one thread.
-ghost use Rattle.std.specs.Prelude.{◌≡◌, ◌≢◌, ◌≤◌, ◌<◌, ◌^◌, ◌↔◌, All, IfErr, IfOk, IsTrue, List, Some, false, true, length, replicate, slice_get, vec_len};
+ghost use Rattle.std.specs.Prelude.{◌≡◌, ◌≢◌, ◌≤◌, ◌<◌, ◌^◌, ◌↔◌, All, IfErr, IfOk, IsTrue, Some, false, true, length, replicate, slice_get, vec_len};
 ghost use Rattle.cluster.specs.Copies.Prelude.{Local};
 ghost use Rattle.std.specs.List.{range_with_len};
 ghost use Rattle.lrc_script.specs.Prelude.{IsLawful, plan_of};
@@ -7,12 +7,17 @@ ghost use Rattle.conformance.specs.Prelude.{plan_sizes};
 ghost use Rattle.cluster.specs.Prelude.{IsNewCluster};
 ghost use Rattle.conformance.specs.declared.cause.Cause.TheVariants as cause;
 ghost use Rattle.conformance.specs.declared.progress.TurnProgress.TheVariants as progress;
-ghost use Rattle.conformance.specs.declared.progress.TurnProgress.{TurnProgress as AProgress};
 ghost use Rattle.conformance.specs.Prelude.{IsEndByTurns, IsReportByTurns, IsStuckByTurns, order_drawn, order_generator, turn_orders};
-ghost use Rattle.lrc_run.specs.Prelude.{AreOrderedProcessors, AreAtSteps, AreSeenAfterTurns, AreTurned, AreTurnedBy, IsTurnOfRun, SeesDeadlock};
+ghost use Rattle.lrc_run.specs.Prelude.{AreOrderedProcessors, AreAtSteps, AreSeenAfterTurns, AreTurned, HaveGoneRound, IsEndAfter};
+ghost use Rattle.lrc_run.specs.Prelude.{IsTurnOfRun, SeesDeadlock};
 
+mod drawn;
+mod pace;
+mod scheduled;
 mod turns;
 
+pub use self::drawn::{step_drawn, step_drawn_with};
+pub use self::scheduled::{step_by, step_by_with};
 use self::turns::take_turn;
 use crate::ending::conclude;
 use crate::orders::order;
@@ -94,7 +99,30 @@ pub fn step_as_far_with<T: BookTurn + Drop, R: Wait>(
     ensures err { IfErr result (λ fault. fault.cause ≢ cause.Stuck) }
 {
     let (cluster, mut processors) = new_cluster::<T>(alloc, script)?;
-    if go_round(rt, alloc, &cluster, &mut processors, script, seed)? {
+    let mut all = beginnings(alloc, processors.len())?;
+    let passed = go_round(rt, alloc, &cluster, &mut processors, &mut all, script, seed)?;
+    end_run(rt, alloc, cluster, processors, &all, script, passed)
+}
+
+/// How the run ended: the report if all have passed the closing barrier, else the journal so far.
+fn end_run<T: BookTurn + Drop, R: Wait>(
+    rt: &R,
+    alloc: Global,
+    cluster: Cluster<T>,
+    processors: Vec<Processor<T>>,
+    all: &[TurnProgress],
+    script: &Script,
+    passed: bool,
+) -> Result<Ended, RunFault>
+    requires lawful { IsLawful (plan_of script.now) }
+    requires sizes { cluster.sizes ≡ plan_sizes (plan_of script.now) }
+    requires way { AreAtSteps cluster (plan_of script.now).sections processors.items all.now }
+    requires whole { passed ≡ true → All (λ x. x ≡ progress.Passed) all.now }
+    requires stuck { passed ≡ false → SeesDeadlock processors.items }
+    ensures end { IfOk result (IsEndAfter (plan_of script.now) processors.items all.now) }
+    ensures err { IfErr result (λ fault. fault.cause ≢ cause.Stuck) }
+{
+    if passed {
         return match conclude(rt, alloc, cluster, processors, script) {
             Ok(report) => Ok(Ended::Whole(report)),
             Err(refused) => Err(outside(refused)),
@@ -147,30 +175,31 @@ fn go_round<T: BookTurn, R: Wait>(
     alloc: Global,
     cluster: &Cluster<T>,
     processors: &mut Vec<Processor<T>>,
+    all: &mut Vec<TurnProgress>,
     script: &Script,
     seed: Option<u64>,
 ) -> Result<bool, RunFault>
     requires lawful { IsLawful (plan_of script.now) }
     requires sizes { cluster.now.sizes ≡ plan_sizes (plan_of script.now) }
-    requires new { IsNewCluster cluster.now processors.old.items }
-    ensures ok { IfOk result (λ passed. (all : List AProgress)
-        × AreTurnedBy cluster.now (plan_of script.now) seed processors.old.items
-        processors.new.items all
-        × (passed ≡ true → All (λ x. x ≡ progress.Passed) all)
-        × (passed ≡ false → SeesDeadlock processors.new.items)) }
+    requires way { AreAtSteps cluster.now (plan_of script.now).sections processors.old.items
+        all.old.items }
+    ensures gone { IfOk result (λ _. HaveGoneRound cluster.now (plan_of script.now) seed processors.old.items
+        processors.new.items all.old.items all.new.items) }
+    ensures whole { IfOk result (λ passed. passed ≡ true → All (λ x. x ≡ progress.Passed) all.new.items) }
+    ensures stuck { IfOk result (λ passed. passed ≡ false → SeesDeadlock processors.new.items) }
     ensures err { IfErr result (λ fault. fault.cause ≢ cause.Stuck) }
 {
-    let (mut all, mut list) = match beginnings(alloc, processors.len()) {
-        Ok(beginnings) => beginnings,
+    let mut list = match new_list(alloc, processors.len()) {
+        Ok(list) => list,
         Err(error) => return Err(outside(Refused::from(error))),
     };
     let mut generator = generator_of(seed);
     for _ in rt.forever() {
-        if have_passed(&all) {
+        if have_passed(all.as_slice()) {
             return Ok(true);
         }
         draw(&mut generator, &mut list);
-        let moved = round(rt, cluster, processors, &mut all, script, &list)?;
+        let moved = round(rt, cluster, processors, all, script, &list)?;
         if is_stuck(rt, cluster, processors, moved)? {
             return Ok(false);
         }
@@ -178,15 +207,22 @@ fn go_round<T: BookTurn, R: Wait>(
     unreachable!()
 }
 
-/// Where each processor is at the start, and memory for the order of a round.
-fn beginnings(alloc: Global, count: usize) -> Result<(Vec<TurnProgress>, Vec<usize>), AllocError>
-    ensures all { IfOk result (λ r. r.0.items ≡ replicate count (progress.Next 0)) }
-    ensures list { IfOk result (λ r. vec_len r.1 ≡ count) }
+/// Where each processor is at the start.
+fn beginnings(alloc: Global, count: usize) -> Result<Vec<TurnProgress>, RunFault>
+    ensures ok { IfOk result (λ r. r.items ≡ replicate count (progress.Next 0)) }
+    ensures err { IfErr result (λ fault. fault.cause ≢ cause.Stuck) }
 {
-    Ok((
-        vec![in alloc; TurnProgress::Next(0); count]?,
-        vec![in alloc; 0; count]?,
-    ))
+    match vec![in alloc; TurnProgress::Next(0); count] {
+        Ok(all) => Ok(all),
+        Err(error) => Err(outside(Refused::from(error))),
+    }
+}
+
+/// Memory for the order of a round.
+fn new_list(alloc: Global, count: usize) -> Result<Vec<usize>, AllocError>
+    ensures { IfOk result (λ r. vec_len r ≡ count) }
+{
+    vec![in alloc; 0; count]
 }
 
 /// The generator of this seed.
@@ -294,6 +330,8 @@ fn turn_at<T: BookTurn, R: Wait>(
     ensures long { vec_len processors.new ≡ vec_len processors.old }
     ensures turn { IfOk result (λ _. IsTurnOfRun (plan_of script.now).sections p
         processors.old.items processors.new.items all.old.items all.new.items) }
+    ensures vain { IfOk result (λ moved. moved ≡ false → AreSeenAfterTurns processors.old.items processors.new.items
+        × (all.new.items ≡ all.old.items)) }
     ensures err { IfErr result (λ fault. fault.cause ≢ cause.Stuck) }
 {
     let section = &script.sections[p];

@@ -5,13 +5,14 @@ use Rattle.std.proofs.lemmas.List.{length-append}
 use Rattle.base.specs.InOrderOnce.{Has}
 use Rattle.base.proofs.SlicesAndCounts.{push_cases, slice_get-append_left, slice_get-last}
 use Rattle.base.proofs.Joined.{in_order-append, in_order_single}
+use Rattle.conformance.specs.declared.schedule.Schedule.{Schedule}
 use Rattle.lrc_sample.specs.declared.outcome.SampleOutcome.{SampleOutcome}
 use Rattle.lrc_sample.specs.declared.tally.TallyLine.{TallyLine}
 use Rattle.lrc_sample.specs.Tally.{IsLineOf, run_of}
 
 -- the line counts one run more
 abbrev pub counted : TallyLine → TallyLine
-counted l = record { outcome = l.outcome; times = l.times + 1; seed = l.seed }
+counted l = record { outcome = l.outcome; times = l.times + 1; seed = l.seed; schedule = l.schedule }
 
 -- an item stays where it is
 pub stays : {A : Type 0} (xs : List A) (y : A) (i : ℕ) (x : A) → slice_get xs i ≡ Some x
@@ -70,9 +71,9 @@ line_again os o line same is = record {
     ]
 
 -- a first run
-pub line_new : (os : List SampleOutcome) (o : SampleOutcome) (seed : Option ℕ) → ¬ Has os o → run_of seed ≡ length os
-    → IsLineOf (os ++ o ∷ []) record { outcome = o; times = 1; seed = seed }
-line_new os o seed none place = record {
+pub line_new : (os : List SampleOutcome) (o : SampleOutcome) (seed : Option ℕ) (schedule : Schedule) → ¬ Has os o
+    → run_of seed ≡ length os → IsLineOf (os ++ o ∷ []) record { outcome = o; times = 1; seed = seed; schedule = schedule }
+line_new os o seed schedule none place = record {
   runs = length os ∷ [];
   rising = in_order_single (λ (i k : ℕ). i < k) (length os);
   exactly = λ i. (has_at i, at_has i);

@@ -1,5 +1,5 @@
 -- A tally of one run more.
-use Rattle.std.proofs.Common.{◌≡◌, ◌≢◌, ◌∙◌, ◌<◌, ◌≤◌, ℕ, inl, inr, zero, suc, List, [], ◌∷◌, ◌++◌, Some, Option, length, slice_get, slice_set, slice_index_or, ap, sym, subst, refl, arith}
+use Rattle.std.proofs.Common.{◌≡◌, ◌≢◌, ◌∙◌, ◌+◌, ◌<◌, ◌≤◌, ℕ, inl, inr, zero, suc, List, [], ◌∷◌, ◌++◌, Some, Option, length, slice_get, slice_set, slice_index_or, ap, sym, subst, refl, arith}
 use Rattle.std.specs.List.{sum_by}
 use Rattle.std.proofs.lemmas.Bool.{cases_eq}
 use Rattle.std.proofs.lemmas.Option.{none-some, same_Some, slice_get-get_or, slice_get_within}
@@ -9,9 +9,10 @@ use Rattle.base.specs.InOrderOnce.{Has}
 use Rattle.base.proofs.SlicesAndCounts.{push_cases, slice_get-last}
 use Rattle.base.proofs.Joined.{in_order-append, in_order_single}
 use Rattle.base.proofs.SliceSets.{slice_get-set_found, slice_get-set_other, slice_get-set_same}
+use Rattle.conformance.specs.declared.schedule.Schedule.{Schedule}
 use Rattle.lrc_sample.specs.declared.outcome.SampleOutcome.{SampleOutcome}
 use Rattle.lrc_sample.specs.declared.tally.TallyLine.{TallyLine}
-use Rattle.lrc_sample.specs.Tally.{IsLineOf, CountsRuns, run_of, times_of}
+use Rattle.lrc_sample.specs.Tally.{AreShown, IsLineOf, CountsRuns, run_of, times_of}
 use Rattle.lrc_sample.specs.Order.{AreSeenInOrder, TallyStarted}
 use Rattle.lrc_sample.proofs.Lines.{counted, line_again, line_new, line_other, run_before, stays}
 
@@ -137,48 +138,48 @@ few_at lines o k d now read found =
     omega (arith, same, times_few lines k found.0 found.1.0)
 
 -- the line of a first run
-abbrev pub noted : SampleOutcome → Option ℕ → TallyLine
-noted o seed = record { outcome = o; times = 1; seed = seed }
+abbrev pub noted : SampleOutcome → Option ℕ → Schedule → TallyLine
+noted o seed schedule = record { outcome = o; times = 1; seed = seed; schedule = schedule }
 
 -- a run that came to what no line has
-tally_new : (os : List SampleOutcome) (lines : List TallyLine) (o : SampleOutcome) (seed : Option ℕ)
+tally_new : (os : List SampleOutcome) (lines : List TallyLine) (o : SampleOutcome) (seed : Option ℕ) (schedule : Schedule)
     → ((k : ℕ) (line : TallyLine) → slice_get lines k ≡ Some line → line.outcome ≢ o) → run_of seed ≡ length os
-    → CountsRuns os lines → CountsRuns (os ++ o ∷ []) (lines ++ noted o seed ∷ [])
-tally_new os lines o seed none place is = record { each = each; once = once; all = all; sum = sum }
+    → CountsRuns os lines → CountsRuns (os ++ o ∷ []) (lines ++ noted o seed schedule ∷ [])
+tally_new os lines o seed schedule none place is = record { each = each; once = once; all = all; sum = sum }
   where
     unseen : ¬ Has os o
     unseen has = let r = is.all o has in none r.1.0.0 r.0 r.1.0.1 r.1.1
 
-    each : (a : TallyLine) → Has (lines ++ noted o seed ∷ []) a → IsLineOf (os ++ o ∷ []) a
-    each a (j, has) = elim (push_cases lines (noted o seed) j a has) [
+    each : (a : TallyLine) → Has (lines ++ noted o seed schedule ∷ []) a → IsLineOf (os ++ o ∷ []) a
+    each a (j, has) = elim (push_cases lines (noted o seed schedule) j a has) [
       | inl old ↦ line_other os o a (none j a old.1) (is.each a (j, old.1))
-      | inr last ↦ subst (IsLineOf (os ++ o ∷ [])) last.1 (line_new os o seed unseen place)
+      | inr last ↦ subst (IsLineOf (os ++ o ∷ [])) last.1 (line_new os o seed schedule unseen place)
     ]
 
-    once : (i j : ℕ) (a b : TallyLine) → slice_get (lines ++ noted o seed ∷ []) i ≡ Some a
-        → slice_get (lines ++ noted o seed ∷ []) j ≡ Some b → a.outcome ≡ b.outcome → i ≡ j
-    once i j a b first second e = elim (push_cases lines (noted o seed) i a first) [
+    once : (i j : ℕ) (a b : TallyLine) → slice_get (lines ++ noted o seed schedule ∷ []) i ≡ Some a
+        → slice_get (lines ++ noted o seed schedule ∷ []) j ≡ Some b → a.outcome ≡ b.outcome → i ≡ j
+    once i j a b first second e = elim (push_cases lines (noted o seed schedule) i a first) [
       | inl x ↦
-          elim (push_cases lines (noted o seed) j b second) [
+          elim (push_cases lines (noted o seed schedule) j b second) [
             | inl y ↦ is.once i j a b x.1 y.1 e
             | inr y ↦ absurd (none i a x.1 (e ∙ sym (ap (λ (l : TallyLine). l.outcome) y.1)))
           ]
       | inr x ↦
-          elim (push_cases lines (noted o seed) j b second) [
+          elim (push_cases lines (noted o seed schedule) j b second) [
             | inl y ↦ absurd (none j b y.1 (sym e ∙ sym (ap (λ (l : TallyLine). l.outcome) x.1)))
             | inr y ↦ x.0 ∙ sym y.0
           ]
     ]
 
-    all : (x : SampleOutcome) → Has (os ++ o ∷ []) x → (b : TallyLine) × (Has (lines ++ noted o seed ∷ []) b × (b.outcome ≡ x))
+    all : (x : SampleOutcome) → Has (os ++ o ∷ []) x → (b : TallyLine) × (Has (lines ++ noted o seed schedule ∷ []) b × (b.outcome ≡ x))
     all x (i, has) = elim (push_cases os o i x has) [
       | inl old ↦
-          (let r = is.all x (i, old.1) in (r.0, ((r.1.0.0, stays lines (noted o seed) r.1.0.0 r.0 r.1.0.1), r.1.1)))
-      | inr last ↦ (noted o seed, ((length lines, slice_get-last lines (noted o seed)), last.1))
+          (let r = is.all x (i, old.1) in (r.0, ((r.1.0.0, stays lines (noted o seed schedule) r.1.0.0 r.0 r.1.0.1), r.1.1)))
+      | inr last ↦ (noted o seed schedule, ((length lines, slice_get-last lines (noted o seed schedule)), last.1))
     ]
 
-    sum : sum_by times_of (lines ++ noted o seed ∷ []) ≡ length (os ++ o ∷ [])
-    sum = omega (arith, sum_by_push times_of lines (noted o seed), is.sum, length-append os (o ∷ []))
+    sum : sum_by times_of (lines ++ noted o seed schedule ∷ []) ≡ length (os ++ o ∷ [])
+    sum = omega (arith, sum_by_push times_of lines (noted o seed schedule), is.sum, length-append os (o ∷ []))
 
 -- and it is seen last
 seen_new : (os : List SampleOutcome) (lines : List TallyLine) (new : TallyLine) → run_of new.seed ≡ length os → TallyStarted os lines
@@ -196,10 +197,49 @@ seen_new os lines new place is =
     before a b has (suc k, at) = absurd (none-some b at)
 
 -- both
-pub new_at : (os : List SampleOutcome) (lines : List TallyLine) (o : SampleOutcome) (seed : Option ℕ)
+pub new_at : (os : List SampleOutcome) (lines : List TallyLine) (o : SampleOutcome) (seed : Option ℕ) (schedule : Schedule)
     → ((k : ℕ) (line : TallyLine) → slice_get lines k ≡ Some line → line.outcome ≢ o) → run_of seed ≡ length os
-    → TallyStarted os lines → TallyStarted (os ++ o ∷ []) (lines ++ noted o seed ∷ [])
-new_at os lines o seed none place is = record {
-  tally = tally_new os lines o seed none place is.tally;
-  seen = seen_new os lines (noted o seed) place is;
+    → TallyStarted os lines → TallyStarted (os ++ o ∷ []) (lines ++ noted o seed schedule ∷ [])
+new_at os lines o seed schedule none place is = record {
+  tally = tally_new os lines o seed schedule none place is.tally;
+  seen = seen_new os lines (noted o seed schedule) place is;
 }
+
+-- the line that counts one run more shows what it did
+pub shown_again : (shows : List ℕ → SampleOutcome → Type 0) (lines : List TallyLine) (o : SampleOutcome) (k : ℕ)
+    (d now : TallyLine) → now ≡ slice_index_or lines k d
+    → ((line : TallyLine) × ((slice_get lines k ≡ Some line) × (line.outcome ≡ o))) → AreShown shows lines
+    → AreShown shows (slice_set lines k (counted now))
+shown_again shows lines o k d now read found shown a (j, has) = elim (cases_eq j k) [
+  | inl here ↦
+      (let same : found.0 ≡ now = sym (item_at lines k found.0 d found.1.0) ∙ sym read in
+      let is : counted now ≡ a = slice_get-set_found lines k (counted now) a
+      (subst (λ n. slice_get (slice_set lines k (counted now)) n ≡ Some a) here has) in
+      let P : TallyLine → Type 0 = λ l. shows l.schedule.turns.items l.outcome in
+      let was : P now = subst P same (shown found.0 (k, found.1.0)) in
+      subst P is was)
+  | inr there ↦ shown a (j, sym (slice_get-set_other lines k j (counted now) there) ∙ has)
+]
+
+-- and so does the line of a first run
+pub shown_new : (shows : List ℕ → SampleOutcome → Type 0) (lines : List TallyLine) (o : SampleOutcome) (seed : Option ℕ)
+    (schedule : Schedule) → AreShown shows lines → shows schedule.turns.items o
+    → AreShown shows (lines ++ noted o seed schedule ∷ [])
+shown_new shows lines o seed schedule shown new a (j, has) = elim (push_cases lines (noted o seed schedule) j a has) [
+  | inl old ↦ shown a (j, old.1)
+  | inr last ↦
+      (let P : TallyLine → Type 0 = λ l. shows l.schedule.turns.items l.outcome in
+      subst P last.1 new)
+]
+
+-- no line up to this one has the outcome
+pub none_more : (lines : List TallyLine) (o : SampleOutcome) (n : ℕ) (item : TallyLine)
+    → ((k : ℕ) (line : TallyLine) → k < n → slice_get lines k ≡ Some line → line.outcome ≢ o)
+    → slice_get lines n ≡ Some item → item.outcome ≢ o → (k : ℕ) (line : TallyLine) → k < n + 1
+    → slice_get lines k ≡ Some line → line.outcome ≢ o
+none_more lines o n item before at other k line less here = elim (cases_eq k n) [
+  | inl is ↦
+      (let same : item ≡ line = same_Some item line (sym at ∙ subst (λ m. slice_get lines m ≡ Some line) is here) in
+      subst (λ (l : TallyLine). l.outcome ≢ o) same other)
+  | inr isnt ↦ before k line (omega (arith, less, isnt)) here
+]

@@ -1,5 +1,5 @@
 -- Which outcomes came, how often, and where first.
-use Rattle.std.specs.Prelude.{ℕ, zero, suc, ◌≡◌, ◌<◌, ◌↔◌, ◌+◌, List, Option, Some, None, slice_get, length}
+use Rattle.std.specs.Prelude.{ℕ, ◌≡◌, ◌<◌, ◌↔◌, ◌+◌, List, Option, Some, None, slice_get, length}
 use Rattle.std.specs.List.{sum_by}
 use Rattle.base.specs.InOrderOnce.{Has, InOrder}
 use Rattle.lrc_sample.specs.declared.outcome.SampleOutcome.{SampleOutcome}
@@ -9,11 +9,6 @@ use Rattle.lrc_sample.specs.declared.tally.TallyLine.{TallyLine}
 abbrev pub run_of : Option ℕ → ℕ
 run_of None = 0
 run_of (Some seed) = seed + 1
-
--- the seed of a run
-abbrev pub seed_of : ℕ → Option ℕ
-seed_of zero = None
-seed_of (suc seed) = Some seed
 
 abbrev pub times_of : TallyLine → ℕ
 times_of line = line.times
@@ -33,3 +28,7 @@ pub record CountsRuns (outcomes : List SampleOutcome) (lines : List TallyLine) :
       → a.outcome ≡ b.outcome → i ≡ k
   pub all : (o : SampleOutcome) → Has outcomes o → (line : TallyLine) × (Has lines line × (line.outcome ≡ o))
   pub sum : sum_by times_of lines ≡ length outcomes
+
+-- each line's schedule shows its outcome
+abbrev pub AreShown : (List ℕ → SampleOutcome → Type 0) → List TallyLine → Type 0
+AreShown shows lines = (line : TallyLine) → Has lines line → shows line.schedule.turns.items line.outcome

@@ -7,6 +7,7 @@ use Rattle.lrc_sample.specs.declared.outcome.SampleOutcome.TheVariants.{Ended, S
 use Rattle.lrc_sample.specs.declared.outcome.Reply.{Reply}
 use Rattle.lrc_sample.specs.declared.sampling.Sampled.{Sampled}
 use Rattle.lrc_sample.specs.declared.tally.TallyLine.{TallyLine}
+use Rattle.conformance.specs.Schedules.{schedule_text}
 use Rattle.lrc_sample.specs.Answered.{Answered}
 use Rattle.lrc_sample.specs.Tally.{times_of}
 
@@ -25,27 +26,27 @@ replies_text last [] = []
 replies_text last (r ∷ rs) =
     owner_text last r.processor ++ ((codes " " ++ decimal r.word) ++ replies_text (Some r.processor) rs)
 
+-- all replies, if there are some
+abbrev pub all_replies_text : List Reply → List ℕ
+all_replies_text [] = []
+all_replies_text (r ∷ rs) = codes " replies" ++ replies_text None (r ∷ rs)
+
 -- the verdict, the words and the replies
 abbrev pub answers_text : Answered → List ℕ
 answers_text a =
     (if a.racy then codes "racy words" else codes "race-free words")
-    ++ (flat_map word_text a.words ++ (codes " replies" ++ replies_text None a.replies))
+    ++ (flat_map word_text a.words ++ all_replies_text a.replies)
 
 -- what a run came to
 abbrev pub outcome_text : SampleOutcome → List ℕ
 outcome_text (Ended answers) = answers_text answers
 outcome_text (Stuck processor) = codes "stuck " ++ decimal processor
 
--- a seed, or that there is none
-abbrev pub seed_text : Option ℕ → List ℕ
-seed_text None = codes "-"
-seed_text (Some seed) = decimal seed
-
--- how often, the first seed, and the outcome
+-- how often, the outcome, and a schedule that shows it
 abbrev pub line_text : TallyLine → List ℕ
 line_text l =
     (codes "result " ++ (decimal l.times ++ codes " "))
-    ++ (seed_text l.seed ++ (codes " " ++ (outcome_text l.outcome ++ codes "\n")))
+    ++ (outcome_text l.outcome ++ (codes " schedule " ++ (schedule_text l.schedule.turns.items ++ codes "\n")))
 
 -- how many runs the lines count, as far as 64 bits hold
 abbrev pub runs_in : List TallyLine → ℕ

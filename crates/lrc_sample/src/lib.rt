@@ -1,11 +1,11 @@
-//! What a script may come to: it is run by turns under many seeds, and each kind of result is told once.
+//! What a script may come to: it is run by turns of many schedules, and each kind of result is told once.
 //!
 //! **What contracts see.** The `Answers` of a run as plain lists (`Answered`), everything else as it is.
 //!
 //! **What is proved.** `sample` tells of outcomes of runs of the script (`IsSampleOf`), one for each seed and one without:
-//! each outcome that came has one line, with how often it came and where first, and the lines count every run. The most
-//! frequent stands first, and of as frequent ones the one that came first. The answers are those of a report of the
-//! script; of a run that is stuck nothing is known. Module `laws`: each line counts a run at least, the run that it tells
+//! each outcome that came has one line, with how often it came, where first and a schedule that shows it, and the lines count
+//! every run. The most frequent stands first, and of as frequent ones the one that came first. The answers are those of a
+//! report of the script's run by that schedule; a run that is stuck is a deadlock. Module `laws`: each line counts a run at least, the run that it tells
 //! came to its outcome and none before it did, and a script that never races on one flat memory has no racy outcome.
 //!
 //! **What is only tested** (in `test_lrc`): that the lock and the seeds are those that were asked for, that other faults

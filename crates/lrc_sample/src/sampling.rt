@@ -1,14 +1,12 @@
-//! A script under many seeds.
-ghost use Rattle.std.specs.Prelude.{ℕ, ◌≡◌, ◌≤◌, ◌+◌, ◌^◌, IfErr, IfOk, List, OnOk};
+//! A script by many schedules.
+ghost use Rattle.std.specs.Prelude.{ℕ, ◌≤◌, ◌+◌, ◌^◌, IfOk, List, OnOk};
 ghost use Rattle.lrc_script.specs.Prelude.{IsLawful, plan_of};
-ghost use Rattle.conformance.specs.Prelude.{IsReportByTurns, IsStuckByTurns};
-ghost use Rattle.conformance.specs.declared.cause.Cause.TheVariants as cause;
+ghost use Rattle.conformance.specs.Prelude.{IsEndByTurns, scheduled};
 ghost use Rattle.lrc_sample.specs.Prelude.{IsMade, IsSampleOutcomeOf, IsSampleOf, run_of};
 
 use crate::outcome::{Answers, SampleOutcome};
 use crate::tally::{TallyLine, note, sort};
-use conformance::{Cause, LockChoice, RunFault, Runs};
-use lrc_report::Report;
+use conformance::{Cause, DrawnRun, Ended, LockChoice, RunFault, Runs, Schedule, ScheduleFault};
 use lrc_script::script::Script;
 use std::alloc::{AllocError, Global};
 use std::sync::Wait;
@@ -28,33 +26,47 @@ fn no_memory(error: AllocError) -> RunFault {
     }
 }
 
-/// What a run came to. That it is stuck is an outcome, and every other fault is handed on.
-fn outcome_of(
-    alloc: Global,
-    script: &Script,
-    answer: Result<Report, RunFault>,
-) -> Result<SampleOutcome, RunFault>
-    ensures { (orders : ℕ → List ℕ) → IfOk answer (IsReportByTurns (plan_of script.now) orders)
-        → IfErr answer (λ fault. fault.cause ≡ cause.Stuck
-        → IsStuckByTurns (plan_of script.now) orders fault.processor)
+/// What a run came to: a run that can't go on is stuck.
+fn outcome_of(alloc: Global, script: &Script, ended: Ended) -> Result<SampleOutcome, RunFault>
+    ensures { (orders : ℕ → List ℕ) → IsEndByTurns (plan_of script.now) orders ended
         → IfOk result (IsSampleOutcomeOf (plan_of script.now) orders) }
 {
-    match answer {
-        Ok(report) => match Answers::of(alloc, script.processors, report) {
+    match ended {
+        Ended::Whole(report) => match Answers::of(alloc, script.processors, report) {
             Ok(answers) => Ok(SampleOutcome::Ended(answers)),
             Err(error) => Err(no_memory(error)),
         },
-        Err(
-            RunFault {
-                processor,
-                cause: Cause::Stuck,
-            },
-        ) => Ok(SampleOutcome::Stuck(processor)),
-        Err(fault) => Err(fault),
+        Ended::Halted(halt) => Ok(SampleOutcome::Stuck(halt.processor)),
     }
 }
 
-/// Runs the script once more, with this seed or without one, and notes what it came to.
+/// Runs the script by the turns that the seed draws, or without one in rounds by rising number.
+fn run_of<T: Runs, R: Wait>(
+    runs: &T,
+    rt: &R,
+    alloc: Global,
+    script: &Script,
+    lock: LockChoice,
+    seed: Option<u64>,
+) -> Result<DrawnRun, RunFault>
+    requires { IsLawful (plan_of script.now) }
+    ensures { IfOk result (λ run. IsEndByTurns (plan_of script.now)
+        (scheduled (plan_of script.now) run.schedule.turns.items) run.ended) }
+{
+    let Some(seed) = seed else {
+        let schedule = Schedule {
+            turns: Vec::new(alloc),
+        };
+        return match runs.step_by(rt, alloc, script, lock, &schedule) {
+            Ok(ended) => Ok(DrawnRun { schedule, ended }),
+            Err(ScheduleFault::Run(fault)) => Err(fault),
+            Err(ScheduleFault::Misfit(..)) => unreachable!("no turn"),
+        };
+    };
+    runs.step_drawn(rt, alloc, script, lock, seed)
+}
+
+/// Runs the script once more, by this seed's turns or without one, and notes what it came to.
 fn run_once<T: Runs, R: Wait>(
     runs: &T,
     rt: &R,
@@ -69,15 +81,17 @@ fn run_once<T: Runs, R: Wait>(
     requires made { IsMade (plan_of script.now) (run_of seed) lines.old.items }
     ensures { OnOk result (IsMade (plan_of script.now) (run_of seed + 1) lines.new.items) }
 {
-    let outcome = outcome_of(alloc, script, runs.step(rt, alloc, script, lock, seed))?;
-    match note(lines, outcome, seed) {
+    let DrawnRun { schedule, ended } = run_of(runs, rt, alloc, script, lock, seed)?;
+    let outcome = outcome_of(alloc, script, ended)?;
+    match note(lines, outcome, seed, schedule) {
         Ok(()) => Ok(()),
         Err(error) => Err(no_memory(error)),
     }
 }
 
-/// Runs the script by turns without a seed, and then with each seed from 0 to `seeds` - 1, and tells each outcome once. A
-/// run that is stuck is an outcome; every other fault ends it, also running out of memory.
+/// Runs the script by turns, in rounds by rising number and then by the turns that each seed from 0 to `seeds` - 1 draws, and
+/// tells each outcome once, with the schedule of the first run that came to it. A run that is stuck is an outcome; every
+/// fault ends it, also running out of memory.
 ///
 /// It takes the time of the runs, and for each run a comparison with each outcome that came before: kinds are few.
 pub fn sample<T: Runs, R: Wait>(

@@ -3,17 +3,21 @@ ghost use Rattle.std.specs.Prelude.{ℕ, ◌≡◌, ◌≢◌, ◌<◌, ◌-◌,
 ghost use Rattle.std.specs.List.{sum_by};
 ghost use Rattle.lrc_sample.specs.declared.outcome.SampleOutcome.{SampleOutcome};
 ghost use Rattle.lrc_sample.specs.declared.tally.TallyLine.{TallyLine};
-ghost use Rattle.lrc_sample.specs.Prelude.{AreFrequentFirst, AreSeenInOrder, TallyStarted, CountsRuns, run_of, times_of};
+ghost use Rattle.lrc_sample.specs.Prelude.{AreFrequentFirst, AreSeenInOrder, AreShown, Shows, TallyStarted};
+ghost use Rattle.lrc_sample.specs.Prelude.{CountsRuns, run_of, times_of};
+ghost use Rattle.lrc_script.specs.Prelude.{Plan};
 
 use crate::outcome::SampleOutcome;
+use conformance::Schedule;
 use std::alloc::AllocError;
 
-/// An outcome that came: of how many runs, and where first. None is the run without a seed.
+/// An outcome that came: of how many runs, where first, and by which schedule then. None is the run without a seed.
 #[derive(Drop)]
 pub struct TallyLine {
     pub outcome: SampleOutcome,
     pub times: u64,
     pub seed: Option<u64>,
+    pub schedule: Schedule,
 }
 
 /// The place of the outcome's line. It compares with each line: kinds are few.
@@ -30,14 +34,17 @@ fn find(lines: &[TallyLine], outcome: &SampleOutcome) -> Option<usize>
     None
 }
 
-/// Notes what one run more came to, the run of this seed.
+/// Notes what one run more came to, the run of this seed, by this schedule.
 pub fn note(
     lines: &mut Vec<TallyLine>,
     outcome: SampleOutcome,
     seed: Option<u64>,
+    schedule: Schedule,
 ) -> Result<(), AllocError>
     requires { sum_by times_of lines.old.items < 2 ^ 64 - 1 }
-    ensures { OnOk result ((outcomes : List SampleOutcome) → TallyStarted outcomes lines.old.items
+    ensures shown { OnOk result ((s : Plan) → AreShown (Shows s) lines.old.items
+        → Shows s schedule.turns.items outcome → AreShown (Shows s) lines.new.items) }
+    ensures tally { OnOk result ((outcomes : List SampleOutcome) → TallyStarted outcomes lines.old.items
         → run_of seed ≡ length outcomes → TallyStarted (outcomes ++ outcome ∷ []) lines.new.items) }
 {
     match find(lines, &outcome) {
@@ -46,6 +53,7 @@ pub fn note(
             outcome,
             times: 1,
             seed,
+            schedule,
         })?,
     }
     Ok(())
@@ -56,6 +64,7 @@ pub fn sort(lines: &mut Vec<TallyLine>) -> Result<(), AllocError>
     requires { sum_by times_of lines.old.items < 2 ^ 64 }
     ensures tally { (outcomes : List SampleOutcome) → CountsRuns outcomes lines.old.items
         → CountsRuns outcomes lines.new.items }
+    ensures shown { (s : Plan) → AreShown (Shows s) lines.old.items → AreShown (Shows s) lines.new.items }
     ensures order { OnOk result (AreSeenInOrder lines.old.items → AreFrequentFirst lines.new.items) }
 {
     lines.sort_by_key(|line| u64::MAX - line.times)

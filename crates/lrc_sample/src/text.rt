@@ -4,8 +4,8 @@ ghost use Rattle.std.specs.Fmt.{decimal};
 ghost use Rattle.std.specs.Io.KnownBytes.{Appends};
 ghost use Rattle.std.specs.List.{flat_map};
 ghost use Rattle.lrc_sample.specs.declared.text.TextFault.TheVariants.{NoMemory, Output};
-ghost use Rattle.lrc_sample.specs.Prelude.{answers_text, line_text, outcome_text, owner_text, replies_text, runs_in};
-ghost use Rattle.lrc_sample.specs.Prelude.{sample_text, seed_text, word_text};
+ghost use Rattle.lrc_sample.specs.Prelude.{all_replies_text, answers_text, line_text, outcome_text, owner_text, replies_text, runs_in};
+ghost use Rattle.lrc_sample.specs.Prelude.{sample_text, word_text};
 
 use crate::outcome::{Answers, Reply, SampleOutcome};
 use crate::sampling::Sampled;
@@ -74,6 +74,19 @@ fn put_replies(text: &mut String, replies: &[Reply]) -> Result<(), AllocError>
     Ok(())
 }
 
+/// The same behind `replies`, if there are some.
+fn put_all_replies(text: &mut String, replies: &[Reply]) -> Result<(), AllocError>
+    ensures { OnOk result (string_bytes text.new ≡ string_bytes text.old ++ all_replies_text replies.now) }
+{
+    match replies {
+        [] => Ok(()),
+        [_, ..] => {
+            text.push_str(" replies")?;
+            put_replies(text, replies)
+        }
+    }
+}
+
 /// Adds the verdict, the words and the replies.
 fn put_answers(text: &mut String, answers: &Answers) -> Result<(), AllocError>
     ensures { OnOk result (string_bytes text.new ≡ string_bytes text.old ++ answers_text answers.now) }
@@ -84,8 +97,7 @@ fn put_answers(text: &mut String, answers: &Answers) -> Result<(), AllocError>
         "race-free words"
     })?;
     put_words(text, answers.words())?;
-    text.push_str(" replies")?;
-    put_replies(text, answers.replies())
+    put_all_replies(text, answers.replies())
 }
 
 /// Adds what a run came to.
@@ -95,16 +107,6 @@ fn put_outcome(text: &mut String, outcome: &SampleOutcome) -> Result<(), AllocEr
     match outcome {
         SampleOutcome::Ended(answers) => put_answers(text, answers),
         SampleOutcome::Stuck(processor) => write!(text, "stuck {processor}"),
-    }
-}
-
-/// Adds a seed, or `-` where there is none.
-fn put_seed(text: &mut String, seed: Option<u64>) -> Result<(), AllocError>
-    ensures { OnOk result (string_bytes text.new ≡ string_bytes text.old ++ seed_text seed) }
-{
-    match seed {
-        Some(seed) => write!(text, "{seed}"),
-        None => text.push_str("-"),
     }
 }
 
@@ -121,9 +123,9 @@ fn put_line(text: &mut String, line: &TallyLine) -> Result<(), AllocError>
     ensures { OnOk result (string_bytes text.new ≡ string_bytes text.old ++ line_text line.now) }
 {
     put_times(text, line.times)?;
-    put_seed(text, line.seed)?;
-    text.push_str(" ")?;
     put_outcome(text, &line.outcome)?;
+    text.push_str(" schedule ")?;
+    line.schedule.put(text)?;
     text.push_str("\n")
 }
 
@@ -179,15 +181,15 @@ fn write_text<W: Write>(text: &str, out: &mut W) -> Result<(), TextFault>
 ///
 /// ```text
 /// runs 1001
-/// result 999 0 race-free words 0 7 1 8 replies p1 0 7 p2 5
-/// result 1 - racy words 0 7 1 8 replies p1 0 0 p2 5
-/// result 1 17 stuck 0
+/// result 999 race-free words 0 7 1 8 replies p1 0 7 p2 5 schedule -
+/// result 1 racy words 0 7 1 8 replies p1 0 0 p2 5 schedule 1:3,0,2
+/// result 1 stuck 0 schedule 2:2,1
 /// ```
 ///
-/// After `result` stand how many runs came to it, and the first seed that gives it, `-` where it is the run without one.
+/// After `result` stands how many runs came to it. After `schedule` stands one that shows it, as `Schedule::parse` reads it.
 /// After `words` stands each shown address with its last word. After `replies` stands for each processor that loads its
 /// number and the words that its loads answered, in order: those of the journal, so none from before a cut, and not those
-/// that show the last words. `stuck` has the processor that waits for what doesn't come.
+/// that show the last words. If nobody loads, `replies` isn't there. `stuck` has the processor that waits for what doesn't come.
 pub fn render<W: Write>(alloc: Global, sampled: &Sampled, out: &mut W) -> Result<(), TextFault>
     ensures written { OnOk result (Appends (W.contents out.old) (W.contents out.new) (sample_text sampled.now)) }
     ensures unwritten { result ≡ Err NoMemory → W.contents out.new ≡ W.contents out.old }

@@ -122,24 +122,24 @@ fn has_text<R: Wait>(
     Ok(told.is_ok() && out.as_slice() == text)
 }
 
-/// Two processors store to one word, and of whom processor 0 hears last, by the arrivals of the second round: processor 2
-/// without a seed and by the seeds 0 and 4, and processor 1 by the seeds 1, 2, 3 and 5, as a second program draws.
+/// Two processors store to one word, and processor 0 hears last of whoever arrives last: processor 2 in rounds and by three
+/// of the seeds 0 to 5, processor 1 by the other three, as a second program draws.
 const STORES: &[u8] = b"cluster 3 1 1 0\np 0\np 1\nstore 0 1\np 2\nstore 0 2\nshow 0\n";
 
 /// Its processor awaits a flag that nobody sets.
 const STICKS: &[u8] = b"cluster 1 1 1 0 1\np 0\nawait 0\nshow 0\n";
 
-/// Each seed counts, and the run without one; the first of each kind is told, and the more frequent first.
+/// Each seed counts, and the run without one; each kind is told with the first one's schedule, and the more frequent first.
 #[test]
 fn sampled_runs(rt: HostRuntime) -> Result<(), Fail> {
     let rows: [(&[u8], u32, &[u8]); 3] = [
         (
             STORES,
             6,
-            b"runs 7\nresult 4 1 racy words 0 1 replies\nresult 3 - racy words 0 2 replies\n",
+            b"runs 7\nresult 4 racy words 0 2 schedule -\nresult 3 racy words 0 1 schedule 0,2,1,2,1\n",
         ),
-        (STICKS, 0, b"runs 1\nresult 1 - stuck 0\n"),
-        (STICKS, 2, b"runs 3\nresult 3 - stuck 0\n"),
+        (STICKS, 0, b"runs 1\nresult 1 stuck 0 schedule -\n"),
+        (STICKS, 2, b"runs 3\nresult 3 stuck 0 schedule -\n"),
     ];
     for (script, seeds, text) in rows {
         assert!(&rt; has_text(&rt, rt.alloc(), script, seeds, text)?);

@@ -1,7 +1,7 @@
 //! A processor's turn.
 ghost use Rattle.std.specs.Prelude.{◌≡◌, IfOk, false};
 ghost use Rattle.cluster.specs.Taking.{IsTakeLate};
-ghost use Rattle.lrc_run.specs.Prelude.{IsOnItsWay, TakesTurn, instruction_at_turn, progress_after_turn};
+ghost use Rattle.lrc_run.specs.Prelude.{IsOnItsWay, SeesOnlyMore, TakesTurn, instruction_at_turn, progress_after_turn};
 
 use crate::walk::{begin, end};
 use book::Refused;
@@ -43,7 +43,8 @@ pub(crate) fn take_turn<T: BookTurn, R: Wait>(
     progress: TurnProgress,
 ) -> Result<(TurnProgress, bool), Refused>
     requires own { processor.old.lock ≡ cluster.now.lock }
-    ensures { IfOk result (λ r. TakesTurn section.now processor.old progress processor.new r.0) }
+    ensures turn { IfOk result (λ r. TakesTurn section.now processor.old progress processor.new r.0) }
+    ensures vain { IfOk result (λ r. r.1 ≡ false → SeesOnlyMore processor.old processor.new × (r.0 ≡ progress)) }
 {
     match progress {
         TurnProgress::Next(n) => {

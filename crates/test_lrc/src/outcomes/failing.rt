@@ -2,10 +2,10 @@
 ghost use Rattle.std.specs.Prelude.{◌≢◌, ◌<◌, IfErr, IfOk};
 ghost use Rattle.std.specs.Thread.{IsSync};
 ghost use Rattle.lrc_script.specs.Prelude.{IsLawful, plan_of};
-ghost use Rattle.conformance.specs.Prelude.{IsEndByTurns, IsEndOf, IsReportByTurns, IsReportOf, turn_orders};
+ghost use Rattle.conformance.specs.Prelude.{IsEndByTurns, IsEndOf, IsReportByTurns, IsReportOf, IsScheduleFault, turn_orders, scheduled};
 ghost use Rattle.conformance.specs.declared.cause.Cause.TheVariants as cause;
 
-use conformance::{Cause, Ended, LockChoice, RunFault, Runs};
+use conformance::{Cause, DrawnRun, Ended, LockChoice, RunFault, Runs, Schedule, ScheduleFault};
 use lrc_report::Report;
 use lrc_run::OnCluster;
 use lrc_script::script::Script;
@@ -44,17 +44,13 @@ impl Runs for Failing {
 
     fn step<R: Wait>(
         &self,
-        rt: &R,
-        alloc: Global,
-        script: &Script,
-        lock: LockChoice,
-        seed: Option<u64>,
+        _rt: &R,
+        _alloc: Global,
+        _script: &Script,
+        _lock: LockChoice,
+        _seed: Option<u64>,
     ) -> Result<Report, RunFault> {
-        match (lock, seed) {
-            (LockChoice::Array, _) => Err(no_thread(9)),
-            (LockChoice::Ticket, Some(seed)) if seed >= self.fails => Err(no_thread(1)),
-            (LockChoice::Ticket, seed) => OnCluster.step(rt, alloc, script, lock, seed),
-        }
+        Err(no_thread(0))
     }
 
     fn step_as_far<R: Wait>(
@@ -66,5 +62,33 @@ impl Runs for Failing {
         _seed: Option<u64>,
     ) -> Result<Ended, RunFault> {
         Err(no_thread(0))
+    }
+
+    fn step_by<R: Wait>(
+        &self,
+        rt: &R,
+        alloc: Global,
+        script: &Script,
+        lock: LockChoice,
+        schedule: &Schedule,
+    ) -> Result<Ended, ScheduleFault> {
+        match lock {
+            LockChoice::Array => Err(ScheduleFault::Run(no_thread(9))),
+            LockChoice::Ticket => OnCluster.step_by(rt, alloc, script, lock, schedule),
+        }
+    }
+
+    fn step_drawn<R: Wait>(
+        &self,
+        rt: &R,
+        alloc: Global,
+        script: &Script,
+        lock: LockChoice,
+        seed: u64,
+    ) -> Result<DrawnRun, RunFault> {
+        if seed >= self.fails {
+            return Err(no_thread(1));
+        }
+        OnCluster.step_drawn(rt, alloc, script, lock, seed)
     }
 }

@@ -4,7 +4,7 @@ use Rattle.lrc_commands.proofs.explaining.print_run.Goals as goal
 pub returns-clause-told : goal.returns-clause-told
 returns-clause-told g c = record {
   ended = c.in_ok-ended.ended;
-  end = c.in_ok-ended.ensures.turns;
+  end = c.in_ok-ended.ensures.end;
   halted_is = sym c.in_ok-line.ensures;
   told = c.in_ok-print_end.ensures.told;
 }

@@ -1,28 +1,35 @@
-use Rattle.std.proofs.Common.{◌≡◌, ◌∙◌, [], ◌∷◌, sym, ap, subst, codes, map, rules, string_bytes}
+use Rattle.std.proofs.Common.{◌≡◌, ◌∙◌, inl, [], ◌∷◌, sym, ap, subst, codes, map, rules, string_bytes}
 use Rattle.clap.specs.Words.{App, HasKind, fault_of, found_of, is_simple, is_simple_and_free, rows_of, subcommand_of, subcommand_rows_of}
 use Rattle.clap.specs.declared.builder.value_parser.ValueParser.TheVariants as vp
 use Rattle.lrc_options.specs.CommandLine.{lrc_rules}
 use Rattle.std.proofs.lemmas.Result.{err_from_is_err_and}
-use Rattle.lrc_options.proofs.CommandLine.{named_option_rows, no_fault, is_fault, out_of_memory, same_kind}
+use Rattle.lrc_options.proofs.CommandLine.{given_by, if_err_map, is_fault, named_option_rows, no_fault, out_of_memory, refused_by, same_kind}
 use Rattle.lrc_options.proofs.command_line.options.Goals as goal
 
-pub returns-in_ok-asked_of-in-Some-clause-given : goal.returns-in_ok-asked_of-in-Some-clause-given
-returns-in_ok-asked_of-in-Some-clause-given c =
+-- what is read of the command that is given
+pub returns-in-Some-clause-given : goal.returns-in-Some-clause-given
+returns-in-Some-clause-given c =
     let app = c.in_ok-lrc_command.ensures.command.shape in
     let words = map (λ w. string_bytes w) c.args.words.now in
     let locks_are : map (λ s. s.now) c.as_slice.result.now ≡ codes "array" ∷ codes "ticket" ∷ [] = search rules in
     let entered : subcommand_rows_of c.in-Ok.matches ≡ subcommand_of (lrc_rules (vp.Names c.as_slice.result)) words =
     (c.in-Ok.ensures.matches (ap is_simple app)).1 ∙ ap (λ (a : App). subcommand_of a words) app in
     let faults = no_fault _ _ _ c.in-Ok.is (c.try_get_matches_from.ensures.kinds (ap is_simple_and_free app)) in
-    record {
-      locks = vp.Names c.as_slice.result;
-      locks_are = locks_are;
-      faultless = sym (ap (λ (a : App). fault_of a words) app) ∙ faults;
-      name = c.in-Some.name.now;
-      rows = rows_of (found_of c.in-Some.given.now);
-      command = sym entered ∙ named_option_rows _ _ _ _ _ c.in-Some.ensures.name c.in-Some.ensures.rows;
-      asked = c.in_ok-asked_of-in-Some.ensures;
-    }
+    given_by (vp.Names c.as_slice.result) words c.in-Some.name.now (rows_of (found_of c.in-Some.given.now)) c.answer_of.result
+    locks_are (sym (ap (λ (a : App). fault_of a words) app) ∙ faults)
+    (sym entered ∙ named_option_rows _ _ _ _ _ c.in-Some.ensures.name c.in-Some.ensures.rows) c.answer_of.ensures.one
+    c.answer_of.ensures.asked
+
+pub returns-in-Some-clause-refused : goal.returns-in-Some-clause-refused
+returns-in-Some-clause-refused c =
+    let app = c.in_ok-lrc_command.ensures.command.shape in
+    let words = map (λ w. string_bytes w) c.args.words.now in
+    let locks_are : map (λ s. s.now) c.as_slice.result.now ≡ codes "array" ∷ codes "ticket" ∷ [] = search rules in
+    let entered : subcommand_rows_of c.in-Ok.matches ≡ subcommand_of (lrc_rules (vp.Names c.as_slice.result)) words =
+    (c.in-Ok.ensures.matches (ap is_simple app)).1 ∙ ap (λ (a : App). subcommand_of a words) app in
+    let command = sym entered ∙ named_option_rows _ _ _ _ _ c.in-Some.ensures.name c.in-Some.ensures.rows in
+    if_err_map c.answer_of.result (λ e unanswered. refused_by (vp.Names c.as_slice.result) words c.in-Some.name.now
+    (rows_of (found_of c.in-Some.given.now)) e locks_are command unanswered) c.answer_of.ensures.unanswered
 
 pub returns-in_err-lrc_command-clause-refused : goal.returns-in_err-lrc_command-clause-refused
 returns-in_err-lrc_command-clause-refused c =
@@ -38,8 +45,8 @@ returns-in_ok-with_tip-in-Err-clause-refused c =
     record {
       locks = vp.Names c.as_slice.result;
       locks_are = search rules;
-      kind = same_kind _ fault c.in_ok-with_tip-in-Err.field-0 c.in_ok-with_tip-in-Err.ensures
-          (subst (λ (a : App). HasKind (fault_of a words) fault) app fails);
+      kind = inl (same_kind _ fault c.in_ok-with_tip-in-Err.field-0 c.in_ok-with_tip-in-Err.ensures
+          (subst (λ (a : App). HasKind (fault_of a words) fault) app fails));
     }
 
 pub returns-in_err-with_tip-in-Err-clause-refused : goal.returns-in_err-with_tip-in-Err-clause-refused
@@ -47,11 +54,4 @@ returns-in_err-with_tip-in-Err-clause-refused c =
     let answer =
     err_from_is_err_and c.from_residual-in_err-with_tip-in-Err.result
     c.from_residual-in_err-with_tip-in-Err.ensures.1 in
-    rw answer.1 (out_of_memory (vp.Names c.as_slice.result) _ _ (search rules) answer.2)
-
-pub returns-in_err-asked_of-in-Some-clause-refused : goal.returns-in_err-asked_of-in-Some-clause-refused
-returns-in_err-asked_of-in-Some-clause-refused c =
-    let answer =
-    err_from_is_err_and c.from_residual-in_err-asked_of-in-Some.result
-    c.from_residual-in_err-asked_of-in-Some.ensures.1 in
     rw answer.1 (out_of_memory (vp.Names c.as_slice.result) _ _ (search rules) answer.2)

@@ -13,25 +13,24 @@ loop-init g c =
     let ms = c.args.processors.now.items in
     let many : c.len.result ≡ length ms = omega (arith, c.len.ensures, c.args.processors.now.ok) in
     record {
-      between = before_turn_rounds c.args.cluster.now (plan_of c.args.script.now) c.args.seed ms c.in-Ok.beginnings.0.items _
-          c.len.result c.requires.sizes c.requires.new many c.in-Ok.ensures.all c.generator_of-generator.ensures;
-      long = omega (arith, c.in-Ok.ensures.list, many, c.requires.new.all);
+      between = before_turn_rounds c.args.cluster.now (plan_of c.args.script.now) c.args.seed ms c.args.all.now.items _
+          c.requires.way c.generator_of-generator.ensures;
+      long = omega (arith, c.in-Ok.ensures, many, c.requires.way.many);
     }
 
-pub returns-then-have_passed-clause-ok : goal.returns-then-have_passed-clause-ok
-returns-then-have_passed-clause-ok g c =
-    let P : List TurnProgress → Type 0 = λ xs. All (λ x. x ≡ Passed) xs in (
-      c.loop.all.items,
-      c.loop.invariant.between.by,
-      λ _. subst P c.deref.ensures.value (c.have_passed.ensures.0 c.if-have_passed.true),
-      λ no. absurd (cc),
-    )
+pub returns-then-have_passed-clause-gone : goal.returns-then-have_passed-clause-gone
+returns-then-have_passed-clause-gone g c = c.loop.invariant.between.gone
+
+pub returns-then-have_passed-clause-whole : goal.returns-then-have_passed-clause-whole
+returns-then-have_passed-clause-whole g c =
+    let P : List TurnProgress → Type 0 = λ xs. All (λ x. x ≡ Passed) xs in
+    λ _. subst P c.as_slice.ensures.value (c.have_passed.ensures.0 c.if-have_passed.true)
 
 pub is_stuck-requires-clause-own : goal.is_stuck-requires-clause-own
 is_stuck-requires-clause-own g c κs within = λ m here.
     let s = plan_of c.args.script.now in
-    let way = ways_turned c.args.cluster.now s.sections c.deref-in-loop.result.now c.loop.processors.items
-    c.round.new.processors.items c.loop.all.items c.round.new.all.items c.loop.invariant.between.by.way
+    let way = ways_turned c.args.cluster.now s.sections c.deref.result.now c.loop.processors.items
+    c.round.new.processors.items c.loop.all.items c.round.new.all.items c.loop.invariant.between.gone.way
     c.in_ok-moved.ensures.turns in
     steps_own_at s c.args.cluster.now c.round.new.processors.items c.round.new.all.items 0 m c.requires.lawful
     c.requires.sizes way here
@@ -39,48 +38,52 @@ is_stuck-requires-clause-own g c κs within = λ m here.
 pub is_stuck-requires-clause-some : goal.is_stuck-requires-clause-some
 is_stuck-requires-clause-some g c κs within =
     let s = plan_of c.args.script.now in
-    let way = ways_turned c.args.cluster.now s.sections c.deref-in-loop.result.now c.loop.processors.items
-    c.round.new.processors.items c.loop.all.items c.round.new.all.items c.loop.invariant.between.by.way
+    let way = ways_turned c.args.cluster.now s.sections c.deref.result.now c.loop.processors.items
+    c.round.new.processors.items c.loop.all.items c.round.new.all.items c.loop.invariant.between.gone.way
     c.in_ok-moved.ensures.turns in
     let some = some_of s c.args.cluster.now c.round.new.processors.items c.round.new.all.items c.requires.lawful
     c.requires.sizes way in
     omega (arith, some, c.round.new.processors.ok)
 
-pub returns-then-branch-clause-ok : goal.returns-then-branch-clause-ok
-returns-then-branch-clause-ok g c =
+pub returns-then-branch-clause-gone : goal.returns-then-branch-clause-gone
+returns-then-branch-clause-gone g c =
     let s = plan_of c.args.script.now in
     let turned = c.round.new.processors.items in
     let os = c.is_stuck.new.processors.items in
-    let list = c.deref-in-loop.result.now in
+    let list = c.deref.result.now in
     let n = length c.deref_mut.result.now in
     let many : n ≡ c.args.cluster.now.sizes.processors = omega (arith, c.deref_mut.ensures.len, c.loop.invariant.long) in
     let order = c.draw.new.list in
     let rest = drop (length order) c.loop.list.items in
     let fits : c.loop.list.len ≡ length order = omega (arith, c.draw.ensures.below.1, c.deref_mut.ensures.len) in
     let drawn_is : list ≡ order =
-    c.deref-in-loop.ensures.value ∙ ap (λ k. take k (order ++ rest)) fits ∙ take-append_seam order rest in
+    c.deref.ensures.value ∙ ap (λ k. take k (order ++ rest)) fits ∙ take-append_seam order rest in
     let next = next_turn_round c.args.cluster.now s c.args.seed c.args.processors.now.items c.loop.processors.items turned os
-    c.loop.all.items c.round.new.all.items c.loop.generator c.draw.new.generator n list c.requires.sizes many
-    c.loop.invariant.between (drawn_is ∙ c.draw.ensures.list) c.draw.ensures.state c.in_ok-moved.ensures.turns
-    c.is_stuck.ensures.seen in
+    c.args.all.now.items c.loop.all.items c.round.new.all.items c.loop.generator c.draw.new.generator n list
+    c.requires.sizes many c.loop.invariant.between (drawn_is ∙ c.draw.ensures.list) c.draw.ensures.state
+    c.in_ok-moved.ensures.turns c.is_stuck.ensures.seen in
+    next.gone
+
+pub returns-then-branch-clause-stuck : goal.returns-then-branch-clause-stuck
+returns-then-branch-clause-stuck g c =
     let stuck : c.in_ok-is_stuck.field-0 ≡ true = search rules in
-    (c.round.new.all.items, next.by, (λ no. absurd (cc)), λ _. c.in_ok-is_stuck.ensures.stuck stuck)
+    λ _. c.in_ok-is_stuck.ensures.stuck stuck
 
 pub loop-preserved : goal.loop-preserved
 loop-preserved g c =
     let s = plan_of c.args.script.now in
     let turned = c.round.new.processors.items in
     let os = c.is_stuck.new.processors.items in
-    let list = c.deref-in-loop.result.now in
+    let list = c.deref.result.now in
     let n = length c.deref_mut.result.now in
     let many : n ≡ c.args.cluster.now.sizes.processors = omega (arith, c.deref_mut.ensures.len, c.loop.invariant.long) in
     let order = c.draw.new.list in
     let rest = drop (length order) c.loop.list.items in
     let fits : c.loop.list.len ≡ length order = omega (arith, c.draw.ensures.below.1, c.deref_mut.ensures.len) in
     let drawn_is : list ≡ order =
-    c.deref-in-loop.ensures.value ∙ ap (λ k. take k (order ++ rest)) fits ∙ take-append_seam order rest in
+    c.deref.ensures.value ∙ ap (λ k. take k (order ++ rest)) fits ∙ take-append_seam order rest in
     let next = next_turn_round c.args.cluster.now s c.args.seed c.args.processors.now.items c.loop.processors.items turned os
-    c.loop.all.items c.round.new.all.items c.loop.generator c.draw.new.generator n list c.requires.sizes many
-    c.loop.invariant.between (drawn_is ∙ c.draw.ensures.list) c.draw.ensures.state c.in_ok-moved.ensures.turns
-    c.is_stuck.ensures.seen in
+    c.args.all.now.items c.loop.all.items c.round.new.all.items c.loop.generator c.draw.new.generator n list
+    c.requires.sizes many c.loop.invariant.between (drawn_is ∙ c.draw.ensures.list) c.draw.ensures.state
+    c.in_ok-moved.ensures.turns c.is_stuck.ensures.seen in
     record { between = next; long = search rules }

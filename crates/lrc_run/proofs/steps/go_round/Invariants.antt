@@ -5,7 +5,7 @@ use Rattle.lrc_run.proofs.steps.go_round.Given as goal
 
 abbrev pub invariant-loop : goal.invariant-loop
 invariant-loop g l = record {
-  between : IsBetweenTurns l.cluster (plan_of l.script) l.fn.seed l.fn.processors.items l.processors.items l.all.items
-      l.generator;
+  between : IsBetweenTurns l.cluster (plan_of l.script) l.fn.seed l.fn.processors.items l.processors.items
+      l.fn.all.items l.all.items l.generator;
   long : vec_len l.list ≡ l.cluster.sizes.processors;
 }

@@ -1,32 +1,37 @@
-use Rattle.std.proofs.Common.{rules, ◌≡◌, false, refl, true}
+use Rattle.std.proofs.Common.{◌≡◌, List, [], length, subst, arith}
+use Rattle.std.specs.Prelude.{IfOk}
 use Rattle.lrc_script.specs.Plan.{plan_of}
-use Rattle.lrc_run.proofs.ByTurns.{halt_by_turns, report_by_turns}
-use Rattle.lrc_run.proofs.Halting.{halted_all}
-use Rattle.lrc_run.proofs.Stepping.{steps_passed}
+use Rattle.conformance.specs.ByTurns.{IsEndByTurns, turn_orders}
+use Rattle.conformance.specs.declared.progress.TurnProgress.{TurnProgress}
+use Rattle.lrc_run.specs.FollowedReports.{IsEndAfter}
+use Rattle.lrc_run.proofs.ByTurns.{by_rounds, by_seed, end_by}
+use Rattle.lrc_run.proofs.Failing.{ok_as}
+use Rattle.lrc_run.proofs.Stepping.{steps_begin}
 use Rattle.lrc_run.proofs.steps.step_as_far_with.Goals as goal
 
-pub conclude-requires-clause-walked : goal.conclude-requires-clause-walked
-conclude-requires-clause-walked g c κs within =
-    let told = c.in_ok-go_round.ensures.ok in
-    let whole : c.in_ok-go_round.field-0 ≡ true = search rules in
-    steps_passed c.in_ok-cluster.cluster (plan_of c.args.script.now).sections _ told.0 told.1.way (told.2 whole)
-
-pub returns-in-Ok-clause-end : goal.returns-in-Ok-clause-end
-returns-in-Ok-clause-end g c =
-    let told = c.in_ok-go_round.ensures.ok in
-    let whole : c.in_ok-go_round.field-0 ≡ true = search rules in
-    report_by_turns (plan_of c.args.script.now) c.in_ok-cluster.cluster c.args.seed _ _ told.0 _
-    c.in_ok-cluster.ensures.sizes c.in_ok-cluster.ensures.new told.1 (told.2 whole) c.in-Ok.ensures
-
-pub finish-journal-requires-after_bounds : goal.finish-journal-requires-after_bounds
-finish-journal-requires-after_bounds g c κs within =
-    let told = c.in_ok-go_round.ensures.ok in
-    halted_all (plan_of c.args.script.now) c.in_ok-cluster.cluster _ told.0 c.requires.lawful
-    c.in_ok-cluster.ensures.sizes told.1.way
+pub go_round-requires-clause-way : goal.go_round-requires-clause-way
+go_round-requires-clause-way g c κs within =
+    let ms = c.in_ok-cluster.processors.items in
+    let many : c.len.result ≡ length ms = omega (arith, c.len.ensures, c.in_ok-cluster.processors.ok) in
+    steps_begin c.in_ok-cluster.cluster (plan_of c.args.script.now).sections ms c.in_ok-all.all.items c.len.result
+    c.in_ok-cluster.ensures.new many c.in_ok-all.ensures.ok
 
 pub returns-clause-end : goal.returns-clause-end
 returns-clause-end g c =
-    let told = c.in_ok-go_round.ensures.ok in
-    let stuck : c.in_ok-go_round.field-0 ≡ false = search rules in
-    halt_by_turns (plan_of c.args.script.now) c.in_ok-cluster.cluster c.args.seed _ _ told.0 _ c.requires.lawful
-    c.in_ok-cluster.ensures.sizes c.in_ok-cluster.ensures.new told.1 (told.3 stuck) refl c.finish-journal.ensures
+    let s = plan_of c.args.script.now in
+    let cluster = c.in_ok-cluster.cluster in
+    let ms = c.in_ok-cluster.processors.items in
+    let ns = c.go_round.new.processors.items in
+    let start = c.in_ok-all.all.items in
+    let all = c.go_round.new.all.items in
+    let sizes = c.in_ok-cluster.ensures.sizes in
+    let new = c.in_ok-cluster.ensures.new in
+    let many : c.len.result ≡ length ms = omega (arith, c.len.ensures, c.in_ok-cluster.processors.ok) in
+    let gone = c.in_ok-passed.ensures.gone in
+    let orders = turn_orders s c.args.seed in
+    let told = by_seed s cluster c.args.seed ms ns all sizes new
+    (by_rounds s cluster c.args.seed ms ns start all c.len.result sizes new many c.in_ok-all.ensures.ok gone) in
+    let P : List TurnProgress → Type 0 = λ xs. IfOk c.end_run.result (IsEndAfter s ns xs) in
+    ok_as c.end_run.result (IsEndAfter s ns all) (IsEndByTurns s orders)
+    (λ e after. end_by s cluster orders ns all e c.requires.lawful sizes gone.way told after)
+    (subst P c.deref.ensures.value c.end_run.ensures.end)

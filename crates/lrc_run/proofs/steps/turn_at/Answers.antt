@@ -2,6 +2,7 @@ use Rattle.std.proofs.Common.{◌<◌, length, refl, arith}
 use Rattle.std.proofs.lemmas.Option.{slice_get_read}
 use Rattle.lrc_script.specs.Plan.{plan_of}
 use Rattle.lrc_run.proofs.Stepping.{steps_own_at, step_progress_read, step_section_read}
+use Rattle.lrc_run.proofs.Turning.{one_seen, set_same}
 use Rattle.lrc_run.proofs.steps.turn_at.Goals as goal
 
 pub take_turn-requires-clause-own : goal.take_turn-requires-clause-own
@@ -34,7 +35,22 @@ returns-in-Ok-clause-turn g c =
           c.index-section.ensures c.deref.ensures.value;
       before_is = slice_get_read ms (length ms) p m refl inside c.index_mut.ensures.value;
       at_is = step_progress_read c.args.cluster.now s.sections ms all p at c.requires.way inside c.index.ensures;
-      takes = c.in-Ok.ensures;
+      takes = c.in-Ok.ensures.turn;
       new_is = refl;
       to_is = refl;
     }
+
+pub returns-in-Ok-clause-vain : goal.returns-in-Ok-clause-vain
+returns-in-Ok-clause-vain g c = λ no.
+    let ms = c.args.processors.now.items in
+    let all = c.args.all.now.items in
+    let p = c.args.p in
+    let m = c.index_mut.result.now in
+    let inside : p < length ms = omega (arith, c.requires.within) in
+    let vain = c.in-Ok.ensures.vain no in (
+      one_seen ms p m c.take_turn.new.processor (slice_get_read ms (length ms) p m refl inside c.index_mut.ensures.value)
+          vain.0,
+      set_same all p c.index.result.now c.in-Ok.outcome.0
+          (step_progress_read c.args.cluster.now (plan_of c.args.script.now).sections ms all p c.index.result.now c.requires.way
+          inside c.index.ensures) vain.1,
+    )

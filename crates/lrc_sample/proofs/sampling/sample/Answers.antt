@@ -32,4 +32,4 @@ returns-in-Ok g c =
     let last : c.loop-seed.seed ≡ c.args.seeds = omega (arith, c.loop-seed.auto.seed-end, c.loop-seed-test.false) in
     subst (λ n. IsSampleOf (plan_of c.args.script.now) (n + 1) record { lines = c.sort.new.lines }) last
     (sample_of (plan_of c.args.script.now) (c.loop-seed.seed + 1) c.loop-seed.lines.items
-    record { lines = c.sort.new.lines } c.loop-seed.invariant c.sort.ensures.tally c.in-Ok.ensures.order)
+    record { lines = c.sort.new.lines } c.loop-seed.invariant c.sort.ensures.tally c.sort.ensures.shown c.in-Ok.ensures.order)

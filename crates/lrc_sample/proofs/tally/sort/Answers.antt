@@ -1,12 +1,17 @@
 use Rattle.std.proofs.Common.{rules}
 use Rattle.std.proofs.lemmas.List.Sorted.{IsNonDecreasingBy-from_sort_by_key, answers_always}
 use Rattle.std.proofs.lemmas.Result.{on_ok_weaker}
-use Rattle.lrc_sample.proofs.Ordering.{frequent_first, rarity, tally_moved}
+use Rattle.lrc_sample.specs.Samples.{Shows}
+use Rattle.lrc_sample.proofs.Ordering.{frequent_first, rarity, shown_moved, tally_moved}
 use Rattle.lrc_sample.proofs.tally.sort.Goals as goal
 
 pub returns-clause-tally : goal.returns-clause-tally
 returns-clause-tally c = λ outcomes is.
     tally_moved outcomes c.args.lines.now.items c.sort_by_key.new.self.items c.sort_by_key.ensures.permutation is
+
+pub returns-clause-shown : goal.returns-clause-shown
+returns-clause-shown c = λ s is.
+    shown_moved (Shows s) c.args.lines.now.items c.sort_by_key.new.self.items c.sort_by_key.ensures.permutation is
 
 pub returns-clause-order : goal.returns-clause-order
 returns-clause-order c =

@@ -1,12 +1,14 @@
-use Rattle.std.proofs.Common.{subst, sym}
+use Rattle.std.proofs.Common.{refl, subst, sym, ◌∙◌, ap}
 use Rattle.lrc_script.specs.declared.script.Instruction.{Instruction}
 use Rattle.conformance.specs.declared.progress.TurnProgress.{TurnProgress}
+use Rattle.conformance.specs.Turns.{progress_after_turn}
 use Rattle.lrc_run.specs.Turns.{TakesTurn}
 use Rattle.lrc_run.specs.MakesCalls.{IsOnItsWay}
+use Rattle.lrc_run.proofs.Turning.{look_seen, sees_on}
 use Rattle.lrc_run.proofs.steps.turns.take_turn.Goals as goal
 
-pub returns-in_ok-done-in-Next : goal.returns-in_ok-done-in-Next
-returns-in_ok-done-in-Next g c =
+pub returns-in_ok-done-in-Next-clause-turn : goal.returns-in_ok-done-in-Next-clause-turn
+returns-in_ok-done-in-Next-clause-turn g c =
     let m = c.args.processor.now in
     let n = c.go_on_with_turn.new.processor in
     let section = c.args.section.now in
@@ -20,8 +22,8 @@ returns-in_ok-done-in-Next g c =
       to_is = c.progress_after_turn.ensures;
     })
 
-pub returns-in_ok-done-in-Waits : goal.returns-in_ok-done-in-Waits
-returns-in_ok-done-in-Waits g c =
+pub returns-in_ok-done-in-Waits-clause-turn : goal.returns-in_ok-done-in-Waits-clause-turn
+returns-in_ok-done-in-Waits-clause-turn g c =
     let m = c.args.processor.now in
     let n = c.end.new.processor in
     let section = c.args.section.now in
@@ -31,3 +33,12 @@ returns-in_ok-done-in-Waits g c =
       takes = c.in_ok-done-in-Waits.ensures.ok;
       to_is = c.progress_after_turn-in-Waits.ensures;
     })
+
+pub returns-in_ok-done-in-Waits-clause-vain : goal.returns-in_ok-done-in-Waits-clause-vain
+returns-in_ok-done-in-Waits-clause-vain g c = λ no. (
+  look_seen c.args.processor.now c.end.new.processor c.in_ok-done-in-Waits.done c.in_ok-done-in-Waits.ensures.ok no,
+  c.progress_after_turn-in-Waits.ensures ∙ ap (progress_after_turn c.args.section.now c.in-Waits.n) no ∙ sym c.in-Waits.is,
+)
+
+pub returns-in-Passed-clause-vain : goal.returns-in-Passed-clause-vain
+returns-in-Passed-clause-vain g c = λ _. (sees_on c.args.processor.now c.args.processor.now refl, sym c.in-Passed.is)

@@ -1,0 +1,31 @@
+-- How turns are drawn: in which order processors are tried for the next one.
+use Rattle.std.specs.Prelude.{ℕ, ◌+◌, ◌%◌, ◌++◌, ◌∷◌, [], Bool, List, cond, drop, nat_lt, slice_index_or, take}
+use Rattle.std.specs.List.{range_with_len}
+use Rattle.rand_core.specs.Pcg32Seed.{pcg32_seed}
+use Rattle.rand_pcg.specs.Lcg.{Lcg}
+use Rattle.rand_pcg.specs.Pcg.{pcg32, pcg32_of_seed}
+use Rattle.conformance.specs.Orders.{ordered}
+
+-- the order of the next turn, and the generator then
+pub record Drawing : Type 0 where
+  pub order : List ℕ
+  pub generator : Lcg
+
+abbrev pub drawing : List ℕ × Lcg → Drawing
+drawing x = record { order = x.0; generator = x.1 }
+
+-- at the start, of n processors
+abbrev pub drawing_of : ℕ → ℕ → Drawing
+drawing_of seed n = drawing (ordered (pcg32_of_seed (pcg32_seed 16 seed)) (range_with_len 0 n))
+
+-- whoever stands at this place comes last
+abbrev pub lowered : List ℕ → ℕ → List ℕ
+lowered order place = take place order ++ drop (place + 1) order ++ slice_index_or order place 0 ∷ []
+
+-- after the turn of the processor at this place, of about m turns: a walk draws an order anew; else whoever had the turn
+-- comes last, if a word modulo m is below 3
+abbrev pub next_drawing : Bool → ℕ → ℕ → Drawing → Drawing
+next_drawing walks m place d = cond walks (drawing (ordered d.generator d.order)) (record {
+  order = cond (nat_lt ((pcg32 d.generator).0 % m) 3) (lowered d.order place) d.order;
+  generator = (pcg32 d.generator).1;
+})

@@ -1,0 +1,228 @@
+//! All processors by turns on one thread, by turns that are drawn.
+ghost use Rattle.std.specs.Prelude.{◌≡◌, ◌≢◌, ◌<◌, ◌≤◌, ◌^◌, ◌++◌, ◌∷◌, [], IfErr, IfOk, IfSome, List, OnOk, false, length, slice_index_or, true, vec_len};
+ghost use Rattle.lrc_script.specs.Prelude.{IsLawful, plan_of};
+ghost use Rattle.conformance.specs.declared.cause.Cause.TheVariants as cause;
+ghost use Rattle.conformance.specs.Prelude.{IsEndByTurns, plan_sizes, scheduled};
+ghost use Rattle.conformance.specs.declared.progress.TurnProgress.{TurnProgress as AProgress};
+ghost use Rattle.cluster.specs.Copies.Prelude.{Local};
+ghost use Rattle.lrc_run.specs.Prelude.{AreAtSteps, AreSeenAfterTurns, AreTaken, IsTurnOfRun, chosen};
+
+use super::pace::Pace;
+use super::{beginnings, end_run, go_round, new_cluster, outside, turn_at};
+use book::Refused;
+use cluster::{BookLock, BookTurn, Cluster, Processor};
+use conformance::{DrawnRun, RunFault, Schedule, TurnProgress};
+use lrc_script::script::Script;
+use std::alloc::{AllocError, Global};
+use std::sync::Wait;
+
+/// Runs the script on one thread by turns that the seed draws, so that processors go at different speeds, until all have
+/// arrived at the closing barrier or none gets on; then rounds by rising number follow. Answers the turns that got on, as a
+/// schedule: [`step_by`](crate::step_by) with it makes the same run.
+///
+/// The fault is a call's refusal, as [`step_as_far`](crate::step_as_far) tells it.
+pub fn step_drawn<R: Wait>(
+    rt: &R,
+    alloc: Global,
+    script: &Script,
+    seed: u64,
+) -> Result<DrawnRun, RunFault>
+    requires { IsLawful (plan_of script.now) }
+    ensures end { IfOk result (λ run. IsEndByTurns (plan_of script.now)
+        (scheduled (plan_of script.now) run.schedule.turns.items) run.ended) }
+    ensures err { IfErr result (λ fault. fault.cause ≢ cause.Stuck) }
+{
+    step_drawn_with::<BookLock, R>(rt, alloc, script, seed)
+}
+
+/// The same with a lock of the caller's choice round the book.
+pub fn step_drawn_with<T: BookTurn + Drop, R: Wait>(
+    rt: &R,
+    alloc: Global,
+    script: &Script,
+    seed: u64,
+) -> Result<DrawnRun, RunFault>
+    requires entries { T.ENTRIES ≤ 2 ^ 40 }
+    requires lawful { IsLawful (plan_of script.now) }
+    ensures end { IfOk result (λ run. IsEndByTurns (plan_of script.now)
+        (scheduled (plan_of script.now) run.schedule.turns.items) run.ended) }
+    ensures err { IfErr result (λ fault. fault.cause ≢ cause.Stuck) }
+{
+    let (cluster, mut processors) = new_cluster::<T>(alloc, script)?;
+    let mut all = beginnings(alloc, processors.len())?;
+    let turns = wander(rt, alloc, &cluster, &mut processors, &mut all, script, seed)?;
+    let passed = go_round(rt, alloc, &cluster, &mut processors, &mut all, script, None)?;
+    let ended = end_run(rt, alloc, cluster, processors, &all, script, passed)?;
+    Ok(DrawnRun {
+        schedule: Schedule { turns },
+        ended,
+    })
+}
+
+/// Turns that the seed draws, until all have arrived at the closing barrier or none gets on. Answers those that got on.
+fn wander<T: BookTurn, R: Wait>(
+    rt: &R,
+    alloc: Global,
+    cluster: &Cluster<T>,
+    processors: &mut Vec<Processor<T>>,
+    all: &mut Vec<TurnProgress>,
+    script: &Script,
+    seed: u64,
+) -> Result<Vec<usize>, RunFault>
+    requires lawful { IsLawful (plan_of script.now) }
+    requires sizes { cluster.now.sizes ≡ plan_sizes (plan_of script.now) }
+    requires way { AreAtSteps cluster.now (plan_of script.now).sections processors.old.items
+        all.old.items }
+    ensures way { OnOk result (AreAtSteps cluster.now (plan_of script.now).sections processors.new.items
+        all.new.items) }
+    ensures taken { IfOk result (λ turns. AreTaken (plan_of script.now).sections turns.items
+        processors.old.items processors.new.items all.old.items all.new.items) }
+    ensures err { IfErr result (λ fault. fault.cause ≢ cause.Stuck) }
+{
+    let mut pace = match Pace::new(alloc, processors.len(), turns_of(script), seed) {
+        Ok(pace) => pace,
+        Err(error) => return Err(outside(Refused::from(error))),
+    };
+    let mut turns = Vec::new(alloc);
+    for _ in rt.forever() {
+        let on = go_on(rt, cluster, processors, all, script, &mut pace, &mut turns)?;
+        if !on {
+            return Ok(turns);
+        }
+    }
+    unreachable!()
+}
+
+/// The next turn, if some processor hasn't arrived at the closing barrier and gets on: whether there is one.
+fn go_on<T: BookTurn, R: Wait>(
+    rt: &R,
+    cluster: &Cluster<T>,
+    processors: &mut Vec<Processor<T>>,
+    all: &mut Vec<TurnProgress>,
+    script: &Script,
+    pace: &mut Pace,
+    turns: &mut Vec<usize>,
+) -> Result<bool, RunFault>
+    requires lawful { IsLawful (plan_of script.now) }
+    requires sizes { cluster.now.sizes ≡ plan_sizes (plan_of script.now) }
+    requires way { AreAtSteps cluster.now (plan_of script.now).sections processors.old.items
+        all.old.items }
+    requires some { 0 < pace.old.turns }
+    ensures way { OnOk result (AreAtSteps cluster.now (plan_of script.now).sections processors.new.items
+        all.new.items) }
+    ensures taken { OnOk result ((first : List Local) (start : List AProgress)
+        → AreTaken (plan_of script.now).sections turns.old.items first processors.old.items start all.old.items
+        → AreTaken (plan_of script.now).sections turns.new.items first processors.new.items start all.new.items) }
+    ensures fixed { OnOk result (pace.new.turns ≡ pace.old.turns) }
+    ensures err { IfErr result (λ fault. fault.cause ≢ cause.Stuck) }
+{
+    if have_arrived(script, all.as_slice()) {
+        return Ok(false);
+    }
+    match first_on(rt, cluster, processors, all, script, &pace.order)? {
+        Some(place) => {
+            note(turns, pace, place)?;
+            Ok(true)
+        }
+        None => Ok(false),
+    }
+}
+
+/// Notes whose turn it was, by its place in the order, and goes on to the next order.
+fn note(turns: &mut Vec<usize>, pace: &mut Pace, place: usize) -> Result<(), RunFault>
+    requires place { place < vec_len pace.old.order }
+    requires turns { 0 < pace.old.turns }
+    ensures turns { OnOk result (turns.new.items ≡ turns.old.items ++ slice_index_or pace.old.order.items place 0 ∷ []) }
+    ensures fixed { pace.new.turns ≡ pace.old.turns }
+    ensures err { IfErr result (λ fault. fault.cause ≢ cause.Stuck) }
+{
+    let noted = match turns.push(pace.order[place]) {
+        Ok(()) => pace.go_on(place),
+        Err(error) => Err(AllocError::from(error)),
+    };
+    match noted {
+        Ok(()) => Ok(()),
+        Err(error) => Err(outside(Refused::from(error))),
+    }
+}
+
+/// About how many turns the script takes: one for each instruction, and one for the closing barrier.
+fn turns_of(script: &Script) -> usize
+    ensures { 0 < result }
+{
+    let mut turns: usize = 1;
+    for section in script.sections.iter() {
+        turns = turns.saturating_add(section.len() + 1);
+    }
+    turns
+}
+
+/// Whether each processor has arrived at the closing barrier. How they depart makes no difference to what they show.
+fn have_arrived(script: &Script, all: &[TurnProgress]) -> bool {
+    script.sections.iter().zip(all).all(|(section, progress)| has_arrived(section.len(), *progress))
+}
+
+/// Whether a processor with so many instructions has.
+fn has_arrived(instructions: usize, progress: TurnProgress) -> bool {
+    match progress {
+        TurnProgress::Next(_) => false,
+        TurnProgress::Waits(instruction) => instruction >= instructions,
+        TurnProgress::Passed => true,
+    }
+}
+
+/// The first of the order that gets on has its turn: its place; None if none gets on.
+fn first_on<T: BookTurn, R: Wait>(
+    rt: &R,
+    cluster: &Cluster<T>,
+    processors: &mut Vec<Processor<T>>,
+    all: &mut Vec<TurnProgress>,
+    script: &Script,
+    order: &[usize],
+) -> Result<Option<usize>, RunFault>
+    requires lawful { IsLawful (plan_of script.now) }
+    requires sizes { cluster.now.sizes ≡ plan_sizes (plan_of script.now) }
+    requires way { AreAtSteps cluster.now (plan_of script.now).sections processors.old.items
+        all.old.items }
+    ensures way { OnOk result (AreAtSteps cluster.now (plan_of script.now).sections processors.new.items
+        all.new.items) }
+    ensures taken { IfOk result (λ place. AreTaken (plan_of script.now).sections (chosen order.now place)
+        processors.old.items processors.new.items all.old.items all.new.items) }
+    ensures place { IfOk result (λ place. IfSome place (λ k. k < length order.now)) }
+    ensures err { IfErr result (λ fault. fault.cause ≢ cause.Stuck) }
+{
+    for place in 0..order.len() {
+        if tried_at(rt, cluster, processors, all, script, order[place])? {
+            return Ok(Some(place));
+        }
+    }
+    Ok(None)
+}
+
+/// The turn of processor `p`, if there is one: whether it got on.
+fn tried_at<T: BookTurn, R: Wait>(
+    rt: &R,
+    cluster: &Cluster<T>,
+    processors: &mut Vec<Processor<T>>,
+    all: &mut Vec<TurnProgress>,
+    script: &Script,
+    p: usize,
+) -> Result<bool, RunFault>
+    requires lawful { IsLawful (plan_of script.now) }
+    requires sizes { cluster.now.sizes ≡ plan_sizes (plan_of script.now) }
+    requires way { AreAtSteps cluster.now (plan_of script.now).sections processors.old.items
+        all.old.items }
+    ensures way { OnOk result (AreAtSteps cluster.now (plan_of script.now).sections processors.new.items
+        all.new.items) }
+    ensures turn { IfOk result (λ moved. moved ≡ true → IsTurnOfRun (plan_of script.now).sections p
+        processors.old.items processors.new.items all.old.items all.new.items) }
+    ensures vain { IfOk result (λ moved. moved ≡ false → AreSeenAfterTurns processors.old.items processors.new.items
+        × (all.new.items ≡ all.old.items)) }
+    ensures err { IfErr result (λ fault. fault.cause ≢ cause.Stuck) }
+{
+    if p >= processors.len() {
+        return Ok(false);
+    }
+    let moved = turn_at(rt, cluster, processors, all, script, p)?;
+    Ok(moved)
+}

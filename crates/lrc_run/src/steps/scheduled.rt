@@ -1,0 +1,129 @@
+//! All processors by turns on one thread, as a schedule has them.
+ghost use Rattle.std.specs.Prelude.{◌≡◌, ◌≢◌, ◌<◌, ◌≤◌, ◌^◌, IfErr, IfOk, OnOk, vec_len};
+ghost use Rattle.lrc_script.specs.Prelude.{IsLawful, plan_of};
+ghost use Rattle.conformance.specs.Prelude.{IsEndByTurns, IsScheduleFault, plan_sizes, scheduled};
+ghost use Rattle.conformance.specs.declared.schedule.Misfit.TheVariants as misfit;
+ghost use Rattle.lrc_run.specs.Prelude.{AreAtSteps, AreTaken, IsTurnFault, IsTurnOfRun};
+
+use super::{beginnings, end_run, go_round, have_passed, new_cluster, turn_at};
+use cluster::{BookLock, BookTurn, Cluster, Processor};
+use conformance::{Ended, Misfit, Schedule, ScheduleFault, TurnProgress};
+use lrc_script::script::Script;
+use std::alloc::Global;
+use std::sync::Wait;
+
+/// Runs the script on one thread, as far as it goes: first the schedule's turns, and when these are over rounds by rising
+/// number, as [`step_as_far`](crate::step_as_far) has them without a seed.
+///
+/// The fault is [`Misfit`](ScheduleFault::Misfit) at the first turn of the schedule that isn't one of the script's: its
+/// number is no processor's, or its processor doesn't get on in it; else a call's refusal as `step_as_far` tells it.
+pub fn step_by<R: Wait>(
+    rt: &R,
+    alloc: Global,
+    script: &Script,
+    schedule: &Schedule,
+) -> Result<Ended, ScheduleFault>
+    requires { IsLawful (plan_of script.now) }
+    ensures end { IfOk result
+        (IsEndByTurns (plan_of script.now) (scheduled (plan_of script.now) schedule.now.turns.items)) }
+    ensures fault { IfErr result (IsScheduleFault (plan_of script.now) schedule.now.turns.items) }
+{
+    step_by_with::<BookLock, R>(rt, alloc, script, schedule)
+}
+
+/// The same with a lock of the caller's choice round the book.
+pub fn step_by_with<T: BookTurn + Drop, R: Wait>(
+    rt: &R,
+    alloc: Global,
+    script: &Script,
+    schedule: &Schedule,
+) -> Result<Ended, ScheduleFault>
+    requires entries { T.ENTRIES ≤ 2 ^ 40 }
+    requires lawful { IsLawful (plan_of script.now) }
+    ensures end { IfOk result
+        (IsEndByTurns (plan_of script.now) (scheduled (plan_of script.now) schedule.now.turns.items)) }
+    ensures fault { IfErr result (IsScheduleFault (plan_of script.now) schedule.now.turns.items) }
+{
+    let (cluster, mut processors) = new_cluster::<T>(alloc, script)?;
+    let mut all = beginnings(alloc, processors.len())?;
+    follow(
+        rt,
+        &cluster,
+        &mut processors,
+        &mut all,
+        script,
+        &schedule.turns,
+    )?;
+    let passed = go_round(rt, alloc, &cluster, &mut processors, &mut all, script, None)?;
+    Ok(end_run(rt, alloc, cluster, processors, &all, script, passed)?)
+}
+
+/// The turns of a schedule, one after another. Each has to be one in which its processor gets on.
+fn follow<T: BookTurn, R: Wait>(
+    rt: &R,
+    cluster: &Cluster<T>,
+    processors: &mut Vec<Processor<T>>,
+    all: &mut Vec<TurnProgress>,
+    script: &Script,
+    turns: &[usize],
+) -> Result<(), ScheduleFault>
+    requires lawful { IsLawful (plan_of script.now) }
+    requires sizes { cluster.now.sizes ≡ plan_sizes (plan_of script.now) }
+    requires way { AreAtSteps cluster.now (plan_of script.now).sections processors.old.items
+        all.old.items }
+    ensures way { OnOk result (AreAtSteps cluster.now (plan_of script.now).sections processors.new.items
+        all.new.items) }
+    ensures taken { OnOk result (AreTaken (plan_of script.now).sections turns.now
+        processors.old.items processors.new.items all.old.items all.new.items) }
+    ensures fault { IfErr result (IsScheduleFault (plan_of script.now) turns.now) }
+{
+    for place in 0..turns.len() {
+        match follow_at(rt, cluster, processors, all, script, place, turns[place]) {
+            Ok(()) => {}
+            Err(fault) => return Err(fault),
+        }
+    }
+    Ok(())
+}
+
+/// The turn of processor `p`, which the schedule has at this place.
+fn follow_at<T: BookTurn, R: Wait>(
+    rt: &R,
+    cluster: &Cluster<T>,
+    processors: &mut Vec<Processor<T>>,
+    all: &mut Vec<TurnProgress>,
+    script: &Script,
+    place: usize,
+    p: usize,
+) -> Result<(), ScheduleFault>
+    requires lawful { IsLawful (plan_of script.now) }
+    requires sizes { cluster.now.sizes ≡ plan_sizes (plan_of script.now) }
+    requires way { AreAtSteps cluster.now (plan_of script.now).sections processors.old.items
+        all.old.items }
+    requires few { place < 2 ^ 63 }
+    ensures long { vec_len processors.new ≡ vec_len processors.old }
+    ensures turn { OnOk result (IsTurnOfRun (plan_of script.now).sections p
+        processors.old.items processors.new.items all.old.items all.new.items) }
+    ensures fault { IfErr result (IsTurnFault (vec_len processors.old) place p) }
+{
+    if p >= processors.len() {
+        return Err(ScheduleFault::Misfit(place + 1, Misfit::NoProcessor));
+    }
+    if turn_at(rt, cluster, processors, all, script, p)? {
+        return Ok(());
+    }
+    Err(ScheduleFault::Misfit(place + 1, in_vain(all.as_slice(), all[p])))
+}
+
+/// Why a processor that is there didn't get on.
+fn in_vain(all: &[TurnProgress], progress: TurnProgress) -> Misfit
+    ensures { result ≢ misfit.NoProcessor }
+{
+    if progress != TurnProgress::Passed {
+        Misfit::Waits
+    } else if have_passed(all) {
+        Misfit::TooLong
+    } else {
+        Misfit::Ended
+    }
+}
