@@ -29,8 +29,9 @@ pub const SET: u8 = 8;
 pub const WATCH: u8 = 9;
 pub const AWAIT: u8 = 10;
 
-/// What a processor did: 16 bytes.
+/// What a processor did: 16 bytes, or with `--cfg wide` the 32 that the product's events have.
 #[derive(Clone, Copy)]
+#[cfg_attr(wide, repr(align(32)))]
 pub struct Event {
     pub kind: u8,
     pub processor: u8,

@@ -4,7 +4,7 @@
 //! `plain WORK TIMES [THREADS|FILE]` and `plain WORK EVENTS TIMES` take the words of `bench`.
 //! `plain whole FILE [--journal]` does what `lrc step FILE [--journal]` does, and prints the same.
 //! `plain explore FILE [MOST]` searches all schedules, and prints the verdict and how many states and outcomes there are.
-//! It uses std alone, events of 16 bytes, and one Mutex round what the processors share, which look for what they wait for
+//! It uses std alone, events of 16 bytes (of 32 with `--cfg wide`), and one Mutex round what the processors share, which look for what they wait for
 //! again and again. `run_in_order` has a lock in the Mutex's place that lets threads in by the order of drawing, and whose
 //! waiters sleep, as the product's do. `run_asleep` has that lock, and its processors sleep until they are told.
 
