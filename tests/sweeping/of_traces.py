@@ -38,31 +38,39 @@ class Case:
     """A script whose journals are judged."""
 
     def __init__(self, program, name, number, is_turning):
-        self.program, self.is_turning, self.found = program, is_turning, Found()
+        self.program, self.is_turning, self.found, self.number = program, is_turning, Found(), number
         self.name, self.script = f"{name} script {number}", drawing.DRAWINGS[name](number)
 
-    def try_trace(self, way, events, lax, change=None):
+    def try_trace(self, way, events, rules, change=None):
         """Compares what the program says of a trace. The change is the place where it was falsified."""
-        verdict = verdicts.find(self.script, events, lax)
-        answer = self.program.call(verdicts.text_of(self.script, events), "check", *["--lax"] * lax)
-        check = partial(check_verdict, verdicts.answer_to(verdict, events))
+        verdict = verdicts.find(self.script, events, rules)
+        answer = self.program.call(verdicts.text_of(self.script, events), "check", *rules.words())
+        check = partial(check_verdict, verdicts.answer_to(verdict, rules))
         check(answer)
-        self.found.seen["lax traces" if lax else "traces", way, verdict.kind] += 1
-        if not lax and change is not None:
+        if rules.model != verdicts.LAZY_RELEASE or rules.ends_at_race:
+            self.found.seen["model", rules.model, verdict.kind] += 1
+            return
+        self.found.seen["lax traces" if rules.is_lax else "traces", way, verdict.kind] += 1
+        if not rules.is_lax and change is not None:
             self.found.seen["traces", way, "at the change"] += verdict.place == change
         if self.is_turning:
             self.found.turn("traces", turns.TRACES, answer, check)
 
+    def other_rules(self):
+        """Another model at each call, each second one lax, and each third one to end with a race."""
+        self.number += 1
+        return verdicts.Rules(verdicts.MODELS[self.number % 4], self.number // 4 % 2 == 0, self.number % 3 == 0)
+
     def try_both(self, name, way, events, change=None):
-        """The same, lax and not."""
-        for lax in (False, True):
+        """The same, lax and not, and by other rules."""
+        for rules in (verdicts.Rules(), verdicts.Rules(is_lax=True), self.other_rules()):
             shown = verdicts.text_of(self.script, events)
-            self.found.trial(f"{name}, {way}", shown, self.try_trace, way, events, lax, change)
+            self.found.trial(f"{name}, {way}", shown, self.try_trace, way, events, rules, change)
 
     def faithful(self, call, *arguments):
         """The report of a run, whose journal is faithful, and has the report's verdict and traffic."""
         report = reports.read(call(self.program, self.script, *arguments))
-        verdict = verdicts.find(self.script, report.events, False)
+        verdict = verdicts.find(self.script, report.events, verdicts.Rules())
         expect(verdict.kind == "faithful", f"the journal is faithful, where it is {verdict}")
         expect(f"verdict {'racy' if report.racy else 'race-free'}" in verdict.lines, "the verdict is the report's")
         expect(verdict.lines[-1] == "traffic {} {} {}".format(*report.traffic), "the traffic is the report's")

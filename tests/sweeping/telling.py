@@ -2,12 +2,14 @@
 import drawing
 import grammar
 import turns
+import verdicts
 import ways
 from of_schedules import name_of
 from of_traces import AS_IT_IS, FLAT
 
 SORTS = [(name, has_cuts) for name in drawing.DRAWINGS for has_cuts in (False, True)]
 VERDICTS = ("faithful", "no trace", "ill formed", "unexplained", "miscounted")
+OF_MODELS = ("faithful", "ill formed", "unexplained", "racy")
 # Of each way to make a trace the verdicts that have to come.
 WANTED = {
     AS_IT_IS: ("faithful",),
@@ -59,6 +61,8 @@ def lines(seen):
     yield f"traces: {counts(seen, 'traces', of=('scripts', *COUNTED, 'on threads'))}"
     for way in WANTED:
         yield line_of_way(seen, way)
+    for model in verdicts.MODELS:
+        yield f"traces under {model}: {counts(seen, 'model', model, of=OF_MODELS)}"
     yield from lines_of_turns(seen)
 
 
@@ -75,6 +79,8 @@ def wanted():
         yield from wanted_of_sort(sort)
     for way in (AS_IT_IS, *(name for name, _, _ in ways.WAYS), FLAT):
         yield from (("traces", way, verdict) for verdict in WANTED[way])
+    yield from (("model", model, kind) for model in verdicts.MODELS for kind in OF_MODELS
+                if model != verdicts.LAZY_RELEASE or kind == "racy")
     for kind, all_turns in TURNS.items():
         yield from (("turned", kind, name) for name, turn in all_turns
                     if kind != "reports" or turn is not turns.more_cut_off)

@@ -5,27 +5,86 @@ from checks import cost_of
 from gaps import Gaps
 from rules import first_refused, out_of_range
 from running import Answer
-from table import Table
+from table import Table, places_of
+
+MODELS = RACE_FREE, HAPPENS_BEFORE, LAZY_RELEASE, SEQUENTIAL = (
+    "race-free", "happens-before", "lazy-release", "sequential")
+# How many stores are told that a load may answer, at most.
+MOST_TOLD = 64
+
+
+class Rules(NamedTuple):
+    """By what a trace is judged."""
+    model: str = LAZY_RELEASE
+    is_lax: bool = False
+    ends_at_race: bool = False
+
+    def words(self):
+        """The program's words for them."""
+        default = [] if self.model == RACE_FREE else ["--model", self.model]
+        return [*default, *["--lax"] * self.is_lax, *["--race-is-error"] * self.ends_at_race]
 
 
 class Found(NamedTuple):
-    """What is found of a trace: its kind, the place of the first wrong event, and what is told of it, as lines."""
+    """What is found of a trace: its kind, the place of the first wrong event, how many events were judged, and what is told
+    of it, as lines."""
     kind: str
     place: int
+    count: int
     lines: tuple
 
 
-def wrong_load(table, place):
+class Wrong(NamedTuple):
+    """A wrong event: its kind, its place, and why, as lines."""
+    kind: str
+    place: int
+    why: tuple
+
+
+def last_store(table, place):
+    """The last store before the load at a place, to its address, in the trace's order."""
+    stores = list(places_of(table.stores[table.events[place].numbers[0]] & (1 << place) - 1))
+    return stores[-1:]
+
+
+def unordered_stores(table, place):
+    """The stores before the load at a place, to its address, that its past doesn't have, by processor."""
+    stores = places_of(table.stores[table.events[place].numbers[0]] & (1 << place) - 1 & ~table.rows[place])
+    return sorted(stores, key=lambda it: (table.events[it].processor, it))
+
+
+def told_stores(events, stores):
+    """The stores that are told: of each processor and value the first."""
+    told = {}
+    for store in stores:
+        told.setdefault((events[store].processor, events[store].numbers[1]), store)
+    return list(told.values())[:MOST_TOLD]
+
+
+def permitted(table, place, model):
+    """What the load at a place may answer under a model: whether 0 where no store says so, and stores."""
+    if model == SEQUENTIAL:
+        last = last_store(table, place)
+        return not last, last
+    latest = sorted(table.latest_stores(table.events[place].numbers[0], place),
+                    key=lambda it: table.events[it].processor)
+    if model == HAPPENS_BEFORE:
+        return not latest, [*latest, *unordered_stores(table, place)]
+    return not latest, latest
+
+
+def wrong_load(table, place, model):
     """What is wrong with the load at a place."""
-    events = table.events
-    address, reply = events[place].numbers
-    latest = table.latest_stores(address, place)
-    if not latest:
-        return Found("unexplained", place, ("because it may answer 0 alone",)) if reply != 0 else None
-    if any(events[store].numbers[1] == reply for store in latest):
+    events, reply = table.events, table.events[place].numbers[1]
+    is_free, stores = permitted(table, place, model)
+    if is_free and reply == 0 or any(events[store].numbers[1] == reply for store in stores):
         return None
-    stores = [events[store].line(store) for store in sorted(latest, key=lambda it: events[it].processor)]
-    return Found("unexplained", place, ("because it may answer only what was stored by", *stores))
+    if not stores:
+        return Wrong("unexplained", place, ("because it may answer 0 alone",))
+    zero = "0, or " if is_free else ""
+    told = told_stores(events, stores) if model == HAPPENS_BEFORE else stores
+    return Wrong("unexplained", place, (f"because it may answer {zero}only what was stored by",
+                                        *[events[store].line(store) for store in told]))
 
 
 def wrong_fetch(gaps, place):
@@ -34,54 +93,84 @@ def wrong_fetch(gaps, place):
     if gaps.table.events[place].numbers[1:] == due:
         return None
     why = "because the fetch has to count {} writers, {} records and {} words".format(*due)
-    return Found("miscounted", place, (why,))
+    return Wrong("miscounted", place, (why,))
 
 
-def first_wrong(table, words, lax):
+def nearest_race(table):
+    """The race with the least later place, and of these the one with the greatest earlier place."""
+    for place in range(len(table.events)):
+        rivals = list(places_of(table.rivals(place)))
+        if rivals:
+            return rivals[-1], place
+    return None
+
+
+def first_wrong(table, words, rules):
     """The first wrong load or fetch of events each of which may follow what stands before it, in pages of so many
     words."""
-    gaps = Gaps(table, words)
+    gaps, race = Gaps(table, words), nearest_race(table)
     for place, event in enumerate(table.events):
         wrong = None
-        if event.kind == "load":
-            wrong = wrong_load(table, place)
-        elif event.kind == "fetch" and not lax:
+        is_owed = rules.model != RACE_FREE or race is None or place < race[1]
+        if event.kind == "load" and is_owed:
+            wrong = wrong_load(table, place, rules.model)
+        elif event.kind == "fetch" and rules.model == LAZY_RELEASE and not rules.is_lax:
             wrong = wrong_fetch(gaps, place)
         if wrong is not None:
             return wrong
     return None
 
 
-def faithful(table, lax):
+def race_lines(events, race):
+    return ["verdict racy", *[events[place].line(place) for place in race]]
+
+
+def faithful(table, rules):
     """What is found of a trace without a wrong event."""
-    race, events = table.first_race(), table.events
-    return Found("faithful", None, (
-        "faithful", *["unjudged counts order"] * lax, "verdict race-free" if race is None else "verdict racy",
-        *[events[place].line(place) for place in race or ()], "traffic {} {} {}".format(*cost_of(events))))
+    race, events = nearest_race(table), table.events
+    loads = sum(event.kind == "load" for event in events[race[1]:]) if race else 0
+    is_told = race is not None and rules.model == RACE_FREE
+    return Found("faithful", None, len(events), (
+        "faithful", *["unjudged counts order"] * rules.is_lax, *[f"unjudged {loads} loads"] * is_told,
+        *(race_lines(events, race) if race else ["verdict race-free"]),
+        "traffic {} {} {}".format(*cost_of(events))))
 
 
-def find(sizes, events, lax):
+def lie(events, wrong):
+    """What is found of a trace with a wrong event. One that may not follow is not looked at for a race."""
+    table = Table(events[:wrong.place + (wrong.kind != "ill formed")])
+    race = nearest_race(table)
+    return Found(wrong.kind, wrong.place, wrong.place + 1, (
+        *(race_lines(events, race) if race else ()),
+        f"unfaithful {wrong.place}", events[wrong.place].line(wrong.place), *wrong.why))
+
+
+def find(sizes, events, rules):
     """What is to be found of a trace."""
     for place, event in enumerate(events):
         fault = out_of_range(sizes, event)
         if fault is not None:
-            return Found("no trace", place, (f"lrc: line {place + 2}: {fault}",))
-    refused = first_refused(sizes, events, lax)
+            return Found("no trace", place, 0, (f"lrc: line {place + 2}: {fault}",))
+    refused = first_refused(sizes, events, rules.is_lax)
     table = Table(events if refused is None else events[:refused[0]])
-    wrong = first_wrong(table, sizes.words, lax)
+    race, wrong = nearest_race(table), first_wrong(table, sizes.words, rules)
+    if rules.ends_at_race and race is not None and (wrong is None or race[1] <= wrong.place):
+        return Found("racy", race[1], race[1] + 1, tuple(race_lines(events, race)))
     if wrong is None and refused is not None:
-        return Found("ill formed", refused[0], (f"because {refused[1]}",))
-    return wrong or faithful(table, lax)
+        wrong = Wrong("ill formed", refused[0], (f"because {refused[1]}",))
+    return faithful(table, rules) if wrong is None else lie(events, wrong)
 
 
-def answer_to(found, events):
+STATUSES = {"faithful": 0, "no trace": 2, "racy": 8}
+
+
+def answer_to(found, rules):
     """What the program has to answer, where this is found of a trace."""
+    status = STATUSES.get(found.kind, 6)
     if found.kind == "no trace":
-        return Answer(2, "", found.lines[0] + "\n")
-    head = [f"events {len(events)}"]
-    if found.kind != "faithful":
-        head += [f"unfaithful {found.place}", events[found.place].line(found.place)]
-    return Answer(0 if found.kind == "faithful" else 6, "".join(line + "\n" for line in [*head, *found.lines]), "")
+        return Answer(status, "", found.lines[0] + "\n")
+    head = [f"events {found.count}", *[f"model {rules.model}"] * (rules.model != LAZY_RELEASE)]
+    return Answer(status, "".join(line + "\n" for line in [*head, *found.lines]), "")
 
 
 def text_of(sizes, events):

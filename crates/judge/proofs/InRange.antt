@@ -10,7 +10,8 @@ use Rattle.judge.specs.Lax.{WellFormedLax}
 use Rattle.judge.specs.Ranges.{AreInRange, RangeLaw}
 use Rattle.judge.proofs.Refusing.{lax_law}
 
-address_in : (s : Sizes) (k : Kind) → KindInRange s k → AddressInRange (addresses s) k
+-- the address of a kind in range is
+pub address_in : (s : Sizes) (k : Kind) → KindInRange s k → AddressInRange (addresses s) k
 address_in s (Load a v) range = range
 address_in s (Store a v) range = range
 address_in s _ range = tt

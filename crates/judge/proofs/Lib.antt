@@ -9,3 +9,6 @@ pub mod Rows
 pub mod InGaps
 pub mod Keeping
 pub mod Parts
+pub mod Racing
+pub mod Flattening
+pub mod OwedStays

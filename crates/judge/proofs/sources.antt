@@ -4,3 +4,4 @@ pub mod Choosing
 pub mod Keeping
 pub mod InRows
 pub mod Answering
+pub mod Unordering

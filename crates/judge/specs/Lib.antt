@@ -8,3 +8,7 @@ pub mod Gaps
 pub mod Miscounted
 pub mod Prelude
 pub mod Sources
+pub mod Models
+pub mod NearestRaces
+pub mod FlatMemory
+pub mod Owed

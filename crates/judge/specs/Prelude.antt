@@ -7,3 +7,7 @@ pub use Rattle.judge.specs.Ranges.{RangeLaw}
 pub use Rattle.judge.specs.Tallies.{Adds, is_between, mark, numbers, row_index}
 pub use Rattle.judge.specs.Gaps.{AreFew, AreGapsOf, AreLong, CountsAmong, FetchedUpTo, StoresInPage, TellsGaps}
 pub use Rattle.judge.specs.Miscounted.{CountsGap, IsFirstMiscounted, IsWithin, Miscounts}
+pub use Rattle.judge.specs.Models.{ExplainedUnder, IsFlatWord, IsOwed, OwedStaysLaw, UnorderedStore}
+pub use Rattle.judge.specs.NearestRaces.{AccessesAreKept, AreRacesOf, IsLastUncounted, IsNearestRace, IsNearestTo, IsUncounted}
+pub use Rattle.judge.specs.FlatMemory.{IsLastStoreTo, IsMemoryAfter}
+pub use Rattle.judge.specs.Owed.{AreOwedBy, ArePermitted, IsRacyWith}

@@ -25,7 +25,7 @@ pub(crate) struct LastEvent {
 
 /// A history, taken an event at a time, of which it tells whether an event may come next.
 #[derive(Drop)]
-pub(crate) struct Front {
+pub struct Front {
     pub(crate) sizes: Sizes,
     /// How many events there are.
     pub(crate) place: usize,
@@ -96,7 +96,7 @@ fn set(flags: &mut [bool; 32], kind: Kind)
 
 impl Front {
     /// Before the first event.
-    pub(crate) fn new(sizes: Sizes) -> Front
+    pub fn new(sizes: Sizes) -> Front
         requires { AreSmall (sizes_of sizes) }
         ensures tells { IsFrontOf [] result }
         ensures sizes { result.sizes ≡ sizes }
@@ -241,7 +241,7 @@ impl Front {
 
     /// Why the event may not come next; None where it may. `lax` leaves out that a lock's asks are granted in their
     /// order.
-    pub(crate) fn may_follow(&self, event: Event, lax: bool) -> Option<Why>
+    pub fn may_follow(&self, event: Event, lax: bool) -> Option<Why>
         requires { (j : List Event) × IsFrontOf j self.now }
         ensures { (j : List Event) → IsFrontOf j self.now
             → IsVerdict lax (sizes_of self.now.sizes) j event result }
@@ -265,7 +265,7 @@ impl Front {
     }
 
     /// Takes note of the event, which may come next.
-    pub(crate) fn note(&mut self, event: Event)
+    pub fn note(&mut self, event: Event)
         requires few { self.old.place < most_held }
         requires may_follow { (j : List Event) × IsFrontOf j self.old
             × MayFollowLax (sizes_of self.old.sizes) j event }

@@ -16,20 +16,31 @@
 //! by hand; and that `first_ill_formed` judges 2^20 events in a test's time. Only `first_miscounted` takes memory.
 #![tactic(auto)]
 
+mod flat_memory;
 mod front;
 mod gaps;
 mod judge;
 mod kinds;
 mod laws;
 mod miscounted;
+mod models;
+mod owed;
+mod permitted;
+mod races;
 mod sizes;
 pub mod sources;
 mod tally;
 mod why;
 
+pub use flat_memory::FlatMemory;
+pub use front::Front;
 pub use gaps::Gaps;
 pub use judge::{IllFormed, first_ill_formed};
-pub use laws::{lax_law, range_law, why_law};
-pub use miscounted::{Miscounted, first_miscounted};
+pub use laws::{lax_law, owed_stays_law, range_law, why_law};
+pub use miscounted::{Miscounted, first_miscounted, miscount};
+pub use models::MemoryModel;
+pub use owed::Owed;
+pub use permitted::Permitted;
+pub use races::Races;
 pub use sizes::Sizes;
 pub use why::Why;

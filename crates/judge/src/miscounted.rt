@@ -34,7 +34,7 @@ fn is_count(due: CountedGap, writers: u32, records: u32, words: u32) -> bool
 }
 
 /// What is due at this place instead, where the event there is a fetch that counts something else.
-fn miscount(gaps: &Gaps, event: Event, place: usize) -> Option<Miscounted>
+pub fn miscount(gaps: &Gaps, event: Event, place: usize) -> Option<Miscounted>
     requires tells { (j : List Event) × TellsGaps j gaps.now × (length j < 2 ^ 22) }
     requires within { IsWithin (sizes_of gaps.now.sizes) event }
     ensures place { IfSome result (λ m. m.place ≡ place) }

@@ -15,6 +15,7 @@ mod readable;
 mod rows;
 mod stored;
 mod unexplained;
+mod unordered;
 
 pub use self::laws::{answers_law, stays_law};
 pub use self::readable::Sources;

@@ -1,4 +1,4 @@
-pub mod Places
-pub mod Fronts
-pub mod Counts
-pub mod Firsts
+pub mod Accepting
+pub mod Lying
+pub mod Judged
+pub mod CheckedHistories

@@ -1,20 +1,27 @@
 -- What is found of a history.
-use Rattle.std.specs.Prelude.{ℕ, ◌≡◌, ◌↔◌, Bool, List, Option, Some, MatchOption, slice_get, take}
+use Rattle.std.specs.Prelude.{ℕ, ◌≡◌, ◌≤◌, ◌-◌, suc, Bool, true, false, Option, Some, None, MatchOption, List, count_by, drop, length, take}
 use Rattle.journal.specs.declared.event.Event.{Event}
+use Rattle.journal.specs.declared.event.Kind.{Kind}
 use Rattle.journal.specs.declared.event.Kind.TheVariants.{Load}
 use Rattle.journal.specs.declared.traffic.Traffic.{Traffic}
 use Rattle.journal.specs.Sizes.{Sizes}
 use Rattle.journal.specs.Traffic.{messages, records, words}
 use Rattle.journal.specs.WellFormed.{Does}
-use Rattle.journal.specs.Races.{IsFirstRace, RaceFree}
-use Rattle.judge.specs.declared.judge.IllFormed.{IllFormed}
+use Rattle.journal.specs.Races.{RaceFree}
+use Rattle.judge.specs.declared.models.MemoryModel.{MemoryModel}
+use Rattle.judge.specs.declared.models.MemoryModel.TheVariants as model
 use Rattle.judge.specs.Miscounted.{IsFirstMiscounted}
+use Rattle.judge.specs.Models.{IsOwed}
+use Rattle.judge.specs.NearestRaces.{IsNearestRace}
+use Rattle.judge.specs.Owed.{ArePermitted}
 use Rattle.judge.specs.Why.{IsFirstIllFormed}
-use Rattle.judge.specs.Sources.Answers.{IsFirstUnexplained}
-use Rattle.judge.specs.Sources.Latest.{IsLatest}
+use Rattle.lrc_check.specs.declared.checked.Rules.{Rules}
 use Rattle.lrc_check.specs.declared.checked.Unexplained.{Unexplained}
+use Rattle.lrc_check.specs.declared.checked.Lie.{Lie}
+use Rattle.lrc_check.specs.declared.checked.Lie.TheVariants as lie
+use Rattle.lrc_check.specs.declared.checked.TraceVerdict.{TraceVerdict}
+use Rattle.lrc_check.specs.declared.checked.TraceVerdict.TheVariants as verdict
 use Rattle.lrc_check.specs.declared.checked.Checked.{Checked}
-use Rattle.lrc_check.specs.declared.checked.Checked.TheVariants as found
 use Rattle.lrc_check.specs.Faithful.{IsAccepted, IsFirstUnfaithful}
 
 -- what the events cost, by what they say themselves
@@ -23,24 +30,73 @@ pub record IsTrafficOf (j : List Event) (t : Traffic) : Type 0 where
   pub records : t.records ≡ records j
   pub words : t.words ≡ words j
 
--- where a load stands at place k: of each processor, the place of its store that the load may answer
-abbrev pub AreLatestOf : List Event → ℕ → List (Option ℕ) → Type 0
-AreLatestOf j k latest = (p a v q i : ℕ) → Does j k p (Load a v)
-    → (slice_get latest q ≡ Some (Some i)) ↔ IsLatest j k a q i
+-- the first race of these events, the nearest one, where they have one
+abbrev pub IsRaceOf : List Event → Option (ℕ × ℕ) → Type 0
+IsRaceOf j race = MatchOption race (RaceFree j) (λ r. IsNearestRace j r.0 r.1)
 
--- what stands before the ill formed event, or all where there is none
-abbrev pub IsFront : List Event → Option IllFormed → List Event → Type 0
-IsFront j fault front = MatchOption fault (front ≡ j) (λ x. front ≡ take x.place j)
+abbrev pub is_load : Kind → Bool
+is_load (Load a v) = true
+is_load _ = false
 
--- what stands before the unexplained load, or all where there is none
-abbrev pub IsExplainedFront : List Event → Option Unexplained → List Event → Type 0
-IsExplainedFront j load front = MatchOption load (front ≡ j) (λ x. front ≡ take x.place j)
+-- how many loads aren't judged
+abbrev pub unjudged_loads : MemoryModel → Option (ℕ × ℕ) → List Event → ℕ
+unjudged_loads model.RaceFree (Some r) j = count_by (λ (e : Event). is_load e.kind) (drop r.1 j)
+unjudged_loads _ _ j = 0
 
--- what is said of a history is true
-abbrev pub IsChecked : Bool → Sizes → List Event → Checked → Type 0
-IsChecked lax s j (found.Faithful race traffic) =
-    IsAccepted lax s j × MatchOption race (RaceFree j) (λ r. IsFirstRace j r.0 r.1) × IsTrafficOf j traffic
-IsChecked lax s j (found.IllFormed x) = IsFirstUnfaithful lax s j x.place × IsFirstIllFormed lax s j x
-IsChecked lax s j (found.Unexplained x) =
-    IsFirstUnfaithful lax s j x.place × IsFirstUnexplained j x.place × AreLatestOf j x.place x.latest
-IsChecked lax s j (found.Miscounted x) = IsFirstUnfaithful lax s j x.place × IsFirstMiscounted s j x
+-- the load at its place answers what it may not under the model, and what it may
+pub record IsUnexplained (m : MemoryModel) (s : Sizes) (j : List Event) (x : Unexplained) : Type 0 where
+  pub by : ℕ
+  pub address : ℕ
+  pub value : ℕ
+  pub does : Does j x.place by (Load address value)
+  pub wrong : ¬ IsOwed m s j x.place address value
+  pub permitted : ArePermitted m j x.place address x.permitted
+
+abbrev pub place_of : Lie → ℕ
+place_of (lie.IllFormed x) = x.place
+place_of (lie.Unexplained x) = x.place
+place_of (lie.Miscounted x) = x.place
+
+-- what is said of the lie is true
+abbrev pub IsReason : MemoryModel → Bool → Sizes → List Event → Lie → Type 0
+IsReason m lax s j (lie.IllFormed x) = IsFirstIllFormed lax s j x
+IsReason m lax s j (lie.Unexplained x) = IsUnexplained m s j x
+IsReason m lax s j (lie.Miscounted x) = (m ≡ model.LazyRelease) × (lax ≡ false) × IsFirstMiscounted s j x
+
+-- the last of these events is the first that no memory of the model makes, and why
+pub record IsLie (m : MemoryModel) (lax : Bool) (s : Sizes) (j : List Event) (x : Lie) : Type 0 where
+  pub last : suc (place_of x) ≡ length j
+  pub first : IsFirstUnfaithful m lax s j (place_of x)
+  pub reason : IsReason m lax s j x
+
+-- the events that are looked at for a race: all but one that may not follow
+abbrev pub raced : Lie → List Event → List Event
+raced (lie.IllFormed x) j = take x.place j
+raced _ j = j
+
+-- the last of these events is the second one of their first race, and those before it are faithful
+pub record IsRaceFound (m : MemoryModel) (lax : Bool) (s : Sizes) (j : List Event) (race : Option (ℕ × ℕ)) : Type 0 where
+  pub first : ℕ
+  pub second : ℕ
+  pub found : race ≡ Some (first, second)
+  pub nearest : IsNearestRace j first second
+  pub last : suc second ≡ length j
+  pub before : IsAccepted m lax s (take second j)
+
+-- what is said of these events is true
+abbrev pub IsVerdictOf : MemoryModel → Bool → Sizes → List Event → Option (ℕ × ℕ) → TraceVerdict → Type 0
+IsVerdictOf m lax s j race (verdict.Faithful traffic unjudged) =
+    IsAccepted m lax s j × IsRaceOf j race × IsTrafficOf j traffic × (unjudged ≡ unjudged_loads m race j)
+IsVerdictOf m lax s j race (verdict.Lie x) = IsLie m lax s j x × IsRaceOf (raced x j) race
+IsVerdictOf m lax s j race verdict.Racy = IsRaceFound m lax s j race
+
+-- a faithful history is judged to its end
+abbrev pub IsJudgedWhole : List Event → ℕ → TraceVerdict → Type 0
+IsJudgedWhole j count (verdict.Faithful traffic unjudged) = count ≡ length j
+IsJudgedWhole j count _ = Unit {0}
+
+-- what is said of a history is true: all is judged, unless the first events are no such memory's
+pub record IsChecked (r : Rules) (s : Sizes) (j : List Event) (x : Checked) : Type 0 where
+  pub within : x.count ≤ length j
+  pub verdict : IsVerdictOf r.model r.lax s (take x.count j) x.race x.verdict
+  pub whole : IsJudgedWhole j x.count x.verdict

@@ -1,21 +1,23 @@
--- Which histories such a memory can make.
+-- Which histories a memory of the model can make.
 use Rattle.std.specs.Prelude.{ℕ, ◌≡◌, ◌<◌, suc, Bool, false, List, ◌++◌, length, take}
 use Rattle.journal.specs.declared.event.Event.{Event}
 use Rattle.journal.specs.Sizes.{Sizes}
 use Rattle.journal.specs.Counted.{AreCounted}
-use Rattle.journal.specs.ExplainedAnswers.{Explained}
+use Rattle.judge.specs.declared.models.MemoryModel.{MemoryModel}
+use Rattle.judge.specs.declared.models.MemoryModel.TheVariants.{LazyRelease}
 use Rattle.judge.specs.Lax.{WellFormedIn}
+use Rattle.judge.specs.Models.{ExplainedUnder}
 
--- each event may follow what stands before it, lax or not, each load answers a latest store of its past, and, unless
--- lax, each fetch counts its gap
-pub record IsAccepted (lax : Bool) (s : Sizes) (j : List Event) : Type 0 where
+-- each event may follow what stands before it, lax or not, each load answers what it may under the model, and under lazy
+-- release, unless lax, each fetch counts its gap
+pub record IsAccepted (m : MemoryModel) (lax : Bool) (s : Sizes) (j : List Event) : Type 0 where
   pub well_formed : WellFormedIn lax s j
-  pub explained : Explained j
-  pub counted : lax ≡ false → AreCounted s j
+  pub explained : ExplainedUnder m s j
+  pub counted : m ≡ LazyRelease → lax ≡ false → AreCounted s j
 
 -- the event at place k is the first that no such memory makes: what stands before it is faithful, and with it nothing
 -- is, however it goes on
-pub record IsFirstUnfaithful (lax : Bool) (s : Sizes) (j : List Event) (k : ℕ) : Type 0 where
+pub record IsFirstUnfaithful (m : MemoryModel) (lax : Bool) (s : Sizes) (j : List Event) (k : ℕ) : Type 0 where
   pub within : k < length j
-  pub before : IsAccepted lax s (take k j)
-  pub never : (es : List Event) → ¬ IsAccepted lax s (take (suc k) j ++ es)
+  pub before : IsAccepted m lax s (take k j)
+  pub never : (es : List Event) → ¬ IsAccepted m lax s (take (suc k) j ++ es)

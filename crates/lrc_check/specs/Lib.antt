@@ -1,5 +1,6 @@
 pub mod Faithful
 pub mod Checked
+pub mod Judged
 pub mod Found
 pub mod Prelude
 pub mod Traces

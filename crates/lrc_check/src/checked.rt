@@ -1,32 +1,61 @@
 //! What is found of a history.
 
 use journal::Traffic;
-use judge::{IllFormed, Miscounted};
+use judge::{IllFormed, MemoryModel, Miscounted, Permitted};
+
+/// By what a history is judged.
+#[derive(Clone, Copy, Debug, PartialEq, Eq)]
+pub struct Rules {
+    /// What its loads owe.
+    pub model: MemoryModel,
+    /// Whether it is left out that a lock's asks are granted in their order, and that fetches count their gaps.
+    pub lax: bool,
+    /// Whether judging ends with the first race.
+    pub ends_at_race: bool,
+}
 
 /// A load that answers what it may not.
-#[derive(Clone, Copy, Debug, PartialEq, Eq)]
+#[derive(Debug, Drop)]
 pub struct Unexplained {
     /// Its place in the history, counted from 0.
     pub place: usize,
-    /// Of each processor, the place of its store whose value the load may answer, where it has such a store. A load
-    /// that has none of anyone's may answer 0 alone.
-    pub latest: [Option<usize>; 16],
+    /// What it may answer.
+    pub permitted: Permitted,
+}
+
+/// An event that no memory of the model makes after what stands before it.
+#[derive(Debug, Drop)]
+pub enum Lie {
+    /// It may not follow what stands before it.
+    IllFormed(IllFormed),
+    /// It is a load of a value that it may not answer.
+    Unexplained(Unexplained),
+    /// It is a fetch that counts what it should not. This is told under `MemoryModel::LazyRelease` alone, and never lax.
+    Miscounted(Miscounted),
+}
+
+/// Whether a history is faithful.
+#[derive(Debug, Drop)]
+pub enum TraceVerdict {
+    /// It is: each of its events is one that a memory of the model can make.
+    Faithful {
+        /// What its events cost, by the counts that its own fetches tell.
+        traffic: Traffic,
+        /// How many loads weren't judged: under `MemoryModel::RaceFree` those from the first race on.
+        unjudged: usize,
+    },
+    /// This is the first event that no such memory makes.
+    Lie(Lie),
+    /// Judging ended with the second event of the first race. What stands before that event is faithful.
+    Racy,
 }
 
 /// What is found of a history.
-#[derive(Clone, Copy, Debug, PartialEq, Eq)]
-pub enum Checked {
-    /// It is faithful: each of its events is one that such a memory can make.
-    Faithful {
-        /// Its first race, where it has one: the places of the two accesses.
-        race: Option<(usize, usize)>,
-        /// What its events cost, by the counts that its own fetches tell.
-        traffic: Traffic,
-    },
-    /// The first event that no such memory makes may not follow what stands before it.
-    IllFormed(IllFormed),
-    /// The first event that no such memory makes is a load of a value that it may not answer.
-    Unexplained(Unexplained),
-    /// The first event that no such memory makes is a fetch that counts what it should not. This is never told lax.
-    Miscounted(Miscounted),
+#[derive(Debug, Drop)]
+pub struct Checked {
+    /// How many events were judged: all, or those up to the lie or the race and with it.
+    pub count: usize,
+    /// Of these, the nearest race: the places of the two accesses. An event that may not follow is not looked at for it.
+    pub race: Option<(usize, usize)>,
+    pub verdict: TraceVerdict,
 }

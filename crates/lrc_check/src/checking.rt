@@ -8,7 +8,7 @@ ghost use Rattle.lrc_check.specs.Traces.Prelude.{IsTrace, head, sizes_of};
 ghost use Rattle.lrc_script.specs.Prelude.{AreLawfulSizes};
 ghost use Rattle.lrc_check.specs.Prelude.{IsBeforeOutput, IsChecked, IsFoundOf, IsTraces};
 
-use crate::checked::Checked;
+use crate::checked::{Checked, Rules};
 use crate::fault::CheckFault;
 use crate::judging::judge_history;
 use crate::text::text_of;
@@ -45,8 +45,7 @@ fn write<W: Write>(out: &mut W, bytes: &[u8]) -> Result<(), OutFault>
     }
 }
 
-/// Judges the trace, and writes what was found. `lax` leaves out what only this memory asks: that a lock's asks are
-/// granted in their order, and that fetches count their gaps.
+/// Judges the trace, and writes what was found.
 ///
 /// # Errors
 ///
@@ -54,17 +53,17 @@ fn write<W: Write>(out: &mut W, bytes: &[u8]) -> Result<(), OutFault>
 pub fn check_trace<W: Write>(
     alloc: Global,
     trace: &Trace,
-    lax: bool,
+    rules: Rules,
     out: &mut W,
 ) -> Result<Checked, CheckFault>
     requires { IsTrace (sizes_of trace.now.sizes) trace.now.events.items }
-    ensures found { IfOk result (IsChecked lax (sizes_of trace.now.sizes) trace.now.events.items) }
+    ensures found { IfOk result (IsChecked rules (sizes_of trace.now.sizes) trace.now.events.items) }
     ensures refused { IfErr result (λ fault. IsTraces fault → ⊥) }
     ensures early { IfErr result
         (λ fault. IsBeforeOutput fault → Keeps (W.contents out.old) (W.contents out.new)) }
 {
-    let found = judge_history(alloc, sizes_for(trace.sizes), &trace.events, lax)?;
-    let text = text_of(alloc, &trace.events, &found, lax)?;
+    let found = judge_history(alloc, sizes_for(trace.sizes), &trace.events, rules)?;
+    let text = text_of(alloc, &trace.events, &found, rules)?;
     write(out, &text)?;
     Ok(found)
 }
@@ -78,16 +77,16 @@ pub fn check_trace<W: Write>(
 pub fn check<W: Write>(
     alloc: Global,
     bytes: &[u8],
-    lax: bool,
+    rules: Rules,
     out: &mut W,
 ) -> Result<Checked, CheckFault>
     // What is found is true of the one trace that has these bytes.
-    ensures found { IfOk result (IsFoundOf lax bytes.now) }
+    ensures found { IfOk result (IsFoundOf rules bytes.now) }
     // What is refused as a trace is none.
     ensures refused { IfErr result (λ fault. IsTraces fault → IsNoTrace bytes.now) }
     ensures early { IfErr result
         (λ fault. IsBeforeOutput fault → Keeps (W.contents out.old) (W.contents out.new)) }
 {
     let trace = read(alloc, bytes)?;
-    check_trace(alloc, &trace, lax, out)
+    check_trace(alloc, &trace, rules, out)
 }

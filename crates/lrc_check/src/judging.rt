@@ -1,167 +1,349 @@
-//! Judges a history.
-ghost use Rattle.std.specs.Prelude.{◌≡◌, ◌<◌, ◌≤◌, IfOk, IfSome, MatchOption, false, length, take};
+//! Judges a history, an event at a time.
+ghost use Rattle.std.specs.Prelude.{◌≡◌, ◌↔◌, ◌+◌, ◌<◌, ◌≤◌, ◌^◌, ℕ, [], ◌∷◌, ◌++◌, IfOk, IfSome, IsTrue, List, MatchOption, OnOk};
+ghost use Rattle.std.specs.Prelude.{false, length, take};
 ghost use Rattle.base.specs.Prelude.{most_held};
 ghost use Rattle.journal.specs.Sizes.{addresses};
-ghost use Rattle.journal.specs.Counted.{AreCounted};
-ghost use Rattle.journal.specs.ExplainedAnswers.{Explained};
-ghost use Rattle.journal.specs.Prelude.{AddressesInRange, IsFirstRace, ProcessorsInRange, RaceFree};
-ghost use Rattle.judge.specs.Prelude.{AreSmall, IsFirstIllFormed, IsFirstMiscounted, WellFormedIn, sizes_of};
-ghost use Rattle.judge.specs.Sources.Prelude.{IsFirstUnexplained};
-ghost use Rattle.lrc_check.specs.Prelude.{AreLatestOf, IsChecked, IsExplainedFront, IsFront, IsTrafficOf};
+ghost use Rattle.journal.specs.declared.event.Event.{Event};
+ghost use Rattle.journal.specs.declared.event.Kind.TheVariants.{Load};
+ghost use Rattle.journal.specs.Prelude.{did};
+ghost use Rattle.judge.specs.Lax.{MayFollowIn};
+ghost use Rattle.judge.specs.declared.models.MemoryModel.TheVariants.{LazyRelease};
+ghost use Rattle.judge.specs.Prelude.{AreSmall, ArePermitted, CountsGap, IsRacyWith, IsWithin, Miscounts, sizes_of};
+ghost use Rattle.lrc_check.specs.declared.checked.TraceVerdict.TheVariants as verdict;
+ghost use Rattle.lrc_check.specs.Prelude.{AreGapsFor, IsAccepted, IsChecked, IsFaithfulVerdict, IsJudged, IsLie, IsRaceOf};
+ghost use Rattle.lrc_check.specs.Prelude.{is_load as is_a_load, raced, unjudged_loads};
 
-use crate::checked::{Checked, Unexplained};
-use journal::{Event, Kind, Traffic, first_race_of, traffic_of};
-use judge::sources::{Sources, first_unexplained};
-use judge::{IllFormed, Miscounted, Sizes, first_ill_formed, first_miscounted, lax_law, range_law};
+use crate::checked::{Checked, Lie, Rules, TraceVerdict, Unexplained};
+use journal::{Event, Kind, traffic_of};
+use judge::{
+    Front, Gaps, IllFormed, MemoryModel, Miscounted, Owed, Permitted, Races, Sizes, miscount,
+};
 use std::alloc::{AllocError, Global};
 
-/// How many addresses there are.
-fn addresses_of(sizes: Sizes) -> usize
-    requires { AreSmall (sizes_of sizes) }
-    ensures { result ≡ addresses (sizes_of sizes) }
-{
-    sizes.pages * sizes.words
-}
-
-/// The stores that the load at this place may answer, of each processor. The only error is running out of memory.
-fn latest_of(
-    alloc: Global,
-    sizes: Sizes,
-    events: &[Event],
-    place: usize,
-) -> Result<[Option<usize>; 16], AllocError>
-    requires sizes { AreSmall (sizes_of sizes) }
-    requires few { length events.now ≤ most_held }
-    requires processors { ProcessorsInRange sizes.processors events.now }
-    requires addresses { AddressesInRange (addresses (sizes_of sizes)) events.now }
-    requires place { place < length events.now }
-    ensures { IfOk result (AreLatestOf events.now place) }
-{
-    let mut sources = Sources::new(alloc, sizes.processors, addresses_of(sizes))?;
-    for before in 0..place {
-        sources.note(events, before)?;
-    }
-    let event = events[place];
-    match event.kind {
-        Kind::Load(address, _) => Ok(sources.before(event.processor, address)),
-        _ => Ok([None; 16]),
-    }
-}
-
-/// The first load that answers what it may not, and what it may. The only error is running out of memory.
-fn unexplained(
-    alloc: Global,
-    sizes: Sizes,
-    events: &[Event],
-) -> Result<Option<Unexplained>, AllocError>
-    requires sizes { AreSmall (sizes_of sizes) }
-    requires few { length events.now ≤ most_held }
-    requires processors { ProcessorsInRange sizes.processors events.now }
-    requires addresses { AddressesInRange (addresses (sizes_of sizes)) events.now }
-    ensures { IfOk result (λ o. MatchOption o (Explained events.now) (λ x.
-        IsFirstUnexplained events.now x.place × AreLatestOf events.now x.place x.latest)) }
-{
-    let found = first_unexplained(alloc, sizes.processors, addresses_of(sizes), events)?;
-    match found {
-        Some(place) => {
-            let latest = latest_of(alloc, sizes, events, place)?;
-            Ok(Some(Unexplained { place, latest }))
-        }
-        None => Ok(None),
-    }
-}
-
-/// The first race and the traffic of a history. The only error is running out of memory.
-fn race_and_traffic(
-    alloc: Global,
-    sizes: Sizes,
-    events: &[Event],
-) -> Result<(Option<(usize, usize)>, Traffic), AllocError>
-    requires sizes { AreSmall (sizes_of sizes) }
-    requires few { length events.now ≤ most_held }
-    requires processors { ProcessorsInRange sizes.processors events.now }
-    requires addresses { AddressesInRange (addresses (sizes_of sizes)) events.now }
-    ensures race { IfOk result (λ x. MatchOption x.0 (RaceFree events.now) (λ r. IsFirstRace events.now r.0 r.1)) }
-    ensures traffic { IfOk result (λ x. IsTrafficOf events.now x.1) }
-{
-    let race = first_race_of(alloc, sizes.processors, addresses_of(sizes), events)?;
-    Ok((race, traffic_of(events)))
-}
-
-/// The events before the one that is ill formed, or all where none is.
-fn front_of(events: &[Event], fault: Option<IllFormed>) -> &[Event]
-    requires { IfSome fault (λ x. x.place ≤ length events.now) }
-    ensures { IsFront events.now fault result.now }
-{
-    match fault {
-        Some(fault) => &events[..fault.place],
-        None => events,
-    }
-}
-
-/// The events before the load that is unexplained, or all where none is.
-fn explained_front(events: &[Event], load: Option<Unexplained>) -> &[Event]
-    requires { IfSome load (λ x. x.place ≤ length events.now) }
-    ensures { IsExplainedFront events.now load result.now }
-{
-    match load {
-        Some(load) => &events[..load.place],
-        None => events,
-    }
-}
-
-/// The first fetch that counts what it should not. Lax, none is found. The only error is running out of memory.
-fn miscounted(
-    alloc: Global,
-    sizes: Sizes,
-    events: &[Event],
-    lax: bool,
-) -> Result<Option<Miscounted>, AllocError>
-    requires sizes { AreSmall (sizes_of sizes) }
-    requires few { length events.now ≤ most_held }
-    requires well { WellFormedIn lax (sizes_of sizes) events.now }
-    ensures { IfOk result (λ o. MatchOption o (lax ≡ false → AreCounted (sizes_of sizes) events.now)
-        (λ x. (lax ≡ false) × IsFirstMiscounted (sizes_of sizes) events.now x)) }
-{
-    if lax {
-        return Ok(None);
-    }
-    lax_law();
-    first_miscounted(alloc, sizes, events)
-}
-
-/// What is found of a history: whether it is faithful, and if it isn't, which event is the first that no such memory
-/// makes, and why. `lax` leaves out that a lock's asks are granted in their order, and that
-/// fetches count their gaps.
+/// A history that is judged, an event at a time, and is faithful so far: each of its events is one that a memory of the
+/// model can make.
 ///
-/// Nothing is asked of the events' own numbers, which may be out of range. It takes time in the order of the events
-/// times the processors times (the processors and the logarithm of the events), and memory in the order of the
-/// events and of the addresses times the processors. The only error is running out of memory.
+/// `lax` leaves out that a lock's asks are granted in their order, and that fetches count their gaps. It takes time in the
+/// order of the events times the processors times (the processors and the logarithm of the events), and memory in the order
+/// of the stores and of the addresses times the processors.
+#[derive(Drop)]
+pub struct TraceJudge {
+    model: MemoryModel,
+    lax: bool,
+    sizes: Sizes,
+    front: Front,
+    races: Races,
+    /// The first race so far, the nearest one: the places of the two accesses.
+    race: Option<(usize, usize)>,
+    owed: Owed,
+    /// What fetches have to count, if that is judged.
+    gaps: Option<Gaps>,
+}
+
+/// Whether it is judged what fetches count.
+fn are_counts_judged(model: MemoryModel, lax: bool) -> bool
+    ensures { IsTrue result ↔ ((model ≡ LazyRelease) × (lax ≡ false)) }
+{
+    match model {
+        MemoryModel::LazyRelease => !lax,
+        _ => false,
+    }
+}
+
+/// What fetches have to count, if that is judged. The only error is running out of memory.
+fn gaps_for(
+    alloc: Global,
+    sizes: Sizes,
+    model: MemoryModel,
+    lax: bool,
+) -> Result<Option<Gaps>, AllocError>
+    requires { AreSmall (sizes_of sizes) }
+    ensures { IfOk result (AreGapsFor model lax sizes []) }
+{
+    if are_counts_judged(model, lax) {
+        let gaps = Gaps::new(alloc, sizes)?;
+        Ok(Some(gaps))
+    } else {
+        Ok(None)
+    }
+}
+
+impl TraceJudge {
+    /// Before the first event of a history of these sizes. The only error is running out of memory.
+    pub fn new(
+        alloc: Global,
+        sizes: Sizes,
+        model: MemoryModel,
+        lax: bool,
+    ) -> Result<TraceJudge, AllocError>
+        requires { AreSmall (sizes_of sizes) }
+        ensures judged { IfOk result (IsJudged []) }
+        ensures model { IfOk result (λ x. x.model ≡ model) }
+        ensures lax { IfOk result (λ x. x.lax ≡ lax) }
+        ensures sizes { IfOk result (λ x. x.sizes ≡ sizes) }
+        ensures race { IfOk result (λ x. x.race ≡ None) }
+    {
+        let addresses = sizes.pages * sizes.words;
+        Ok(TraceJudge {
+            model,
+            lax,
+            sizes,
+            front: Front::new(sizes),
+            races: Races::new(alloc, sizes.processors, addresses)?,
+            race: None,
+            owed: Owed::new(alloc, model, sizes)?,
+            gaps: gaps_for(alloc, sizes, model, lax)?,
+        })
+    }
+
+    /// The first race with the event, which comes next, at this place.
+    fn race_with(&self, event: Event, place: usize) -> Option<(usize, usize)>
+        requires judged { (j : List Event) × IsJudged j self.now }
+        requires within { IsWithin (sizes_of self.now.sizes) event }
+        ensures { (j : List Event) → IsJudged j self.now → length j ≡ place
+            → IsRaceOf (j ++ event ∷ []) result }
+    {
+        if self.race.is_some() {
+            return self.race;
+        }
+        match self.races.nearest(event) {
+            Some(first) => Some((first, place)),
+            None => None,
+        }
+    }
+
+    /// What the event, which comes next, at this place, may answer instead, if it is a load.
+    fn unexplained(
+        &self,
+        alloc: Global,
+        event: Event,
+        place: usize,
+    ) -> Result<Unexplained, AllocError>
+        requires judged { (j : List Event) × IsJudged j self.now }
+        requires within { IsWithin (sizes_of self.now.sizes) event }
+        ensures place { IfOk result (λ x. x.place ≡ place) }
+        ensures permitted { IfOk result (λ x. (j : List Event) → IsJudged j self.now → (a v : ℕ)
+            → event.kind ≡ Load a v
+            → ArePermitted self.now.model (did j event.processor (Load a v)) (length j) a x.permitted) }
+    {
+        match event.kind {
+            Kind::Load(address, _) => {
+                let permitted = self.owed.permitted(alloc, event.processor, address)?;
+                Ok(Unexplained { place, permitted })
+            }
+            _ => {
+                let permitted = Permitted::Last(None);
+                Ok(Unexplained { place, permitted })
+            }
+        }
+    }
+
+    /// What the event, which comes next, at this place, has to count instead, if it is a fetch that counts something else.
+    fn miscounted(&self, event: Event, place: usize) -> Option<Miscounted>
+        requires judged { (j : List Event) × IsJudged j self.now × (length j < 2 ^ 22) }
+        requires within { IsWithin (sizes_of self.now.sizes) event }
+        ensures { (j : List Event) → IsJudged j self.now
+            → MatchOption result
+            (self.now.model ≡ LazyRelease → self.now.lax ≡ false → CountsGap (sizes_of self.now.sizes) j event)
+            (λ x. (self.now.model ≡ LazyRelease) × (self.now.lax ≡ false) × (x.place ≡ place)
+            × Miscounts (sizes_of self.now.sizes) j event x) }
+    {
+        match &self.gaps {
+            Some(gaps) => miscount(gaps, event, place),
+            None => None,
+        }
+    }
+
+    /// Why no memory of the model makes the event after these, which it may follow. `is_racy` says whether there is a race
+    /// with it. The only error is running out of memory.
+    fn lie(
+        &self,
+        alloc: Global,
+        front: &[Event],
+        event: Event,
+        is_racy: bool,
+    ) -> Result<Option<Lie>, AllocError>
+        requires few { length front.now < most_held }
+        requires judged { IsJudged front.now self.now }
+        requires follows { MayFollowIn self.now.lax (sizes_of self.now.sizes) front.now event }
+        requires racy { IsRacyWith front.now event is_racy }
+        ensures { IfOk result (λ o. MatchOption o
+            (IsAccepted self.now.model self.now.lax (sizes_of self.now.sizes) (front.now ++ event ∷ []))
+            (λ x. IsLie self.now.model self.now.lax (sizes_of self.now.sizes) (front.now ++ event ∷ []) x
+            × (raced x (front.now ++ event ∷ []) ≡ front.now ++ event ∷ []))) }
+    {
+        let place = front.len();
+        if !self.owed.is_paid(front, event, is_racy) {
+            let load = self.unexplained(alloc, event, place)?;
+            return Ok(Some(Lie::Unexplained(load)));
+        }
+        match self.miscounted(event, place) {
+            Some(fetch) => Ok(Some(Lie::Miscounted(fetch))),
+            None => Ok(None),
+        }
+    }
+
+    /// Keeps the last one of these events, at this place, which with those before it are faithful and have this race. The
+    /// only error is running out of memory.
+    fn keep(
+        &mut self,
+        events: &[Event],
+        place: usize,
+        race: Option<(usize, usize)>,
+    ) -> Result<(), AllocError>
+        requires last { length events.now ≡ place + 1 }
+        requires few { length events.now ≤ most_held }
+        requires judged { IsJudged (take place events.now) self.old }
+        requires accepted { IsAccepted self.old.model self.old.lax (sizes_of self.old.sizes) events.now }
+        requires race { IsRaceOf events.now race }
+        ensures judged { OnOk result (IsJudged events.now self.new) }
+        ensures race { self.new.race ≡ race }
+        ensures model { self.new.model ≡ self.old.model }
+        ensures lax { self.new.lax ≡ self.old.lax }
+        ensures sizes { self.new.sizes ≡ self.old.sizes }
+    {
+        self.race = race;
+        self.front.note(events[place]);
+        self.races.note(events, place)?;
+        self.owed.note(events, place)?;
+        if let Some(gaps) = &mut self.gaps {
+            gaps.note(events, place)?;
+        }
+        Ok(())
+    }
+
+    /// Judges the event at this place, the next one, after those before it: None if a memory of the model can make it, and
+    /// then the judge goes on. The only error is running out of memory, after which it judges no history.
+    ///
+    /// A race is told by `race` as soon as its second event was read, also if that is a lie.
+    pub fn read(
+        &mut self,
+        alloc: Global,
+        events: &[Event],
+        place: usize,
+    ) -> Result<Option<Lie>, AllocError>
+        requires place { place < length events.now }
+        requires few { length events.now ≤ most_held }
+        requires judged { IsJudged (take place events.now) self.old }
+        ensures judged { IfOk result (λ o. MatchOption o (IsJudged (take (place + 1) events.now) self.new)
+            (λ x. IsLie self.old.model self.old.lax (sizes_of self.old.sizes) (take (place + 1) events.now) x
+            × IsRaceOf (raced x (take (place + 1) events.now)) self.new.race)) }
+        ensures model { self.new.model ≡ self.old.model }
+        ensures lax { self.new.lax ≡ self.old.lax }
+        ensures sizes { self.new.sizes ≡ self.old.sizes }
+    {
+        let event = events[place];
+        if let Some(why) = self.front.may_follow(event, self.lax) {
+            return Ok(Some(Lie::IllFormed(IllFormed { place, why })));
+        }
+        let race = self.race_with(event, place);
+        let lie = self.lie(alloc, &events[..place], event, race.is_some())?;
+        match lie {
+            Some(lie) => {
+                self.race = race;
+                Ok(Some(lie))
+            }
+            None => {
+                self.keep(&events[..place + 1], place, race)?;
+                Ok(None)
+            }
+        }
+    }
+
+    /// The first race of the events so far, the nearest one: the places of the two accesses.
+    pub fn race(&self) -> Option<(usize, usize)>
+        ensures { result ≡ self.now.race }
+    {
+        self.race
+    }
+}
+
+/// Whether it is a load.
+fn is_load(kind: Kind) -> bool
+    ensures { result ≡ is_a_load kind }
+{
+    match kind {
+        Kind::Load(..) => true,
+        _ => false,
+    }
+}
+
+/// How many loads of the events weren't judged, whose race is this.
+fn unjudged(model: MemoryModel, race: Option<(usize, usize)>, events: &[Event]) -> usize
+    requires { IfSome race (λ r. r.1 ≤ length events.now) }
+    ensures { result ≡ unjudged_loads model race events.now }
+{
+    match (model, race) {
+        (MemoryModel::RaceFree, Some((_, second))) => events[second..]
+            .iter()
+            .filter(|event| is_load(event.kind))
+            .count(),
+        _ => 0,
+    }
+}
+
+/// What is found of a faithful history, whose race is this.
+fn faithful(model: MemoryModel, race: Option<(usize, usize)>, events: &[Event]) -> Checked
+    requires few { length events.now ≤ most_held }
+    requires race { IfSome race (λ r. r.1 ≤ length events.now) }
+    ensures count { result.count ≡ length events.now }
+    ensures race { result.race ≡ race }
+    ensures verdict { IsFaithfulVerdict model race events.now result.verdict }
+{
+    Checked {
+        count: events.len(),
+        race,
+        verdict: TraceVerdict::Faithful {
+            traffic: traffic_of(events),
+            unjudged: unjudged(model, race, events),
+        },
+    }
+}
+
+/// What is found where judging ends with the race.
+fn ended(count: usize, race: (usize, usize)) -> Checked
+    ensures { result ≡ record { count = count; race = Some race; verdict = verdict.Racy } }
+{
+    Checked {
+        count,
+        race: Some(race),
+        verdict: TraceVerdict::Racy,
+    }
+}
+
+/// What is found of a history: whether a memory of the model can make it, and if not, which event is the first that none
+/// makes, and why.
+///
+/// Nothing is asked of the events' own numbers, which may be out of range. Time and memory are those of `TraceJudge`. The
+/// only error is running out of memory.
 pub fn judge_history(
     alloc: Global,
     sizes: Sizes,
     events: &[Event],
-    lax: bool,
+    rules: Rules,
 ) -> Result<Checked, AllocError>
     requires sizes { AreSmall (sizes_of sizes) }
     requires few { length events.now ≤ most_held }
-    ensures { IfOk result (IsChecked lax (sizes_of sizes) events.now) }
+    ensures { IfOk result (IsChecked rules (sizes_of sizes) events.now) }
 {
-    range_law();
-    let fault = first_ill_formed(sizes, events, lax);
-    let front = front_of(events, fault);
-    let load = unexplained(alloc, sizes, front)?;
-    if let Some(fetch) = miscounted(alloc, sizes, explained_front(front, load), lax)? {
-        return Ok(Checked::Miscounted(fetch));
-    }
-    if let Some(load) = load {
-        return Ok(Checked::Unexplained(load));
-    }
-    match fault {
-        Some(fault) => Ok(Checked::IllFormed(fault)),
-        None => {
-            let (race, traffic) = race_and_traffic(alloc, sizes, events)?;
-            Ok(Checked::Faithful { race, traffic })
+    let mut judge = TraceJudge::new(alloc, sizes, rules.model, rules.lax)?;
+    let ends = rules.ends_at_race;
+    for place in 0..events.len() {
+        let lie = judge.read(alloc, events, place)?;
+        let so_far = judge.race();
+        if ends {
+            if let Some(race) = so_far {
+                return Ok(ended(place + 1, race));
+            }
+        }
+        if let Some(lie) = lie {
+            return Ok(Checked {
+                count: place + 1,
+                race: so_far,
+                verdict: TraceVerdict::Lie(lie),
+            });
         }
     }
+    let whole = judge.race();
+    Ok(faithful(rules.model, whole, events))
 }

@@ -1,14 +1,14 @@
 //! What the command `lrc check` says of a trace: whether such a memory could have made it, and if not, where not and why.
 //!
-//! **What contracts see.** `Checked` as it is. `IsFaithful` (specs/Faithful) says of a history that each event may follow
-//! what stands before it, lax or not, that each load answers a latest store of its past, and that, unless lax, each fetch
-//! counts its gap. `IsChecked` says what each answer means, and `IsFoundOf` that it is true of the one trace with these
-//! bytes.
+//! **What contracts see.** `Checked` as it is. `IsAccepted` (specs/Faithful) says of a history that each event may follow
+//! what stands before it, lax or not, that each load answers what it may under the model (`IsOwed` of judge), and that under
+//! lazy release, unless lax, each fetch counts its gap. `IsJudged` says what a `TraceJudge` is by the events that it was told,
+//! `IsChecked` what each answer means, and `IsFoundOf` that it is true of the one trace with these bytes.
 //!
-//! **What is proved.** `judge_history` answers Faithful only of a faithful history, with its first race and its traffic.
-//! Else it names the first event that no such memory makes: what stands before it is faithful, and with it nothing is,
-//! however it goes on; and why. `check_trace` answers this of a trace, and `check` of bytes, or a fault of a line only
-//! where they are no trace's.
+//! **What is proved.** A `TraceJudge` takes an event at a time. It tells a lie as soon as that is read: what stands before it
+//! is faithful, and with it nothing is, however it goes on; and why. It tells the first race as soon as its second event is
+//! read, also if that is the lie. `judge_history` does this of a whole history, `check_trace` of a trace, and `check` of
+//! bytes, or a fault of a line only where they are no trace's.
 //!
 //! **What is only tested**, by whole runs of the program `lrc`. The text of what was found, and that no call allocates
 //! without need.
@@ -21,7 +21,7 @@ mod judging;
 mod text;
 pub mod traces;
 
-pub use checked::{Checked, Unexplained};
+pub use checked::{Checked, Lie, Rules, TraceVerdict, Unexplained};
 pub use checking::{check, check_trace};
 pub use fault::CheckFault;
-pub use judging::judge_history;
+pub use judging::{TraceJudge, judge_history};

@@ -1,10 +1,13 @@
 //! The text of what was found of a trace.
 
-use crate::checked::{Checked, Unexplained};
+use crate::checked::{Checked, Lie, Rules, TraceVerdict, Unexplained};
 use journal::{Event, Kind, Traffic};
-use judge::{IllFormed, Miscounted, Why};
+use judge::{IllFormed, MemoryModel, Miscounted, Permitted, Why};
 use lrc_report::{Line, render};
 use std::alloc::{AllocError, Global};
+
+/// How many stores are told that a load may answer, at most.
+const MOST_TOLD: usize = 64;
 
 /// Adds the line of the event at this place, as the trace has it.
 fn put_event(text: &mut Vec<u8>, events: &[Event], place: usize) -> Result<(), AllocError> {
@@ -14,6 +17,14 @@ fn put_event(text: &mut Vec<u8>, events: &[Event], place: usize) -> Result<(), A
     let mut line = Line::new();
     render::put_event(&mut line, place as u64, event);
     text.extend_from_slice(line.bytes())?;
+    Ok(())
+}
+
+/// Adds the lines of the events at these places.
+fn put_events(text: &mut Vec<u8>, events: &[Event], places: &[usize]) -> Result<(), AllocError> {
+    for place in places {
+        put_event(text, events, *place)?;
+    }
     Ok(())
 }
 
@@ -53,13 +64,7 @@ fn reason(alloc: Global, why: Why) -> Result<String, AllocError> {
 }
 
 /// Adds why the event is ill formed.
-fn put_ill_formed(
-    text: &mut Vec<u8>,
-    alloc: Global,
-    events: &[Event],
-    fault: IllFormed,
-) -> Result<(), AllocError> {
-    put_event(text, events, fault.place)?;
+fn put_ill_formed(text: &mut Vec<u8>, alloc: Global, fault: IllFormed) -> Result<(), AllocError> {
     let why = reason(alloc, fault.why)?;
     text.extend_from_slice(b"because ")?;
     text.extend_from_slice(why.as_bytes())?;
@@ -67,34 +72,98 @@ fn put_ill_formed(
     Ok(())
 }
 
-/// Adds the load's line, and what it may answer.
-fn put_unexplained(
-    text: &mut Vec<u8>,
-    events: &[Event],
-    load: &Unexplained,
-) -> Result<(), AllocError> {
-    put_event(text, events, load.place)?;
-    if load.latest == [None; 16] {
-        text.extend_from_slice(b"because it may answer 0 alone\n")?;
-        return Ok(());
-    }
-    text.extend_from_slice(b"because it may answer only what was stored by\n")?;
-    for place in &load.latest {
+/// The places that there are, by processor.
+fn places_of(alloc: Global, latest: &[Option<usize>; 16]) -> Result<Vec<usize>, AllocError> {
+    let mut places = Vec::new(alloc);
+    for place in latest {
         if let Some(place) = *place {
-            put_event(text, events, place)?;
+            places.push(place)?;
+        }
+    }
+    Ok(places)
+}
+
+/// Whether the events at the two places are stores of one value by one processor.
+fn are_alike(events: &[Event], one: usize, other: usize) -> bool {
+    match (events.get(one), events.get(other)) {
+        (Some(one), Some(other)) => match (one.kind, other.kind) {
+            (Kind::Store(_, value), Kind::Store(_, same)) => {
+                one.processor == other.processor && value == same
+            }
+            _ => false,
+        },
+        _ => false,
+    }
+}
+
+/// Whether a store like the one at this place is among those at the others.
+fn is_told(events: &[Event], places: &[usize], place: usize) -> bool {
+    for told in places {
+        if are_alike(events, *told, place) {
+            return true;
+        }
+    }
+    false
+}
+
+/// Adds the places of the stores that aren't told yet, as long as there are few.
+fn add_untold(
+    places: &mut Vec<usize>,
+    events: &[Event],
+    unordered: &[usize],
+) -> Result<(), AllocError> {
+    for place in unordered {
+        if places.len() < MOST_TOLD && !is_told(events, places, *place) {
+            places.push(*place)?;
         }
     }
     Ok(())
 }
 
-/// Adds the fetch's line, and what it has to count.
-fn put_miscounted(
+/// Adds what a load may answer: 0, if it may, and the values of these stores.
+fn put_answers(
+    text: &mut Vec<u8>,
+    events: &[Event],
+    is_free: bool,
+    places: &[usize],
+) -> Result<(), AllocError> {
+    if places.is_empty() {
+        text.extend_from_slice(b"because it may answer 0 alone\n")?;
+        return Ok(());
+    }
+    if is_free {
+        text.extend_from_slice(b"because it may answer 0, or only what was stored by\n")?;
+    } else {
+        text.extend_from_slice(b"because it may answer only what was stored by\n")?;
+    }
+    put_events(text, events, places)
+}
+
+/// Adds what the load may answer.
+fn put_unexplained(
     text: &mut Vec<u8>,
     alloc: Global,
     events: &[Event],
-    fetch: Miscounted,
+    load: &Unexplained,
 ) -> Result<(), AllocError> {
-    put_event(text, events, fetch.place)?;
+    match &load.permitted {
+        Permitted::Latest(latest) => {
+            let places = places_of(alloc, latest)?;
+            put_answers(text, events, false, &places)
+        }
+        Permitted::Heard(latest, unordered) => {
+            let mut places = places_of(alloc, latest)?;
+            let is_free = places.is_empty();
+            add_untold(&mut places, events, unordered)?;
+            put_answers(text, events, is_free, &places)
+        }
+        Permitted::Last(Some(place)) => put_answers(text, events, false, &[*place]),
+        Permitted::Last(None) => put_answers(text, events, false, &[]),
+    }
+}
+
+/// Adds what the fetch has to count.
+fn put_miscounted(text: &mut Vec<u8>, alloc: Global, fetch: Miscounted) -> Result<(), AllocError> {
     let Miscounted {
         writers,
         records,
@@ -108,21 +177,38 @@ fn put_miscounted(
     Ok(())
 }
 
-/// Adds the verdict, with the two events of the first race.
-fn put_verdict(
-    text: &mut Vec<u8>,
-    events: &[Event],
-    race: Option<(usize, usize)>,
-) -> Result<(), AllocError> {
-    match race {
-        None => text.extend_from_slice(b"verdict race-free\n")?,
-        Some((first, second)) => {
-            text.extend_from_slice(b"verdict racy\n")?;
-            put_event(text, events, first)?;
-            put_event(text, events, second)?;
-        }
+/// Adds that there is a race, with its two events.
+fn put_race(text: &mut Vec<u8>, events: &[Event], race: (usize, usize)) -> Result<(), AllocError> {
+    text.extend_from_slice(b"verdict racy\n")?;
+    put_event(text, events, race.0)?;
+    put_event(text, events, race.1)
+}
+
+/// The place of the lie.
+fn place_of(lie: &Lie) -> usize {
+    match lie {
+        Lie::IllFormed(fault) => fault.place,
+        Lie::Unexplained(load) => load.place,
+        Lie::Miscounted(fetch) => fetch.place,
     }
-    Ok(())
+}
+
+/// Adds the lie: its place, its line, and why it is one.
+fn put_lie(
+    text: &mut Vec<u8>,
+    alloc: Global,
+    events: &[Event],
+    lie: &Lie,
+) -> Result<(), AllocError> {
+    let place = place_of(lie);
+    let line = format!(in alloc; "unfaithful {place}\n")?;
+    text.extend_from_slice(line.as_bytes())?;
+    put_event(text, events, place)?;
+    match lie {
+        Lie::IllFormed(fault) => put_ill_formed(text, alloc, *fault),
+        Lie::Unexplained(load) => put_unexplained(text, alloc, events, load),
+        Lie::Miscounted(fetch) => put_miscounted(text, alloc, *fetch),
+    }
 }
 
 /// Adds the traffic.
@@ -137,33 +223,52 @@ fn put_traffic(text: &mut Vec<u8>, alloc: Global, traffic: Traffic) -> Result<()
     Ok(())
 }
 
-/// Adds what isn't judged, where that is something.
-fn put_unjudged(text: &mut Vec<u8>, lax: bool) -> Result<(), AllocError> {
-    if lax {
+/// Adds how many loads weren't judged, if that is told: under the race-free model after a race.
+fn put_unjudged_loads(
+    text: &mut Vec<u8>,
+    alloc: Global,
+    rules: Rules,
+    is_racy: bool,
+    unjudged: usize,
+) -> Result<(), AllocError> {
+    match rules.model {
+        MemoryModel::RaceFree if is_racy => {
+            let line = format!(in alloc; "unjudged {unjudged} loads\n")?;
+            text.extend_from_slice(line.as_bytes())?;
+        }
+        _ => {}
+    }
+    Ok(())
+}
+
+/// Adds what isn't judged under lax rules.
+fn put_unjudged(text: &mut Vec<u8>, rules: Rules) -> Result<(), AllocError> {
+    if rules.lax {
         text.extend_from_slice(b"unjudged counts order\n")?;
     }
     Ok(())
 }
 
-/// The lines that say how many events there are and what was found.
-fn opening(alloc: Global, count: usize, found: &Checked) -> Result<Vec<u8>, AllocError> {
-    let line = match *found {
-        Checked::Faithful { .. } => format!(in alloc; "events {count}\nfaithful\n")?,
-        Checked::IllFormed(fault) => {
-            let place = fault.place;
-            format!(in alloc; "events {count}\nunfaithful {place}\n")?
-        }
-        Checked::Unexplained(load) => {
-            let place = load.place;
-            format!(in alloc; "events {count}\nunfaithful {place}\n")?
-        }
-        Checked::Miscounted(fetch) => {
-            let place = fetch.place;
-            format!(in alloc; "events {count}\nunfaithful {place}\n")?
-        }
-    };
+/// The name of a model other than the memory's own, which isn't told.
+fn name_of(model: MemoryModel) -> Option<&'static str> {
+    match model {
+        MemoryModel::RaceFree => Some("race-free"),
+        MemoryModel::HappensBefore => Some("happens-before"),
+        MemoryModel::LazyRelease => None,
+        MemoryModel::Sequential => Some("sequential"),
+    }
+}
+
+/// The lines that say how many events were judged and under which model.
+fn opening(alloc: Global, count: usize, model: MemoryModel) -> Result<Vec<u8>, AllocError> {
     let mut text = Vec::new(alloc);
+    let line = format!(in alloc; "events {count}\n")?;
     text.extend_from_slice(line.as_bytes())?;
+    if let Some(name) = name_of(model) {
+        text.extend_from_slice(b"model ")?;
+        text.extend_from_slice(name.as_bytes())?;
+        text.push(b'\n')?;
+    }
     Ok(text)
 }
 
@@ -172,18 +277,31 @@ pub(crate) fn text_of(
     alloc: Global,
     events: &[Event],
     found: &Checked,
-    lax: bool,
+    rules: Rules,
 ) -> Result<Vec<u8>, AllocError> {
-    let mut text = opening(alloc, events.len(), found)?;
-    match *found {
-        Checked::Faithful { race, traffic } => {
-            put_unjudged(&mut text, lax)?;
-            put_verdict(&mut text, events, race)?;
-            put_traffic(&mut text, alloc, traffic)?;
+    let mut text = opening(alloc, found.count, rules.model)?;
+    match &found.verdict {
+        TraceVerdict::Faithful { traffic, unjudged } => {
+            text.extend_from_slice(b"faithful\n")?;
+            put_unjudged(&mut text, rules)?;
+            put_unjudged_loads(&mut text, alloc, rules, found.race.is_some(), *unjudged)?;
+            match found.race {
+                Some(race) => put_race(&mut text, events, race)?,
+                None => text.extend_from_slice(b"verdict race-free\n")?,
+            }
+            put_traffic(&mut text, alloc, *traffic)?;
         }
-        Checked::IllFormed(fault) => put_ill_formed(&mut text, alloc, events, fault)?,
-        Checked::Unexplained(load) => put_unexplained(&mut text, events, &load)?,
-        Checked::Miscounted(fetch) => put_miscounted(&mut text, alloc, events, fetch)?,
+        TraceVerdict::Lie(lie) => {
+            if let Some(race) = found.race {
+                put_race(&mut text, events, race)?;
+            }
+            put_lie(&mut text, alloc, events, lie)?;
+        }
+        TraceVerdict::Racy => {
+            if let Some(race) = found.race {
+                put_race(&mut text, events, race)?;
+            }
+        }
     }
     Ok(text)
 }

@@ -1,18 +1,25 @@
 -- A trace that was read and judged.
-use Rattle.std.proofs.Common.{◌≡◌, ◌≢◌, ◌∙◌, ℕ, suc, Bool, List, [], ◌++◌, Option, Some, None, Result, Ok, Err, IfOk, take, drop, sym, ap, subst, append_assoc, take-append-drop}
+use Rattle.std.proofs.Common.{◌≡◌, ◌≢◌, ◌∙◌, ℕ, suc, Bool, List, [], ◌++◌, ◌≤◌, Option, Some, None, Result, Ok, Err, IfOk, length, take, drop, sym, ap, subst, append_assoc, take-append-drop, arith}
+use Rattle.std.proofs.lemmas.List.{take_all}
 use Rattle.std.specs.Prelude.{IfErr}
 use Rattle.std.specs.Io.KnownBytes.{Consumes}
 use Rattle.journal.specs.declared.event.Event.{Event}
 use Rattle.journal.specs.Sizes.{Sizes}
-use Rattle.lrc_check.specs.declared.checked.Checked.{Checked}
-use Rattle.lrc_check.specs.declared.checked.Checked.TheVariants.{Faithful, IllFormed, Miscounted, Unexplained}
-use Rattle.lrc_check.specs.Faithful.{IsAccepted, IsFirstUnfaithful}
-use Rattle.lrc_check.specs.Checked.{IsChecked}
+use Rattle.journal.specs.Races.{Race}
+use Rattle.judge.specs.declared.models.MemoryModel.{MemoryModel}
+use Rattle.judge.proofs.Racing.{race_longer}
+use Rattle.lrc_check.specs.declared.checked.Lie.{Lie}
+use Rattle.lrc_check.specs.declared.checked.Rules.{Rules}
+use Rattle.lrc_check.specs.declared.checked.TraceVerdict.{TraceVerdict}
+use Rattle.lrc_check.specs.declared.checked.TraceVerdict.TheVariants as verdict
+use Rattle.lrc_check.specs.Faithful.{IsAccepted}
+use Rattle.lrc_check.specs.Checked.{IsLie, IsVerdictOf, IsJudgedWhole, place_of}
 use Rattle.lrc_check.specs.declared.traces.fault.TraceFault.{TraceFault}
 use Rattle.lrc_check.specs.declared.traces.fault.TraceFault.TheVariants.{NoMemory}
 use Rattle.lrc_check.specs.Traces.Faults.{BeginsTraceText}
 use Rattle.lrc_check.specs.Traces.Lawful.{IsTrace}
-use Rattle.lrc_commands.specs.JudgedTraces.{HasTraceText, IsJudgedAs, IsTraceReadSoFar, is_judged_faithful}
+use Rattle.lrc_commands.specs.declared.checking.Judgement.{Judgement}
+use Rattle.lrc_commands.specs.JudgedTraces.{HasTraceText, IsJudgedAs, IsTraceReadSoFar, judgement_in}
 
 -- nothing was read yet
 pub judged_fed_none : (source : Option (List ℕ)) (fed : List ℕ) → fed ≡ [] → Consumes source source fed
@@ -50,35 +57,55 @@ judged_fed_on (Some xs) (Some ys) (Some zs) fed piece (Err e) same none had more
       sym text ∙ had ∙ ap (λ (x : List ℕ). fed ++ x) more ∙ sym (append_assoc fed piece zs),
     )
 
--- a history with an event that no such memory makes isn't faithful
-none_judged_faithful : (lax : Bool) (s : Sizes) (j : List Event) (k : ℕ) → IsFirstUnfaithful lax s j k
-    → ¬ IsAccepted lax s j
-none_judged_faithful lax s j k first faithful =
-    first.never (drop (suc k) j) (subst (IsAccepted lax s) (sym (take-append-drop (suc k) j)) faithful)
+-- a history that begins with a lie isn't faithful
+none_judged_faithful : (m : MemoryModel) (lax : Bool) (s : Sizes) (j : List Event) (n : ℕ) (x : Lie)
+    → IsLie m lax s (take n j) x → ¬ IsAccepted m lax s j
+none_judged_faithful m lax s j n x lie faithful =
+    let last = lie.last in
+    let le : length (take n j) ≤ suc (place_of x) = omega arith in
+    let whole = take_all (suc (place_of x)) (take n j) le in
+    let split = ap (λ (xs : List Event). xs ++ drop n j) whole ∙ take-append-drop n j in
+    lie.first.never (drop n j) (subst (IsAccepted m lax s) (sym split) faithful)
+
+-- a race of a front is one of the history
+race_whole : (j : List Event) (n i k : ℕ) → Race (take n j) i k → Race j i k
+race_whole j n i k r =
+    subst (λ xs. Race xs i k) (take-append-drop n j) (race_longer (take n j) (drop n j) i k r)
 
 -- what was found of the trace that the source had is said of the source
-pub judged_as : (lax : Bool) (source : Option (List ℕ)) (s : Sizes) (es : List Event) (found : Checked)
-    → IsTrace s es → HasTraceText source s es → IsChecked lax s es found → IsJudgedAs lax source (is_judged_faithful found)
-judged_as lax source s es (Faithful race traffic) trace text checked =
-    record { sizes = s; events = es; trace = trace; text_is = text; faithful = checked.0 }
-judged_as lax source s es (IllFormed x) trace text checked = record {
+pub judged_as : (r : Rules) (source : Option (List ℕ)) (s : Sizes) (es : List Event) (n : ℕ)
+    (race : Option (ℕ × ℕ)) (v : TraceVerdict) → IsTrace s es → HasTraceText source s es
+    → IsVerdictOf r.model r.lax s (take n es) race v → IsJudgedWhole es n v
+    → IsJudgedAs r.model r.lax source (judgement_in v)
+judged_as r source s es n race (verdict.Faithful traffic unjudged) trace text is whole = record {
   sizes = s;
   events = es;
   trace = trace;
   text_is = text;
-  unfaithful = none_judged_faithful lax s es x.place checked.0;
+  faithful =
+      (let le : length es ≤ n = omega arith in
+      subst (IsAccepted r.model r.lax s) (take_all n es le) is.0);
 }
-judged_as lax source s es (Unexplained x) trace text checked = record {
+judged_as r source s es n race (verdict.Lie x) trace text is whole = record {
   sizes = s;
   events = es;
   trace = trace;
   text_is = text;
-  unfaithful = none_judged_faithful lax s es x.place checked.0;
+  unfaithful = none_judged_faithful r.model r.lax s es n x is.0;
 }
-judged_as lax source s es (Miscounted x) trace text checked = record {
+judged_as r source s es n race verdict.Racy trace text is whole = record {
   sizes = s;
   events = es;
   trace = trace;
   text_is = text;
-  unfaithful = none_judged_faithful lax s es x.place checked.0;
+  first = is.first;
+  second = is.second;
+  race = race_whole es n is.first is.second is.nearest.race;
 }
+
+-- and so by the rules that were asked for
+pub judged_by : (r : Rules) (m : MemoryModel) (lax : Bool) (source : Option (List ℕ)) (a b : Judgement) → r.model ≡ m
+    → r.lax ≡ lax → b ≡ a → IsJudgedAs r.model r.lax source a → IsJudgedAs m lax source b
+judged_by r m lax source a b model same is judged =
+    subst (IsJudgedAs m lax source) (sym is)
+    (subst (λ x. IsJudgedAs x lax source a) model (subst (λ y. IsJudgedAs r.model y source a) same judged))

@@ -7,39 +7,65 @@ use Rattle.lrc_check.specs.declared.traces.fault.TraceFault.{TraceFault}
 use Rattle.lrc_check.specs.declared.traces.fault.TraceFault.TheVariants.{NoMemory}
 use Rattle.lrc_check.specs.Traces.Lawful.{IsNoTrace, IsTrace}
 use Rattle.lrc_check.specs.Traces.Text.{trace_text}
-use Rattle.lrc_check.specs.declared.checked.Checked.{Checked}
-use Rattle.lrc_check.specs.declared.checked.Checked.TheVariants.{Faithful}
+use Rattle.journal.specs.Races.{Race}
+use Rattle.judge.specs.declared.models.MemoryModel.{MemoryModel}
+use Rattle.judge.specs.declared.models.MemoryModel.TheVariants as model
+use Rattle.lrc_check.specs.declared.checked.TraceVerdict.{TraceVerdict}
+use Rattle.lrc_check.specs.declared.checked.TraceVerdict.TheVariants as verdict
 use Rattle.lrc_check.specs.Faithful.{IsAccepted}
+use Rattle.lrc_options.specs.declared.options.TraceModel.{TraceModel}
+use Rattle.lrc_options.specs.declared.options.TraceModel.TheVariants as asked
+use Rattle.lrc_commands.specs.declared.checking.Judgement.{Judgement}
+use Rattle.lrc_commands.specs.declared.checking.Judgement.TheVariants as judgement
 
--- whether what was found is that the history is faithful
-abbrev pub is_judged_faithful : Checked → Bool
-is_judged_faithful (Faithful race traffic) = true
-is_judged_faithful _ = false
+-- the model of this name
+abbrev pub judged_model : TraceModel → MemoryModel
+judged_model asked.RaceFree = model.RaceFree
+judged_model asked.HappensBefore = model.HappensBefore
+judged_model asked.LazyRelease = model.LazyRelease
+judged_model asked.Sequential = model.Sequential
+
+-- how judging ended that found this
+abbrev pub judgement_in : TraceVerdict → Judgement
+judgement_in (verdict.Faithful traffic unjudged) = judgement.Faithful
+judgement_in (verdict.Lie x) = judgement.Unfaithful
+judgement_in verdict.Racy = judgement.Racy
 
 -- what the source had is the text of this trace
 abbrev pub HasTraceText : Option (List ℕ) → Sizes → List Event → Type 0
 HasTraceText source s es = IfSome source (λ xs. xs ≡ trace_text s es)
 
--- the source had the text of a trace, whose history is faithful, lax or not
-pub record IsFaithfulTrace (lax : Bool) (source : Option (List ℕ)) : Type 0 where
+-- the source had the text of a trace, whose history is faithful under the model, lax or not
+pub record IsFaithfulTrace (m : MemoryModel) (lax : Bool) (source : Option (List ℕ)) : Type 0 where
   pub sizes : Sizes
   pub events : List Event
   pub trace : IsTrace sizes events
   pub text_is : HasTraceText source sizes events
-  pub faithful : IsAccepted lax sizes events
+  pub faithful : IsAccepted m lax sizes events
 
 -- the source had the text of a trace, whose history isn't
-pub record IsUnfaithfulTrace (lax : Bool) (source : Option (List ℕ)) : Type 0 where
+pub record IsUnfaithfulTrace (m : MemoryModel) (lax : Bool) (source : Option (List ℕ)) : Type 0 where
   pub sizes : Sizes
   pub events : List Event
   pub trace : IsTrace sizes events
   pub text_is : HasTraceText source sizes events
-  pub unfaithful : ¬ IsAccepted lax sizes events
+  pub unfaithful : ¬ IsAccepted m lax sizes events
 
--- which of the two
-abbrev pub IsJudgedAs : Bool → Option (List ℕ) → Bool → Type 0
-IsJudgedAs lax source true = IsFaithfulTrace lax source
-IsJudgedAs lax source false = IsUnfaithfulTrace lax source
+-- the source had the text of a trace that races
+pub record IsRacyTrace (source : Option (List ℕ)) : Type 0 where
+  pub sizes : Sizes
+  pub events : List Event
+  pub trace : IsTrace sizes events
+  pub text_is : HasTraceText source sizes events
+  pub first : ℕ
+  pub second : ℕ
+  pub race : Race events first second
+
+-- which of these
+abbrev pub IsJudgedAs : MemoryModel → Bool → Option (List ℕ) → Judgement → Type 0
+IsJudgedAs m lax source judgement.Faithful = IsFaithfulTrace m lax source
+IsJudgedAs m lax source judgement.Unfaithful = IsUnfaithfulTrace m lax source
+IsJudgedAs m lax source judgement.Racy = IsRacyTrace source
 
 -- what the source had is no trace
 abbrev pub IsNoTraceOf : Option (List ℕ) → Type 0

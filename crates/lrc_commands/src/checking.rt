@@ -4,14 +4,15 @@ ghost use Rattle.std.specs.Io.KnownBytes.{Consumes, IsAtEnd, Keeps};
 ghost use Rattle.lrc_check.specs.Traces.Prelude.{IsTrace, sizes_of};
 ghost use Rattle.lrc_check.specs.Prelude.{IsTraces};
 ghost use Rattle.lrc_commands.specs.Prelude.{HasTraceText, IsStatusBeforeAnswer, IsFaithfulTrace, IsInputsStatus, IsJudgedAs, IsNoTraceOf};
-ghost use Rattle.lrc_commands.specs.Prelude.{IsTraceReadSoFar, IsUnfaithfulTrace, is_judged_faithful};
+ghost use Rattle.lrc_commands.specs.Prelude.{IsRacyTrace, IsTraceReadSoFar, IsUnfaithfulTrace, judged_model, judgement_in};
 
 use crate::fault::StudyFault;
+use judge::MemoryModel;
 use lrc_check::traces::fault::TraceFault;
 use lrc_check::traces::reader::Reader;
 use lrc_check::traces::trace::Trace;
-use lrc_check::{CheckFault, Checked, check_trace};
-use lrc_options::options::TraceOptions;
+use lrc_check::{CheckFault, Checked, Rules, TraceVerdict, check_trace};
+use lrc_options::options::{TraceModel, TraceOptions};
 use std::alloc::{AllocError, Global};
 use std::io;
 use std::io::{ErrorKind, Read, Write};
@@ -24,6 +25,20 @@ const PIECE: usize = 1 << 16;
 
 /// The exit status of a trace that isn't faithful.
 const UNFAITHFUL: u8 = 6;
+
+/// The exit status of a trace whose judging ended with its race.
+const RACY: u8 = 8;
+
+/// How judging a trace ended.
+#[derive(Clone, Copy)]
+pub enum Judgement {
+    /// The trace is faithful.
+    Faithful,
+    /// It isn't.
+    Unfaithful,
+    /// It races, which was to end the judging.
+    Racy,
+}
 
 /// What is read of a trace so far, or its first line with a fault.
 type Reading = Result<Reader, (usize, TraceFault)>;
@@ -109,31 +124,58 @@ fn read_trace<S: Read>(alloc: Global, source: &mut S) -> Result<Trace, StudyFaul
     read_pieces(alloc, source, &mut piece)
 }
 
-/// Whether what was found is that the trace is faithful.
-fn is_faithful(found: &Checked) -> bool
-    ensures { result ≡ is_judged_faithful found.now }
+/// How judging ended, by what was found.
+fn judgement_of(found: &Checked) -> Judgement
+    ensures { result ≡ judgement_in found.now.verdict }
 {
-    match found {
-        Checked::Faithful { .. } => true,
-        _ => false,
+    match found.verdict {
+        TraceVerdict::Faithful { .. } => Judgement::Faithful,
+        TraceVerdict::Lie(_) => Judgement::Unfaithful,
+        TraceVerdict::Racy => Judgement::Racy,
     }
 }
 
-/// Reads a trace, judges it and writes what was found: whether it is faithful.
+/// The model that is asked for.
+fn model_for(model: TraceModel) -> MemoryModel
+    ensures { result ≡ judged_model model }
+{
+    match model {
+        TraceModel::RaceFree => MemoryModel::RaceFree,
+        TraceModel::HappensBefore => MemoryModel::HappensBefore,
+        TraceModel::LazyRelease => MemoryModel::LazyRelease,
+        TraceModel::Sequential => MemoryModel::Sequential,
+    }
+}
+
+/// The rules that are asked for.
+fn rules_of(options: &TraceOptions) -> Rules
+    ensures model { result.model ≡ judged_model options.now.model }
+    ensures lax { result.lax ≡ options.now.lax }
+{
+    Rules {
+        model: model_for(options.model),
+        lax: options.lax,
+        ends_at_race: options.race_is_error,
+    }
+}
+
+/// Reads a trace, judges it and writes what was found: how judging ended.
 fn check_source<S: Read, W: Write>(
     alloc: Global,
-    lax: bool,
+    options: &TraceOptions,
     source: &mut S,
     out: &mut W,
-) -> Result<bool, StudyFault>
-    ensures judged { IfOk result (IsJudgedAs lax (S.remaining source.old)) }
+) -> Result<Judgement, StudyFault>
+    ensures judged { IfOk result
+        (IsJudgedAs (judged_model options.now.model) options.now.lax (S.remaining source.old)) }
     ensures refused { IfErr result (λ fault. IsInputsStatus fault → IsNoTraceOf (S.remaining source.old)) }
     ensures early { IfErr result
         (λ fault. IsStatusBeforeAnswer fault → Keeps (W.contents out.old) (W.contents out.new)) }
 {
     let trace = read_trace(alloc, source)?;
-    let found = check_trace(alloc, &trace, lax, out)?;
-    Ok(is_faithful(&found))
+    let rules = rules_of(options);
+    let found = check_trace(alloc, &trace, rules, out)?;
+    Ok(judgement_of(&found))
 }
 
 /// Judges the trace of `source` as the options say: writes what was found to `out`, or one line to `err`, and answers
@@ -146,20 +188,25 @@ pub fn check_program<S: Read, W: Write, E: Write>(
     err: &mut E,
 ) -> u8
     // The source had a trace, and it is faithful.
-    ensures faithful { result ≡ 0 → IsFaithfulTrace options.now.lax (S.remaining source.old) }
+    ensures faithful { result ≡ 0
+        → IsFaithfulTrace (judged_model options.now.model) options.now.lax (S.remaining source.old) }
     // The source had a trace, and it is not.
-    ensures unfaithful { result ≡ 6 → IsUnfaithfulTrace options.now.lax (S.remaining source.old) }
+    ensures unfaithful { result ≡ 6
+        → IsUnfaithfulTrace (judged_model options.now.model) options.now.lax (S.remaining source.old) }
+    // The source had a trace, and it races.
+    ensures racy { result ≡ 8 → IsRacyTrace (S.remaining source.old) }
     // What is refused as a trace is none.
     ensures refused { result ≡ 2 → IsNoTraceOf (S.remaining source.old) }
     // At any status but 4, what was found is written whole or not at all.
-    ensures early { result ≢ 0 → result ≢ 6 → result ≢ 4
+    ensures early { result ≢ 0 → result ≢ 6 → result ≢ 8 → result ≢ 4
         → Keeps (W.contents out.old) (W.contents out.new) }
     // If a trace was judged, no line goes to the error output.
-    ensures quiet { (result ≡ 0) ⊎ (result ≡ 6) → Keeps (E.contents err.old) (E.contents err.new) }
+    ensures quiet { (result ≡ 0) ⊎ ((result ≡ 6) ⊎ (result ≡ 8)) → Keeps (E.contents err.old) (E.contents err.new) }
 {
-    match check_source(alloc, options.lax, source, out) {
-        Ok(true) => 0,
-        Ok(false) => UNFAITHFUL,
+    match check_source(alloc, options, source, out) {
+        Ok(Judgement::Faithful) => 0,
+        Ok(Judgement::Unfaithful) => UNFAITHFUL,
+        Ok(Judgement::Racy) => RACY,
         Err(fault) => fault.say(alloc, options.file.as_deref(), err),
     }
 }

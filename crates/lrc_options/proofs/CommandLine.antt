@@ -14,7 +14,9 @@ use Rattle.clap.specs.Values.{kind_of}
 use Rattle.clap.specs.declared.builder.value_parser.ValueParser.{ValueParser}
 use Rattle.clap.specs.declared.error.kind.ErrorKind.TheVariants.{OutOfMemory}
 use Rattle.lrc_options.specs.declared.options.Asked.{Asked}
-use Rattle.lrc_options.specs.CommandLine.{IsCommand, IsOptionNumberRead, IsNumberOption, IsSeedOption, IsFlagOption, IsRefusedCommandLine, IsUnanswered, TakesNames, AreAskedOptionsOf, AreGivenOptions, flagged_rules, has_both, lrc_rules, option_number, most_seed}
+use Rattle.lrc_options.specs.declared.options.TraceModel.{TraceModel}
+use Rattle.lrc_options.specs.declared.options.TraceModel.TheVariants.{RaceFree}
+use Rattle.lrc_options.specs.CommandLine.{model_given, named_model, IsCommand, IsOptionNumberRead, IsNumberOption, IsSeedOption, IsFlagOption, IsRefusedCommandLine, IsUnanswered, TakesNames, AreAskedOptionsOf, AreGivenOptions, flagged_rules, has_both, lrc_rules, option_number, most_seed}
 
 -- a text that is a number is read as that
 option_number_reads : {E : Type 0} (t : Text) (G : List ℕ → Result ℕ E → Type 0) (r : Option ℕ) → ReadsOne G t r
@@ -110,6 +112,15 @@ pub no_word_option : (f : Found) (id word : Text) → None ≡ first_value f id
     → false ≡ option_map_or (λ t. bytes_eq t word) (first_of id (rows_of f)) false
 no_word_option f id word is = ap (λ o. option_map_or (λ t. bytes_eq t word) o false) (is ∙ first_value-rows f id)
 
+-- the model of a name that is given, and of none
+pub model_read : (f : Found) (name : Text) (m : TraceModel) → Some name ≡ first_value f (codes "model")
+    → m ≡ named_model name → m ≡ model_given (rows_of f)
+model_read f name m is same = same
+    ∙ ap (λ o. option_map_or named_model o RaceFree) (is ∙ first_value-rows f (codes "model"))
+
+pub no_model : (f : Found) → None ≡ first_value f (codes "model") → RaceFree ≡ model_given (rows_of f)
+no_model f is = ap (λ o. option_map_or named_model o RaceFree) (is ∙ first_value-rows f (codes "model"))
+
 -- what holds of a value, where there is one, makes what follows from it hold
 pub if_ok_map : {T E : Type 0} {P Q : T → Type 0} (r : Result T E) → ((x : T) → P x → Q x) → IfOk r P → IfOk r Q
 if_ok_map (Ok x) follows holds = follows x holds
@@ -172,29 +183,40 @@ pub same_kind : (kinds : Kinds) (a b : Error) → kind_of b ≡ kind_of a → Ha
 same_kind kinds a b is has = subst (λ k. (k ≡ OutOfMemory) ⊎ IsAmong k kinds) (sym is) has
 
 -- running out of memory refuses any words
-pub out_of_memory : (locks : ValueParser) (words : List Text) (e : Error)
-    → TakesNames (codes "array" ∷ codes "ticket" ∷ []) locks → kind_of e ≡ OutOfMemory → IsRefusedCommandLine words e
-out_of_memory locks words e are is = record { locks = locks; locks_are = are; kind = inl (inl is) }
+pub out_of_memory : (locks models : ValueParser) (words : List Text) (e : Error)
+    → TakesNames (codes "array" ∷ codes "ticket" ∷ []) locks
+    → TakesNames (codes "race-free" ∷ codes "happens-before" ∷ codes "lazy-release" ∷ codes "sequential" ∷ []) models
+    → kind_of e ≡ OutOfMemory → IsRefusedCommandLine words e
+out_of_memory locks models words e are models_are is = record { locks = locks; locks_are = are; models = models; models_are = models_are; kind = inl (inl is) }
 
 -- and so does a seed beside a schedule
-pub refused_by : (locks : ValueParser) (words : List Text) (name : Text) (rows : List Row) (e : Error)
-    → TakesNames (codes "array" ∷ codes "ticket" ∷ []) locks → subcommand_of (lrc_rules locks) words ≡ Some (name, rows)
+pub refused_by : (locks models : ValueParser) (words : List Text) (name : Text) (rows : List Row) (e : Error)
+    → TakesNames (codes "array" ∷ codes "ticket" ∷ []) locks
+    → TakesNames (codes "race-free" ∷ codes "happens-before" ∷ codes "lazy-release" ∷ codes "sequential" ∷ []) models
+    → subcommand_of (lrc_rules locks models) words ≡ Some (name, rows)
     → IsUnanswered rows e → IsRefusedCommandLine words e
-refused_by locks words name rows e are command (inl memory) = out_of_memory locks words e are memory
-refused_by locks words name rows e are command (inr both) = record {
+refused_by locks models words name rows e are models_are command (inl memory) =
+    out_of_memory locks models words e are models_are memory
+refused_by locks models words name rows e are models_are command (inr both) = record {
   locks = locks;
   locks_are = are;
+  models = models;
+  models_are = models_are;
   kind = inr (record { name = name; rows = rows; command = command; both = both.0; kind = both.1 });
 }
 
 -- what is answered is what the words ask for
-pub given_by : (locks : ValueParser) (words : List Text) (name : Text) (rows : List Row) (result : Result Asked Error)
-    → TakesNames (codes "array" ∷ codes "ticket" ∷ []) locks → fault_of (lrc_rules locks) words ≡ []
-    → subcommand_of (lrc_rules locks) words ≡ Some (name, rows) → OnOk result (has_both rows ≡ false)
+pub given_by : (locks models : ValueParser) (words : List Text) (name : Text) (rows : List Row) (result : Result Asked Error)
+    → TakesNames (codes "array" ∷ codes "ticket" ∷ []) locks
+    → TakesNames (codes "race-free" ∷ codes "happens-before" ∷ codes "lazy-release" ∷ codes "sequential" ∷ []) models
+    → fault_of (lrc_rules locks models) words ≡ []
+    → subcommand_of (lrc_rules locks models) words ≡ Some (name, rows) → OnOk result (has_both rows ≡ false)
     → IfOk result (AreAskedOptionsOf name rows) → IfOk result (AreGivenOptions words)
-given_by locks words name rows (Ok asked) are none command one told = record {
+given_by locks models words name rows (Ok asked) are models_are none command one told = record {
   locks = locks;
   locks_are = are;
+  models = models;
+  models_are = models_are;
   faultless = none;
   name = name;
   rows = rows;
@@ -202,4 +224,4 @@ given_by locks words name rows (Ok asked) are none command one told = record {
   one = one;
   asked = told;
 }
-given_by locks words name rows (Err e) are none command one told = tt
+given_by locks models words name rows (Err e) are models_are none command one told = tt

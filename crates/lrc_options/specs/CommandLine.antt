@@ -1,5 +1,5 @@
 -- What the program's words give.
-use Rattle.std.specs.Prelude.{ℕ, ◌≡◌, ◌<◌, ◌≤◌, ◌-◌, ◌^◌, ◌⊎◌, ◌&&◌, Bool, true, false, List, [], ◌∷◌, Option, Some, None, IfSome, codes, is_some, map, option_map, string_bytes}
+use Rattle.std.specs.Prelude.{ℕ, ◌≡◌, ◌<◌, ◌≤◌, ◌-◌, ◌^◌, ◌⊎◌, ◌&&◌, Bool, true, false, List, [], ◌∷◌, Option, Some, None, IfSome, codes, cond, is_some, map, option_map, string_bytes}
 use Rattle.std.specs.Option.{option_map_or}
 use Rattle.std.specs.Str.{bytes_eq}
 use Rattle.std.specs.Str.Parse.{IsNumeral, digits_value, without_leading_plus}
@@ -19,6 +19,8 @@ use Rattle.lrc_options.specs.declared.options.ExplainOptions.{ExplainOptions}
 use Rattle.lrc_options.specs.declared.options.ExploreOptions.{ExploreOptions}
 use Rattle.lrc_options.specs.declared.options.Options.{Options}
 use Rattle.lrc_options.specs.declared.options.SampleOptions.{SampleOptions}
+use Rattle.lrc_options.specs.declared.options.TraceModel.{TraceModel}
+use Rattle.lrc_options.specs.declared.options.TraceModel.TheVariants.{HappensBefore, LazyRelease, RaceFree, Sequential}
 use Rattle.lrc_options.specs.declared.options.TraceOptions.{TraceOptions}
 
 -- the limits and the default of `--tries`, the limit of `--seed`, `--seeds` and `--most`, and the defaults of the latter two
@@ -62,6 +64,9 @@ most_rule = record (number_rule (codes "most") 0 most_seed) { defaults = codes "
 
 abbrev pub lock_rule : ValueParser → Rule
 lock_rule locks = record (option_rule (codes "lock")) { parser = Some locks; defaults = codes "array" ∷ [] }
+
+abbrev pub model_rule : ValueParser → Rule
+model_rule models = record (option_rule (codes "model")) { parser = Some models; defaults = codes "race-free" ∷ [] }
 
 -- an option without a value
 abbrev pub flag_rule : Text → Rule
@@ -113,18 +118,22 @@ explore_rules = with_rule (file_rules (codes "explore")) most_rule
 abbrev pub lax_rule : Rule
 lax_rule = flag_rule (codes "lax")
 
-abbrev pub check_rules : App
-check_rules = with_rule (file_rules (codes "check")) lax_rule
+abbrev pub race_is_error_rule : Rule
+race_is_error_rule = flag_rule (codes "race-is-error")
+
+abbrev pub check_rules : ValueParser → App
+check_rules models =
+    with_rule (with_rule (with_rule (file_rules (codes "check")) (model_rule models)) lax_rule) race_is_error_rule
 
 -- `lrc` without its commands: it wants one, and has a version
 abbrev pub bare_rules : App
 bare_rules = on_top (λ s. record s { subcommand_required = true; has_version = true }) (new_app (codes "lrc"))
 
 -- `lrc` with all its commands
-abbrev pub lrc_rules : ValueParser → App
-lrc_rules locks = with_subcommand (with_subcommand (with_subcommand (with_subcommand (with_subcommand (with_subcommand bare_rules
+abbrev pub lrc_rules : ValueParser → ValueParser → App
+lrc_rules locks models = with_subcommand (with_subcommand (with_subcommand (with_subcommand (with_subcommand (with_subcommand bare_rules
     (run_rules locks).top) (step_rules locks).top) (explain_rules locks).top) (sample_rules locks).top) explore_rules.top)
-    check_rules.top
+    (check_rules models).top
 
 -- the parser takes these names and no others
 abbrev pub TakesNames : List Text → ValueParser → Type 0
@@ -170,10 +179,22 @@ pub record AreOptionsOf (name : Text) (rows : List Row) (o : Options) : Type 0 w
   pub ticket : o.ticket ≡ option_map_or (λ t. bytes_eq t (codes "ticket")) (first_of (codes "lock") rows) false
   pub journal : IsFlagOption (one_of (codes "journal") rows) o.journal
 
+-- the model of this name
+abbrev pub named_model : Text → TraceModel
+named_model name = cond (bytes_eq name (codes "happens-before")) HappensBefore
+    (cond (bytes_eq name (codes "lazy-release")) LazyRelease
+    (cond (bytes_eq name (codes "sequential")) Sequential RaceFree))
+
+-- the model that is asked for, or the default
+abbrev pub model_given : List Row → TraceModel
+model_given rows = option_map_or named_model (first_of (codes "model") rows) RaceFree
+
 -- the options that the rows of `check` give
 pub record AreTraceOptionsOf (rows : List Row) (o : TraceOptions) : Type 0 where
   pub file : option_map (λ f. string_bytes f) o.file ≡ first_of (codes "FILE") rows
+  pub model : o.model ≡ model_given rows
   pub lax : IsFlagOption (one_of (codes "lax") rows) o.lax
+  pub race_is_error : IsFlagOption (one_of (codes "race-is-error") rows) o.race_is_error
 
 -- whether the ticket lock is asked for
 abbrev pub ticket_option : List Row → Bool
@@ -218,18 +239,21 @@ has_both rows = is_some (first_of (codes "seed") rows) && is_some (first_of (cod
 pub record AreGivenOptions (words : List Text) (o : Asked) : Type 0 where
   pub locks : ValueParser
   pub locks_are : TakesNames (codes "array" ∷ codes "ticket" ∷ []) locks
-  pub faultless : fault_of (lrc_rules locks) words ≡ []
+  pub models : ValueParser
+  pub models_are : TakesNames
+      (codes "race-free" ∷ codes "happens-before" ∷ codes "lazy-release" ∷ codes "sequential" ∷ []) models
+  pub faultless : fault_of (lrc_rules locks models) words ≡ []
   pub name : Text
   pub rows : List Row
-  pub command : subcommand_of (lrc_rules locks) words ≡ Some (name, rows)
+  pub command : subcommand_of (lrc_rules locks models) words ≡ Some (name, rows)
   pub one : has_both rows ≡ false
   pub asked : AreAskedOptionsOf name rows o
 
 -- the words give a seed and a schedule, and the fault says so
-pub record IsConflict (locks : ValueParser) (words : List Text) (e : Error) : Type 0 where
+pub record IsConflict (locks models : ValueParser) (words : List Text) (e : Error) : Type 0 where
   pub name : Text
   pub rows : List Row
-  pub command : subcommand_of (lrc_rules locks) words ≡ Some (name, rows)
+  pub command : subcommand_of (lrc_rules locks models) words ≡ Some (name, rows)
   pub both : has_both rows ≡ true
   pub kind : kind_of e ≡ ArgumentConflict
 
@@ -241,4 +265,7 @@ IsUnanswered rows e = (kind_of e ≡ OutOfMemory) ⊎ ((has_both rows ≡ true) 
 pub record IsRefusedCommandLine (words : List Text) (e : Error) : Type 0 where
   pub locks : ValueParser
   pub locks_are : TakesNames (codes "array" ∷ codes "ticket" ∷ []) locks
-  pub kind : HasKind (fault_of (lrc_rules locks) words) e ⊎ IsConflict locks words e
+  pub models : ValueParser
+  pub models_are : TakesNames
+      (codes "race-free" ∷ codes "happens-before" ∷ codes "lazy-release" ∷ codes "sequential" ∷ []) models
+  pub kind : HasKind (fault_of (lrc_rules locks models) words) e ⊎ IsConflict locks models words e

@@ -3,14 +3,14 @@ ghost use Rattle.std.specs.Prelude.{◌≡◌, IfOk, false, true};
 ghost use Rattle.clap.specs.Words.{App, app_of, rule_of, with_rule, with_subcommand};
 ghost use Rattle.clap.specs.declared.builder.command.Command.TheViews.{out-Command};
 ghost use Rattle.clap.specs.declared.builder.value_parser.ValueParser.TheVariants as vp;
-ghost use Rattle.lrc_options.specs.CommandLine.{flag_rule, lock_rule, most_rule, number_rule, schedule_rule, seed_rule, seeds_rule};
+ghost use Rattle.lrc_options.specs.CommandLine.{flag_rule, lock_rule, model_rule, most_rule, number_rule, schedule_rule, seed_rule, seeds_rule};
 ghost use Rattle.lrc_options.specs.CommandLine.{IsCommand, bare_rules, check_rules, explain_rules, explore_rules, file_rules};
 ghost use Rattle.lrc_options.specs.CommandLine.{flagged_rules, lrc_rules, run_rules, sample_rules, script_rules, step_rules};
 ghost use Rattle.lrc_options.specs.CommandLine.{tries_rule};
 
 use crate::help::{
-    ABOUT, AFTER, AFTER_RUN_AND_STEP, EXPLAIN, EXPLORE, JOURNAL, LAX, MOST, SAMPLE, SCHEDULE,
-    SCRIPT, SCRIPT_FILE, SEED, SEEDS, SVG, TRACE, TRACE_FILE, TRIES, VERSION,
+    ABOUT, AFTER, AFTER_RUN_AND_STEP, EXPLAIN, EXPLORE, JOURNAL, LAX, MODEL, MOST, RACE_IS_ERROR,
+    SAMPLE, SCHEDULE, SCRIPT, SCRIPT_FILE, SEED, SEEDS, SVG, TRACE, TRACE_FILE, TRIES, VERSION,
 };
 use crate::options::Commands;
 use clap::builder::ValueParser;
@@ -25,6 +25,9 @@ pub(crate) const MOST_SEED: u64 = u32::MAX as u64;
 
 /// The locks that may stand round the book, the one that is taken if none is given first.
 pub(crate) static LOCKS: [&str; 2] = ["array", "ticket"];
+
+/// The models by which a trace may be judged, the one that is taken where none is given first.
+pub(crate) static MODELS: [&str; 4] = ["race-free", "happens-before", "lazy-release", "sequential"];
 
 /// The option of this name whose value is a number in this range.
 fn number_arg<'a>(alloc: Global, name: &'a str, least: u64, most: u64, help: &'a str) -> Arg<'a>
@@ -92,6 +95,19 @@ fn lock_arg<'a>(alloc: Global, locks: &'a [&'a str]) -> Arg<'a>
         .value_parser(locks)
         .default_value("array")
         .help("which lock stands round the book")
+}
+
+/// `--model NAME`.
+fn model_arg<'a>(alloc: Global, models: &'a [&'a str]) -> Arg<'a>
+    ensures rule { rule_of result ≡ model_rule (vp.Names models.entry) }
+    ensures own { result.global ≡ false }
+{
+    Arg::new(alloc, "model")
+        .long("model")
+        .value_name("NAME")
+        .value_parser(models)
+        .default_value("race-free")
+        .help(MODEL)
 }
 
 /// The flag of this name.
@@ -230,12 +246,14 @@ fn explore_command<'a>(alloc: Global) -> Result<Command<'a>, AllocError>
 }
 
 /// `lrc check`.
-fn check_command<'a>(alloc: Global) -> Result<Command<'a>, AllocError>
-    ensures { IfOk result (IsCommand check_rules) }
+fn check_command<'a>(alloc: Global, models: &'a [&'a str]) -> Result<Command<'a>, AllocError>
+    ensures { IfOk result (IsCommand (check_rules (vp.Names models.entry))) }
 {
     let about = "Judges a trace, of anyone's making: whether such a memory could have made it";
     let command = file_command(alloc, "check", about, TRACE, TRACE_FILE);
-    with_option(command, flag_arg(alloc, "lax", LAX))
+    let command = with_option(command, model_arg(alloc, models));
+    let command = with_option(command, flag_arg(alloc, "lax", LAX));
+    with_option(command, flag_arg(alloc, "race-is-error", RACE_IS_ERROR))
 }
 
 /// The command, which help names only if it is shown.
@@ -264,9 +282,10 @@ fn bare_command<'a>(alloc: Global, after: &'a str) -> Command<'a>
 pub(crate) fn lrc_command<'a>(
     alloc: Global,
     locks: &'a [&'a str],
+    models: &'a [&'a str],
     commands: Commands,
 ) -> Result<Command<'a>, AllocError>
-    ensures command { IfOk result (IsCommand (lrc_rules (vp.Names locks.entry))) }
+    ensures command { IfOk result (IsCommand (lrc_rules (vp.Names locks.entry) (vp.Names models.entry))) }
     ensures wants { IfOk result (λ c. (out-Command c).subcommand_required ≡ true) }
 {
     let (shown, after) = match commands {
@@ -276,7 +295,7 @@ pub(crate) fn lrc_command<'a>(
     let explain = shown_if(shown, explain_command(alloc, locks));
     let sample = shown_if(shown, sample_command(alloc, locks));
     let explore = shown_if(shown, explore_command(alloc));
-    let check = shown_if(shown, check_command(alloc));
+    let check = shown_if(shown, check_command(alloc, models));
     let lrc = Ok(bare_command(alloc, after));
     let lrc = with_command(lrc, run_command(alloc, locks));
     let lrc = with_command(lrc, step_command(alloc, locks));

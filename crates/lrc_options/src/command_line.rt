@@ -5,13 +5,13 @@ ghost use Rattle.std.specs.Str.{bytes_eq};
 ghost use Rattle.clap.specs.Words.{first_of, one_of, rows_of, found_of};
 ghost use Rattle.lrc_options.specs.CommandLine.{IsOptionNumberRead, IsNumberOption, IsSeedOption, IsFlagOption, AreAskedOptionsOf, AreOptionsOf};
 ghost use Rattle.lrc_options.specs.CommandLine.{AreExplainOptionsOf, AreExploreOptionsOf, AreSampleOptionsOf};
-ghost use Rattle.lrc_options.specs.CommandLine.{AreTraceOptionsOf, default_most, has_both, ticket_option};
+ghost use Rattle.lrc_options.specs.CommandLine.{AreTraceOptionsOf, default_most, has_both, model_given, named_model, ticket_option};
 ghost use Rattle.lrc_options.specs.CommandLine.{AreGivenOptions, IsRefusedCommandLine, IsUnanswered, most_tries, most_seed, default_tries, default_seeds};
 
-use crate::command::{LOCKS, MOST_SEED, MOST_TRIES, lrc_command};
+use crate::command::{LOCKS, MODELS, MOST_SEED, MOST_TRIES, lrc_command};
 use crate::options::{
     Asked, Commands, DEFAULT_MOST, DEFAULT_SEEDS, DEFAULT_TRIES, ExplainOptions, ExploreOptions,
-    Options, SampleOptions, TraceOptions,
+    Options, SampleOptions, TraceModel, TraceOptions,
 };
 use crate::tips::{both_given, with_tip};
 use clap::{ArgMatches, Error};
@@ -96,6 +96,38 @@ fn is_lax(matches: &ArgMatches<'_>) -> bool
     ensures { IsFlagOption (one_of (codes "lax") (rows_of (found_of matches.now))) result }
 {
     matches.get_flag("lax")
+}
+
+/// Whether a race is to end the judging.
+fn ends_at_race(matches: &ArgMatches<'_>) -> bool
+    ensures { IsFlagOption (one_of (codes "race-is-error") (rows_of (found_of matches.now))) result }
+{
+    matches.get_flag("race-is-error")
+}
+
+/// The model of this name; the first one, if none has it.
+fn model_named(name: &str) -> TraceModel
+    ensures { result ≡ named_model name.now }
+{
+    if name == "happens-before" {
+        TraceModel::HappensBefore
+    } else if name == "lazy-release" {
+        TraceModel::LazyRelease
+    } else if name == "sequential" {
+        TraceModel::Sequential
+    } else {
+        TraceModel::RaceFree
+    }
+}
+
+/// The model that is asked for.
+fn model_of(matches: &ArgMatches<'_>) -> TraceModel
+    ensures { result ≡ model_given (rows_of (found_of matches.now)) }
+{
+    match matches.get_str("model") {
+        Some(name) => model_named(name),
+        None => TraceModel::RaceFree,
+    }
 }
 
 /// The text that is given for this.
@@ -185,7 +217,9 @@ fn trace_options_of(alloc: Global, matches: &ArgMatches<'_>) -> Result<TraceOpti
     let file = text_of(alloc, matches, "FILE")?;
     Ok(TraceOptions {
         file,
+        model: model_of(matches),
         lax: is_lax(matches),
+        race_is_error: ends_at_race(matches),
     })
 }
 
@@ -220,7 +254,8 @@ fn answer_of(alloc: Global, name: &str, matches: &ArgMatches<'_>) -> Result<Aske
 
 /// Reads the words, the program's name first: `lrc run [FILE] [--tries N] [--lock KIND] [--journal]`,
 /// `lrc step [FILE] [--seed N | --schedule S] [--lock KIND] [--journal]`,
-/// `lrc explain [FILE] [--seed N | --schedule S] [--lock KIND] [--svg]`, `lrc sample [FILE] [--seeds N] [--lock KIND]`, `lrc explore [FILE] [--most N]` or `lrc check [FILE] [--lax]`.
+/// `lrc explain [FILE] [--seed N | --schedule S] [--lock KIND] [--svg]`, `lrc sample [FILE] [--seeds N] [--lock KIND]`,
+/// `lrc explore [FILE] [--most N]` or `lrc check [FILE] [--model NAME] [--lax] [--race-is-error]`.
 /// Help names the commands that the program has; the words of the others are read all the same.
 ///
 /// # Errors
@@ -231,7 +266,9 @@ pub fn options<'a>(alloc: Global, words: &'a [String], commands: Commands) -> Re
     ensures given { IfOk result (AreGivenOptions (map (λ w. string_bytes w) words.entry.now)) }
     ensures refused { IfErr result (IsRefusedCommandLine (map (λ w. string_bytes w) words.entry.now)) }
 {
-    match lrc_command(alloc, LOCKS.as_slice(), commands)?.try_get_matches_from(words) {
+    match lrc_command(alloc, LOCKS.as_slice(), MODELS.as_slice(), commands)?.try_get_matches_from(
+        words,
+    ) {
         Ok(matches) => match matches.subcommand() {
             Some((name, given)) => answer_of(alloc, name, given),
             None => unreachable!("a command is required"),

@@ -15,7 +15,7 @@ p 1\\nacquire 0\\nadd 0 1\\nrelease 0\\nshow 0\\n' | lrc step --journal
 
 Statuses: 0 done; 2 the script or the trace is refused; 3 no progress; 4 a limit, out of memory, a
 thread that couldn't be started, or a failed write; 5 usage, or the file can't be read; 6 the trace
-isn't faithful; 7 a search was given up.";
+isn't faithful; 7 a search was given up; 8 the trace races, with --race-is-error.";
 
 /// The same of a program that has `run` and `step` alone.
 pub(crate) const AFTER_RUN_AND_STEP: &str = "Example:
@@ -103,18 +103,27 @@ pub(crate) const TRACE: &str =
     "A trace is a script's line `cluster P N W L [G]`, and the lines `event I B ..` that --journal prints,
 numbered from 0: each event in order, and nothing else.
 
+What a load has to answer under each model; the other events are judged alike:
+  race-free               up to the first race the latest store of its past; from there on it isn't judged
+  happens-before          a latest store of its past, or a store before it in the trace that its past lacks
+  lazy-release            a latest store of its past, as this memory does; and fetches count what they bring
+  sequential              the last store before it in the trace
+
 What is printed:
-  events N                it has N events
-  faithful                such a memory can make each of them, but for what --lax leaves out:
+  events N                N events were judged: all, or those up to the lie and with it
+  model NAME              but for lazy-release
+  faithful                such a memory can make each of them, but for what isn't judged:
     unjudged counts order   with --lax: the counts of fetches, and the order of a lock's asks
+    unjudged N loads        under race-free: N loads from the first race on
     verdict race-free       or `racy`, and then the two events of the first race
     traffic M R W           M messages; R records with W words in all, as its fetches tell
-  unfaithful I            no such memory makes event I after those before it, which are faithful:
+  unfaithful I            no such memory makes event I after those before it, which are faithful; behind the
+                          race, if it has one by then:
     event I B ..            the event
     because ..              why; where a load may answer stores of others, their events follow
 
 Statuses: 0 faithful, racy or not; 2 no trace; 4 a limit, out of memory, or a failed write; 5 usage, or
-the file can't be read; 6 unfaithful.";
+the file can't be read; 6 unfaithful; 8 a race, with --race-is-error alone.";
 
 /// What the options are for.
 pub(crate) const TRIES: &str = "a thread gives up after N consecutive answers that it must wait";
@@ -137,6 +146,10 @@ pub(crate) const SVG: &str = "draws the run in place of its text: prints an SVG 
 
 pub(crate) const LAX: &str =
     "leaves out what only this memory asks: the order of a lock's asks, and counts of fetches";
+
+pub(crate) const MODEL: &str = "what the loads owe";
+
+pub(crate) const RACE_IS_ERROR: &str = "ends with the first race, and with status 8";
 
 /// The file that a command reads.
 pub(crate) const SCRIPT_FILE: &str = "the script; standard input where it isn't given";

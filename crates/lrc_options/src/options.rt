@@ -64,8 +64,21 @@ pub struct ExploreOptions {
 pub struct TraceOptions {
     /// The file to read the trace from, or None for standard input.
     pub file: Option<String>,
+    /// What the loads of the trace owe.
+    pub model: TraceModel,
     /// Whether what only this memory asks is left out.
     pub lax: bool,
+    /// Whether judging ends with a race, and the exit status tells it.
+    pub race_is_error: bool,
+}
+
+/// The model of memory by which a trace is judged.
+#[derive(Clone, Copy, Debug, PartialEq, Eq)]
+pub enum TraceModel {
+    RaceFree,
+    HappensBefore,
+    LazyRelease,
+    Sequential,
 }
 
 /// The tries if none are given.

@@ -22,7 +22,9 @@ const OPTIONS: [(&str, &str); 15] = [
     ("sample", "--seeds"),
     ("sample", "--lock"),
     ("explore", "--most"),
+    ("check", "--model"),
     ("check", "--lax"),
+    ("check", "--race-is-error"),
 ];
 
 /// A command that was given an option that it lacks, and a command that has it.

@@ -4,3 +4,4 @@ pub use Rattle.judge.specs.Sources.Stored.{AreKnown, IsLastBelow, NoneBelow}
 pub use Rattle.judge.specs.Sources.Last.{AreLast, IsFollowed, IsUnfollowed}
 pub use Rattle.judge.specs.Sources.Tells.{StoresAreKept, AreStoresOf, row_of}
 pub use Rattle.judge.specs.Sources.Answers.{AnswersLaw, IsFirstUnexplained, StaysLaw}
+pub use Rattle.judge.specs.Sources.Unordered.{AreUnorderedFrom, IsFirstFrom, IsPlaceWithin, IsUnorderedAt, SomeStores}

@@ -25,12 +25,12 @@ type LastStores = [Option<Stored>; 16];
 /// processor's timestamp has changed; and what the timestamps of locks, flags and open episodes take.
 #[derive(Drop)]
 pub struct Sources {
-    processors: usize,
-    addresses: usize,
-    clocks: Clocks,
+    pub(crate) processors: usize,
+    pub(crate) addresses: usize,
+    pub(crate) clocks: Clocks,
     known: Known,
     /// The stores in order: of each address a row for each processor, sixteen rows an address.
-    stores: Vec<Vec<Stored>>,
+    pub(crate) stores: Vec<Vec<Stored>>,
 }
 
 /// So many rows without a store.
@@ -47,7 +47,7 @@ fn no_stores(alloc: Global, count: usize) -> Result<Vec<Vec<Stored>>, AllocError
 }
 
 /// Whether the event stores this value.
-fn is_store_of(event: Event, value: u32) -> bool
+pub(crate) fn is_store_of(event: Event, value: u32) -> bool
     ensures { IsTrue result ↔ ((a : ℕ) × (event.kind ≡ Store a value)) }
 {
     match event.kind {

@@ -1,7 +1,7 @@
 //! Stores that a past may have, in order.
 ghost use Rattle.std.specs.Prelude.{◌≤◌, MatchOption};
 ghost use Rattle.base.specs.InOrderOnce.{InOrder};
-ghost use Rattle.judge.specs.Sources.Prelude.{IsLastBelow, NoneBelow};
+ghost use Rattle.judge.specs.Sources.Prelude.{IsFirstFrom, IsLastBelow, NoneBelow};
 
 /// A store. It takes 12 bytes.
 #[derive(Clone, Copy)]
@@ -14,12 +14,20 @@ pub(crate) struct Stored {
     pub(crate) time: u32,
 }
 
+/// Where the stores of intervals from the limit on begin, looked for by halving. Their intervals rise.
+pub(crate) fn first_from(stores: &[Stored], limit: usize) -> usize
+    requires { InOrder (λ s t. s.interval ≤ t.interval) stores.now }
+    ensures { IsFirstFrom stores.now limit result }
+{
+    stores.partition_point(|store| (store.interval as usize) < limit)
+}
+
 /// The last of these stores that is of an interval below the limit, looked for by halving. Their intervals rise.
 fn halve(stores: &[Stored], limit: usize) -> Option<Stored>
     requires { InOrder (λ s t. s.interval ≤ t.interval) stores.now }
     ensures { MatchOption result (NoneBelow stores.now limit) (IsLastBelow stores.now limit) }
 {
-    let count = stores.partition_point(|store| (store.interval as usize) < limit);
+    let count = first_from(stores, limit);
     if count == 0 {
         None
     } else {

@@ -4,8 +4,8 @@ ghost use Rattle.std.specs.Prelude.{◌≡◌};
 ghost use Rattle.judge.specs.Prelude.{AreSmall, sizes_of};
 
 use journal::{Event, Kind, MOST_HELD};
-use judge::Sizes;
-use lrc_check::{Checked, judge_history};
+use judge::{MemoryModel, Sizes};
+use lrc_check::{Rules, TraceVerdict, judge_history};
 use std::alloc::{AllocError, Global};
 use std::process::Abort;
 use std::test::Fail;
@@ -36,8 +36,14 @@ fn is_faithful<R: Abort + AllocGlobal>(
 ) -> Result<(), Fail> {
     assert!(rt; events.len() == 1 << 20);
     assert!(rt; events.len() <= MOST_HELD);
-    match judge_history(rt.alloc(), most(), events, false)? {
-        Checked::Faithful { race, .. } => assert!(rt; race == want),
+    let rules = Rules {
+        model: MemoryModel::LazyRelease,
+        lax: false,
+        ends_at_race: false,
+    };
+    let found = judge_history(rt.alloc(), most(), events, rules)?;
+    match found.verdict {
+        TraceVerdict::Faithful { .. } => assert!(rt; found.race == want),
         _ => assert!(rt; false),
     }
     Ok(())

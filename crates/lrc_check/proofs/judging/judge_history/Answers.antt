@@ -1,59 +1,97 @@
+use Rattle.std.proofs.Common.{◌≡◌, ℕ, ◌+◌, ◌<◌, ◌≤◌, [], ◌∷◌, ◌++◌, List, Some, length, take, slice_index_or, true, true≢false, subst, sym, ap, ◌∙◌, arith}
+use Rattle.std.specs.Prelude.{None}
+use Rattle.std.proofs.lemmas.List.{take_all}
+use Rattle.std.proofs.lemmas.Option.{slice_get-get_or}
+use Rattle.journal.specs.declared.event.Event.{Event}
+use Rattle.journal.specs.declared.event.Kind.TheVariants.{Load}
+use Rattle.journal.specs.DidEvent.{event}
+use Rattle.journal.proofs.Passes.NextClocks.{front_next}
 use Rattle.judge.specs.Sizes.{sizes_of}
-use Rattle.lrc_check.proofs.Firsts.{faithful_whole, ill_formed_checked, miscounted_checked, taken, taken_explained, unexplained_checked}
+use Rattle.lrc_check.specs.Checked.{IsChecked, IsRaceOf, raced}
+use Rattle.lrc_check.specs.Judged.{IsJudged}
+use Rattle.lrc_check.specs.declared.checked.TraceVerdict.TheVariants as verdict
+use Rattle.lrc_check.proofs.CheckedHistories.{accepted_by, checked_faithful, checked_lie, checked_racy, lie_by, race_read, unraced_free}
 use Rattle.lrc_check.proofs.judging.judge_history.Goals as goal
+use Rattle.lrc_check.proofs.judging.judge_history.Goals.{then-ends+in_default, else-ends}
 
-pub miscounted-requires-clause-well : goal.miscounted-requires-clause-well
-miscounted-requires-clause-well c =
-    let s = sizes_of c.args.sizes in
-    let events = c.args.events.now in
-    let front = c.front_of-front.result.now in
-    (taken_explained c.args.lax s events front c.explained_front.result.now c.in_ok-load.load
-    (taken c.args.lax s events front c.first_ill_formed-fault.result c.first_ill_formed-fault.ensures
-    c.front_of-front.ensures) c.in_ok-load.ensures c.explained_front.ensures).0.well
+-- the event at this place
+abbrev here : List Event → ℕ → Event
+here events place = slice_index_or events place (event 0 (Load 0 0))
+
+-- the events up to and with it
+next_events : (events : List Event) (place : ℕ) → place < length events
+    → take (place + 1) events ≡ take place events ++ here events place ∷ []
+next_events events place lt =
+    front_next events place (here events place) (slice_get-get_or events place (event 0 (Load 0 0)) lt)
+
+pub read-requires-clause-judged : goal.read-requires-clause-judged
+read-requires-clause-judged c = c.loop-place.invariant.judged
+
+pub loop-place-init : goal.loop-place-init
+loop-place-init c = record {
+  judged = c.in_ok-judge.ensures.judged;
+  model = c.in_ok-judge.ensures.model;
+  lax = c.in_ok-judge.ensures.lax;
+  sizes = c.in_ok-judge.ensures.sizes;
+  unraced = λ ends. c.in_ok-judge.ensures.race;
+}
 
 pub returns-in-Some : goal.returns-in-Some
 returns-in-Some c =
-    let s = sizes_of c.args.sizes in
+    let r = c.args.rules in
+    let t = c.args.sizes in
     let events = c.args.events.now in
-    let front = c.front_of-front.result.now in
-    let before = c.explained_front.result.now in
-    let found = rw c.in-Some.is at c.in_ok-fetch.ensures in
-    let both = taken_explained c.args.lax s events front before c.in_ok-load.load
-    (taken c.args.lax s events front c.first_ill_formed-fault.result c.first_ill_formed-fault.ensures
-    c.front_of-front.ensures) c.in_ok-load.ensures c.explained_front.ensures in
-    miscounted_checked c.args.lax s events before c.in-Some.fetch both.0 both.1 found.0 found.1
+    let place = c.loop-place.place in
+    let judge = c.loop-place.judge in
+    let lt = c.loop-place-test.true in
+    let old = c.loop-place.invariant in
+    let free = unraced_free (take place events) judge (old.unraced c.if-ends.true) old.judged in
+    let nearest = race_read judge.model judge.lax (sizes_of judge.sizes) events place c.read.new.self c.in_ok-lie.lie
+    c.in-Some.race lt free c.in_ok-lie.ensures.judged (sym c.race-so_far.ensures ∙ c.in-Some.is) in
+    subst (IsChecked r (sizes_of t) events) (sym c.ended.ensures)
+    (checked_racy r (sizes_of t) events place c.in-Some.race (here events place) lt (next_events events place lt)
+    (accepted_by r t (take place events) judge old.model old.lax old.sizes old.judged) free nearest)
 
-pub returns-in-Some-load : goal.returns-in-Some-load
-returns-in-Some-load c =
-    let s = sizes_of c.args.sizes in
+pub returns-in-Some-lie : goal.returns-in-Some-lie
+returns-in-Some-lie c =
+    let r = c.args.rules in
+    let t = c.args.sizes in
     let events = c.args.events.now in
-    let front = c.front_of-front.result.now in
-    let found = rw c.in-Some-load.is at c.in_ok-load.ensures in
-    let before = rw c.in-Some-load.is at c.explained_front.ensures in
-    let counted = rw c.in_default.is at c.in_ok-fetch.ensures in
-    unexplained_checked c.args.lax s events front c.explained_front.result.now c.in-Some-load.load
-    (taken c.args.lax s events front c.first_ill_formed-fault.result c.first_ill_formed-fault.ensures
-    c.front_of-front.ensures) found.0 found.1 before counted
+    let place = c.loop-place.place in
+    let judge = c.loop-place.judge in
+    let lt = c.loop-place-test.true in
+    let old = c.loop-place.invariant in
+    let told = rw c.in-Some-lie.is at c.in_ok-lie.ensures.judged in
+    checked_lie r (sizes_of t) events place c.race-so_far.result c.in-Some-lie.lie lt
+    (lie_by r t (take (place + 1) events) judge c.in-Some-lie.lie old.model old.lax old.sizes told.0)
+    (subst (IsRaceOf (raced c.in-Some-lie.lie (take (place + 1) events))) (sym c.race-so_far.ensures) told.1)
 
-pub returns-in-Some-fault : goal.returns-in-Some-fault
-returns-in-Some-fault c =
-    let s = sizes_of c.args.sizes in
-    let front = rw c.in-Some-fault.is at c.front_of-front.ensures in
-    let explained = rw c.in_default-load.is at c.in_ok-load.ensures in
-    let same = rw c.in_default-load.is at c.explained_front.ensures in
-    let counted = rw c.in_default.is at c.in_ok-fetch.ensures in
-    ill_formed_checked c.args.lax s c.args.events.now c.front_of-front.result.now c.explained_front.result.now
-    c.in-Some-fault.fault c.in-Some-fault.ensures front explained same counted
+pub loop-place-preserved : goal.loop-place-preserved
+loop-place-preserved c =
+    let old = c.loop-place.invariant in
+    record {
+      judged = rw c.in_default-lie.is at c.in_ok-lie.ensures.judged;
+      model = c.read.ensures.model ∙ old.model;
+      lax = c.read.ensures.lax ∙ old.lax;
+      sizes = c.read.ensures.sizes ∙ old.sizes;
+      unraced = λ ends. elim c.if-ends.branch [
+        | then-ends+in_default w ↦ sym c.race-so_far.ensures ∙ w.in_default.is
+        | else-ends w ↦ absurd (true≢false (sym ends ∙ w.if-ends.false))
+      ];
+    }
 
-pub returns-in_ok-race-in-None : goal.returns-in_ok-race-in-None
-returns-in_ok-race-in-None c =
-    let s = sizes_of c.args.sizes in
-    let front = rw c.in-None.is at c.front_of-front.ensures in
-    let explained = rw c.in_default-load.is at c.in_ok-load.ensures in
-    let same = rw c.in_default-load.is at c.explained_front.ensures in
-    let counted = rw c.in_default.is at c.in_ok-fetch.ensures in (
-      faithful_whole c.args.lax s c.args.events.now c.front_of-front.result.now c.explained_front.result.now
-          c.in-None.ensures front explained same counted,
-      c.in_ok-race-in-None.ensures.race,
-      c.in_ok-race-in-None.ensures.traffic,
-    )
+pub returns : goal.returns
+returns c =
+    let r = c.args.rules in
+    let t = c.args.sizes in
+    let events = c.args.events.now in
+    let place = c.loop-place.place in
+    let judge = c.loop-place.judge in
+    let old = c.loop-place.invariant in
+    let over = c.loop-place-test.false in
+    let all = take_all place events over in
+    let judged = subst (λ xs. IsJudged xs judge) all old.judged in
+    checked_faithful r (sizes_of t) events c.race-whole.result c.faithful.result c.faithful.ensures.count
+    c.faithful.ensures.race c.faithful.ensures.verdict
+    (accepted_by r t events judge old.model old.lax old.sizes judged)
+    (subst (IsRaceOf events) (sym c.race-whole.ensures) judged.race)

@@ -1,10 +1,10 @@
-use Rattle.std.proofs.Common.{sym, subst}
-use Rattle.lrc_commands.specs.JudgedTraces.{IsJudgedAs}
-use Rattle.lrc_commands.proofs.Judging.{judged_as}
+use Rattle.lrc_commands.proofs.Judging.{judged_as, judged_by}
 use Rattle.lrc_commands.proofs.checking.check_source.Goals as goal
 
 pub returns-clause-judged : goal.returns-clause-judged
 returns-clause-judged g c =
-    subst (IsJudgedAs c.args.lax _) (sym c.is_faithful.ensures)
-    (judged_as c.args.lax _ _ _ c.in_ok-found.found c.in_ok-trace.ensures.trace c.in_ok-trace.ensures.text
-    c.in_ok-found.ensures.found)
+    let found = c.in_ok-found.ensures.found in
+    judged_by c.rules_of-rules.result _ _ _ _ _ c.rules_of-rules.ensures.model c.rules_of-rules.ensures.lax
+    c.judgement_of.ensures
+    (judged_as c.rules_of-rules.result _ _ _ c.in_ok-found.found.count c.in_ok-found.found.race
+    c.in_ok-found.found.verdict c.in_ok-trace.ensures.trace c.in_ok-trace.ensures.text found.verdict found.whole)

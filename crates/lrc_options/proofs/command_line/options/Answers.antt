@@ -12,11 +12,11 @@ returns-in-Some-clause-given c =
     let app = c.in_ok-lrc_command.ensures.command.shape in
     let words = map (λ w. string_bytes w) c.args.words.now in
     let locks_are : map (λ s. s.now) c.as_slice.result.now ≡ codes "array" ∷ codes "ticket" ∷ [] = search rules in
-    let entered : subcommand_rows_of c.in-Ok.matches ≡ subcommand_of (lrc_rules (vp.Names c.as_slice.result)) words =
+    let entered : subcommand_rows_of c.in-Ok.matches ≡ subcommand_of (lrc_rules (vp.Names c.as_slice.result) (vp.Names c.as_slice-2.result)) words =
     (c.in-Ok.ensures.matches (ap is_simple app)).1 ∙ ap (λ (a : App). subcommand_of a words) app in
     let faults = no_fault _ _ _ c.in-Ok.is (c.try_get_matches_from.ensures.kinds (ap is_simple_and_free app)) in
-    given_by (vp.Names c.as_slice.result) words c.in-Some.name.now (rows_of (found_of c.in-Some.given.now)) c.answer_of.result
-    locks_are (sym (ap (λ (a : App). fault_of a words) app) ∙ faults)
+    given_by (vp.Names c.as_slice.result) (vp.Names c.as_slice-2.result) words c.in-Some.name.now (rows_of (found_of c.in-Some.given.now)) c.answer_of.result
+    locks_are (search rules) (sym (ap (λ (a : App). fault_of a words) app) ∙ faults)
     (sym entered ∙ named_option_rows _ _ _ _ _ c.in-Some.ensures.name c.in-Some.ensures.rows) c.answer_of.ensures.one
     c.answer_of.ensures.asked
 
@@ -25,16 +25,16 @@ returns-in-Some-clause-refused c =
     let app = c.in_ok-lrc_command.ensures.command.shape in
     let words = map (λ w. string_bytes w) c.args.words.now in
     let locks_are : map (λ s. s.now) c.as_slice.result.now ≡ codes "array" ∷ codes "ticket" ∷ [] = search rules in
-    let entered : subcommand_rows_of c.in-Ok.matches ≡ subcommand_of (lrc_rules (vp.Names c.as_slice.result)) words =
+    let entered : subcommand_rows_of c.in-Ok.matches ≡ subcommand_of (lrc_rules (vp.Names c.as_slice.result) (vp.Names c.as_slice-2.result)) words =
     (c.in-Ok.ensures.matches (ap is_simple app)).1 ∙ ap (λ (a : App). subcommand_of a words) app in
     let command = sym entered ∙ named_option_rows _ _ _ _ _ c.in-Some.ensures.name c.in-Some.ensures.rows in
-    if_err_map c.answer_of.result (λ e unanswered. refused_by (vp.Names c.as_slice.result) words c.in-Some.name.now
-    (rows_of (found_of c.in-Some.given.now)) e locks_are command unanswered) c.answer_of.ensures.unanswered
+    if_err_map c.answer_of.result (λ e unanswered. refused_by (vp.Names c.as_slice.result) (vp.Names c.as_slice-2.result) words c.in-Some.name.now
+    (rows_of (found_of c.in-Some.given.now)) e locks_are (search rules) command unanswered) c.answer_of.ensures.unanswered
 
 pub returns-in_err-lrc_command-clause-refused : goal.returns-in_err-lrc_command-clause-refused
 returns-in_err-lrc_command-clause-refused c =
     let answer = err_from_is_err_and c.from_residual.result c.from_residual.ensures.1 in
-    rw answer.1 (out_of_memory (vp.Names c.as_slice.result) _ _ (search rules) answer.2)
+    rw answer.1 (out_of_memory (vp.Names c.as_slice.result) (vp.Names c.as_slice-2.result) _ _ (search rules) (search rules) answer.2)
 
 pub returns-in_ok-with_tip-in-Err-clause-refused : goal.returns-in_ok-with_tip-in-Err-clause-refused
 returns-in_ok-with_tip-in-Err-clause-refused c =
@@ -45,6 +45,8 @@ returns-in_ok-with_tip-in-Err-clause-refused c =
     record {
       locks = vp.Names c.as_slice.result;
       locks_are = search rules;
+      models = vp.Names c.as_slice-2.result;
+      models_are = search rules;
       kind = inl (same_kind _ fault c.in_ok-with_tip-in-Err.field-0 c.in_ok-with_tip-in-Err.ensures
           (subst (λ (a : App). HasKind (fault_of a words) fault) app fails));
     }
@@ -54,4 +56,4 @@ returns-in_err-with_tip-in-Err-clause-refused c =
     let answer =
     err_from_is_err_and c.from_residual-in_err-with_tip-in-Err.result
     c.from_residual-in_err-with_tip-in-Err.ensures.1 in
-    rw answer.1 (out_of_memory (vp.Names c.as_slice.result) _ _ (search rules) answer.2)
+    rw answer.1 (out_of_memory (vp.Names c.as_slice.result) (vp.Names c.as_slice-2.result) _ _ (search rules) (search rules) answer.2)

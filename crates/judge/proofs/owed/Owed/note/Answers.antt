@@ -1,0 +1,70 @@
+use Rattle.std.proofs.Common.{◌≡◌, ◌+◌, ℕ, List, take, slice_index_or, subst, sym, ◌∙◌, arith}
+use Rattle.std.specs.Prelude.{Result, Ok, Err, OnOk}
+use Rattle.std.proofs.lemmas.Option.{slice_get-get_or}
+use Rattle.std.proofs.lemmas.List.{length-take-le}
+use Rattle.journal.specs.declared.event.Event.{Event}
+use Rattle.journal.specs.declared.event.Kind.TheVariants.{Load}
+use Rattle.journal.specs.DidEvent.{event}
+use Rattle.journal.specs.Sizes.{Sizes, addresses}
+use Rattle.journal.proofs.Passes.NextClocks.{front_next}
+use Rattle.judge.specs.declared.sources.readable.Sources.{Sources}
+use Rattle.judge.specs.FlatMemory.{IsMemoryAfter}
+use Rattle.judge.specs.Owed.{AreOwedBy, AreSourcesOf}
+use Rattle.judge.specs.Sources.Tells.{AreStoresOf}
+use Rattle.judge.proofs.InRange.{address_in}
+use Rattle.judge.proofs.owed.Owed.note.Goals as goal
+
+-- what success gives gives more
+given : {E P Q : Type 0} (r : Result (Unit {0}) E) → (P → Q) → OnOk r P → OnOk r Q
+given (Ok x) f p = f p
+given (Err e) f p = tt
+
+-- the sources after the event
+sources_next : (s : Sizes) (j now : List Event) (x y : Sources) → AreSourcesOf s j x → AreStoresOf now y
+    → y.processors ≡ x.processors → y.addresses ≡ x.addresses → AreSourcesOf s now y
+sources_next s j now x y old tells processors places = record {
+  tells = tells;
+  processors = processors ∙ old.processors;
+  addresses = places ∙ old.addresses;
+}
+
+pub returns-in-RaceFree : goal.returns-in-RaceFree
+returns-in-RaceFree c =
+    given c.note.result
+    (λ tells m s owed range. (let o = subst (AreOwedBy m s (take c.args.place c.args.events.now)) c.in-RaceFree.is owed in (
+      o.0,
+      sources_next s (take c.args.place c.args.events.now) (take (c.args.place + 1) c.args.events.now)
+          c.in-RaceFree.sources c.note.new.self o.1 tells c.note.ensures.processors c.note.ensures.addresses,
+    )))
+    c.note.ensures.tells
+
+pub returns-in-HappensBefore : goal.returns-in-HappensBefore
+returns-in-HappensBefore c =
+    given c.note-in-HappensBefore.result
+    (λ tells m s owed range. (let o = subst (AreOwedBy m s (take c.args.place c.args.events.now)) c.in-HappensBefore.is owed in (
+      o.0,
+      sources_next s (take c.args.place c.args.events.now) (take (c.args.place + 1) c.args.events.now)
+          c.in-HappensBefore.sources c.note-in-HappensBefore.new.self o.1 tells c.note-in-HappensBefore.ensures.processors c.note-in-HappensBefore.ensures.addresses,
+    )))
+    c.note-in-HappensBefore.ensures.tells
+
+pub returns-in-LazyRelease : goal.returns-in-LazyRelease
+returns-in-LazyRelease c =
+    given c.note-in-LazyRelease.result
+    (λ tells m s owed range. (let o = subst (AreOwedBy m s (take c.args.place c.args.events.now)) c.in-LazyRelease.is owed in (
+      o.0,
+      sources_next s (take c.args.place c.args.events.now) (take (c.args.place + 1) c.args.events.now)
+          c.in-LazyRelease.sources c.note-in-LazyRelease.new.self o.1 tells c.note-in-LazyRelease.ensures.processors c.note-in-LazyRelease.ensures.addresses,
+    )))
+    c.note-in-LazyRelease.ensures.tells
+
+pub returns-in-Sequential : goal.returns-in-Sequential
+returns-in-Sequential c = λ m s owed range.
+    let events = c.args.events.now in
+    let place = c.args.place in
+    let e = slice_index_or events place (event 0 (Load 0 0)) in
+    let at = slice_get-get_or events place (event 0 (Load 0 0)) c.requires.place in
+    let o = subst (AreOwedBy m s (take place events)) c.in-Sequential.is owed in
+    let long = length-take-le place events (omega (arith, c.requires.place)) in
+    let next = c.note-in-Sequential.ensures (take place events) (addresses s) o.1 (address_in s e.kind (range place e at).kind) long in
+    (o.0, subst (λ xs. IsMemoryAfter xs (addresses s) c.note-in-Sequential.new.self) (sym (front_next events place e at)) next)

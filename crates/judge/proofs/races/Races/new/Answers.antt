@@ -1,0 +1,28 @@
+use Rattle.std.proofs.Common.{◌≡◌, ℕ, ◌*◌, Option, Some, sym, ap, ◌∙◌, arith}
+use Rattle.std.specs.Prelude.{None, SomeIff}
+use Rattle.std.specs.Result.{result_ok}
+use Rattle.std.proofs.lemmas.Option.{none-some, same_Some}
+use Rattle.judge.specs.NearestRaces.{accesses_to, stores_to}
+use Rattle.judge.proofs.Racing.{rows_start}
+use Rattle.judge.proofs.races.Races.new.Goals as goal
+
+-- a result that is there is the value
+some_value : (o : Option ℕ) (P : Type 0) (v x : ℕ) → SomeIff o P v → o ≡ Some x → x ≡ v
+some_value None P v x h is = absurd (none-some x is)
+some_value (Some y) P v x h is = sym (same_Some y x is) ∙ h.1
+
+pub returns-clause-tells : goal.returns-clause-tells
+returns-clause-tells c =
+    let rows = some_value c.checked_mul.result _ (c.args.addresses * 16) c.in_ok-rows.rows c.checked_mul.ensures
+    (c.ok_or.ensures.ok_part ∙ ap result_ok c.in_ok-rows.was) in
+    record {
+      clocks = c.in_ok-new.ensures.clocks;
+      present = c.in_ok-new.ensures.present;
+      processors = λ i e at. absurd (none-some e at);
+      kept = record {
+        stores = rows_start stores_to c.in_ok-no_accesses.field-0.items c.in_ok-no_accesses.ensures.none;
+        accesses = rows_start accesses_to c.in_ok-no_accesses-2.field-0.items c.in_ok-no_accesses-2.ensures.none;
+        stores_long = c.in_ok-no_accesses.ensures.long ∙ rows;
+        accesses_long = c.in_ok-no_accesses-2.ensures.long ∙ rows;
+      };
+    }

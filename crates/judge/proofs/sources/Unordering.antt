@@ -1,0 +1,139 @@
+-- Stores that a load's past doesn't have.
+use Rattle.std.proofs.Common.{◌≡◌, ◌≢◌, ℕ, ◌+◌, ◌<◌, ◌≤◌, ◌⊎◌, inl, inr, ◌↔◌, List, [], ◌∷◌, ◌++◌, length, Some, slice_get, subst, sym, refl, ap, ◌∙◌, arith}
+use Rattle.std.proofs.lemmas.Bool.{cases_eq, cases_lt}
+use Rattle.std.proofs.lemmas.Option.{same_Some, slice_get_within}
+use Rattle.std.proofs.Math.Seq.{take-append_seam}
+use Rattle.base.specs.InOrderOnce.{Has}
+use Rattle.base.proofs.SlicesAndCounts.{push_cases, slice_get-append_left, slice_get-last}
+use Rattle.journal.specs.declared.event.Event.{Event}
+use Rattle.journal.specs.declared.event.Kind.{Kind}
+use Rattle.journal.specs.declared.event.Kind.TheVariants.{Load, Store}
+use Rattle.journal.specs.DidEvent.{did, event}
+use Rattle.journal.specs.Events.{At, interval_at, is_closing}
+use Rattle.journal.specs.HappensBeforeEdges.{HappensBefore}
+use Rattle.journal.specs.HappensBeforeEdges.Link.{same}
+use Rattle.journal.specs.HappensBeforeEdges.HappensBefore.{edge}
+use Rattle.journal.specs.WellFormed.{Does}
+use Rattle.journal.specs.Times.{IsTimeOf}
+use Rattle.journal.proofs.Order.CountedAndNumbered.{at_last, at_longer, at_within, count_of-front}
+use Rattle.journal.proofs.Times.Uses.{ordered_before}
+use Rattle.judge.specs.declared.sources.stored.Stored.{Stored}
+use Rattle.judge.specs.Models.{UnorderedStore}
+use Rattle.judge.specs.Sources.Stored.{AreStored, IsStoreOf}
+use Rattle.judge.specs.Sources.Unordered.{AreUnorderedFrom, IsFirstFrom, IsUnorderedAt, SomeStores}
+
+-- the load doesn't store
+load_no_store : (a v b w p q : ℕ) → event p (Load a v) ≡ event q (Store b w) → ⊥
+load_no_store a v b w p q e = let k = ap (λ (x : Event). x.kind) e in absurd cc
+
+-- the stores before the load are the journal's
+pub store_before_load : (j : List Event) (p a v i q b w : ℕ) → Does (did j p (Load a v)) i q (Store b w)
+    → Does j i q (Store b w)
+store_before_load j p a v i q b w does = elim (push_cases j (event p (Load a v)) i (event q (Store b w)) does) [
+  | inl old ↦ old.1
+  | inr new ↦ absurd (load_no_store a v b w p q new.1)
+]
+
+-- what a processor has done is before its load
+pub own_before_load : (j : List Event) (p a v i : ℕ) (k : Kind) → Does j i p k
+    → HappensBefore (did j p (Load a v)) i (length j)
+own_before_load j p a v i k does = edge (record {
+  before = at_within j i (event p k) does;
+  from = event p k;
+  to = event p (Load a v);
+  from_at = at_longer j (event p (Load a v) ∷ []) i (event p k) does;
+  to_at = at_last j (event p (Load a v));
+  link = same refl;
+})
+
+-- another's store is before the load exactly where the timestamp before it counts the interval
+store_counted : (j : List Event) (p a v q i w : ℕ) (t : ℕ → ℕ) → IsTimeOf j p t → q ≢ p → Does j i q (Store a w)
+    → HappensBefore (did j p (Load a v)) i (length j) ↔ (interval_at j q i < t q)
+store_counted j p a v q i w t time apart does =
+    let lt = at_within j i (event q (Store a w)) does in
+    let front = take-append_seam j (event p (Load a v) ∷ []) in
+    let tells = ordered_before (did j p (Load a v)) (length j) p q i (Store a w) (Load a v) t
+    (subst (λ xs. IsTimeOf xs p t) (sym front) time)
+    (at_longer j (event p (Load a v) ∷ []) i (event q (Store a w)) does) (at_last j (event p (Load a v))) refl apart lt in
+    let number = count_of-front is_closing j (event p (Load a v) ∷ []) i q (omega arith) in
+    ((λ h. (let below = tells.0 h in omega arith)), (λ below. tells.1 (omega arith)))
+
+-- the stores of intervals that the timestamp doesn't count are those that the past doesn't have
+pub unordered_from : (j : List Event) (times : List (List ℕ)) (p a q : ℕ) (t : ℕ → ℕ) (stores : List Stored) (from : ℕ)
+    → IsTimeOf j p t → q ≢ p → AreStored j times a q stores → IsFirstFrom stores (t q) from
+    → AreUnorderedFrom j p a q stores from
+unordered_from j times p a q t stores from time apart are first = record {
+  within = first.within;
+  inside = λ n x at. (let is = are.each n x at in at_within j x.place (event q (Store a is.value)) is.does);
+  sound = λ n x le at. (let is = are.each n x at in (
+    is.value,
+    is.does,
+    λ w before. (let below = (store_counted j p a w q x.place is.value t time apart is.does).0 before in
+        let above = first.above n x le at in
+        let interval = is.interval in
+        omega arith),
+  ));
+  complete = λ i v w does free. complete i v w does free;
+}
+  where
+    complete : (i v w : ℕ) → Does j i q (Store a v) → ¬ HappensBefore (did j p (Load a w)) i (length j)
+        → (n : ℕ) × (x : Stored) × (from ≤ n) × (slice_get stores n ≡ Some x) × (x.place ≡ i)
+    complete i v w does free =
+        let all = are.all i v does in
+        let x = all.0 in
+        let n = all.1.0 in
+        let at = all.1.1 in
+        let is = are.each n x at in
+        let place = all.2 in
+        elim (cases_lt n from) [
+          | inl lt ↦
+              (let below = first.below n x lt at in
+              let interval = is.interval in
+              let before = (store_counted j p a w q x.place is.value t time apart is.does).1 (omega arith) in
+              absurd (free (subst (λ m. HappensBefore (did j p (Load a w)) m (length j)) place before)))
+          | inr le ↦ (n, x, le, at, place)
+        ]
+
+-- one of them is of the value exactly where the load has an unordered store of its processor
+pub some_unordered : (j : List Event) (p a v q from : ℕ) (stores : List Stored) → AreUnorderedFrom j p a q stores from
+    → SomeStores j stores from v → UnorderedStore (did j p (Load a v)) (length j) a v
+some_unordered j p a v q from stores are x =
+    let found = are.sound x.index x.store x.from_on x.at in
+    let one : event q (Store a found.0) ≡ x.event = same_Some (event q (Store a found.0)) x.event (sym found.1 ∙ x.there) in
+    let value : found.0 ≡ v = values a found.0 x.address v q x.event one x.is in
+    record {
+      place = x.store.place;
+      by = q;
+      stores = at_longer j (event p (Load a v) ∷ []) x.store.place (event q (Store a v))
+          (subst (λ w. Does j x.store.place q (Store a w)) value found.1);
+      before = at_within j x.store.place (event q (Store a found.0)) found.1;
+      unordered = found.2 v;
+    }
+  where
+    values : (b w c u r : ℕ) (e : Event) → event r (Store b w) ≡ e → e.kind ≡ Store c u → w ≡ u
+    values b w c u r e is kind = (let k : Store b w ≡ Store c u = ap (λ (z : Event). z.kind) is ∙ kind in store_value b w c u k)
+      where
+        store_value : (b w c u : ℕ) → Store b w ≡ Store c u → w ≡ u
+        store_value b w c u k = cc
+
+pub unordered_some : (j : List Event) (p a v q from : ℕ) (stores : List Stored) → AreUnorderedFrom j p a q stores from
+    → (x : UnorderedStore (did j p (Load a v)) (length j) a v) → x.by ≡ q → SomeStores j stores from v
+unordered_some j p a v q from stores are x by =
+    let does = subst (λ r. Does j x.place r (Store a v)) by (store_before_load j p a v x.place x.by a v x.stores) in
+    let found = are.complete x.place v v does x.unordered in
+    record {
+      index = found.0;
+      store = found.1;
+      from_on = found.2;
+      at = found.3;
+      event = event q (Store a v);
+      there = subst (λ n. Does j n q (Store a v)) (sym found.4) does;
+      address = a;
+      is = refl;
+    }
+
+-- an unordered store is another processor's
+pub unordered_apart : (j : List Event) (p a w v : ℕ) (x : UnorderedStore (did j p (Load a w)) (length j) a v) → x.by ≢ p
+unordered_apart j p a w v x is =
+    x.unordered (own_before_load j p a w x.place (Store a v)
+    (subst (λ q. Does j x.place q (Store a v)) is (store_before_load j p a w x.place x.by a v x.stores)))

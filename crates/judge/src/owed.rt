@@ -1,0 +1,158 @@
+//! What the loads of a history owe under a model.
+ghost use Rattle.std.specs.Prelude.{◌≡◌, ◌↔◌, ℕ, ◌+◌, ◌<◌, ◌≤◌, [], ◌∷◌, ◌++◌, Bool, IfOk, IsTrue, List, OnOk, Some, length, slice_get, take};
+ghost use Rattle.base.specs.Prelude.{most_held, most_processors};
+ghost use Rattle.journal.specs.declared.event.Event.{Event};
+ghost use Rattle.journal.specs.declared.event.Kind.TheVariants.{Load};
+ghost use Rattle.journal.specs.Sizes.{Sizes as TheSizes, addresses};
+ghost use Rattle.journal.specs.Prelude.{did, event as an_event};
+ghost use Rattle.judge.specs.declared.models.MemoryModel.{MemoryModel as AModel};
+ghost use Rattle.judge.specs.Prelude.{AreOwedBy, ArePermitted, AreSmall, IsOwed, IsRacyWith, IsWithin, sizes_of};
+
+use crate::flat_memory::FlatMemory;
+use crate::models::MemoryModel;
+use crate::permitted::Permitted;
+use crate::sizes::Sizes;
+use crate::sources::Sources;
+use journal::{Event, Kind};
+use std::alloc::{AllocError, Global};
+
+/// A history, taken an event at a time, of which it tells what a load that comes next owes under a model.
+#[derive(Drop)]
+pub enum Owed {
+    /// Under `MemoryModel::RaceFree`.
+    RaceFree(Sources),
+    /// Under `MemoryModel::HappensBefore`.
+    HappensBefore(Sources),
+    /// Under `MemoryModel::LazyRelease`.
+    LazyRelease(Sources),
+    /// Under `MemoryModel::Sequential`.
+    Sequential(FlatMemory),
+}
+
+impl Owed {
+    /// Before the first event of a history of these sizes. The only error is running out of memory.
+    pub fn new(alloc: Global, model: MemoryModel, sizes: Sizes) -> Result<Owed, AllocError>
+        requires { AreSmall (sizes_of sizes) }
+        ensures { IfOk result (AreOwedBy model (sizes_of sizes) []) }
+    {
+        let addresses = sizes.pages * sizes.words;
+        match model {
+            MemoryModel::RaceFree => {
+                let sources = Sources::new(alloc, sizes.processors, addresses)?;
+                Ok(Owed::RaceFree(sources))
+            }
+            MemoryModel::HappensBefore => {
+                let sources = Sources::new(alloc, sizes.processors, addresses)?;
+                Ok(Owed::HappensBefore(sources))
+            }
+            MemoryModel::LazyRelease => {
+                let sources = Sources::new(alloc, sizes.processors, addresses)?;
+                Ok(Owed::LazyRelease(sources))
+            }
+            MemoryModel::Sequential => {
+                let memory = FlatMemory::new(alloc, addresses)?;
+                Ok(Owed::Sequential(memory))
+            }
+        }
+    }
+
+    /// Whether a load of the address by this processor that comes next may answer the value. `is_racy` says whether there
+    /// is a race then.
+    fn may_answer(
+        &self,
+        events: &[Event],
+        processor: usize,
+        address: usize,
+        value: u32,
+        is_racy: bool,
+    ) -> bool
+        requires { (m : AModel) × (s : TheSizes) × AreOwedBy m s events.now self.now
+            × (processor < s.processors) × (address < addresses s) }
+        ensures { (m : AModel) (s : TheSizes) → AreOwedBy m s events.now self.now
+            → processor < s.processors → address < addresses s
+            → IsRacyWith events.now (an_event processor (Load address value)) is_racy
+            → IsTrue result ↔ IsOwed m s (did events.now processor (Load address value)) (length events.now) address value }
+    {
+        match self {
+            Owed::RaceFree(sources) => {
+                is_racy || sources.may_answer(events, processor, address, value)
+            }
+            Owed::HappensBefore(sources) => {
+                sources.may_answer(events, processor, address, value)
+                    || sources.has_unordered(events, processor, address, value)
+            }
+            Owed::LazyRelease(sources) => sources.may_answer(events, processor, address, value),
+            Owed::Sequential(memory) => memory.has(address, value),
+        }
+    }
+
+    /// Whether the event, which comes next after these, answers what it owes, if it is a load. `is_racy` says whether there
+    /// is a race with it.
+    pub fn is_paid(&self, events: &[Event], event: Event, is_racy: bool) -> bool
+        requires { (m : AModel) × (s : TheSizes) × AreOwedBy m s events.now self.now × IsWithin s event }
+        ensures { (m : AModel) (s : TheSizes) → AreOwedBy m s events.now self.now → IsWithin s event
+            → IsRacyWith events.now event is_racy
+            → IsTrue result ↔ ((a v : ℕ) → event.kind ≡ Load a v
+            → IsOwed m s (events.now ++ event ∷ []) (length events.now) a v) }
+    {
+        match event.kind {
+            Kind::Load(address, value) => {
+                self.may_answer(events, event.processor, address, value, is_racy)
+            }
+            _ => true,
+        }
+    }
+
+    /// What a load of the address by this processor that comes next may answer. The only error is running out of memory.
+    pub fn permitted(
+        &self,
+        alloc: Global,
+        processor: usize,
+        address: usize,
+    ) -> Result<Permitted, AllocError>
+        requires { (m : AModel) × (s : TheSizes) × (j : List Event) × AreOwedBy m s j self.now
+            × (processor < s.processors) × (address < addresses s) }
+        ensures { IfOk result (λ x. (m : AModel) (s : TheSizes) (j : List Event) → AreOwedBy m s j self.now
+            → processor < s.processors → address < addresses s → (v : ℕ)
+            → ArePermitted m (did j processor (Load address v)) (length j) address x) }
+    {
+        match self {
+            Owed::RaceFree(sources) => {
+                let latest = sources.before(processor, address);
+                Ok(Permitted::Latest(latest))
+            }
+            Owed::LazyRelease(sources) => {
+                let latest = sources.before(processor, address);
+                Ok(Permitted::Latest(latest))
+            }
+            Owed::HappensBefore(sources) => {
+                let latest = sources.before(processor, address);
+                let unordered = sources.unordered(alloc, processor, address)?;
+                Ok(Permitted::Heard(latest, unordered))
+            }
+            Owed::Sequential(memory) => Ok(Permitted::Last(memory.last_store(address))),
+        }
+    }
+
+    /// Takes note of the event at this place, the next one. The only error is running out of memory, after which it may
+    /// tell no history.
+    pub fn note(&mut self, events: &[Event], place: usize) -> Result<(), AllocError>
+        requires place { place < length events.now }
+        requires few { length events.now ≤ most_held + most_processors }
+        requires so_far { (m : AModel) × (s : TheSizes) × AreOwedBy m s (take place events.now) self.old
+            × ((k : ℕ) (e : Event) → slice_get events.now k ≡ Some e → IsWithin s e) }
+        ensures { OnOk result ((m : AModel) (s : TheSizes) → AreOwedBy m s (take place events.now) self.old
+            → ((k : ℕ) (e : Event) → slice_get events.now k ≡ Some e → IsWithin s e)
+            → AreOwedBy m s (take (place + 1) events.now) self.new) }
+    {
+        match self {
+            Owed::RaceFree(sources) => sources.note(events, place),
+            Owed::HappensBefore(sources) => sources.note(events, place),
+            Owed::LazyRelease(sources) => sources.note(events, place),
+            Owed::Sequential(memory) => {
+                memory.note(events[place], place);
+                Ok(())
+            }
+        }
+    }
+}

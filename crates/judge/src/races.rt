@@ -1,0 +1,187 @@
+//! The race that is nearest to an event.
+ghost use Rattle.std.specs.Prelude.{◌≡◌, ◌↔◌, ◌⊎◌, ℕ, ◌+◌, ◌*◌, ◌<◌, ◌≤◌, ◌^◌, [], ◌∷◌, ◌++◌, IfOk, IfSome, OnOk, List};
+ghost use Rattle.std.specs.Prelude.{Some, Option, length, slice_get, slice_index, take, vec_len};
+ghost use Rattle.base.specs.Prelude.{most_held, most_processors};
+ghost use Rattle.journal.specs.declared.event.Event.{Event};
+ghost use Rattle.journal.specs.Prelude.{AddressInRange, AddressesInRange, ProcessorsInRange};
+ghost use Rattle.judge.specs.declared.races.Access.{Access};
+ghost use Rattle.judge.specs.Prelude.{AccessesAreKept, AreRacesOf, IsLastUncounted, IsNearestTo, IsUncounted};
+
+use journal::{Clock, Clocks, Event, Kind};
+use std::alloc::{AllocError, Global};
+
+/// A processor's last access of some kinds to an address.
+#[derive(Clone, Copy)]
+pub(crate) struct Access {
+    /// The place of its event.
+    pub(crate) place: u32,
+    /// How many intervals its processor had closed before it.
+    pub(crate) interval: u32,
+}
+
+/// A history, taken an event at a time, of which it tells which of its accesses race with one that comes next.
+///
+/// Of two accesses of a processor the later one is known to less. So each processor's last store to an address and its
+/// last access of it tell all. It takes memory in the order of the addresses times the processors.
+#[derive(Drop)]
+pub struct Races {
+    processors: usize,
+    addresses: usize,
+    clocks: Clocks,
+    /// Of each address and processor the last store.
+    stores: Vec<Option<Access>>,
+    /// The last load or store.
+    accesses: Vec<Option<Access>>,
+}
+
+/// The place of the access, if it is another processor's and the timestamp doesn't count its interval.
+fn uncounted(
+    rows: &[Option<Access>],
+    row: usize,
+    time: &Clock,
+    processor: usize,
+    by: usize,
+) -> Option<usize>
+    requires within { row + by < length rows.now }
+    requires by { by < 16 }
+    ensures { (i : ℕ) → (result ≡ Some i) ↔ IsUncounted rows.now row (slice_index time.now) processor by i }
+{
+    let access = rows[row + by]?;
+    if by == processor || access.interval < time[by] {
+        None
+    } else {
+        Some(access.place as usize)
+    }
+}
+
+/// The later of the two places.
+fn later(nearest: Option<usize>, place: usize) -> usize
+    ensures place { place ≤ result }
+    ensures nearest { IfSome nearest (λ n. n ≤ result) }
+    ensures one { (result ≡ place) ⊎ (nearest ≡ Some result) }
+{
+    match nearest {
+        Some(near) => { if near > place { near } else { place } }
+        None => place,
+    }
+}
+
+/// The last access of the row's first `count` processors that is another processor's, and whose interval the timestamp
+/// doesn't count.
+fn last_uncounted(
+    rows: &[Option<Access>],
+    row: usize,
+    count: usize,
+    time: &Clock,
+    processor: usize,
+) -> Option<usize>
+    requires within { row + count ≤ length rows.now }
+    requires count { count ≤ 16 }
+    ensures { IsLastUncounted rows.now row (slice_index time.now) processor count result }
+{
+    let mut nearest = None;
+    for by in 0..count {
+        if let Some(place) = uncounted(rows, row, time, processor, by) {
+            nearest = Some(later(nearest, place));
+        }
+    }
+    nearest
+}
+
+/// So many rows without an access.
+fn no_accesses(alloc: Global, rows: usize) -> Result<Vec<Option<Access>>, AllocError>
+    ensures long { IfOk result (λ v. vec_len v ≡ rows) }
+    ensures none { IfOk result (λ v. (r : ℕ) (o : Option Access) → slice_get v.items r ≡ Some o → None ≡ o) }
+{
+    vec![in alloc; None; rows]
+}
+
+impl Races {
+    /// Before the first event, of a history of `processors` processors, at most `MOST_PROCESSORS`, and `addresses`
+    /// addresses. The only error is running out of memory.
+    pub fn new(alloc: Global, processors: usize, addresses: usize) -> Result<Races, AllocError>
+        requires { processors ≤ most_processors }
+        ensures tells { IfOk result (AreRacesOf []) }
+        ensures processors { IfOk result (λ x. x.processors ≡ processors) }
+        ensures addresses { IfOk result (λ x. x.addresses ≡ addresses) }
+    {
+        let rows = addresses.checked_mul(16).ok_or(AllocError)?;
+        Ok(Races {
+            processors,
+            addresses,
+            clocks: Clocks::new(alloc, processors)?,
+            stores: no_accesses(alloc, rows)?,
+            accesses: no_accesses(alloc, rows)?,
+        })
+    }
+
+    /// The place of the last event that races with this one, which comes next; None where none does. It takes time in the
+    /// order of the processors.
+    pub fn nearest(&self, event: Event) -> Option<usize>
+        requires tells { (j : List Event) × AreRacesOf j self.now }
+        requires processor { event.processor < self.now.processors }
+        requires address { AddressInRange self.now.addresses event.kind }
+        ensures { (j : List Event) → AreRacesOf j self.now → IsNearestTo j event result }
+    {
+        let processor = event.processor;
+        let time = self.clocks.of(processor);
+        match event.kind {
+            Kind::Load(address, _) => {
+                last_uncounted(&self.stores, address * 16, self.processors, time, processor)
+            }
+            Kind::Store(address, _) => {
+                last_uncounted(
+                    &self.accesses,
+                    address * 16,
+                    self.processors,
+                    time,
+                    processor,
+                )
+            }
+            _ => None,
+        }
+    }
+
+    /// Keeps the event, which comes at this place, but for the timestamps so far.
+    fn keep(&mut self, event: Event, place: usize)
+        requires tells { (j : List Event) × AreRacesOf j self.old × (length j ≡ place) }
+        requires processor { event.processor < self.old.processors }
+        requires address { AddressInRange self.old.addresses event.kind }
+        requires few { place < 2 ^ 22 }
+        ensures clocks { self.new.clocks ≡ self.old.clocks }
+        ensures processors { self.new.processors ≡ self.old.processors }
+        ensures addresses { self.new.addresses ≡ self.old.addresses }
+        ensures kept { (j : List Event) → AreRacesOf j self.old → length j ≡ place
+            → AccessesAreKept (j ++ event ∷ []) self.new }
+    {
+        let processor = event.processor;
+        let access = Some(Access {
+            place: place as u32,
+            interval: self.clocks.of(processor)[processor],
+        });
+        match event.kind {
+            Kind::Load(address, _) => self.accesses[address * 16 + processor] = access,
+            Kind::Store(address, _) => {
+                self.accesses[address * 16 + processor] = access;
+                self.stores[address * 16 + processor] = access;
+            }
+            _ => {}
+        }
+    }
+
+    /// Takes note of the event at this place, the next one. The only error is running out of memory, after which it may
+    /// tell no history.
+    pub fn note(&mut self, events: &[Event], place: usize) -> Result<(), AllocError>
+        requires place { place < length events.now }
+        requires few { length events.now ≤ most_held + most_processors }
+        requires processors { ProcessorsInRange self.old.processors events.now }
+        requires addresses { AddressesInRange self.old.addresses events.now }
+        requires so_far { AreRacesOf (take place events.now) self.old }
+        ensures tells { OnOk result (AreRacesOf (take (place + 1) events.now) self.new) }
+        ensures processors { self.new.processors ≡ self.old.processors }
+        ensures addresses { self.new.addresses ≡ self.old.addresses }
+    {
+        self.keep(events[place], place);
+        self.clocks.note(events, place)
+    }
+}

@@ -1,0 +1,123 @@
+use Rattle.std.proofs.Common.{◌≡◌, ℕ, ◌+◌, ◌<◌, ◌≤◌, [], ◌∷◌, ◌++◌, List, Some, length, take, slice_index_or, subst, sym, ◌∙◌, arith}
+use Rattle.std.proofs.lemmas.List.{take_all}
+use Rattle.std.proofs.lemmas.Option.{slice_get-get_or}
+use Rattle.journal.specs.declared.event.Event.{Event}
+use Rattle.journal.specs.declared.event.Kind.TheVariants.{Load}
+use Rattle.journal.specs.DidEvent.{event}
+use Rattle.journal.specs.Events.{At}
+use Rattle.journal.proofs.Passes.NextClocks.{front_next}
+use Rattle.judge.specs.Gaps.{TellsGaps}
+use Rattle.judge.specs.Lax.{MayFollowLax}
+use Rattle.judge.specs.Miscounted.{IsWithin}
+use Rattle.judge.specs.NearestRaces.{AreRacesOf}
+use Rattle.judge.specs.Owed.{AreOwedBy}
+use Rattle.judge.specs.Sizes.{sizes_of}
+use Rattle.judge.specs.Tells.{IsFrontOf}
+use Rattle.judge.proofs.Fronts.{may_lax_in}
+use Rattle.lrc_check.specs.declared.judging.TraceJudge.{TraceJudge}
+use Rattle.lrc_check.specs.Faithful.{IsAccepted}
+use Rattle.lrc_check.specs.Judged.{AreGapsFor, IsJudged}
+use Rattle.lrc_check.proofs.Accepting.{each_accepted}
+use Rattle.lrc_check.proofs.Lying.{may_within}
+use Rattle.lrc_check.proofs.judging.TraceJudge.keep.Goals as goal
+
+-- the event at this place
+abbrev here : List Event → ℕ → Event
+here events place = slice_index_or events place (event 0 (Load 0 0))
+
+here_at : (events : List Event) (place : ℕ) → length events ≡ place + 1 → At events place (here events place)
+here_at events place last = slice_get-get_or events place (event 0 (Load 0 0)) (omega arith)
+
+-- all of the events, and what stands before the last one
+all_events : (events : List Event) (place : ℕ) → length events ≡ place + 1 → take (place + 1) events ≡ events
+all_events events place last = (let le : length events ≤ place + 1 = omega arith in take_all (place + 1) events le)
+
+split_events : (events : List Event) (place : ℕ) → length events ≡ place + 1
+    → events ≡ take place events ++ here events place ∷ []
+split_events events place last =
+    sym (all_events events place last) ∙ front_next events place (here events place) (here_at events place last)
+
+-- the last event may follow, in the lax sense
+follows : (x : TraceJudge) (events : List Event) (place : ℕ) → length events ≡ place + 1
+    → IsJudged (take place events) x → IsAccepted x.model x.lax (sizes_of x.sizes) events
+    → MayFollowLax (sizes_of x.front.sizes) (take place events) (here events place)
+follows x events place last judged accepted =
+    let e = here events place in
+    let may = each_accepted x.lax (sizes_of x.sizes) events accepted.well_formed place e (here_at events place last) in
+    subst (λ s. MayFollowLax (sizes_of s) (take place events) e) (sym judged.front_sizes)
+    (may_lax_in x.lax (sizes_of x.sizes) (take place events) e may)
+
+-- each event is within the sizes
+all_within : (x : TraceJudge) (events : List Event) → IsAccepted x.model x.lax (sizes_of x.sizes) events
+    → (k : ℕ) (e : Event) → At events k e → IsWithin (sizes_of x.sizes) e
+all_within x events accepted k e at =
+    may_within x.lax (sizes_of x.sizes) (take k events) e
+    (each_accepted x.lax (sizes_of x.sizes) events accepted.well_formed k e at)
+
+pub note-requires-clause-may_follow : goal.note-requires-clause-may_follow
+note-requires-clause-may_follow c =
+    let x = c.args.self.now in
+    let events = c.args.events.now in
+    let place = c.args.place in (
+      take place events,
+      c.requires.judged.front,
+      follows x events place c.requires.last c.requires.judged c.requires.accepted,
+    )
+
+pub note-requires-3-clause-so_far : goal.note-requires-3-clause-so_far
+note-requires-3-clause-so_far c =
+    let x = c.args.self.now in
+    (x.model, sizes_of x.sizes, c.requires.judged.owed, all_within x c.args.events.now c.requires.accepted)
+
+pub returns-in_ok-note-3-clause-judged : goal.returns-in_ok-note-3-clause-judged
+returns-in_ok-note-3-clause-judged c =
+    let x = c.args.self.now in
+    let events = c.args.events.now in
+    let place = c.args.place in
+    let j = take place events in
+    let last = c.requires.last in
+    let judged = c.requires.judged in
+    let all = all_events events place last in
+    let g = subst (AreGapsFor x.model x.lax x.sizes j) c.in-Some.is judged.gaps in
+    record {
+      faithful = c.requires.accepted;
+      race = c.requires.race;
+      front = subst (λ xs. IsFrontOf xs c.note.new.self) (sym (split_events events place last))
+          (c.note.ensures.tells j judged.front (follows x events place last judged c.requires.accepted));
+      front_sizes = c.note.ensures.sizes ∙ judged.front_sizes;
+      races = subst (λ xs. AreRacesOf xs c.note-2.new.self) all c.in_ok-note.ensures.tells;
+      processors = c.note-2.ensures.processors ∙ judged.processors;
+      addresses = c.note-2.ensures.addresses ∙ judged.addresses;
+      owed = subst (λ xs. AreOwedBy x.model (sizes_of x.sizes) xs c.note-3.new.self) all
+          (c.in_ok-note-2.ensures x.model (sizes_of x.sizes) judged.owed (all_within x events c.requires.accepted));
+      gaps = (
+        g.0,
+        g.1,
+        c.note-in-Some.ensures.sizes ∙ g.2,
+        subst (λ xs. TellsGaps xs c.note-in-Some.new.self) all c.in_ok-note-3.ensures.tells,
+      );
+    }
+
+pub returns-in_default-clause-judged : goal.returns-in_default-clause-judged
+returns-in_default-clause-judged c =
+    let x = c.args.self.now in
+    let events = c.args.events.now in
+    let place = c.args.place in
+    let j = take place events in
+    let last = c.requires.last in
+    let judged = c.requires.judged in
+    let all = all_events events place last in
+    let none = subst (AreGapsFor x.model x.lax x.sizes j) c.in_default.is judged.gaps in
+    record {
+      faithful = c.requires.accepted;
+      race = c.requires.race;
+      front = subst (λ xs. IsFrontOf xs c.note.new.self) (sym (split_events events place last))
+          (c.note.ensures.tells j judged.front (follows x events place last judged c.requires.accepted));
+      front_sizes = c.note.ensures.sizes ∙ judged.front_sizes;
+      races = subst (λ xs. AreRacesOf xs c.note-2.new.self) all c.in_ok-note.ensures.tells;
+      processors = c.note-2.ensures.processors ∙ judged.processors;
+      addresses = c.note-2.ensures.addresses ∙ judged.addresses;
+      owed = subst (λ xs. AreOwedBy x.model (sizes_of x.sizes) xs c.note-3.new.self) all
+          (c.in_ok-note-2.ensures x.model (sizes_of x.sizes) judged.owed (all_within x events c.requires.accepted));
+      gaps = subst (AreGapsFor x.model x.lax x.sizes events) (sym c.in_default.is) none;
+    }
