@@ -1,5 +1,6 @@
 -- Which of the latest stores a load answers.
 use Rattle.std.proofs.Common.{◌≡◌, ◌≢◌, ℕ, ◌+◌, ◌<◌, inl, inr, List, [], ◌∷◌, ◌++◌, Option, Some, length, slice_get, slice_index_or, subst, sym, refl, ap, ◌∙◌, arith}
+use Rattle.std.specs.Prelude.{None}
 use Rattle.std.proofs.lemmas.Bool.{cases_eq}
 use Rattle.std.proofs.lemmas.Option.{same_Some, slice_get_within, slice_get-get_or}
 use Rattle.base.proofs.SlicesAndCounts.{push_cases}
@@ -12,8 +13,10 @@ use Rattle.journal.specs.WellFormed.{Does}
 use Rattle.journal.proofs.Order.CountedAndNumbered.{at_within, at_same, does_same}
 use Rattle.judge.specs.Sources.Latest.{AreLatest, IsLatest, IsReadableRow}
 use Rattle.judge.proofs.sources.Answering.{answers_law, untouched}
+use Rattle.causes.specs.declared.originating.WordOrigin.{WordOrigin}
 use Rattle.causes.specs.declared.source.Source.{Source}
 use Rattle.causes.specs.declared.source.Source.TheVariants.{StoreAt}
+use Rattle.causes.specs.Origins.{IsOriginStore, NameOrigins, NamesOrigin, NamesOriginAt}
 use Rattle.causes.specs.Source.{AreSources, HasSource, IsSource, IsSourceAt}
 
 -- none of the first n places has a store of v
@@ -23,6 +26,12 @@ NoneStores j places n v =
 
 stored_same : (a v b w : ℕ) → Store a v ≡ Store b w → v ≡ w
 stored_same a v b w is = cc
+
+address_same : (a v b w : ℕ) → Load a v ≡ Load b w → a ≡ b
+address_same a v b w is = cc
+
+value_same : (a v b w : ℕ) → Load a v ≡ Load b w → v ≡ w
+value_same a v b w is = cc
 
 -- a latest store's event stands at its place
 pub stands : (j : List Event) (k a q i : ℕ) (x : IsLatest j k a q i) → At j i (event x.store.by (Store a x.value))
@@ -71,6 +80,59 @@ unexplained j k a v places are none some answer = elim ((answers_law j k a v).0 
           absurd (free x.0 (slice_index_or places 0 0) x.1))
     ]
 
+-- the origin's store is the source, where it is one of the places and stored v
+pub origin_found : (j : List Event) (k a v i : ℕ) (origin : Option WordOrigin) (places : List ℕ) → AreLatest j k a places
+    → IsOriginStore j places v origin i → IsSource j k a v (StoreAt i) × NamesOrigin j k a v origin (StoreAt i)
+origin_found j k a v i origin places are x = (
+  (let there = x.stores in
+      found j k a there.2.0 v x.among.0 i there.0 places are x.among.1 there.1 there.2.1),
+  λ y is l place.
+      (let same : x.origin_is ≡ y = same_Some x.origin_is y (sym x.is ∙ is) in
+      ap (λ (n : ℕ). StoreAt n) (sym x.store ∙ ap (λ (z : WordOrigin). z.store) same)),
+)
+
+-- where it is none of these, the load may not answer it
+pub origin_other : (j : List Event) (k a v : ℕ) (origin : Option WordOrigin) (places : List ℕ) (s : Source)
+    → AreLatest j k a places → ((i : ℕ) → ¬ IsOriginStore j places v origin i) → NamesOrigin j k a v origin s
+origin_other j k a v origin places s are none x is l place =
+    absurd (none x.store (record {
+      origin_is = x;
+      is = is;
+      store = refl;
+      among = (are.has x.store).1 (l.by, record { value = v; store = l; place = place; by = refl });
+      stores = (event l.by (Store a v), subst (λ n. At j n (event l.by (Store a v))) place l.stores, (a, refl));
+    }))
+
+-- the source of a load names the origin
+pub origin_in : (j : List Event) (k a v : ℕ) (e : Event) (origin : Option WordOrigin) (s : Source) → At j k e
+    → e.kind ≡ Load a v → NamesOrigin j k a v origin s → NamesOriginAt j k origin (Some s)
+origin_in j k a v e origin s at is names p b w x does some =
+    let here : Does j k e.processor (Load a v) = subst (λ kind. At j k (event e.processor kind)) is at in
+    let same = (does_same j k e.processor p (Load a v) (Load b w) here does).1 in
+    subst (NamesOrigin j k b w origin) (same_Some s x some)
+    (subst (λ c. NamesOrigin j k c w origin s) (address_same a v b w same)
+    (subst (λ c. NamesOrigin j k a c origin s) (value_same a v b w same) names))
+
+-- an event that is no load names none
+pub origin_out : (j : List Event) (k : ℕ) (origin : Option WordOrigin) → NamesOriginAt j k origin None
+origin_out j k origin p a v x does some = absurd (none_is x some)
+  where
+    none_is : (y : Source) → None ≡ Some y → ⊥
+    none_is y is = cc
+
+-- one event more
+pub named_next : (j : List Event) (origins : List (Option WordOrigin)) (rows : List (Option Source)) (k : ℕ)
+    → (origin : Option WordOrigin) (o : Option Source) → length rows ≡ k → slice_get origins k ≡ Some origin
+    → NameOrigins j origins rows → NamesOriginAt j k origin o → NameOrigins j origins (rows ++ o ∷ [])
+named_next j origins rows k origin o long at are now n other source there to = elim (push_cases rows o n source to) [
+  | inl old ↦ are n other source there old.1
+  | inr new ↦
+      (let is : k ≡ n = omega (arith, new.0) in
+      let same : origin ≡ other = same_Some origin other (sym at ∙ ap (slice_get origins) is ∙ there) in
+      subst (NamesOriginAt j n other) new.1
+      (subst (λ y. NamesOriginAt j n y o) same (subst (λ m. NamesOriginAt j m origin o) is now)))
+]
+
 -- a place more
 pub none_next : (j : List Event) (places : List ℕ) (n v i : ℕ) (e : Event) → slice_get places n ≡ Some i → At j i e
     → ((a : ℕ) → e.kind ≢ Store a v) → NoneStores j places n v → NoneStores j places (n + 1) v
@@ -81,12 +143,6 @@ none_next j places n v i e at there away before m l f lt to stands a is = elim (
       away a (ap (λ (y : Event). y.kind) event ∙ is))
   | inr isnt ↦ before m l f (omega arith) to stands a is
 ]
-
-address_same : (a v b w : ℕ) → Load a v ≡ Load b w → a ≡ b
-address_same a v b w is = cc
-
-value_same : (a v b w : ℕ) → Load a v ≡ Load b w → v ≡ w
-value_same a v b w is = cc
 
 -- the source of a load is that of its event
 pub source_in : (j : List Event) (k a v : ℕ) (e : Event) (s : Source) → At j k e → e.kind ≡ Load a v

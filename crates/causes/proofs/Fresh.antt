@@ -23,12 +23,12 @@ use Rattle.journal.specs.Times.{ClosesAt, IsTimeIn, IsTimeOf}
 use Rattle.journal.proofs.Order.HappensBefore.{before_longer, before_shorter}
 use Rattle.journal.proofs.Order.CountedAndNumbered.{at_same, count_of-take-le, does_at, does_same}
 use Rattle.causes.specs.declared.news.Step.{Step}
-use Rattle.causes.specs.Edges.{EdgeFromOther, LetsOn}
+use Rattle.causes.specs.Edges.{EdgeFromOther, LeadsOn}
 use Rattle.causes.specs.declared.index.Turn.{Turn}
-use Rattle.causes.specs.Index.{AreClosings, AreClosingsOf, IsClosing, IsTurn}
+use Rattle.causes.specs.Index.{AreClosings, AreClosingsOf, IsClosing, IsEventTurn}
 use Rattle.causes.specs.News.{AreIncoming, AreNewlyOrdered, IsNewOf, IsNews, TimesAround}
 use Rattle.causes.proofs.LookedUp.{closing_same}
-use Rattle.causes.proofs.LetsOn.{leads, led}
+use Rattle.causes.proofs.LeadsOn.{leads, led}
 
 -- a timestamp with the same entries
 pub time_same : (j : List Event) (among : ℕ → Type 0) (t u : ℕ → ℕ) → ((q : ℕ) → u q ≡ t q) → IsTimeIn j among t
@@ -42,7 +42,7 @@ time_same j among t u same time = record {
 }
 
 -- what lets another processor on closes an interval
-lets_closes : (a : Kind) (n : ℕ) (b : Kind) (m : ℕ) → LetsOn a n b m → IsTrue (is_closing a)
+lets_closes : (a : Kind) (n : ℕ) (b : Kind) (m : ℕ) → LeadsOn a n b m → IsTrue (is_closing a)
 lets_closes a n (Acquire l) m is = subst (λ k. IsTrue (is_closing k)) (sym is) refl
 lets_closes a n (Await f) m is = subst (λ k. IsTrue (is_closing k)) (sym is) refl
 lets_closes a n Depart m is = subst (λ k. IsTrue (is_closing k)) (sym is.0) refl
@@ -390,23 +390,23 @@ incoming_next j rows n row long are now k new at = elim (push_cases rows row k n
 
 -- whether an edge leads on, by the turns of both events
 pub leads_by_turns : (j : List Event) (i k : ℕ) (e f : Event) (s t : Turn) (b : Bool) → At j i e → At j k f
-    → IsTurn j i e.processor s → IsTurn j k f.processor t → i < k → e.processor ≢ f.processor
-    → (IsTrue b ↔ LetsOn e.kind s.arrived f.kind t.departed) → IsTrue b ↔ EdgeFromOther j i k
+    → IsEventTurn j i e.processor s → IsEventTurn j k f.processor t → i < k → e.processor ≢ f.processor
+    → (IsTrue b ↔ LeadsOn e.kind s.arrived f.kind t.departed) → IsTrue b ↔ EdgeFromOther j i k
 leads_by_turns j i k e f s t b at to one two lt apart tells = (there, back)
   where
     there : IsTrue b → EdgeFromOther j i k
     there so =
         leads j i k e f lt at to (
           apart,
-          subst (λ n. LetsOn e.kind n f.kind (count_of is_depart (take k j) f.processor)) one.arrived
-              (subst (λ m. LetsOn e.kind s.arrived f.kind m) two.departed (tells.0 so)),
+          subst (λ n. LeadsOn e.kind n f.kind (count_of is_depart (take k j) f.processor)) one.arrived
+              (subst (λ m. LeadsOn e.kind s.arrived f.kind m) two.departed (tells.0 so)),
         )
 
     back : EdgeFromOther j i k → IsTrue b
     back x =
         tells.1
-        (subst (λ n. LetsOn e.kind n f.kind t.departed) (sym one.arrived)
-        (subst (λ m. LetsOn e.kind (count_of is_arrive (take i j) e.processor) f.kind m) (sym two.departed)
+        (subst (λ n. LeadsOn e.kind n f.kind t.departed) (sym one.arrived)
+        (subst (λ m. LeadsOn e.kind (count_of is_arrive (take i j) e.processor) f.kind m) (sym two.departed)
         (led j i k e f at to x).1))
 
 -- an interval that the step's event counts has its place

@@ -1,10 +1,13 @@
 pub mod Answering
 pub mod Heard
-pub mod LetsOn
+pub mod LeadsOn
 pub mod LookedUp
 pub mod Fresh
 pub mod Standing
-pub mod Entering
+pub mod HandOvers
 pub mod Takes
 pub mod Reached
 pub mod Owing
+pub mod StoreRows
+pub mod Brought
+pub mod OriginSteps

@@ -12,7 +12,7 @@ use Rattle.journal.specs.declared.event.Kind.{Kind}
 use Rattle.journal.proofs.Order.CountedAndNumbered.{at_same, count_of-past, does_at}
 use Rattle.journal.proofs.Passes.ReachedNextRaces.{count_next}
 use Rattle.causes.specs.declared.index.Turn.{Turn}
-use Rattle.causes.specs.Index.{AreClosingsOf, IsClosing, IsTurn}
+use Rattle.causes.specs.Index.{AreClosingsOf, IsClosing, IsEventTurn}
 
 -- q closes its first intervals, below place n, at these places, in order
 pub record AreClosingsBelow (j : List Event) (q n : ℕ) (places : List ℕ) : Type 0 where
@@ -103,7 +103,7 @@ closing_same j q n i m x y = elim (cases_lt i m) [
 
 -- the turns of the next events
 abbrev pub AreNext : List Event → ℕ → List Turn → Type 0
-AreNext j n next = (q : ℕ) (t : Turn) → slice_get next q ≡ Some t → IsTurn j n q t
+AreNext j n next = (q : ℕ) (t : Turn) → slice_get next q ≡ Some t → IsEventTurn j n q t
 
 pub next_first : (j : List Event) (zero : Turn) → zero.arrived ≡ 0 → zero.departed ≡ 0
     → AreNext j 0 (replicate 16 zero)
@@ -116,14 +116,14 @@ next_first j zero arrived departed q t at =
 
 -- one place on
 pub next_next : (j : List Event) (n : ℕ) (e : Event) (next : List Turn) (old new : Turn) → At j n e
-    → IsTurn j n e.processor old → new.arrived ≡ old.arrived + cond (is_arrive e.kind) 1 0
+    → IsEventTurn j n e.processor old → new.arrived ≡ old.arrived + cond (is_arrive e.kind) 1 0
     → new.departed ≡ old.departed + cond (is_depart e.kind) 1 0 → AreNext j n next
     → AreNext j (n + 1) (slice_set next e.processor new)
 next_next j n e next old new at was arrived departed are q t to = elim (cases_eq q e.processor) [
   | inl mine ↦
       (let is : new ≡ t =
       slice_get-set_found next e.processor new t (subst (λ m. slice_get (slice_set next e.processor new) m ≡ Some t) mine to) in
-      subst (IsTurn j (n + 1) q) is
+      subst (IsEventTurn j (n + 1) q) is
       (record {
         arrived = counted is_arrive q mine old.arrived new.arrived was.arrived arrived;
         departed = counted is_depart q mine old.departed new.departed was.departed departed;
@@ -155,20 +155,20 @@ next_next j n e next old new at was arrived departed are q t to = elim (cases_eq
 
 -- the turn of the event that comes next
 pub turns_next : (j : List Event) (n : ℕ) (e : Event) (turns : List Turn) (turn : Turn) → length turns ≡ n → At j n e
-    → IsTurn j n e.processor turn
-    → ((i : ℕ) (f : Event) (t : Turn) → At j i f → slice_get turns i ≡ Some t → IsTurn j i f.processor t)
-    → (i : ℕ) (f : Event) (t : Turn) → At j i f → slice_get (turns ++ turn ∷ []) i ≡ Some t → IsTurn j i f.processor t
+    → IsEventTurn j n e.processor turn
+    → ((i : ℕ) (f : Event) (t : Turn) → At j i f → slice_get turns i ≡ Some t → IsEventTurn j i f.processor t)
+    → (i : ℕ) (f : Event) (t : Turn) → At j i f → slice_get (turns ++ turn ∷ []) i ≡ Some t → IsEventTurn j i f.processor t
 turns_next j n e turns turn long at now are i f t to got = elim (push_cases turns turn i t got) [
   | inl old ↦ are i f t to old.1
   | inr last ↦
       (let is : n ≡ i = omega (arith, last.0) in
-      let here : IsTurn j i e.processor turn = subst (λ m. IsTurn j m e.processor turn) is now in
+      let here : IsEventTurn j i e.processor turn = subst (λ m. IsEventTurn j m e.processor turn) is now in
       let same = at_same j i e f (subst (λ m. At j m e) is at) to in
-      subst (IsTurn j i f.processor) last.1 (subst (λ (x : Event). IsTurn j i x.processor turn) same here))
+      subst (IsEventTurn j i f.processor) last.1 (subst (λ (x : Event). IsEventTurn j i x.processor turn) same here))
 ]
 
 -- a count of a journal's front is small, where the journal is
-pub turn_small : (j : List Event) (n q : ℕ) (t : Turn) → n ≤ length j → length j ≤ 2097152 → IsTurn j n q t
+pub turn_small : (j : List Event) (n q : ℕ) (t : Turn) → n ≤ length j → length j ≤ 2097152 → IsEventTurn j n q t
     → (t.arrived < 4194304) × (t.departed < 4194304)
 turn_small j n q t le few is =
     (let arrivals = count_by-le-length (λ (e : Event). (e.processor == q) && is_arrive e.kind) (take n j) in

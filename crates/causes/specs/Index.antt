@@ -8,14 +8,14 @@ use Rattle.causes.specs.declared.index.Index.{Index}
 use Rattle.causes.specs.declared.index.Turn.{Turn}
 
 -- so often q had arrived and departed before place i
-pub record IsTurn (j : List Event) (i q : ℕ) (t : Turn) : Type 0 where
+pub record IsEventTurn (j : List Event) (i q : ℕ) (t : Turn) : Type 0 where
   pub arrived : t.arrived ≡ count_of is_arrive (take i j) q
   pub departed : t.departed ≡ count_of is_depart (take i j) q
 
 -- so often the processor of each event had
-pub record AreTurns (j : List Event) (turns : List Turn) : Type 0 where
+pub record AreEventTurns (j : List Event) (turns : List Turn) : Type 0 where
   pub long : length turns ≡ length j
-  pub each : (i : ℕ) (e : Event) (t : Turn) → At j i e → slice_get turns i ≡ Some t → IsTurn j i e.processor t
+  pub each : (i : ℕ) (e : Event) (t : Turn) → At j i e → slice_get turns i ≡ Some t → IsEventTurn j i e.processor t
 
 -- at place i, q closes its interval of this number
 pub record IsClosing (j : List Event) (q n i : ℕ) : Type 0 where
@@ -33,5 +33,5 @@ pub record AreClosings (j : List Event) (rows : List (Vec ℕ)) : Type 0 where
   pub each : (q : ℕ) (row : Vec ℕ) → slice_get rows q ≡ Some row → AreClosingsOf j q row.items
 
 pub record IsIndex (j : List Event) (x : Index) : Type 0 where
-  pub turns : AreTurns j x.turns.items
+  pub turns : AreEventTurns j x.turns.items
   pub closings : AreClosings j x.closings.items

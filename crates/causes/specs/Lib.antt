@@ -3,10 +3,13 @@ pub mod Heard
 pub mod Edges
 pub mod Index
 pub mod News
-pub mod Entrances
+pub mod HandOvers
 pub mod Takings
 pub mod Paths
 pub mod Dues
 pub mod Waits
+pub mod Stores
+pub mod Origins
+pub mod OriginSteps
 pub mod Explanation
 pub mod Prelude

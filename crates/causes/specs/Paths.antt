@@ -7,7 +7,8 @@ use Rattle.journal.specs.HappensBeforeEdges.{Edge}
 use Rattle.journal.specs.Pasts.{UpTo}
 use Rattle.journal.specs.WellFormed.{Does}
 use Rattle.causes.specs.declared.paths.Ways.{Ways}
-use Rattle.causes.specs.Entrances.{AreAllEntrances}
+use Rattle.causes.specs.declared.reaching.Reach.{Reach}
+use Rattle.causes.specs.HandOvers.{AreAllHandOvers}
 use Rattle.causes.specs.Takings.{AreAllTakings, AreNumbers}
 
 -- these places lead from place i to place k: each has an edge to the next
@@ -28,8 +29,11 @@ abbrev pub FirstReached : List Event → ℕ → ℕ → Option ℕ → Type 0
 FirstReached j i q o = MatchOption o ((k : ℕ) (a : Kind) → Does j k q a → ¬ UpTo j k i) (IsFirstReached j i q)
 
 -- what is looked up is the history's
-pub record AreWays (j : List Event) (x : Ways) : Type 0 where
+pub record IsReach (j : List Event) (x : Reach) : Type 0 where
   pub processors : ProcessorsInRange 16 j
   pub numbers : AreNumbers j x.numbers.items
   pub takings : AreAllTakings j (length j) x.takings.items
-  pub entrances : AreAllEntrances j x.entrances.items
+
+pub record AreWays (j : List Event) (x : Ways) : Type 0 where
+  pub reach : IsReach j x.reach
+  pub hand_overs : AreAllHandOvers j x.hand_overs.items

@@ -10,8 +10,8 @@ use Rattle.causes.specs.declared.waiting.Wait.{Wait}
 use Rattle.causes.specs.declared.waiting.Wait.TheVariants.{Nothing, Lock, Flag, Barrier}
 
 -- p has done nothing
-abbrev pub HasDoneNothing : List Event → ℕ → Type 0
-HasDoneNothing j p = (m : ℕ) (e : Event) → At j m e → e.processor ≢ p
+abbrev pub HasNoEvents : List Event → ℕ → Type 0
+HasNoEvents j p = (m : ℕ) (e : Event) → At j m e → e.processor ≢ p
 
 -- these are the processors below n of which this holds, rising
 pub record AreThose (holds : ℕ → Type 0) (n : ℕ) (processors : List ℕ) : Type 0 where

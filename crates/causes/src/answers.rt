@@ -1,16 +1,16 @@
 //! Which store each load of a history answers.
-ghost use Rattle.std.specs.Prelude.{◌≡◌, ◌↔◌, ℕ, ◌≤◌, IsTrue, IfOk, length, vec_len};
-ghost use Rattle.base.specs.Prelude.{most_held, most_processors};
+ghost use Rattle.std.specs.Prelude.{◌≡◌, ◌↔◌, ℕ, IsTrue, IfOk, length, vec_len};
+ghost use Rattle.base.specs.InOrderOnce.{Has};
 ghost use Rattle.journal.specs.declared.event.Kind.TheVariants.{Store};
 ghost use Rattle.journal.specs.Events.{At};
-ghost use Rattle.journal.specs.Prelude.{AddressesInRange, ProcessorsInRange};
 ghost use Rattle.judge.specs.Sources.Latest.{AreLatest};
-ghost use Rattle.judge.specs.Sources.Prelude.{IsReadableRow};
-ghost use Rattle.causes.specs.Prelude.{AreSources, IsSource, IsSourceAt};
+ghost use Rattle.judge.specs.Sources.Prelude.{AreReadableRows, IsReadableRow};
+ghost use Rattle.causes.specs.Prelude.{AreSources, IsOriginAmong, IsSource, IsSourceAt, NameOrigins, NamesOrigin};
+ghost use Rattle.causes.specs.Prelude.{NamesOriginAt};
 
+use crate::originating::WordOrigin;
 use crate::source::Source;
 use journal::{Event, Kind};
-use judge::sources::latest;
 use std::alloc::{AllocError, Global};
 
 /// Whether the event stores this value.
@@ -23,9 +23,44 @@ fn is_store_of(event: Event, value: u32) -> bool
     }
 }
 
+/// Whether the place is one of these.
+fn has_place(places: &[usize], place: usize) -> bool
+    ensures { IsTrue result ↔ Has places.now place }
+{
+    for other in places {
+        if *other == place {
+            return true;
+        }
+    }
+    false
+}
+
+/// The store that the word of a load's copy comes from, if that is one of the load's latest stores, which stand at these places,
+/// and stored this value.
+fn origin_among(
+    events: &[Event],
+    places: &[usize],
+    value: u32,
+    origin: Option<WordOrigin>,
+) -> Option<usize>
+    requires latest { (k a : ℕ) × AreLatest events.now k a places.now }
+    ensures { IsOriginAmong events.now places.now value origin result }
+{
+    let Some(origin) = origin else {
+        return None;
+    };
+    if !has_place(places, origin.store) {
+        return None;
+    }
+    if !is_store_of(events[origin.store], value) {
+        return None;
+    }
+    Some(origin.store)
+}
+
 /// The source of a load that answers this value and whose latest stores stand at these places: the first one that
 /// stored it.
-fn source_of(events: &[Event], places: &[usize], value: u32) -> Source
+fn first_source(events: &[Event], places: &[usize], value: u32) -> Source
     requires latest { (k a : ℕ) × AreLatest events.now k a places.now }
     ensures { (k a : ℕ) → AreLatest events.now k a places.now → IsSource events.now k a value result }
 {
@@ -41,40 +76,63 @@ fn source_of(events: &[Event], places: &[usize], value: u32) -> Source
     }
 }
 
-/// The source of the event, where it is a load. The places are its row of latest stores.
-fn source_at(events: &[Event], places: &[usize], event: Event) -> Option<Source>
+/// The source of a load that answers this value, whose latest stores stand at these places, and whose copy has its word from
+/// this origin: the origin if it may be that, else the first one that stored the value.
+fn source_of(events: &[Event], places: &[usize], value: u32, origin: Option<WordOrigin>) -> Source
+    requires latest { (k a : ℕ) × AreLatest events.now k a places.now }
+    ensures source { (k a : ℕ) → AreLatest events.now k a places.now → IsSource events.now k a value result }
+    ensures origin { (k a : ℕ) → AreLatest events.now k a places.now
+        → NamesOrigin events.now k a value origin result }
+{
+    match origin_among(events, places, value, origin) {
+        Some(store) => Source::StoreAt(store),
+        None => first_source(events, places, value),
+    }
+}
+
+/// The source of the event, where it is a load. The places are its row of latest stores, and its copy has its word from this
+/// origin.
+fn source_at(
+    events: &[Event],
+    places: &[usize],
+    event: Event,
+    origin: Option<WordOrigin>,
+) -> Option<Source>
     requires row { (k : ℕ) × At events.now k event × IsReadableRow events.now k places.now }
-    ensures { (k : ℕ) → At events.now k event → IsReadableRow events.now k places.now
+    ensures source { (k : ℕ) → At events.now k event → IsReadableRow events.now k places.now
         → IsSourceAt events.now k result }
+    ensures origin { (k : ℕ) → At events.now k event → IsReadableRow events.now k places.now
+        → NamesOriginAt events.now k origin result }
 {
     match event.kind {
-        Kind::Load(_, value) => Some(source_of(events, places, value)),
+        Kind::Load(_, value) => Some(source_of(events, places, value, origin)),
         _ => None,
     }
 }
 
-/// Of each event of a history of `processors` processors, at most `MOST_PROCESSORS`, and `addresses` addresses: where
-/// the value that it answers comes from, if it is a load, and None if it is none. The only error is running out of
-/// memory.
+/// Of each event of a history where the value that it answers comes from, if it is a load, and None if it is none. The only
+/// error is running out of memory.
 ///
-/// Where several latest stores have the value, one of them is named. It takes time and memory as `judge::sources::latest` does.
+/// `latest` has of each event the latest stores, as `judge::sources::latest` finds them, and `origins` where the word comes
+/// from that its processor's copy has, as `origins` does. Where several latest stores have the value, the origin is named; if
+/// it is none of them, the first.
 pub fn loads(
     alloc: Global,
-    processors: usize,
-    addresses: usize,
+    latest: &[Vec<usize>],
+    origins: &[Option<WordOrigin>],
     events: &[Event],
 ) -> Result<Vec<Option<Source>>, AllocError>
-    requires few { length events.now ≤ most_held }
-    requires few_processors { processors ≤ most_processors }
-    requires addresses { AddressesInRange addresses events.now }
-    requires processors { ProcessorsInRange processors events.now }
+    requires latest_long { length latest.now ≡ length events.now }
+    requires latest { AreReadableRows events.now latest.now }
+    requires origins_long { length origins.now ≡ length events.now }
     ensures long { IfOk result (λ v. vec_len v ≡ length events.now) }
     ensures sources { IfOk result (λ v. AreSources events.now v.items) }
+    ensures origins { IfOk result (λ v. NameOrigins events.now origins.now v.items) }
 {
-    let rows = latest(alloc, processors, addresses, events)?;
     let mut sources = Vec::with_capacity(alloc, events.len())?;
     for place in 0..events.len() {
-        sources.push(source_at(events, &rows[place], events[place]))?;
+        let source = source_at(events, &latest[place], events[place], origins[place]);
+        sources.push(source)?;
     }
     Ok(sources)
 }

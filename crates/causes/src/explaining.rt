@@ -1,20 +1,29 @@
 //! Why the events of a history went as they did, all together.
-ghost use Rattle.std.specs.Prelude.{◌≤◌, IfOk, length};
-ghost use Rattle.base.specs.Prelude.{most_held, most_processors};
-ghost use Rattle.journal.specs.Prelude.{AddressesInRange, ProcessorsInRange};
+ghost use Rattle.std.specs.Prelude.{ℕ, ◌≤◌, IfOk, length};
+ghost use Rattle.base.specs.Prelude.{most_held};
+ghost use Rattle.journal.specs.Events.{At};
+ghost use Rattle.journal.specs.declared.event.Event.{Event};
+ghost use Rattle.judge.specs.Prelude.{AreSmall, IsWithin, sizes_of};
 ghost use Rattle.causes.specs.Prelude.{IsExplanation};
 
 use crate::answers::loads;
 use crate::news::incoming;
+use crate::originating::{WordOrigin, origins};
 use crate::racing::{FirstRace, race};
 use crate::source::Source;
 use crate::waiting::{Wait, waits};
 use journal::Event;
+use judge::Sizes;
+use judge::sources::latest;
 use std::alloc::{AllocError, Global};
 
 /// What is told of a history.
 #[derive(Drop)]
 pub struct Explanation {
+    /// Of each event, in order: the latest stores of its past to its address, if it is a load; else none.
+    pub latest: Vec<Vec<usize>>,
+    /// Of each event: where the word comes from that its processor's copy has, if it is a load; else None.
+    pub origins: Vec<Option<WordOrigin>>,
     /// Of each event, in order: where the value comes from that it answers, if it is a load; else None.
     pub loads: Vec<Option<Source>>,
     /// The first race; None where there is none.
@@ -26,25 +35,24 @@ pub struct Explanation {
     pub waits: Vec<Wait>,
 }
 
-/// What `loads`, `race`, `incoming` and `waits` tell of a history of `processors` processors, at most `MOST_PROCESSORS`, and `addresses`
-/// addresses. The only error is running out of memory.
-pub fn explain(
-    alloc: Global,
-    processors: usize,
-    addresses: usize,
-    events: &[Event],
-) -> Result<Explanation, AllocError>
+/// What `judge::sources::latest`, `origins`, `loads`, `race`, `incoming` and `waits` tell of a history of a cluster of these
+/// sizes. The only error is running out of memory.
+pub fn explain(alloc: Global, sizes: Sizes, events: &[Event]) -> Result<Explanation, AllocError>
+    requires sizes { AreSmall (sizes_of sizes) }
     requires few { length events.now ≤ most_held }
-    requires few_processors { processors ≤ most_processors }
-    requires addresses { AddressesInRange addresses events.now }
-    requires processors { ProcessorsInRange processors events.now }
-    ensures { IfOk result (IsExplanation processors events.now) }
+    requires within { (k : ℕ) (e : Event) → At events.now k e → IsWithin (sizes_of sizes) e }
+    ensures { IfOk result (IsExplanation (sizes_of sizes) events.now) }
 {
-    let race = race(alloc, processors, addresses, events)?;
-    let loads = loads(alloc, processors, addresses, events)?;
-    let incoming = incoming(alloc, processors, events)?;
-    let waits = waits(alloc, processors, events)?;
+    let addresses = sizes.pages * sizes.words;
+    let race = race(alloc, sizes.processors, addresses, events)?;
+    let latest = latest(alloc, sizes.processors, addresses, events)?;
+    let origins = origins(alloc, sizes, events)?;
+    let loads = loads(alloc, &latest, &origins, events)?;
+    let incoming = incoming(alloc, sizes.processors, events)?;
+    let waits = waits(alloc, sizes.processors, events)?;
     Ok(Explanation {
+        latest,
+        origins,
         loads,
         race,
         incoming,

@@ -3,7 +3,7 @@
 ghost use Rattle.std.specs.Prelude.{◌≡◌, ◌==◌, ◌&&◌, ◌+◌, ◌<◌, ◌≤◌, ◌^◌, IfOk, cond, length};
 ghost use Rattle.base.specs.Prelude.{most_held};
 ghost use Rattle.journal.specs.Prelude.{ProcessorsInRange, is_arrive, is_closing, is_depart};
-ghost use Rattle.causes.specs.Prelude.{AreClosings, AreClosingsOf, AreTurns, IsIndex};
+ghost use Rattle.causes.specs.Prelude.{AreClosings, AreClosingsOf, AreEventTurns, IsIndex};
 
 use journal::{Event, Kind};
 use std::alloc::{AllocError, Global};
@@ -60,7 +60,7 @@ fn turn_after(turn: Turn, kind: Kind) -> Turn
 fn turns(alloc: Global, events: &[Event]) -> Result<Vec<Turn>, AllocError>
     requires few { length events.now ≤ most_held }
     requires processors { ProcessorsInRange 16 events.now }
-    ensures { IfOk result (λ v. AreTurns events.now v.items) }
+    ensures { IfOk result (λ v. AreEventTurns events.now v.items) }
 {
     let mut next = [Turn {
         arrived: 0,

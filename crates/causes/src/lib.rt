@@ -24,24 +24,29 @@
 #![tactic(auto)]
 
 mod answers;
-mod entrances;
 mod explaining;
+mod handing;
 mod index;
 mod leading;
 mod missing;
 mod news;
+mod originating;
 mod paths;
 mod racing;
+mod reaching;
 mod source;
+mod stores;
 mod takings;
 mod waiting;
 
 pub use answers::loads;
 pub use explaining::{Explanation, explain};
+pub use handing::hand_overs;
 pub use leading::edges;
 pub use missing::{Due, dues};
 pub use news::incoming;
+pub use originating::{WordOrigin, origins};
 pub use paths::{Ways, way};
 pub use racing::{FirstRace, race};
 pub use source::Source;
-pub use waiting::{Wait, waits};
+pub use waiting::{Wait, locks_held, waits};

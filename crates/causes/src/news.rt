@@ -4,7 +4,7 @@ ghost use Rattle.base.specs.Prelude.{Has, most_held, most_processors};
 ghost use Rattle.base.specs.InOrderOnce.{IsOnce};
 ghost use Rattle.journal.specs.Times.{ClosesAt};
 ghost use Rattle.journal.specs.Prelude.{AreClocks, ProcessorsInRange};
-ghost use Rattle.causes.specs.Prelude.{AreIncoming, AreNewlyOrdered, AreTurns, EdgeFromOther, IsIndex, IsNewOf, TimesAround};
+ghost use Rattle.causes.specs.Prelude.{AreIncoming, AreNewlyOrdered, AreEventTurns, EdgeFromOther, IsIndex, IsNewOf, TimesAround};
 
 use crate::index::{Index, Turn, index_of};
 use crate::leading::lets_on;
@@ -23,7 +23,7 @@ pub(crate) struct Step {
 pub(crate) fn leads(events: &[Event], turns: &[Turn], from: usize, to: usize) -> bool
     requires from { from < length events.now }
     requires to { to < length events.now }
-    requires turns { AreTurns events.now turns.now }
+    requires turns { AreEventTurns events.now turns.now }
     ensures { IsTrue result ↔ EdgeFromOther events.now from to }
 {
     let start = events[from];

@@ -5,56 +5,43 @@ ghost use Rattle.journal.specs.Pasts.{UpTo};
 ghost use Rattle.journal.specs.Prelude.{Edge, ProcessorsInRange};
 ghost use Rattle.causes.specs.Prelude.{AreWays, EdgeFromOther, FirstReached, IsNews, IsWay};
 
-use crate::entrances::entrances_of;
-use crate::takings::{Taking, first_above, numbers_of, takings_of};
+use crate::handing::hand_overs_by;
+use crate::reaching::Reach;
 use journal::Event;
 use std::alloc::{AllocError, Global};
 
-/// What is looked up of a history to find ways in it, as often as one likes.
-///
-/// Vector timestamps (Mattern 1989; Fidge 1988) tell of each processor which of its events is the first one that an
-/// event reaches, and so from where. The memory is in the order of the events times the processors.
+/// What is looked up of a history to find ways in it, as often as one likes. The memory is in the order of the events times the
+/// processors.
 #[derive(Drop)]
 pub struct Ways {
-    /// Of each event, how many intervals its processor had closed before it.
-    numbers: Vec<u32>,
-    /// Of each of sixteen processors, its events that take.
-    takings: Vec<Vec<Taking>>,
-    /// Of each event, of each other processor the last of the news.
-    entrances: Vec<Vec<usize>>,
+    reach: Reach,
+    /// Of each event, the last of the news.
+    hand_overs: Vec<Vec<usize>>,
 }
 
 impl Ways {
     /// What is looked up of this history of `processors` processors, at most `MOST_PROCESSORS`. It takes time as
-    /// `incoming` does. The only error is running out of memory.
+    /// `hand_overs` does. The only error is running out of memory.
     pub fn new(alloc: Global, processors: usize, events: &[Event]) -> Result<Ways, AllocError>
         requires few { length events.now ≤ most_held }
         requires few_processors { processors ≤ most_processors }
         requires processors { ProcessorsInRange processors events.now }
         ensures { IfOk result (AreWays events.now) }
     {
-        let numbers = numbers_of(alloc, events)?;
-        let takings = takings_of(alloc, processors, events)?;
-        let entrances = entrances_of(alloc, processors, events)?;
-        Ok(Ways {
-            numbers,
-            takings,
-            entrances,
-        })
+        let reach = Reach::new(alloc, processors, events)?;
+        let hand_overs = hand_overs_by(alloc, processors, &reach, events)?;
+        Ok(Ways { reach, hand_overs })
     }
 
-    /// The processor's first event that the one at `from` is, or happens before.
-    fn first(&self, events: &[Event], from: usize, processor: usize) -> Option<usize>
+    /// The processor's first event that the one at `from` is, or happens before; None where there is none. It takes time in
+    /// the order of the logarithm of the events.
+    pub fn first(&self, events: &[Event], from: usize, processor: usize) -> Option<usize>
         requires tells { AreWays events.now self.now }
         requires from { from < length events.now }
         requires processor { processor < 16 }
         ensures { FirstReached events.now from processor result }
     {
-        let by = events[from].processor;
-        if by == processor {
-            return Some(from);
-        }
-        first_above(&self.takings[processor], by, self.numbers[from])
+        self.reach.first(events, from, processor)
     }
 
     /// Whether the event at `from` is the one at this place, or happens before it.
@@ -64,10 +51,7 @@ impl Ways {
         requires place { place < length events.now }
         ensures { IsTrue result ↔ UpTo events.now place from }
     {
-        match self.first(events, from, events[place].processor) {
-            Some(first) => first <= place,
-            None => false,
-        }
+        self.reach.reaches(events, from, place)
     }
 
     /// Of the news of the event at this place, one that the event at `from` reaches.
@@ -78,7 +62,7 @@ impl Ways {
         ensures { MatchOption result ((i : ℕ) → IsNews events.now i place → ¬ UpTo events.now i from)
             (λ i. EdgeFromOther events.now i place × UpTo events.now i from) }
     {
-        for entrance in &self.entrances[place] {
+        for entrance in &self.hand_overs[place] {
             if self.reaches(events, from, *entrance) {
                 return Some(*entrance);
             }

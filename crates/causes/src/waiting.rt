@@ -3,7 +3,7 @@ ghost use Rattle.std.specs.Prelude.{◌≡◌, ◌≢◌, ◌↔◌, ◌==◌, �
 ghost use Rattle.journal.specs.declared.event.Kind.TheVariants.{Acquire, Release, Set};
 ghost use Rattle.journal.specs.WellFormed.{Does, LastIs};
 ghost use Rattle.journal.specs.Prelude.{Holds, count_of, event as an_event, is_arrive};
-ghost use Rattle.causes.specs.Prelude.{AreThose, AreWaits, AsksBefore, HasDoneNothing, IsAbsent, IsWait};
+ghost use Rattle.causes.specs.Prelude.{AreThose, AreWaits, AsksBefore, HasNoEvents, IsAbsent, IsWait};
 
 use crate::leading::{arrives, departures_before, sets};
 use journal::{Event, Kind};
@@ -46,7 +46,7 @@ pub(crate) struct Last {
 
 /// What the processor did last; None where it did nothing.
 fn last_of(events: &[Event], by: usize) -> Option<Last>
-    ensures { MatchOption result (HasDoneNothing events.now by) (λ x. LastIs events.now by x.place x.kind) }
+    ensures { MatchOption result (HasNoEvents events.now by) (λ x. LastIs events.now by x.place x.kind) }
 {
     let mut last = None;
     for place in 0..events.len() {
@@ -83,6 +83,27 @@ fn holds(events: &[Event], by: usize, lock: usize) -> bool
         held = holds_after(held, events[place], by, lock);
     }
     held
+}
+
+/// Which of the first locks, so many of them, the processor holds at the end of these events, rising. The only error is
+/// running out of memory.
+///
+/// It takes time in the order of the events times the locks.
+pub fn locks_held(
+    alloc: Global,
+    events: &[Event],
+    by: usize,
+    locks: usize,
+) -> Result<Vec<usize>, AllocError>
+    ensures { IfOk result (λ v. AreThose (Holds events.now by) locks v.items) }
+{
+    let mut held = Vec::new(alloc);
+    for lock in 0..locks {
+        if holds(events, by, lock) {
+            held.push(lock)?;
+        }
+    }
+    Ok(held)
 }
 
 /// Who of the processors holds the lock.

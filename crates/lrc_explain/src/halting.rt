@@ -1,21 +1,21 @@
 //! For what each processor of a run waits that can't go on.
 
-use crate::held::Held;
+use crate::held::HeldNow;
 use crate::marked::Marked;
 use crate::text::Text;
 use journal::{Event, Journal, Kind};
 
 /// A run that can't go on: what is held at its end, and the last event of each processor.
 #[derive(Clone, Copy)]
-struct Halted<'a> {
-    held: &'a Held,
-    last: &'a [Option<Kind>; 16],
+pub struct Halted<'a> {
+    pub held: &'a HeldNow,
+    pub last: &'a [Option<Kind>; 16],
     /// Whether something was cut off.
-    is_cut: bool,
+    pub is_cut: bool,
 }
 
 /// The last event of each processor.
-fn last_of(events: &[Event]) -> [Option<Kind>; 16] {
+pub fn last_of(events: &[Event]) -> [Option<Kind>; 16] {
     let mut last = [None; 16];
     for event in events {
         if let Some(kind) = last.get_mut(event.processor) {
@@ -44,8 +44,16 @@ impl Halted<'_> {
         }
     }
 
+    /// Whether the processor waits.
+    pub fn waits(&self, processor: usize) -> bool {
+        match self.last(processor) {
+            Some(Kind::Ask(_) | Kind::Arrive | Kind::Watch(_)) => true,
+            _ => false,
+        }
+    }
+
     /// The one processor that the processor waits for; None where it is none or more than one.
-    fn waits_for(&self, processor: usize) -> Option<usize> {
+    pub fn waits_for(&self, processor: usize) -> Option<usize> {
         match self.last(processor)? {
             Kind::Ask(lock) => self.held.lock(lock).holder,
             Kind::Arrive => self.missing(processor).single(),
@@ -68,7 +76,7 @@ impl Halted<'_> {
     }
 
     /// Puts what the processor waits for.
-    fn put_wait(&self, text: &mut Text, processor: usize) {
+    pub fn put_wait(&self, text: &mut Text, processor: usize) {
         match self.last(processor) {
             Some(Kind::Ask(lock)) => {
                 text.put_number("waits for lock ", lock);
@@ -80,7 +88,7 @@ impl Halted<'_> {
             }
             Some(Kind::Watch(flag)) => {
                 text.put_number("waits for flag ", flag);
-                text.put(", which nobody has set");
+                text.put(", which nobody has set, and nobody is left who does");
             }
             _ => text.put("waits for nothing"),
         }
@@ -101,7 +109,10 @@ impl Halted<'_> {
         for _ in 0..16 {
             match self.waits_for(at) {
                 Some(next) if next != processor => at = next,
-                _ => return,
+                _ => {
+                    text.put(": a circle");
+                    return;
+                }
             }
             text.put(", which ");
             self.put_wait(text, at);
@@ -125,7 +136,7 @@ impl Halted<'_> {
 }
 
 /// Puts what each processor waits for where this is held at the end of the journal.
-pub fn put_waits(text: &mut Text, held: &Held, journal: &Journal) {
+pub fn put_waits(text: &mut Text, held: &HeldNow, journal: &Journal) {
     let last = last_of(journal.events());
     let halted = Halted {
         held,

@@ -6,7 +6,7 @@ use std::collections::BTreeMap;
 
 /// What an event was: where it stands, and whose it is.
 #[derive(Clone, Copy)]
-pub struct Deed {
+pub struct PastDeed {
     pub place: usize,
     pub processor: usize,
 }
@@ -19,7 +19,7 @@ pub struct LockState {
     /// Who asked for it last, where it isn't granted yet.
     pub asker: Option<usize>,
     /// Its last release.
-    pub released: Option<Deed>,
+    pub released: Option<PastDeed>,
 }
 
 /// Of a lock of which there was nothing.
@@ -31,18 +31,18 @@ const UNTOUCHED: LockState = LockState {
 
 /// What is held, set and arrived after a history's front.
 #[derive(Drop)]
-pub struct Held {
+pub struct HeldNow {
     locks: BTreeMap<usize, LockState>,
     /// The first set of each flag.
-    flags: BTreeMap<usize, Deed>,
+    flags: BTreeMap<usize, PastDeed>,
     /// Whether each processor has arrived at the barrier's open episode.
     arrived: Vec<bool>,
 }
 
-impl Held {
+impl HeldNow {
     /// Before the first event, of so many processors.
-    pub fn new(alloc: Global, processors: usize) -> Result<Held, AllocError> {
-        Ok(Held {
+    pub fn new(alloc: Global, processors: usize) -> Result<HeldNow, AllocError> {
+        Ok(HeldNow {
             locks: BTreeMap::new(alloc),
             flags: BTreeMap::new(alloc),
             arrived: vec![in alloc; false; processors]?,
@@ -58,7 +58,7 @@ impl Held {
     }
 
     /// The first set of the flag.
-    pub fn set(&self, flag: usize) -> Option<Deed> {
+    pub fn set(&self, flag: usize) -> Option<PastDeed> {
         self.flags.get(&flag).copied()
     }
 
@@ -84,7 +84,7 @@ impl Held {
     }
 
     /// The flag's set, where it is the first.
-    fn put_set(&mut self, flag: usize, set: Deed) -> Result<(), AllocError> {
+    fn put_set(&mut self, flag: usize, set: PastDeed) -> Result<(), AllocError> {
         if !self.flags.contains_key(&flag) {
             self.flags.insert(flag, set)?;
         }
@@ -107,7 +107,7 @@ impl Held {
             }
             Kind::Acquire(lock) => self.put_lock(lock, acquired(self.lock(lock), processor)),
             Kind::Release(lock) => {
-                let released = Some(Deed { place, processor });
+                let released = Some(PastDeed { place, processor });
                 let holder = None;
                 self.put_lock(
                     lock,
@@ -118,7 +118,7 @@ impl Held {
                     },
                 )
             }
-            Kind::Set(flag) => self.put_set(flag, Deed { place, processor }),
+            Kind::Set(flag) => self.put_set(flag, PastDeed { place, processor }),
             Kind::Arrive => {
                 self.arrive(processor);
                 Ok(())

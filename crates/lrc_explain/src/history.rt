@@ -8,14 +8,14 @@ use std::alloc::{AllocError, Global};
 
 /// How the events of a history are numbered: on from those that were cut off.
 #[derive(Clone, Copy)]
-pub struct Numbers {
+pub struct EventNumbers {
     /// How many events were cut off.
     pub cut: u64,
     /// How many arrivals in front stand for them.
     pub opening: usize,
 }
 
-impl Numbers {
+impl EventNumbers {
     /// The number of the event at this place of the history.
     pub fn of(self, place: usize) -> u64 {
         let left = place.saturating_sub(self.opening);
@@ -34,10 +34,10 @@ impl Numbers {
 }
 
 /// The journal's numbers, where it is of so many processors.
-pub fn numbers_of(processors: usize, journal: &Journal) -> Numbers {
+pub fn numbers_of(processors: usize, journal: &Journal) -> EventNumbers {
     let cut = journal.cut_events();
     let opening = if cut == 0 { 0 } else { processors };
-    Numbers { cut, opening }
+    EventNumbers { cut, opening }
 }
 
 /// The events of the journal, behind so many arrivals: where something was cut off, one of each processor, since each had

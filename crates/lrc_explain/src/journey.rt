@@ -1,10 +1,8 @@
 //! How what a load answers came to its processor: the ways from stores to loads.
-ghost use Rattle.std.specs.Prelude.{◌<◌, ◌≤◌, length};
-ghost use Rattle.base.specs.Prelude.{most_held, most_processors};
-ghost use Rattle.journal.specs.Prelude.{ProcessorsInRange};
+ghost use Rattle.std.specs.Prelude.{◌<◌, length};
 ghost use Rattle.causes.specs.Prelude.{AreWays};
 
-use crate::history::Numbers;
+use crate::history::EventNumbers;
 use crate::text::Text;
 use causes::{Source, Ways};
 use journal::{Event, Kind};
@@ -33,16 +31,19 @@ fn way_to(
     ways.way(alloc, events, from, place)
 }
 
-/// Adds of each event the way to it. The only error is running out of memory.
-fn add_ways(
-    found: &mut Vec<Option<Vec<usize>>>,
+/// Of each event, the places of a way from the store that it answers to it, where it is a load; else None. The only
+/// error is running out of memory.
+///
+/// It takes time for each load as `causes::Ways::way` does.
+pub fn ways_to_loads(
     alloc: Global,
     ways: &Ways,
     events: &[Event],
     loads: &[Option<Source>],
-) -> Result<(), AllocError>
+) -> Result<Vec<Option<Vec<usize>>>, AllocError>
     requires { AreWays events.now ways.now }
 {
+    let mut found = Vec::with_capacity(alloc, events.len())?;
     for place in 0..events.len() {
         let source = match loads.get(place) {
             Some(source) => *source,
@@ -50,26 +51,6 @@ fn add_ways(
         };
         found.push(way_to(alloc, ways, events, source, place)?)?;
     }
-    Ok(())
-}
-
-/// Of each event, the places of a way from the store that it answers to it, where it is a load; else None. The only
-/// error is running out of memory.
-///
-/// It takes time as `causes::Ways::new` does, and for each load as `causes::Ways::way` does.
-pub fn ways_to_loads(
-    alloc: Global,
-    processors: usize,
-    events: &[Event],
-    loads: &[Option<Source>],
-) -> Result<Vec<Option<Vec<usize>>>, AllocError>
-    requires few { length events.now ≤ most_held }
-    requires few_processors { processors ≤ most_processors }
-    requires processors { ProcessorsInRange processors events.now }
-{
-    let ways = Ways::new(alloc, processors, events)?;
-    let mut found = Vec::with_capacity(alloc, events.len())?;
-    add_ways(&mut found, alloc, &ways, events, loads)?;
     Ok(found)
 }
 
@@ -83,7 +64,7 @@ struct Edge {
 /// The crossings of a way: where it goes from one processor to another. Empty where it goes from none.
 #[derive(Clone, Copy)]
 pub struct Crossings<'a> {
-    pub numbers: Numbers,
+    pub numbers: EventNumbers,
     pub events: &'a [Event],
     /// The places of the way.
     pub places: &'a [usize],

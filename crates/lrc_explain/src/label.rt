@@ -20,18 +20,6 @@ pub fn put_label(text: &mut Text, kind: Kind) {
     }
 }
 
-/// Puts the same in fewer letters.
-pub fn put_short_label(text: &mut Text, kind: Kind) {
-    match kind {
-        Kind::Load(address, word) => put_access(text, "ld ", address, " ", word),
-        Kind::Store(address, word) => put_access(text, "st ", address, " ", word),
-        Kind::Fetch { page, .. } => text.put_number("fetch ", page),
-        Kind::Acquire(lock) => text.put_number("acq ", lock),
-        Kind::Release(lock) => text.put_number("rel ", lock),
-        kind => put_label(text, kind),
-    }
-}
-
 /// Puts an access with this name.
 fn put_access(text: &mut Text, name: &str, address: usize, arrow: &str, word: u32) {
     text.put_number(name, address);

@@ -6,24 +6,23 @@ ghost use Rattle.journal.specs.Events.{At};
 ghost use Rattle.judge.specs.Prelude.{AreSmall, IsWithin, sizes_of};
 
 use crate::fault::ExplainFault;
-use crate::shape::Shape;
+use crate::shape::RunShape;
 use crate::text::Text;
-use causes::{Due, dues};
+use causes::Due;
 use journal::{Event, Kind, MOST_HELD};
 use judge::Sizes;
-use std::alloc::{AllocError, Global};
 
 /// How many pages a memory has at most.
 const MOST_PAGES: usize = 64;
 
 /// How many locks a memory has at most, and how many flags.
-const MOST_LOCKS: usize = 32;
+pub const MOST_LOCKS: usize = 32;
 
 /// How many pages of an event are told at most.
 const MOST_TOLD: usize = 3;
 
 /// Whether a history of these sizes can have all of the events.
-fn are_within(events: &[Event], sizes: Sizes) -> bool
+pub fn are_within(events: &[Event], sizes: Sizes) -> bool
     ensures small { IsTrue result → AreSmall (sizes_of sizes) }
     ensures few { IsTrue result → length events.now ≤ most_held }
     ensures within { IsTrue result → (k : ℕ) (e : Event) → At events.now k e → IsWithin (sizes_of sizes) e }
@@ -39,30 +38,22 @@ fn are_within(events: &[Event], sizes: Sizes) -> bool
     events.len() <= MOST_HELD
 }
 
-/// Of each event of a run of this shape, the records that it tells of; nothing where nobody knows how many words a page has.
-/// OutOfRange where that many words don't make pages of the addresses, or a memory of such pages can't have the events.
-pub fn dues_of(
-    alloc: Global,
-    shape: Shape,
-    events: &[Event],
-) -> Result<Vec<Vec<Due>>, ExplainFault> {
+/// The sizes of a memory with a run of this shape, with as many locks and flags as there may be; None where nobody knows how
+/// many words a page has. OutOfRange where that many words don't make pages of the addresses.
+pub fn sizes_for(shape: RunShape) -> Result<Option<Sizes>, ExplainFault> {
     let Some(words) = shape.words else {
-        return Ok(Vec::new(alloc));
+        return Ok(None);
     };
     if words == 0 || shape.addresses % words != 0 {
         return Err(ExplainFault::OutOfRange);
     }
-    let sizes = Sizes {
+    Ok(Some(Sizes {
         processors: shape.processors,
         pages: shape.addresses / words,
         words,
         locks: MOST_LOCKS,
         flags: MOST_LOCKS,
-    };
-    if !are_within(events, sizes) {
-        return Err(ExplainFault::OutOfRange);
-    }
-    Ok(dues(alloc, sizes, events)?)
+    }))
 }
 
 /// Which copies of pages are stale, as far as is known.

@@ -24,9 +24,12 @@ mod marked;
 mod notes;
 mod racing;
 mod rendering;
+mod rivals;
 mod shape;
+mod sketching;
 mod story;
 mod text;
 
 pub use fault::ExplainFault;
 pub use rendering::render;
+pub use sketching::{Sketch, WaitHint, sketch_run};

@@ -2,19 +2,20 @@
 
 use crate::earlier::Earlier;
 use crate::found::Findings;
-use crate::held::{Deed, Held, LockState};
-use crate::history::Numbers;
+use crate::held::{HeldNow, LockState, PastDeed};
+use crate::history::EventNumbers;
 use crate::journey::Crossings;
 use crate::lacks::{GoneStale, Stale, Writers};
 use crate::marked::Marked;
+use crate::rivals::Rival;
 use crate::text::Text;
-use causes::{Due, Source};
+use causes::{Due, Source, WordOrigin};
 use journal::{Event, Kind};
 
 /// What is known of a history.
 #[derive(Clone, Copy)]
 pub struct Known<'a> {
-    pub numbers: Numbers,
+    pub numbers: EventNumbers,
     pub processors: usize,
     pub events: &'a [Event],
     pub found: &'a Findings,
@@ -22,12 +23,12 @@ pub struct Known<'a> {
 
 impl Known<'_> {
     /// The event at this place, which is one of the history.
-    fn deed(&self, place: usize) -> Deed {
+    fn deed(&self, place: usize) -> PastDeed {
         let processor = match self.events.get(place) {
             Some(event) => event.processor,
             None => 0,
         };
-        Deed { place, processor }
+        PastDeed { place, processor }
     }
 
     /// The last store before the event at this place to its address.
@@ -73,21 +74,70 @@ impl Known<'_> {
         }
     }
 
-    /// Puts why the last store before the load that it doesn't answer isn't what it answers, where there is such a store.
-    fn put_other(&self, text: &mut Text, place: usize, source: Source) {
+    /// The other latest stores of the load at this place.
+    fn rivals(&self, place: usize) -> &[Rival] {
+        let none: &[Rival] = &[];
+        match self.found.loads.rivals.get(place) {
+            Some(rivals) => rivals.as_slice(),
+            None => none,
+        }
+    }
+
+    /// Where the word comes from that the load at this place answers; None where nobody knows.
+    fn origin(&self, place: usize, source: Source) -> Option<WordOrigin> {
+        match self.found.loads.origins.get(place) {
+            Some(Some(origin)) if source == Source::StoreAt(origin.store) => Some(*origin),
+            _ => None,
+        }
+    }
+
+    /// Puts why the copy of the load's processor doesn't have the rival's word, but the one of this origin.
+    fn put_rival(&self, text: &mut Text, rival: Rival, origin: Option<WordOrigin>) {
+        put_other_store(text, self.numbers, self.deed(rival.store));
+        text.put(" is as late");
+        let Some(origin) = origin else {
+            return;
+        };
+        let write = self.numbers.of(origin.write);
+        match rival.fetch {
+            Some(fetch) if fetch == origin.write => {
+                text.put_number(": the fetch at ", write);
+                text.put(" applied it first");
+            }
+            Some(fetch) => {
+                text.put_number(": the fetch at ", self.numbers.of(fetch));
+                text.put(" had brought it before");
+            }
+            None => {
+                text.put_number(": the fetch at ", write);
+                text.put(" overwrote it");
+            }
+        }
+    }
+
+    /// Whether the store is one of the rivals of the load at this place.
+    fn is_rival(&self, place: usize, store: usize) -> bool {
+        self.rivals(place).iter().any(|rival| rival.store == store)
+    }
+
+    /// Puts why the last store before the load that isn't told of yet isn't what it answers, where there is such a store.
+    fn put_last(&self, text: &mut Text, place: usize, source: Source) {
         let Some(last) = self.earlier(place) else {
             return;
         };
         if source != Source::StoreAt(last.place) {
-            put_last(text, self.numbers, self.deed(last.place), last.is_ordered);
-        } else if let Some(before) = self.earlier(last.place) {
-            put_overwritten(
-                text,
-                self.numbers,
-                self.deed(before.place),
-                before.is_ordered,
-                last.place,
-            );
+            if !last.is_ordered {
+                put_other_store(text, self.numbers, self.deed(last.place));
+                text.put(" is not ordered before it");
+            }
+            return;
+        }
+        let Some(before) = self.earlier(last.place) else {
+            return;
+        };
+        if !self.is_rival(place, before.place) {
+            let store = self.deed(before.place);
+            put_overwritten(text, self.numbers, store, before.is_ordered, last.place);
         }
     }
 
@@ -95,7 +145,11 @@ impl Known<'_> {
     fn put_load(&self, text: &mut Text, place: usize, address: usize) {
         if let Some(Some(source)) = self.found.loads.sources.get(place) {
             self.put_source(text, place, address, *source);
-            self.put_other(text, place, *source);
+            let origin = self.origin(place, *source);
+            for rival in self.rivals(place) {
+                self.put_rival(text, *rival, origin);
+            }
+            self.put_last(text, place, *source);
         }
     }
 
@@ -121,12 +175,62 @@ impl Known<'_> {
         writers.put(text);
     }
 
+    /// The events of others that let the one at this place through and that its processor had not heard of.
+    fn incoming(&self, place: usize) -> &[usize] {
+        let none: &[usize] = &[];
+        match self.found.incoming.get(place) {
+            Some(places) => places.as_slice(),
+            None => none,
+        }
+    }
+
+    /// Puts what is said of the await at this place of a flag that was set first by this: all sets that bring news, or else the
+    /// first one.
+    fn put_await(&self, text: &mut Text, place: usize, first: Option<PastDeed>) {
+        let sets = self.incoming(place);
+        if sets.is_empty() {
+            put_awaited(text, self.numbers, first);
+            return;
+        }
+        for (index, set) in sets.iter().enumerate() {
+            let is_last = index.saturating_add(1) == sets.len();
+            text.put(match index {
+                0 => "",
+                _ if is_last => ", and ",
+                _ => ", ",
+            });
+            let front = if index == 0 { "after p" } else { "p" };
+            put_by(text, self.numbers, front, self.deed(*set), "set");
+        }
+    }
+
+    /// Puts what is said of the departure at this place: whose arrivals it follows.
+    fn put_depart(&self, text: &mut Text, place: usize) {
+        let mut marks = [false; 16];
+        for arrival in self.incoming(place) {
+            if let Some(mark) = marks.get_mut(self.deed(*arrival).processor) {
+                *mark = true;
+            }
+        }
+        let arrived = Marked {
+            marks: &marks,
+            mark: true,
+            but: 16,
+        };
+        match arrived.count() {
+            0 => return,
+            1 => text.put("after the arrival of "),
+            _ => text.put("after the arrivals of "),
+        }
+        arrived.put(text);
+    }
+
     /// Puts what is said of the event at this place, before which this is held and these copies are stale. Nothing is put
     /// where there is nothing to say.
     pub fn put_note(
         &self,
         text: &mut Text,
-        held: &Held,
+        held: &HeldNow,
         stale: &Stale,
         place: usize,
         event: Event,
@@ -151,23 +255,23 @@ impl Known<'_> {
     }
 
     /// Puts the same, without what is said of records.
-    fn put_reason(&self, text: &mut Text, held: &Held, place: usize, event: Event) {
+    fn put_reason(&self, text: &mut Text, held: &HeldNow, place: usize, event: Event) {
         match event.kind {
             Kind::Load(address, _) => self.put_load(text, place, address),
             Kind::Fetch { records, words, .. } => put_fetch(text, records, words),
             Kind::Ask(lock) => put_ask(text, lock, held.lock(lock)),
             Kind::Acquire(lock) => put_acquire(text, self.numbers, held.lock(lock).released),
             Kind::Watch(flag) => put_watch(text, self.numbers, flag, held.set(flag)),
-            Kind::Await(flag) => put_await(text, self.numbers, held.set(flag)),
+            Kind::Await(flag) => self.put_await(text, place, held.set(flag)),
             Kind::Arrive => put_arrive(text, held.arrived(), event.processor),
-            Kind::Depart => put_depart(text, self.processors, event.processor),
+            Kind::Depart => self.put_depart(text, place),
             _ => {}
         }
     }
 }
 
 /// Puts whose store it is that a load doesn't answer.
-fn put_other_store(text: &mut Text, numbers: Numbers, store: Deed) {
+fn put_other_store(text: &mut Text, numbers: EventNumbers, store: PastDeed) {
     text.put_number("; event ", numbers.of(store.place));
     text.put_number("'s store by p", store.processor);
 }
@@ -175,8 +279,8 @@ fn put_other_store(text: &mut Text, numbers: Numbers, store: Deed) {
 /// Puts why the store isn't what a load answers that comes later and answers the one at `source`.
 fn put_overwritten(
     text: &mut Text,
-    numbers: Numbers,
-    store: Deed,
+    numbers: EventNumbers,
+    store: PastDeed,
     is_ordered: bool,
     source: usize,
 ) {
@@ -189,44 +293,34 @@ fn put_overwritten(
     text.put_number(" event ", numbers.of(source));
 }
 
-/// Puts why the last store before a load isn't what it answers.
-fn put_last(text: &mut Text, numbers: Numbers, store: Deed, is_ordered: bool) {
-    put_other_store(text, numbers, store);
-    text.put(if is_ordered {
-        " would have done as well"
-    } else {
-        " is not ordered before it"
-    });
-}
-
-/// Puts what let through an acquire or an await.
-fn put_after(text: &mut Text, numbers: Numbers, deed: Deed, name: &str) {
-    text.put_number("after p", deed.processor);
+/// Puts whose event of this name lets one through, behind these words.
+fn put_by(text: &mut Text, numbers: EventNumbers, front: &str, deed: PastDeed, name: &str) {
+    text.put_number(front, deed.processor);
     text.put("'s ");
     text.put(name);
     text.put_number(", event ", numbers.of(deed.place));
 }
 
 /// Puts what is said of an acquire of a lock that had this release.
-fn put_acquire(text: &mut Text, numbers: Numbers, released: Option<Deed>) {
+fn put_acquire(text: &mut Text, numbers: EventNumbers, released: Option<PastDeed>) {
     match released {
-        Some(release) => put_after(text, numbers, release, "release"),
+        Some(release) => put_by(text, numbers, "after p", release, "release"),
         None if numbers.has_cut() => text.put("nobody held it since the cut"),
         None => text.put("nobody held it before"),
     }
 }
 
-/// Puts what is said of an await of a flag that this set.
-fn put_await(text: &mut Text, numbers: Numbers, set: Option<Deed>) {
+/// Puts what is said of an await of a flag that this set, of which its processor had heard.
+fn put_awaited(text: &mut Text, numbers: EventNumbers, set: Option<PastDeed>) {
     match set {
-        Some(set) => put_after(text, numbers, set, "set"),
+        Some(set) => put_by(text, numbers, "after p", set, "set"),
         None if numbers.has_cut() => text.put("it was set before the cut"),
         None => {}
     }
 }
 
 /// Puts what is said of a watch of a flag that this set.
-fn put_watch(text: &mut Text, numbers: Numbers, flag: usize, set: Option<Deed>) {
+fn put_watch(text: &mut Text, numbers: EventNumbers, flag: usize, set: Option<PastDeed>) {
     if set.is_none() && !numbers.has_cut() {
         text.put_number("waits: nobody has set flag ", flag);
     }
@@ -278,24 +372,4 @@ fn put_arrive(text: &mut Text, arrived: &[bool], processor: usize) {
     } else {
         " have not arrived"
     });
-}
-
-/// Puts what is said of a departure of the processor.
-fn put_depart(text: &mut Text, processors: usize, processor: usize) {
-    let marks = [true; 16];
-    let others = Marked {
-        marks: &marks[..processors.min(16)],
-        mark: true,
-        but: processor,
-    };
-    let count = others.count();
-    if count == 0 {
-        return;
-    }
-    text.put(if count == 1 {
-        "after the arrival of "
-    } else {
-        "after the arrivals of "
-    });
-    others.put(text);
 }

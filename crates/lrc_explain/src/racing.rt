@@ -1,17 +1,17 @@
-//! The first race, in sentences.
+//! The first race, in sentences: its accesses, what keeps them apart, and what would have ordered them.
 
-use crate::history::Numbers;
+use crate::found::RaceFound;
+use crate::history::EventNumbers;
 use crate::label::put_label;
 use crate::text::Text;
-use causes::FirstRace;
 use journal::{Event, Kind};
 
 /// The race of a history with these events.
 #[derive(Clone, Copy)]
-pub struct Race<'a> {
-    pub numbers: Numbers,
+pub struct RaceStory<'a> {
+    pub numbers: EventNumbers,
     pub events: &'a [Event],
-    pub race: FirstRace,
+    pub found: &'a RaceFound,
 }
 
 /// An event with its number.
@@ -32,7 +32,7 @@ impl Numbered {
     }
 }
 
-impl Race<'_> {
+impl RaceStory<'_> {
     /// The event at this place.
     fn numbered(&self, place: usize) -> Option<Numbered> {
         let event = self.events.get(place)?;
@@ -44,7 +44,7 @@ impl Race<'_> {
 
     /// The last event of the first processor that the second one had heard of; None where it is none that is told.
     fn heard(&self) -> Option<Numbered> {
-        let place = self.race.heard?;
+        let place = self.found.race.heard?;
         if self.numbers.is_cut(place) {
             return None;
         }
@@ -54,9 +54,9 @@ impl Race<'_> {
     /// Puts what the second processor had heard of the first one's.
     fn put_heard(&self, text: &mut Text, first: usize, second: usize) {
         text.put_number("p", second);
-        if self.race.heard.is_none() {
+        if self.found.race.heard.is_none() {
             text.put_number(" had heard nothing of p", first);
-            text.put(".\n");
+            text.put(".");
             return;
         }
         text.put_number(" had last heard of p", first);
@@ -65,18 +65,59 @@ impl Race<'_> {
                 text.put_number("'s event ", heard.number);
                 text.put(" (");
                 put_label(text, heard.event.kind);
-                text.put(").\n");
+                text.put(").");
             }
-            None => text.put(" before the cut.\n"),
+            None => text.put(" before the cut."),
         }
+    }
+
+    /// Puts the value that the second access missed, where it is a load of another word than the first one stored before it.
+    fn put_missed(&self, text: &mut Text, first: Numbered, second: Numbered) {
+        let (Kind::Store(_, stored), Kind::Load(_, answered)) = (
+            first.event.kind,
+            second.event.kind,
+        ) else {
+            return;
+        };
+        if stored != answered {
+            text.put("Stale: ");
+            put_label(text, second.event.kind);
+            text.put_number(", though event ", first.number);
+            text.put_number(" had stored ", stored);
+            text.put(".");
+            text.end_line();
+        }
+    }
+
+    /// Puts that the two hold no lock in common, and which ones each holds.
+    fn put_no_lock(&self, text: &mut Text, first: usize, second: usize) {
+        text.put("No lock in common");
+        if self.numbers.has_cut() {
+            text.put(" since the cut");
+        }
+        text.put_number(": p", first);
+        put_locks(text, &self.found.first_locks);
+        text.put_number(", p", second);
+        put_locks(text, &self.found.second_locks);
+        text.put(".");
+    }
+
+    /// Puts what would have ordered the two.
+    fn put_remedy(&self, text: &mut Text, first: Numbered, second: Numbered) {
+        text.put("What would order them: one lock round both, a barrier between them,");
+        text.put_number(" or a flag that p", first.event.processor);
+        text.put_number(" sets behind event ", first.number);
+        text.put_number(" and p", second.event.processor);
+        text.put_number(" awaits before event ", second.number);
+        text.put(".");
     }
 
     /// Puts the sentences, each in a line.
     pub fn put(&self, text: &mut Text) {
-        let Some(first) = self.numbered(self.race.first) else {
+        let Some(first) = self.numbered(self.found.race.first) else {
             return;
         };
-        let Some(second) = self.numbered(self.race.second) else {
+        let Some(second) = self.numbered(self.found.race.second) else {
             return;
         };
         if let Kind::Load(address, _) | Kind::Store(address, _) = first.event.kind {
@@ -84,9 +125,29 @@ impl Race<'_> {
             text.put(" and ");
             second.put(text);
             text.put_number(" race at address ", address);
-            text.put(".\n");
+            text.put(".");
+            text.end_line();
         }
-        text.put("Neither happens before the other.\n");
+        text.put("Neither happens before the other.");
+        text.end_line();
         self.put_heard(text, first.event.processor, second.event.processor);
+        text.end_line();
+        self.put_missed(text, first, second);
+        self.put_no_lock(text, first.event.processor, second.event.processor);
+        text.end_line();
+        self.put_remedy(text, first, second);
+        text.end_line();
+    }
+}
+
+/// Puts which locks a processor held.
+fn put_locks(text: &mut Text, locks: &[usize]) {
+    let mut front = " held ";
+    for lock in locks {
+        text.put_number(front, *lock);
+        front = ", ";
+    }
+    if locks.is_empty() {
+        text.put(" held none");
     }
 }

@@ -6,8 +6,8 @@ ghost use Rattle.lrc_explain.specs.Prelude.{IsExplainText, ExplainWritten, Expla
 
 use crate::fault::ExplainFault;
 use crate::halting::put_waits;
-use crate::held::Held;
-use crate::shape::Shape;
+use crate::held::HeldNow;
+use crate::shape::RunShape;
 use crate::story::put_story;
 use crate::text::Text;
 use conformance::Ended;
@@ -17,7 +17,7 @@ use std::alloc::Global;
 use std::io::Write;
 
 /// The run's journal.
-fn journal_of(ended: &Ended) -> &Journal {
+pub fn journal_of(ended: &Ended) -> &Journal {
     match ended {
         Ended::Whole(report) => &report.journal,
         Ended::Halted(halt) => &halt.journal,
@@ -36,12 +36,12 @@ fn put_run(
         return Err(ExplainFault::OutOfRange);
     }
     let journal = journal_of(ended);
-    let shape = Shape {
+    let shape = RunShape {
         processors,
         addresses: journal.base().len(),
         words,
     };
-    let mut held = Held::new(alloc, processors)?;
+    let mut held = HeldNow::new(alloc, processors)?;
     put_story(text, &mut held, alloc, shape, journal)?;
     if let Ended::Halted(_) = ended {
         put_waits(text, &held, journal);

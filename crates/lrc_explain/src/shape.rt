@@ -2,7 +2,7 @@
 
 /// How many processors and addresses a run has.
 #[derive(Clone, Copy)]
-pub struct Shape {
+pub struct RunShape {
     pub processors: usize,
     pub addresses: usize,
     /// How many words a page has, where that is known.

@@ -5,13 +5,13 @@ ghost use Rattle.journal.specs.Prelude.{AddressesInRange, ProcessorsInRange};
 
 use crate::fault::ExplainFault;
 use crate::found::found_of;
-use crate::held::Held;
-use crate::history::{Numbers, are_in_range, history_of, numbers_of};
+use crate::held::HeldNow;
+use crate::history::{EventNumbers, are_in_range, history_of, numbers_of};
 use crate::lacks::Stale;
 use crate::layout::{Columns, layout_of};
 use crate::notes::Known;
-use crate::racing::Race;
-use crate::shape::Shape;
+use crate::racing::RaceStory;
+use crate::shape::RunShape;
 use crate::text::Text;
 use journal::{Event, Journal};
 use std::alloc::{AllocError, Global};
@@ -20,7 +20,7 @@ use std::alloc::{AllocError, Global};
 /// and then what is held at the end. The only error is running out of memory.
 fn put_events(
     text: &mut Text,
-    held: &mut Held,
+    held: &mut HeldNow,
     known: &Known<'_>,
     layout: &Columns,
 ) -> Result<(), AllocError> {
@@ -49,11 +49,11 @@ fn put_cut(text: &mut Text, cut: u64) {
 /// Puts the sentences on the race, where there is one, and an empty line before and after.
 fn put_race(text: &mut Text, known: &Known<'_>) {
     text.end_line();
-    if let Some(race) = known.found.race {
-        let race = Race {
+    if let Some(found) = &known.found.race {
+        let race = RaceStory {
             numbers: known.numbers,
             events: known.events,
-            race,
+            found,
         };
         race.put(text);
         text.end_line();
@@ -63,7 +63,7 @@ fn put_race(text: &mut Text, known: &Known<'_>) {
 /// Puts what is known of a history, and an empty line. The only error is running out of memory.
 fn put_known(
     text: &mut Text,
-    held: &mut Held,
+    held: &mut HeldNow,
     alloc: Global,
     known: &Known<'_>,
 ) -> Result<(), AllocError> {
@@ -78,10 +78,10 @@ fn put_known(
 /// Puts these events of a run of this shape, then the first race, and an empty line.
 fn put_history(
     text: &mut Text,
-    held: &mut Held,
+    held: &mut HeldNow,
     alloc: Global,
-    shape: Shape,
-    numbers: Numbers,
+    shape: RunShape,
+    numbers: EventNumbers,
     events: &[Event],
 ) -> Result<(), ExplainFault>
     requires few { length events.now ≤ most_held }
@@ -104,9 +104,9 @@ fn put_history(
 /// before the first event, and then what is held at the end. OutOfRange where the shape can't have the events.
 pub fn put_story(
     text: &mut Text,
-    held: &mut Held,
+    held: &mut HeldNow,
     alloc: Global,
-    shape: Shape,
+    shape: RunShape,
     journal: &Journal,
 ) -> Result<(), ExplainFault> {
     let numbers = numbers_of(shape.processors, journal);

@@ -14,7 +14,7 @@ use std::process::Abort;
 use std::test::Fail;
 
 /// What is wanted of a history of so many processors: of each of the last events its source, and the first race. No
-/// earlier event has a source. The history has two addresses.
+/// earlier event has a source. The history has one page of two words.
 fn tells<R: Abort + AllocGlobal>(
     rt: &R,
     processors: usize,
@@ -23,10 +23,17 @@ fn tells<R: Abort + AllocGlobal>(
     race: Option<FirstRace>,
 ) -> Result<(), Fail> {
     let events = history(rt.alloc(), rows)?;
-    assert!(rt; are_in_range(&events, processors, 2));
-    let told = match explain(rt.alloc(), processors, 2, &events) {
+    let sizes = Sizes {
+        processors,
+        pages: 1,
+        words: 2,
+        locks: 4,
+        flags: 4,
+    };
+    assert!(rt; are_within(&events, sizes));
+    let told = match explain(rt.alloc(), sizes, &events) {
         Ok(told) => told,
-        Err(_) => explain(rt.alloc(), processors, 2, &events)?,
+        Err(_) => explain(rt.alloc(), sizes, &events)?,
     };
     assert!(rt; told.race == race);
     assert!(rt; told.loads.len() == events.len());
@@ -97,8 +104,8 @@ fn overwritten(rt: HostRuntime) -> Result<(), Fail> {
     tells(&rt, 2, &events, &sources, racing(5, 10, None))
 }
 
-/// Two unordered stores of one value are both the latest after a barrier: that of the lesser processor is named. Of two
-/// values each is its own store's.
+/// Two unordered stores are both the latest after a barrier: of one value or of two, each processor that fetches nothing has
+/// its own.
 #[test]
 fn two_latest(rt: HostRuntime) -> Result<(), Fail> {
     for value in [4, 5] {
@@ -112,16 +119,59 @@ fn two_latest(rt: HostRuntime) -> Result<(), Fail> {
             (1, Kind::Load(0, 4)),
             (0, Kind::Load(0, value)),
         ];
-        let of_first = if value == 4 { 1 } else { 0 };
-        tells(
-            &rt,
-            2,
-            &events,
-            &[stored(of_first), stored(1)],
-            racing(0, 1, None),
-        )?;
+        tells(&rt, 2, &events, &[stored(0), stored(1)], racing(0, 1, None))?;
     }
     Ok(())
+}
+
+/// A fetch of one page.
+const FETCH: Kind = Kind::Fetch {
+    writers: 2,
+    page: 0,
+    records: 2,
+    words: 2,
+};
+
+/// Of two unordered stores of one value that one fetch brings, that whose interval was closed last is shown, whoever made it.
+#[test]
+fn applied_last(rt: HostRuntime) -> Result<(), Fail> {
+    for (first, second) in [(0, 1), (1, 0)] {
+        let events = [
+            (0, Kind::Store(0, 5)),
+            (1, Kind::Store(0, 5)),
+            (first, Kind::Arrive),
+            (second, Kind::Arrive),
+            (2, Kind::Arrive),
+            (2, Kind::Depart),
+            (2, FETCH),
+            (2, Kind::Load(0, 5)),
+        ];
+        tells(&rt, 3, &events, &[stored(second)], racing(0, 1, None))?;
+    }
+    Ok(())
+}
+
+/// A later fetch brings a store whose interval was closed earlier: that one is shown, until the processor stores itself.
+#[test]
+fn fetched_later(rt: HostRuntime) -> Result<(), Fail> {
+    let events = [
+        (0, Kind::Store(0, 5)),
+        (0, Kind::Set(0)),
+        (1, Kind::Store(0, 5)),
+        (1, Kind::Set(1)),
+        (2, Kind::Watch(1)),
+        (2, Kind::Await(1)),
+        (2, FETCH),
+        (2, Kind::Load(0, 5)),
+        (2, Kind::Watch(0)),
+        (2, Kind::Await(0)),
+        (2, FETCH),
+        (2, Kind::Load(0, 5)),
+        (2, Kind::Store(0, 5)),
+        (2, Kind::Load(0, 5)),
+    ];
+    let sources = [stored(2), None, None, None, stored(0), None, stored(12)];
+    tells(&rt, 3, &events, &sources, racing(0, 2, None))
 }
 
 /// What has been heard of by a flag, a barrier, and a lock: not what its processor did since. Over a third processor it

@@ -1,4 +1,4 @@
-use Rattle.causes.proofs.Answering.{row_latest, source_in}
+use Rattle.causes.proofs.Answering.{origin_in, origin_out, row_latest, source_in}
 use Rattle.causes.proofs.answers.source_at.Goals as goal
 
 pub source_of-requires : goal.source_of-requires
@@ -13,10 +13,21 @@ source_of-requires c =
       );
     }
 
-pub returns-in-Load : goal.returns-in-Load
-returns-in-Load c = λ k at row.
+pub returns-in-Load-clause-origin : goal.returns-in-Load-clause-origin
+returns-in-Load-clause-origin c = λ k at row.
+    let events = c.args.events.now in
+    let a = c.in-Load.field-0 in
+    let v = c.in-Load.value in
+    origin_in events k a v c.args.event c.args.origin c.source_of.result at c.in-Load.is
+    (c.source_of.ensures.origin k a (row_latest events k a v c.args.event c.args.places.now at c.in-Load.is row))
+
+pub returns-in-Load-clause-source : goal.returns-in-Load-clause-source
+returns-in-Load-clause-source c = λ k at row.
     let events = c.args.events.now in
     let a = c.in-Load.field-0 in
     let v = c.in-Load.value in
     source_in events k a v c.args.event c.source_of.result at c.in-Load.is
-    (c.source_of.ensures k a (row_latest events k a v c.args.event c.args.places.now at c.in-Load.is row))
+    (c.source_of.ensures.source k a (row_latest events k a v c.args.event c.args.places.now at c.in-Load.is row))
+
+pub returns-in_default-clause-origin : goal.returns-in_default-clause-origin
+returns-in_default-clause-origin c = λ k at row. origin_out c.args.events.now k c.args.origin

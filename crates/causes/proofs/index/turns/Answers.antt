@@ -6,7 +6,7 @@ use Rattle.journal.specs.declared.event.Kind.TheVariants.{Load}
 use Rattle.journal.specs.DidEvent.{event}
 use Rattle.journal.specs.Events.{At}
 use Rattle.causes.specs.declared.index.Turn.{Turn}
-use Rattle.causes.specs.Index.{IsTurn}
+use Rattle.causes.specs.Index.{IsEventTurn}
 use Rattle.causes.proofs.LookedUp.{AreNext, next_first, next_next, turn_small, turns_next}
 use Rattle.causes.proofs.index.turns.Goals as goal
 
@@ -20,7 +20,7 @@ here events place = slice_index_or events place (event 0 (Load 0 0))
 -- the turn that is next for its processor
 own : (events : List Event) (place : ℕ) (next : List Turn) → place < length events → length next ≡ 16
     → (here events place).processor < 16 → AreNext events place next
-    → IsTurn events place (here events place).processor (slice_index_or next (here events place).processor zero)
+    → IsEventTurn events place (here events place).processor (slice_index_or next (here events place).processor zero)
 own events place next lt long low are =
     are (here events place).processor (slice_index_or next (here events place).processor zero)
     (slice_get-get_or next (here events place).processor zero (omega arith))
@@ -105,7 +105,7 @@ loop-place-preserved c =
       long = (let len = c.in_ok-push.ensures.len in let was = old.long in omega arith);
       each =
           subst (λ (items : List Turn). (i : ℕ) (f : Event) (t : Turn) → At events i f → slice_get items i ≡ Some t
-          → IsTurn events i f.processor t) (sym c.in_ok-push.ensures.items)
+          → IsEventTurn events i f.processor t) (sym c.in_ok-push.ensures.items)
           (turns_next events place e turns.items turn long at mine old.each);
     }
 

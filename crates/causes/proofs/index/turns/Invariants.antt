@@ -2,7 +2,7 @@ use Rattle.std.proofs.Common.{◌≡◌, ℕ, Some, length, slice_get, vec_len}
 use Rattle.journal.specs.declared.event.Event.{Event}
 use Rattle.journal.specs.Events.{At}
 use Rattle.causes.specs.declared.index.Turn.{Turn}
-use Rattle.causes.specs.Index.{IsTurn}
+use Rattle.causes.specs.Index.{IsEventTurn}
 use Rattle.causes.proofs.LookedUp.{AreNext}
 use Rattle.causes.proofs.index.turns.Given as goal
 
@@ -12,5 +12,5 @@ invariant-loop-place l = record {
   next : AreNext l.events l.place l.next;
   long : vec_len l.turns ≡ l.place;
   each : (i : ℕ) (e : Event) (t : Turn) → At l.events i e → slice_get l.turns.items i ≡ Some t
-      → IsTurn l.events i e.processor t;
+      → IsEventTurn l.events i e.processor t;
 }

@@ -8,8 +8,8 @@ use Rattle.journal.specs.DidEvent.{event}
 use Rattle.journal.specs.Events.{count_of, is_arrive, is_depart}
 use Rattle.journal.proofs.Passes.ClockEntry.{zeros_at}
 use Rattle.journal.specs.InRange.{ProcessorsInRange}
-use Rattle.causes.specs.Edges.{EdgeFromOther, LetsOn}
-use Rattle.causes.proofs.LetsOn.{AreEdgesBelow, count_within, counts_next, edges_all, edges_none, edges_next, edges_other, leads, led, one_or_none}
+use Rattle.causes.specs.Edges.{EdgeFromOther, LeadsOn}
+use Rattle.causes.proofs.LeadsOn.{AreEdgesBelow, count_within, counts_next, edges_all, edges_none, edges_next, edges_other, leads, led, one_or_none}
 use Rattle.causes.proofs.leading.edges.Goals as goal
 use Rattle.causes.proofs.leading.edges.Goals.{then-from-to+then-lets_on+in_ok-push, else-from-to, else-from-to-via-then-from-to+else-lets_on, else-from-to-via-else-from-to}
 
@@ -86,9 +86,9 @@ loop-i-preserved c =
       counts = counts_next is_arrive events i from c.loop-i.arrivals _ at old.long old.counts (omega arith);
       edges = elim c.if-from-to.branch [
         | then-from-to+then-lets_on+in_ok-push w ↦
-            (let on : LetsOn from.kind (count_of is_arrive (take i events) from.processor) to.kind (count_of is_depart (take k events) to.processor) =
-            subst (λ n. LetsOn from.kind n to.kind (count_of is_depart (take k events) to.processor)) arrived
-            (subst (λ m. LetsOn from.kind (slice_index c.loop-i.arrivals from.processor) to.kind m) departed (w.if-lets_on.ensures.0 refl)) in
+            (let on : LeadsOn from.kind (count_of is_arrive (take i events) from.processor) to.kind (count_of is_depart (take k events) to.processor) =
+            subst (λ n. LeadsOn from.kind n to.kind (count_of is_depart (take k events) to.processor)) arrived
+            (subst (λ m. LeadsOn from.kind (slice_index c.loop-i.arrivals from.processor) to.kind m) departed (w.if-lets_on.ensures.0 refl)) in
             subst (λ v. AreEdgesBelow events k (i + 1) v.items) (sym w.places-is)
             (subst (AreEdgesBelow events k (i + 1)) (sym w.in_ok-push.ensures.items)
             (edges_next events k i c.loop-i.places.items (leads events i k from to lt at end (w.if-from-to.true, on))
@@ -96,9 +96,9 @@ loop-i-preserved c =
         | else-from-to w ↦
             (let away : ¬ EdgeFromOther events i k = λ x.
             let l = led events i k from to at end x in
-            let on : LetsOn from.kind (slice_index c.loop-i.arrivals from.processor) to.kind c.departures_before-departed.result =
-            subst (λ n. LetsOn from.kind n to.kind c.departures_before-departed.result) (sym arrived)
-            (subst (λ m. LetsOn from.kind (count_of is_arrive (take i events) from.processor) to.kind m) (sym departed) l.1) in
+            let on : LeadsOn from.kind (slice_index c.loop-i.arrivals from.processor) to.kind c.departures_before-departed.result =
+            subst (λ n. LeadsOn from.kind n to.kind c.departures_before-departed.result) (sym arrived)
+            (subst (λ m. LeadsOn from.kind (count_of is_arrive (take i events) from.processor) to.kind m) (sym departed) l.1) in
             elim w.else-from-to.branch [
               | else-from-to-via-then-from-to+else-lets_on v ↦ false≢true (v.if-lets_on.ensures.1 on)
               | else-from-to-via-else-from-to v ↦ l.0 v.if-from-to.false

@@ -1,6 +1,6 @@
 use Rattle.std.proofs.Common.{◌≡◌, ◌<◌, ℕ, length, slice_index, take}
 use Rattle.journal.specs.Events.{count_of, is_arrive}
-use Rattle.causes.proofs.LetsOn.{AreEdgesBelow}
+use Rattle.causes.proofs.LeadsOn.{AreEdgesBelow}
 use Rattle.causes.proofs.leading.edges.Given as goal
 
 abbrev pub invariant-loop-i : goal.invariant-loop-i

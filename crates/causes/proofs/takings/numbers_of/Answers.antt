@@ -7,7 +7,7 @@ use Rattle.journal.specs.DidEvent.{event}
 use Rattle.journal.specs.Events.{is_closing}
 use Rattle.journal.specs.InRange.{ProcessorsInRange}
 use Rattle.journal.proofs.Passes.ClockEntry.{zeros_at}
-use Rattle.causes.proofs.LetsOn.{count_within, counts_next, one_or_none}
+use Rattle.causes.proofs.LeadsOn.{count_within, counts_next, one_or_none}
 use Rattle.causes.proofs.Takes.{numbers_next}
 use Rattle.causes.proofs.takings.numbers_of.Goals as goal
 

@@ -5,19 +5,19 @@ use Rattle.std.proofs.lemmas.Option.{same_Some, slice_get-get_or, slice_get_read
 use Rattle.journal.specs.declared.event.Event.{Event}
 use Rattle.journal.specs.Pasts.{UpTo}
 use Rattle.causes.specs.declared.paths.Ways.{Ways}
-use Rattle.causes.specs.Entrances.{AreEntrances}
+use Rattle.causes.specs.HandOvers.{AreHandOvers}
 use Rattle.causes.specs.Paths.{AreWays}
 use Rattle.causes.proofs.Reached.{up_to_on}
 use Rattle.causes.proofs.paths.Ways.entrance.Goals as goal
 
 -- the row that is read has the event's entrances
 row_read : (j : List Event) (x : Ways) (k : ℕ) (row : Vec ℕ) (places : List ℕ) → AreWays j x → k < length j
-    → row ≡ slice_index_or x.entrances.items k row → places ≡ row.items → AreEntrances j k places
+    → row ≡ slice_index_or x.hand_overs.items k row → places ≡ row.items → AreHandOvers j k places
 row_read j x k row places tells lt read is =
-    let long = tells.entrances.long in
-    subst (AreEntrances j k) (sym is)
-    (tells.entrances.each k row
-    (slice_get_read x.entrances.items (length x.entrances.items) k row refl (omega arith) read))
+    let long = tells.hand_overs.long in
+    subst (AreHandOvers j k) (sym is)
+    (tells.hand_overs.each k row
+    (slice_get_read x.hand_overs.items (length x.hand_overs.items) k row refl (omega arith) read))
 
 pub reaches-requires-clause-place : goal.reaches-requires-clause-place
 reaches-requires-clause-place c =
@@ -29,7 +29,7 @@ reaches-requires-clause-place c =
     c.index.ensures c.deref-entrance-items.ensures.value in
     let leads =
     are.each (slice_index_or places index 0) (index, slice_get-get_or places index 0 c.loop-entrance-test.true) in
-    let before = leads.edge.before in
+    let before = leads.leads.edge.before in
     let within = c.requires.place in
     omega arith
 
@@ -41,7 +41,7 @@ returns-then-reaches c =
     let are =
     row_read events c.args.self.now c.args.place c.index.result.now places c.requires.tells c.requires.place
     c.index.ensures c.deref-entrance-items.ensures.value in (
-      are.each (slice_index_or places index 0) (index, slice_get-get_or places index 0 c.loop-entrance-test.true),
+      (are.each (slice_index_or places index 0) (index, slice_get-get_or places index 0 c.loop-entrance-test.true)).leads,
       c.reaches.ensures.0 c.if-reaches.true,
     )
 

@@ -1,0 +1,156 @@
+-- Stores, row by row, as the history goes on: the rows below place n, with the event at place n, are those below n + 1. A
+-- store stands last in the row of its address and processor; any other event, and every other row, changes nothing.
+use Rattle.std.proofs.Common.{◌≡◌, ◌≢◌, ℕ, ◌+◌, ◌*◌, ◌<◌, ◌≤◌, inl, inr, List, [], ◌∷◌, ◌++◌, Some, length, slice_get, slice_set, subst, sym, ap, ◌∙◌, arith}
+use Rattle.std.specs.Global.{Vec}
+use Rattle.std.proofs.lemmas.Bool.{cases_eq, cases_lt}
+use Rattle.std.proofs.lemmas.List.{length-set}
+use Rattle.std.proofs.lemmas.Option.{none-some, slice_get_within}
+use Rattle.base.proofs.SlicesAndCounts.{push_cases, slice_get-append_left, slice_get-last}
+use Rattle.base.proofs.SliceSets.{slice_get-set_found, slice_get-set_other}
+use Rattle.base.specs.InOrderOnce.{InOrder}
+use Rattle.journal.specs.declared.event.Event.{Event}
+use Rattle.journal.specs.declared.event.Kind.TheVariants.{Store}
+use Rattle.journal.specs.DidEvent.{event}
+use Rattle.journal.specs.Events.{At, interval_at, is_closing}
+use Rattle.journal.specs.WellFormed.{Does}
+use Rattle.journal.proofs.Order.CountedAndNumbered.{at_same, count_of-mono, does_at}
+use Rattle.judge.specs.Tallies.{row_index}
+use Rattle.causes.specs.declared.stores.NumberedStore.{NumberedStore}
+use Rattle.causes.specs.declared.stores.StoreRows.{StoreRows}
+use Rattle.causes.specs.Stores.{AreStoreRows, AreStoresBelow, IsNumberedStore}
+
+-- below a further place they are the same
+store_below : (j : List Event) (a q n : ℕ) (x : NumberedStore) → IsNumberedStore j a q n x
+    → IsNumberedStore j a q (n + 1) x
+store_below j a q n x is = record {
+  below = (let lt = is.below in omega arith);
+  value = is.value;
+  does = is.does;
+  interval = is.interval;
+}
+
+-- none below the first place
+pub stores_none : (j : List Event) (a q : ℕ) (stores : List NumberedStore) → stores ≡ []
+    → AreStoresBelow j a q 0 stores
+stores_none j a q stores none = subst (AreStoresBelow j a q 0) (sym none) (record {
+  each = λ m x at. absurd (none-some x at);
+  rising = λ m n x y lt at to. absurd (none-some x at);
+  all = λ i v lt does. absurd (omega arith);
+})
+
+-- an event that is not a store of q to a
+stores_other : (j : List Event) (a q n : ℕ) (e : Event) (stores : List NumberedStore) → At j n e
+    → ((v : ℕ) → e ≢ event q (Store a v)) → AreStoresBelow j a q n stores → AreStoresBelow j a q (n + 1) stores
+stores_other j a q n e stores at away old = record {
+  each = λ m x to. store_below j a q n x (old.each m x to);
+  rising = old.rising;
+  all = λ i v lt does. elim (cases_eq i n) [
+    | inl is ↦ absurd (away v (at_same j n e (event q (Store a v)) at (subst (λ m. Does j m q (Store a v)) is does)))
+    | inr isnt ↦ old.all i v (omega arith) does
+  ];
+}
+
+-- a store of q to a, with the number of its interval
+stores_now : (j : List Event) (a q v n : ℕ) (x : NumberedStore) (stores : List NumberedStore) → Does j n q (Store a v)
+    → x.place ≡ n → x.interval ≡ interval_at j q n → AreStoresBelow j a q n stores
+    → AreStoresBelow j a q (n + 1) (stores ++ x ∷ [])
+stores_now j a q v n x stores does place number old = record { each = each; rising = rising; all = all }
+  where
+    now : IsNumberedStore j a q (n + 1) x
+    now = record {
+      below = omega arith;
+      value = v;
+      does = subst (λ m. Does j m q (Store a v)) (sym place) does;
+      interval = number ∙ ap (interval_at j q) (sym place);
+    }
+
+    each : (m : ℕ) (y : NumberedStore) → slice_get (stores ++ x ∷ []) m ≡ Some y → IsNumberedStore j a q (n + 1) y
+    each m y to = elim (push_cases stores x m y to) [
+      | inl was ↦ store_below j a q n y (old.each m y was.1)
+      | inr new ↦ subst (IsNumberedStore j a q (n + 1)) new.1 now
+    ]
+
+    rising : InOrder (λ (y z : NumberedStore). y.place < z.place) (stores ++ x ∷ [])
+    rising k m y z lt to end = elim (push_cases stores x m z end) [
+      | inl was ↦
+          (let inside = was.0 in
+          old.rising k m y z lt (sym (slice_get-append_left stores (x ∷ []) k (omega arith)) ∙ to) was.1)
+      | inr new ↦
+          (let last = new.0 in
+          let under = (old.each k y (sym (slice_get-append_left stores (x ∷ []) k (omega arith)) ∙ to)).below in
+          let same = ap (λ (w : NumberedStore). w.place) new.1 in
+          omega arith)
+    ]
+
+    all : (i w : ℕ) → i < n + 1 → Does j i q (Store a w)
+        → (m : ℕ) × (y : NumberedStore) × (slice_get (stores ++ x ∷ []) m ≡ Some y) × (y.place ≡ i)
+    all i w lt to = elim (cases_eq i n) [
+      | inl is ↦ (length stores, x, slice_get-last stores x, omega arith)
+      | inr isnt ↦
+          (let z = old.all i w (omega arith) to in
+          (z.0, z.1, slice_get-append_left stores (x ∷ []) z.0 (slice_get_within stores z.0 z.1 z.2) ∙ z.2, z.3))
+    ]
+
+-- the rows, with an event that is no store
+pub store_rows_quiet : (j : List Event) (n : ℕ) (e : Event) (x : StoreRows) → At j n e
+    → ((a v : ℕ) → e.kind ≢ Store a v) → AreStoreRows j n x → AreStoreRows j (n + 1) x
+store_rows_quiet j n e x at quiet old = record {
+  long = old.long;
+  each = λ a q row low to.
+      stores_other j a q n e row.items at (λ v is. quiet a v (ap (λ (y : Event). y.kind) is))
+      (old.each a q row low to);
+}
+
+-- where two rows are one, so are address and processor
+pub row_same : (a q b p : ℕ) → q < 16 → p < 16 → row_index a q ≡ row_index b p → (a ≡ b) × (q ≡ p)
+row_same a q b p lt to is = (omega arith, omega arith)
+
+-- and with a store
+pub store_rows_stored : (j : List Event) (n a v : ℕ) (e : Event) (y : NumberedStore) (x : StoreRows)
+    → (row new : Vec NumberedStore) → (rows : List (Vec NumberedStore)) → At j n e → e.kind ≡ Store a v
+    → e.processor < 16 → y.place ≡ n → y.interval ≡ interval_at j e.processor n
+    → slice_get x.rows.items (row_index a e.processor) ≡ Some row → new.items ≡ row.items ++ y ∷ []
+    → rows ≡ slice_set x.rows.items (row_index a e.processor) new → AreStoreRows j n x
+    → ((b q : ℕ) (other : Vec NumberedStore) → q < 16 → slice_get rows (row_index b q) ≡ Some other
+    → AreStoresBelow j b q (n + 1) other.items)
+store_rows_stored j n a v e y x row new rows at kind low place number there is set old b q other lt to =
+    elim (cases_eq (row_index b q) (row_index a e.processor)) [
+      | inl same ↦
+          (let both = row_same b q a e.processor lt low same in
+          let one : new ≡ other =
+          slice_get-set_found x.rows.items (row_index a e.processor) new other
+          (subst (λ m. slice_get (slice_set x.rows.items (row_index a e.processor) new) m ≡ Some other) same moved) in
+          let now : AreStoresBelow j a e.processor (n + 1) new.items =
+          subst (AreStoresBelow j a e.processor (n + 1)) (sym is)
+          (stores_now j a e.processor v n y row.items (subst (λ k. At j n (event e.processor k)) kind at) place number
+          (old.each a e.processor row low there)) in
+          subst (λ (w : Vec NumberedStore). AreStoresBelow j b q (n + 1) w.items) one
+          (subst (λ p. AreStoresBelow j b p (n + 1) new.items) (sym both.1)
+          (subst (λ c. AreStoresBelow j c e.processor (n + 1) new.items) (sym both.0) now)))
+      | inr isnt ↦
+          stores_other j b q n e other.items at (λ w same. isnt (apart w same))
+          (old.each b q other lt
+          (sym (slice_get-set_other x.rows.items (row_index a e.processor) (row_index b q) new isnt) ∙ moved))
+    ]
+  where
+    moved : slice_get (slice_set x.rows.items (row_index a e.processor) new) (row_index b q) ≡ Some other
+    moved = subst (λ xs. slice_get xs (row_index b q) ≡ Some other) set to
+
+    address : (c w d z : ℕ) → Store c w ≡ Store d z → c ≡ d
+    address c w d z same = cc
+
+    apart : (w : ℕ) → e ≡ event q (Store b w) → row_index b q ≡ row_index a e.processor
+    apart w same =
+        let by = ap (λ (f : Event). f.processor) same in
+        let to_a = address a v b w (sym kind ∙ ap (λ (f : Event). f.kind) same) in
+        omega arith
+
+-- of rising stores the intervals do not fall
+pub intervals_rise : (j : List Event) (a q n : ℕ) (stores : List NumberedStore) → AreStoresBelow j a q n stores
+    → InOrder (λ (x y : NumberedStore). x.interval ≤ y.interval) stores
+intervals_rise j a q n stores are k m x y lt at to =
+    let rise = are.rising k m x y lt at to in
+    let one = (are.each k x at).interval in
+    let two = (are.each m y to).interval in
+    let up = count_of-mono is_closing j x.place y.place q (omega arith) in
+    omega arith

@@ -1,5 +1,0 @@
-use Rattle.causes.proofs.Answering.{NoneStores}
-use Rattle.causes.proofs.answers.source_of.Given as goal
-
-abbrev pub invariant-loop-place : goal.invariant-loop-place
-invariant-loop-place l = NoneStores l.events l.places l.place-index l.value

@@ -1,0 +1,28 @@
+use Rattle.std.proofs.Common.{◌≡◌, ◌+◌, length, subst, sym, ◌∙◌, arith}
+use Rattle.judge.specs.declared.sizes.Sizes.{Sizes as Given}
+use Rattle.judge.specs.Sizes.{AreSmall, sizes_of}
+use Rattle.causes.specs.Origins.{AreOrigins}
+use Rattle.causes.specs.OriginSteps.{AreOriginsBefore}
+use Rattle.causes.proofs.OriginSteps.{origin_rows_next}
+use Rattle.causes.proofs.originating.all_origins.Goals as goal
+
+pub loop-place-preserved : goal.loop-place-preserved
+loop-place-preserved c =
+    let events = c.args.events.now in
+    let s = sizes_of c.args.sizes in
+    let place = c.loop-place.place in
+    let old = c.loop-place.invariant in
+    let rows = c.loop-place.rows in
+    let long : length rows.items ≡ place = omega (arith, rows.ok.0, old.long) in
+    let small : AreSmall s = subst (λ (x : Given). AreSmall (sizes_of x)) old.sizes old.tells.long.sizes in
+    record {
+      tells = c.in_ok-note.ensures.tells;
+      sizes = c.note.ensures.sizes ∙ old.sizes;
+      words = subst (λ (x : Given). AreOriginsBefore (sizes_of x) events (place + 1) c.note_words.new.words) old.sizes
+          c.note_words.ensures;
+      long = (let len = c.in_ok-push.ensures.len in let was = old.long in omega arith);
+      rows =
+          subst (AreOrigins s events) (sym c.in_ok-push.ensures.items)
+          (origin_rows_next s events rows.items place c.origin_at.result long old.rows
+          (c.origin_at.ensures s old.words c.requires.within small.processors));
+    }

@@ -1,0 +1,97 @@
+use Rattle.std.proofs.Common.{◌≡◌, ℕ, ◌+◌, ◌*◌, ◌/◌, ◌<◌, List, Option, Some, length, slice_get, slice_index_or, slice_set, subst, refl, ap, ◌∙◌, arith}
+use Rattle.std.specs.Prelude.{None}
+use Rattle.std.proofs.lemmas.List.{length-set}
+use Rattle.std.proofs.lemmas.Nat.{div-mul-add}
+use Rattle.std.proofs.lemmas.Option.{slice_get-get_or}
+use Rattle.journal.specs.declared.event.Event.{Event}
+use Rattle.journal.specs.declared.event.Kind.TheVariants.{Fetch, Store}
+use Rattle.journal.specs.DidEvent.{event}
+use Rattle.journal.specs.Sizes.{Sizes}
+use Rattle.journal.proofs.Order.CountedAndNumbered.{does_same}
+use Rattle.judge.specs.Tallies.{row_index}
+use Rattle.causes.specs.declared.originating.Applied.{Applied}
+use Rattle.causes.specs.declared.originating.LookedUp.{LookedUp}
+use Rattle.causes.specs.declared.originating.WordOrigin.{WordOrigin}
+use Rattle.causes.specs.declared.originating.PageFetch.{PageFetch}
+use Rattle.causes.specs.Origins.{IsWordOriginOf}
+use Rattle.causes.specs.OriginSteps.{ArePartFetched, IsFetchOf, IsLookedUp, IsOriginAfter, LastApplied}
+use Rattle.causes.proofs.OriginSteps.{fetched_next, fetched_start, fetched_word}
+use Rattle.causes.proofs.originating.fetch_words.Goals as goal
+
+store_no_fetch : (a v w n r d : ℕ) → Store a v ≡ Fetch w n r d → ⊥
+store_no_fetch a v w n r d is = cc
+
+-- a word of the page more
+word_next : (s : Sizes) (j : List Event) (x : LookedUp) (f : PageFetch) (size offset : ℕ) (words : List (Option WordOrigin))
+    → (r : Option WordOrigin) (b : Option Applied) → IsLookedUp j x → IsFetchOf s j f → size ≡ s.words → offset < size
+    → f.reader < 16 → row_index (f.page * size + offset) f.reader < length words
+    → ((f.page * size + offset) / s.words ≡ f.page
+    → LastApplied s j f.reader (f.page * size + offset) f.place (λ q. q < 16) b)
+    → IsOriginAfter (slice_index_or words (row_index (f.page * size + offset) f.reader) None) f.place b r
+    → ArePartFetched s j f.place f.reader (f.page * size) (f.page * size + offset) words
+    → ArePartFetched s j f.place f.reader (f.page * size) (f.page * size + (offset + 1))
+    (slice_set words (row_index (f.page * size + offset) f.reader) r)
+word_next s j x f size offset words r b looked fetch is lt low within last after old =
+    let a = f.page * size + offset in
+    let page : a / s.words ≡ f.page =
+    ap (λ n. (f.page * n + offset) / s.words) is ∙ div-mul-add f.page s.words offset (omega arith) in
+    let o = slice_index_or words (row_index a f.reader) None in
+    let there : slice_get words (row_index a f.reader) ≡ Some o =
+    slice_get-get_or words (row_index a f.reader) None within in
+    let before : IsWordOriginOf s j f.reader a f.place o =
+    old.others a f.reader o low (λ mine up below. absurd (omega arith)) there in
+    let now : IsWordOriginOf s j f.reader a (f.place + 1) r =
+    fetched_word s j f.place f.reader a o r b low
+    (λ v does.
+    (let fetches = fetch.fetches in
+    store_no_fetch a v fetches.0 f.page fetches.1 fetches.2
+    (does_same j f.place f.reader f.reader (Store a v) (Fetch fetches.0 f.page fetches.1 fetches.2) does fetches.3).1))
+    (λ q i c brought. looked.processors i (event q (Store a brought.value)) brought.does) (last page) after before in
+    let next : a + 1 ≡ f.page * size + (offset + 1) = omega arith in
+    subst
+    (λ end. ArePartFetched s j f.place f.reader (f.page * size) end (slice_set words (row_index a f.reader) r)) next
+    (fetched_next s j f.place f.reader (f.page * size) a words r low (omega arith) now old)
+
+pub loop-offset-init : goal.loop-offset-init
+loop-offset-init c = record {
+  long = refl;
+  fetched = λ s j looked fetch size before.
+      (let start : c.args.fetch.now.page * c.args.size ≡ c.args.fetch.now.page * c.args.size + 0 = omega arith in
+      subst (λ end. ArePartFetched s j c.args.fetch.now.place c.args.fetch.now.reader
+      (c.args.fetch.now.page * c.args.size) end c.args.words.now) start
+      (fetched_start s j c.args.fetch.now.place c.args.fetch.now.reader (c.args.fetch.now.page * c.args.size)
+      c.args.words.now before));
+}
+
+pub loop-offset-preserved : goal.loop-offset-preserved
+loop-offset-preserved c =
+    let f = c.args.fetch.now in
+    let size = c.args.size in
+    let offset = c.loop-offset.offset in
+    let a = f.page * size + offset in
+    let words = c.loop-offset.words in
+    let old = c.loop-offset.invariant in
+    let lt = c.loop-offset-test.true in
+    let told = c.requires.told in
+    let long = told.6.long in
+    let same = told.4 in
+    let page = c.requires.page in
+    let low = c.requires.reader in
+    let was = old.long in
+    let within : row_index a f.reader < length words = omega arith in
+    record {
+      long = length-set words (row_index a f.reader) c.origin_after.result ∙ old.long;
+      fetched = λ s j looked fetch is before.
+          word_next s j c.args.looked.now f size offset words c.origin_after.result c.last_brought.result looked fetch is
+          lt low within (c.last_brought.ensures s j looked fetch) c.origin_after.ensures
+          (old.fetched s j looked fetch is before);
+    }
+
+pub returns : goal.returns
+returns c = λ s j looked fetch is before.
+    (let end = c.loop-offset-test.false in
+    let top = c.loop-offset.auto.offset-end in
+    let all : c.loop-offset.offset ≡ c.args.size = omega arith in
+    subst (λ n. ArePartFetched s j c.args.fetch.now.place c.args.fetch.now.reader
+    (c.args.fetch.now.page * c.args.size) (c.args.fetch.now.page * c.args.size + n) c.loop-offset.words) all
+    (c.loop-offset.invariant.fetched s j looked fetch is before))

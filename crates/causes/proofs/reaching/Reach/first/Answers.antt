@@ -1,0 +1,87 @@
+use Rattle.std.proofs.Common.{◌≡◌, ◌≢◌, ℕ, ◌<◌, List, Option, Some, MatchOption, length, slice_index_or, subst, sym, refl, ◌∙◌, arith}
+use Rattle.std.specs.Prelude.{None}
+use Rattle.std.specs.Global.{Vec}
+use Rattle.std.proofs.lemmas.Option.{get_or_from_slice_get, slice_get-get_or, slice_get_read}
+use Rattle.journal.specs.declared.event.Event.{Event}
+use Rattle.journal.specs.declared.event.Kind.{Kind}
+use Rattle.journal.specs.declared.event.Kind.TheVariants.{Load}
+use Rattle.journal.specs.DidEvent.{event}
+use Rattle.journal.specs.Events.{At, interval_at}
+use Rattle.journal.specs.WellFormed.{Does}
+use Rattle.journal.proofs.Order.CountedAndNumbered.{at_within, does_at}
+use Rattle.causes.specs.declared.takings.Taking.{Taking}
+use Rattle.causes.specs.declared.reaching.Reach.{Reach}
+use Rattle.causes.specs.Takings.{AreTakings, IsFirstAbove, NoneAbove}
+use Rattle.causes.specs.Paths.{FirstReached, IsReach}
+use Rattle.causes.proofs.Reached.{first_own, first_reached, none_reached, parted}
+use Rattle.causes.proofs.reaching.Reach.first.Goals as goal
+
+-- the row that is read has the processor's events that take
+row_read : (j : List Event) (x : Reach) (q : ℕ) (row : Vec Taking) (takings : List Taking) → IsReach j x → q < 16
+    → row ≡ slice_index_or x.takings.items q row → takings ≡ row.items → AreTakings j q (length j) takings
+row_read j x q row takings tells lt read is =
+    let long = tells.takings.long in
+    subst (AreTakings j q (length j)) (sym is)
+    (tells.takings.each q row
+    (slice_get_read x.takings.items (length x.takings.items) q row refl (omega arith) read))
+
+-- and the number that is read is the interval's
+number_read : (j : List Event) (x : Reach) (i n : ℕ) (e : Event) → IsReach j x → At j i e
+    → n ≡ slice_index_or x.numbers.items i n → n ≡ interval_at j e.processor i
+number_read j x i n e tells at read =
+    let long = tells.numbers.long in
+    let within = at_within j i e at in
+    sym (get_or_from_slice_get x.numbers.items i n 0
+    (slice_get_read x.numbers.items (length x.numbers.items) i n refl (omega arith) read))
+    ∙ tells.numbers.each i e at
+
+-- the first of these timestamps that counts it is that after the first event that it reaches
+found : (j : List Event) (p q i number : ℕ) (a : Kind) (takings : List Taking) (o : Option ℕ) → Does j i p a → p ≢ q
+    → number ≡ interval_at j p i → AreTakings j q (length j) takings
+    → MatchOption o (NoneAbove takings p number) (IsFirstAbove takings p number) → FirstReached j i q o
+found j p q i number a takings None does apart is are none = none_reached j p q i number a takings does apart is are none
+found j p q i number a takings (Some m) does apart is are first =
+    first_reached j p q i m number a takings does apart is are first
+
+-- the event at this place
+abbrev here : List Event → ℕ → Event
+here events place = slice_index_or events place (event 0 (Load 0 0))
+
+pub first_above-requires-clause-parted : goal.first_above-requires-clause-parted
+first_above-requires-clause-parted c =
+    let events = c.args.events.now in
+    let x = c.args.self.now in
+    let i = c.args.from in
+    let q = c.args.processor in
+    let e = here events i in
+    let tells = c.requires.tells in
+    let at = slice_get-get_or events i (event 0 (Load 0 0)) c.requires.from in
+    parted events e.processor q i (length events) c.index-2.result.now e.kind c.deref.result.now
+    (does_at events i e.processor e at refl) c.if-by-processor.false
+    (number_read events x i c.index-2.result.now e tells at c.index-2.ensures)
+    (row_read events x q c.index.result.now c.deref.result.now tells c.requires.processor c.index.ensures
+    c.deref.ensures.value)
+
+pub returns-then-by-processor : goal.returns-then-by-processor
+returns-then-by-processor c =
+    let events = c.args.events.now in
+    let i = c.args.from in
+    let e = here events i in
+    first_own events c.args.processor i e.kind
+    (does_at events i c.args.processor e (slice_get-get_or events i (event 0 (Load 0 0)) c.requires.from)
+    c.if-by-processor.true)
+
+pub returns : goal.returns
+returns c =
+    let events = c.args.events.now in
+    let x = c.args.self.now in
+    let i = c.args.from in
+    let q = c.args.processor in
+    let e = here events i in
+    let tells = c.requires.tells in
+    let at = slice_get-get_or events i (event 0 (Load 0 0)) c.requires.from in
+    found events e.processor q i c.index-2.result.now e.kind c.deref.result.now c.first_above.result
+    (does_at events i e.processor e at refl) c.if-by-processor.false
+    (number_read events x i c.index-2.result.now e tells at c.index-2.ensures)
+    (row_read events x q c.index.result.now c.deref.result.now tells c.requires.processor c.index.ensures
+    c.deref.ensures.value) c.first_above.ensures

@@ -1,0 +1,24 @@
+use Rattle.std.proofs.Common.{ℕ, ◌+◌, subst, sym, refl}
+use Rattle.std.specs.Global.{Vec}
+use Rattle.std.proofs.lemmas.Bool.{false≢true}
+use Rattle.journal.specs.WellFormed.{Holds}
+use Rattle.causes.specs.Waits.{AreThose}
+use Rattle.causes.proofs.Standing.{those_next, those_other}
+use Rattle.causes.proofs.waiting.locks_held.Goals as goal
+use Rattle.causes.proofs.waiting.locks_held.Goals.{then-holds+in_ok-push, else-holds}
+
+pub loop-lock-preserved : goal.loop-lock-preserved
+loop-lock-preserved c =
+    let n = c.loop-lock.lock in
+    let P : ℕ → Type 0 = Holds c.args.events.now c.args.by in
+    let old = c.loop-lock.invariant in
+    let held = c.loop-lock.held.items in
+    elim c.if-holds.branch [
+      | then-holds+in_ok-push w ↦
+          subst (λ (v : Vec ℕ). AreThose P (n + 1) v.items) (sym w.held-is)
+          (subst (AreThose P (n + 1)) (sym w.in_ok-push.ensures.items)
+          (those_next P n held (w.if-holds.ensures.0 refl) old))
+      | else-holds w ↦
+          subst (λ (v : Vec ℕ). AreThose P (n + 1) v.items) (sym w.held-is)
+          (those_other P n held (λ holds. false≢true (w.if-holds.ensures.1 holds)) old)
+    ]

@@ -1,0 +1,42 @@
+-- Of each address and processor the stores, in order, with the numbers of their intervals.
+use Rattle.std.specs.Prelude.{ℕ, ◌≡◌, ◌*◌, ◌<◌, ◌≤◌, List, Some, slice_get, vec_len}
+use Rattle.std.specs.Global.{Vec}
+use Rattle.base.specs.InOrderOnce.{InOrder}
+use Rattle.journal.specs.declared.event.Event.{Event}
+use Rattle.journal.specs.declared.event.Kind.TheVariants.{Store}
+use Rattle.journal.specs.Events.{interval_at}
+use Rattle.journal.specs.WellFormed.{Does}
+use Rattle.judge.specs.Tallies.{row_index}
+use Rattle.causes.specs.declared.stores.NumberedStore.{NumberedStore}
+use Rattle.causes.specs.declared.stores.StoreRows.{StoreRows}
+
+-- q stores to a at the place, which lies below n, in its interval of this number
+pub record IsNumberedStore (j : List Event) (a q n : ℕ) (x : NumberedStore) : Type 0 where
+  pub below : x.place < n
+  pub value : ℕ
+  pub does : Does j x.place q (Store a value)
+  pub interval : x.interval ≡ interval_at j q x.place
+
+-- these are q's stores to a below place n, in order
+pub record AreStoresBelow (j : List Event) (a q n : ℕ) (stores : List NumberedStore) : Type 0 where
+  pub each : (m : ℕ) (x : NumberedStore) → slice_get stores m ≡ Some x → IsNumberedStore j a q n x
+  pub rising : InOrder (λ (x y : NumberedStore). x.place < y.place) stores
+  pub all : (i v : ℕ) → i < n → Does j i q (Store a v)
+      → (m : ℕ) × (x : NumberedStore) × (slice_get stores m ≡ Some x) × (x.place ≡ i)
+
+-- and these are those of each address and each of sixteen processors
+pub record AreStoreRows (j : List Event) (n : ℕ) (x : StoreRows) : Type 0 where
+  pub long : vec_len x.rows ≡ x.addresses * 16
+  pub each : (a q : ℕ) (row : Vec NumberedStore) → q < 16 → slice_get x.rows.items (row_index a q) ≡ Some row
+      → AreStoresBelow j a q n row.items
+
+-- none of these stores is of an interval below the limit
+abbrev pub NoneUnder : List NumberedStore → ℕ → Type 0
+NoneUnder stores limit = (m : ℕ) (x : NumberedStore) → slice_get stores m ≡ Some x → limit ≤ x.interval
+
+-- x is the last one that is
+pub record IsLastUnder (stores : List NumberedStore) (limit : ℕ) (x : NumberedStore) : Type 0 where
+  pub index : ℕ
+  pub at : slice_get stores index ≡ Some x
+  pub under : x.interval < limit
+  pub later : (m : ℕ) (y : NumberedStore) → index < m → slice_get stores m ≡ Some y → limit ≤ y.interval

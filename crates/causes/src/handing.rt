@@ -1,0 +1,104 @@
+//! By which events each event's processor gets its news: of those that it had not heard of, the last ones.
+ghost use Rattle.std.specs.Prelude.{◌≡◌, ◌↔◌, ℕ, ◌<◌, ◌≤◌, IsTrue, IfOk, List, length, vec_len};
+ghost use Rattle.base.specs.InOrderOnce.{Has, InOrder};
+ghost use Rattle.base.specs.Prelude.{most_held, most_processors};
+ghost use Rattle.journal.specs.Pasts.{UpTo};
+ghost use Rattle.journal.specs.Prelude.{ProcessorsInRange};
+ghost use Rattle.causes.specs.Prelude.{AreAllHandOvers, AreIncoming, AreLastFrom, IsReach};
+
+use crate::news::incoming;
+use crate::reaching::Reach;
+use journal::Event;
+use std::alloc::{AllocError, Global};
+
+/// Whether the event at `from` is one of those at these places, or happens before one.
+fn reaches_some(reach: &Reach, events: &[Event], from: usize, places: &[usize]) -> bool
+    requires tells { IsReach events.now reach.now }
+    requires from { from < length events.now }
+    requires places { (n : ℕ) → Has places.now n → n < length events.now }
+    ensures { IsTrue result ↔ ((n : ℕ) × Has places.now n × UpTo events.now n from) }
+{
+    for place in places {
+        if reach.reaches(events, from, *place) {
+            return true;
+        }
+    }
+    false
+}
+
+/// Of these news of an event, whose places rise, the last ones: those that happen before none of the others, falling.
+fn last_ones(
+    alloc: Global,
+    reach: &Reach,
+    events: &[Event],
+    news: &[usize],
+) -> Result<Vec<usize>, AllocError>
+    requires tells { IsReach events.now reach.now }
+    requires within { (n : ℕ) → Has news.now n → n < length events.now }
+    requires rising { InOrder (λ i m. i < m) news.now }
+    ensures { IfOk result (λ v. AreLastFrom events.now news.now 0 v.items) }
+{
+    let mut places = Vec::new(alloc);
+    for index in 0..news.len() {
+        let place = news[news.len() - 1 - index];
+        if !reaches_some(reach, events, place, &places) {
+            places.push(place)?;
+        }
+    }
+    Ok(places)
+}
+
+/// Of the news of each event the last ones.
+fn all_last(
+    alloc: Global,
+    reach: &Reach,
+    events: &[Event],
+    rows: &[Vec<usize>],
+) -> Result<Vec<Vec<usize>>, AllocError>
+    requires tells { IsReach events.now reach.now }
+    requires long { length rows.now ≡ length events.now }
+    requires news { AreIncoming events.now rows.now }
+    ensures { IfOk result (λ v. AreAllHandOvers events.now v.items) }
+{
+    let mut last = Vec::with_capacity(alloc, events.len())?;
+    for place in 0..events.len() {
+        last.push(last_ones(alloc, reach, events, &rows[place])?)?;
+    }
+    Ok(last)
+}
+
+/// The same of the history's news.
+pub(crate) fn hand_overs_by(
+    alloc: Global,
+    processors: usize,
+    reach: &Reach,
+    events: &[Event],
+) -> Result<Vec<Vec<usize>>, AllocError>
+    requires few { length events.now ≤ most_held }
+    requires few_processors { processors ≤ most_processors }
+    requires processors { ProcessorsInRange processors events.now }
+    requires tells { IsReach events.now reach.now }
+    ensures { IfOk result (λ v. AreAllHandOvers events.now v.items) }
+{
+    let rows = incoming(alloc, processors, events)?;
+    all_last(alloc, reach, events, &rows)
+}
+
+/// Of each event of a history of `processors` processors, at most `MOST_PROCESSORS`: of its news, as `incoming` finds them, the
+/// last ones, falling. None of them happens before another, and each of the others happens before one. So they are at most
+/// one of each other processor, and of an acquire the last release alone. The only error is running out of memory.
+///
+/// It takes time as `incoming` does, and for each of the news that of the processors times the logarithm of the events.
+pub fn hand_overs(
+    alloc: Global,
+    processors: usize,
+    events: &[Event],
+) -> Result<Vec<Vec<usize>>, AllocError>
+    requires few { length events.now ≤ most_held }
+    requires few_processors { processors ≤ most_processors }
+    requires processors { ProcessorsInRange processors events.now }
+    ensures { IfOk result (λ v. AreAllHandOvers events.now v.items) }
+{
+    let reach = Reach::new(alloc, processors, events)?;
+    hand_overs_by(alloc, processors, &reach, events)
+}

@@ -1,0 +1,286 @@
+//! Where the words of copies come from: of each load, the store whose word stands in its processor's copy.
+ghost use Rattle.std.specs.Prelude.{◌≡◌, ℕ, ◌+◌, ◌*◌, ◌/◌, ◌<◌, ◌≤◌, [], IfOk, List, None, OnOk, Option, Some, length, slice_get, take, vec_len};
+ghost use Rattle.base.specs.Prelude.{most_held};
+ghost use Rattle.journal.specs.declared.event.Event.{Event};
+ghost use Rattle.journal.specs.PageImages.{FetchesPage};
+ghost use Rattle.journal.specs.Events.{At};
+ghost use Rattle.journal.specs.Sizes.{Sizes as SizesOf};
+ghost use Rattle.judge.specs.Prelude.{AreSmall, IsWithin, TellsGaps, sizes_of};
+ghost use Rattle.causes.specs.declared.originating.WordOrigin.{WordOrigin};
+ghost use Rattle.causes.specs.Prelude.{AreOrigins, AreOriginsBefore, ArePartFetched, IsFetchOf, IsLaterApplied};
+ghost use Rattle.causes.specs.Prelude.{IsLookedUp, IsOriginAfter, IsOriginAt, LastApplied};
+
+use crate::index::{Index, index_of};
+use crate::stores::StoreRows;
+use journal::{Clock, Event, Kind};
+use judge::{Gaps, Sizes};
+use std::alloc::{AllocError, Global};
+
+/// Where the word of a copy comes from.
+#[derive(Clone, Copy, PartialEq, Eq)]
+pub struct WordOrigin {
+    /// The place of the store.
+    pub store: usize,
+    /// The place of the event by which the copy has it: the store itself, if it is the copy's processor's own, else that
+    /// processor's fetch.
+    pub write: usize,
+}
+
+/// A store that a fetch brings, and where its interval is closed. A fetch applies them in the order of the latter.
+#[derive(Clone, Copy)]
+pub(crate) struct Applied {
+    pub(crate) store: usize,
+    pub(crate) closed: usize,
+}
+
+/// A fetch: where it stands, whose it is, which page it fetches, and the timestamps between which lies what it brings: that
+/// of its processor's last fetch of the page, and the one that its processor has.
+#[derive(Clone, Copy)]
+pub(crate) struct PageFetch {
+    pub(crate) place: usize,
+    pub(crate) reader: usize,
+    pub(crate) page: usize,
+    pub(crate) from: Clock,
+    pub(crate) to: Clock,
+}
+
+/// What is looked up of a history.
+#[derive(Drop)]
+pub(crate) struct LookedUp {
+    pub(crate) index: Index,
+    pub(crate) stores: StoreRows,
+}
+
+/// The last applied of the stores of `by` to the address that the fetch brings.
+fn brought_by(looked: &LookedUp, fetch: &PageFetch, address: usize, by: usize) -> Option<Applied>
+    requires told { (s : SizesOf) × (j : List Event) × IsLookedUp j looked.now × IsFetchOf s j fetch.now }
+    requires address { address < looked.now.stores.addresses }
+    requires by { by < 16 }
+    ensures { (s : SizesOf) (j : List Event) → IsLookedUp j looked.now → IsFetchOf s j fetch.now
+        → address / s.words ≡ fetch.now.page
+        → LastApplied s j fetch.now.reader address fetch.now.place (λ q. q ≡ by) result }
+{
+    if by == fetch.reader {
+        return None;
+    }
+    let Some(store) = looked.stores.last(address, by, fetch.to[by]) else {
+        return None;
+    };
+    if store.interval < fetch.from[by] {
+        return None;
+    }
+    Some(Applied {
+        store: store.place,
+        closed: looked.index.closings[by][store.interval as usize],
+    })
+}
+
+/// That of the two which is applied later.
+fn later(one: Option<Applied>, two: Option<Applied>) -> Option<Applied>
+    ensures { IsLaterApplied one two result }
+{
+    let Some(first) = one else {
+        return two;
+    };
+    let Some(second) = two else {
+        return one;
+    };
+    let is_before = first.closed < second.closed
+        || first.closed == second.closed && first.store < second.store;
+    if is_before { two } else { one }
+}
+
+/// The last applied of the stores to the address that the fetch brings.
+fn last_brought(looked: &LookedUp, fetch: &PageFetch, address: usize) -> Option<Applied>
+    requires told { (s : SizesOf) × (j : List Event) × IsLookedUp j looked.now × IsFetchOf s j fetch.now }
+    requires address { address < looked.now.stores.addresses }
+    ensures { (s : SizesOf) (j : List Event) → IsLookedUp j looked.now → IsFetchOf s j fetch.now
+        → address / s.words ≡ fetch.now.page
+        → LastApplied s j fetch.now.reader address fetch.now.place (λ q. q < 16) result }
+{
+    let mut last = None;
+    for by in 0..16 {
+        last = later(last, brought_by(looked, fetch, address, by));
+    }
+    last
+}
+
+/// The origin of a word that had this one, after a fetch at the place that brings this.
+fn origin_after(
+    old: Option<WordOrigin>,
+    place: usize,
+    brought: Option<Applied>,
+) -> Option<WordOrigin>
+    ensures { IsOriginAfter old place brought result }
+{
+    match brought {
+        Some(applied) => Some(WordOrigin {
+            store: applied.store,
+            write: place,
+        }),
+        None => old,
+    }
+}
+
+/// Takes note of the fetch of a page of so many words.
+fn fetch_words(words: &mut [Option<WordOrigin>], looked: &LookedUp, fetch: &PageFetch, size: usize)
+    requires told { (s : SizesOf) × (j : List Event) × IsLookedUp j looked.now × IsFetchOf s j fetch.now
+        × (s.pages * s.words ≡ looked.now.stores.addresses) × (size ≡ s.words)
+        × AreOriginsBefore s j fetch.now.place words.old }
+    requires page { fetch.now.page * size + size ≤ looked.now.stores.addresses }
+    requires reader { fetch.now.reader < 16 }
+    requires few { looked.now.stores.addresses ≤ 4096 }
+    ensures { (s : SizesOf) (j : List Event) → IsLookedUp j looked.now → IsFetchOf s j fetch.now → size ≡ s.words
+        → AreOriginsBefore s j fetch.now.place words.old
+        → ArePartFetched s j fetch.now.place fetch.now.reader (fetch.now.page * size)
+        (fetch.now.page * size + size) words.new }
+{
+    for offset in 0..size {
+        let address = fetch.page * size + offset;
+        let row = address * 16 + fetch.reader;
+        words[row] = origin_after(
+            words[row],
+            fetch.place,
+            last_brought(looked, fetch, address),
+        );
+    }
+}
+
+/// The fetch of the page by the processor, the event at this place. The gaps tell what stands before it.
+fn fetch_at(gaps: &Gaps, place: usize, reader: usize, page: usize) -> PageFetch
+    requires tells { (j : List Event) × TellsGaps (take place j) gaps.now }
+    requires reader { reader < 16 }
+    requires page { page < gaps.now.sizes.pages }
+    ensures fetch { (j : List Event) → TellsGaps (take place j) gaps.now → place ≤ length j → FetchesPage j place reader page
+        → IsFetchOf (sizes_of gaps.now.sizes) j result }
+    ensures place { result.place ≡ place }
+    ensures reader { result.reader ≡ reader }
+    ensures page { result.page ≡ page }
+{
+    PageFetch {
+        place,
+        reader,
+        page,
+        from: *gaps.last_fetch(reader, page),
+        to: *gaps.time(reader),
+    }
+}
+
+/// Takes note of the event at this place, the next one. The gaps tell what stands before it.
+fn note_words(
+    words: &mut [Option<WordOrigin>],
+    looked: &LookedUp,
+    gaps: &Gaps,
+    events: &[Event],
+    place: usize,
+    size: usize,
+)
+    requires place { place < length events.now }
+    requires within { (k : ℕ) (e : Event) → At events.now k e → IsWithin (sizes_of gaps.now.sizes) e }
+    requires tells { TellsGaps (take place events.now) gaps.now }
+    requires looked { IsLookedUp events.now looked.now }
+    requires addresses { looked.now.stores.addresses ≡ gaps.now.sizes.pages * gaps.now.sizes.words }
+    requires size { size ≡ gaps.now.sizes.words }
+    requires so_far { AreOriginsBefore (sizes_of gaps.now.sizes) events.now place words.old }
+    ensures { AreOriginsBefore (sizes_of gaps.now.sizes) events.now (place + 1) words.new }
+{
+    let event = events[place];
+    match event.kind {
+        Kind::Store(address, _) => {
+            words[address * 16 + event.processor] = Some(WordOrigin {
+                store: place,
+                write: place,
+            });
+        }
+        Kind::Fetch { page, .. } => {
+            let fetch = fetch_at(gaps, place, event.processor, page);
+            fetch_words(words, looked, &fetch, size);
+        }
+        _ => {}
+    }
+}
+
+/// Where the word comes from that the event at this place loads; None if it is no load.
+fn origin_at(words: &[Option<WordOrigin>], events: &[Event], place: usize) -> Option<WordOrigin>
+    requires place { place < length events.now }
+    requires so_far { (s : SizesOf) × AreOriginsBefore s events.now place words.now
+        × ((k : ℕ) (e : Event) → At events.now k e → IsWithin s e) × (s.processors ≤ 16) }
+    ensures { (s : SizesOf) → AreOriginsBefore s events.now place words.now
+        → ((k : ℕ) (e : Event) → At events.now k e → IsWithin s e) → s.processors ≤ 16
+        → IsOriginAt s events.now place result }
+{
+    let event = events[place];
+    match event.kind {
+        Kind::Load(address, _) => words[address * 16 + event.processor],
+        _ => None,
+    }
+}
+
+/// Of each event its origin, where the gaps tell nothing so far and no word has one.
+fn all_origins(
+    alloc: Global,
+    words: &mut [Option<WordOrigin>],
+    looked: &LookedUp,
+    gaps: &mut Gaps,
+    events: &[Event],
+    sizes: Sizes,
+) -> Result<Vec<Option<WordOrigin>>, AllocError>
+    requires few { length events.now ≤ most_held }
+    requires within { (k : ℕ) (e : Event) → At events.now k e → IsWithin (sizes_of sizes) e }
+    requires sizes { gaps.old.sizes ≡ sizes }
+    requires start { TellsGaps [] gaps.old }
+    requires looked { IsLookedUp events.now looked.now }
+    requires addresses { looked.now.stores.addresses ≡ sizes.pages * sizes.words }
+    requires words { AreOriginsBefore (sizes_of sizes) events.now 0 words.old }
+    ensures long { IfOk result (λ v. vec_len v ≡ length events.now) }
+    ensures origins { IfOk result (λ v. AreOrigins (sizes_of sizes) events.now v.items) }
+{
+    let mut rows = Vec::with_capacity(alloc, events.len())?;
+    for place in 0..events.len() {
+        rows.push(origin_at(words, events, place))?;
+        note_words(words, looked, gaps, events, place, sizes.words);
+        gaps.note(events, place)?;
+    }
+    Ok(rows)
+}
+
+/// So many words without origins.
+fn no_origins(alloc: Global, count: usize) -> Result<Vec<Option<WordOrigin>>, AllocError>
+    ensures long { IfOk result (λ v. vec_len v ≡ count) }
+    ensures none { IfOk result (λ v. (n : ℕ) (o : Option WordOrigin) → slice_get v.items n ≡ Some o → o ≡ None) }
+{
+    let mut words = Vec::with_capacity(alloc, count)?;
+    for _ in 0..count {
+        words.push(None)?;
+    }
+    Ok(words)
+}
+
+/// Of each event of a history of a cluster of these sizes: where the word comes from that it loads, which stands in its
+/// processor's copy; None if it is no load, or if no store has come into the copy there.
+///
+/// A copy has a word from its processor's own store, or from a fetch. A fetch applies the intervals of its gap in the order
+/// in which they were closed, so of a word it has the gap's store whose interval was closed last, the last of them in it.
+///
+/// The only error is running out of memory. It takes time in the order of the events, and for each fetch that of the page's
+/// words times the processors times the logarithm of the events.
+pub fn origins(
+    alloc: Global,
+    sizes: Sizes,
+    events: &[Event],
+) -> Result<Vec<Option<WordOrigin>>, AllocError>
+    requires sizes { AreSmall (sizes_of sizes) }
+    requires few { length events.now ≤ most_held }
+    requires within { (k : ℕ) (e : Event) → At events.now k e → IsWithin (sizes_of sizes) e }
+    ensures long { IfOk result (λ v. vec_len v ≡ length events.now) }
+    ensures origins { IfOk result (λ v. AreOrigins (sizes_of sizes) events.now v.items) }
+{
+    let addresses = sizes.pages * sizes.words;
+    let looked = LookedUp {
+        index: index_of(alloc, events)?,
+        stores: StoreRows::of(alloc, addresses, events)?,
+    };
+    let mut words = no_origins(alloc, addresses * 16)?;
+    let mut gaps = Gaps::new(alloc, sizes)?;
+    all_origins(alloc, &mut words, &looked, &mut gaps, events, sizes)
+}

@@ -1,0 +1,67 @@
+//! Which event of a processor is the first that an event reaches.
+ghost use Rattle.std.specs.Prelude.{◌↔◌, ◌<◌, ◌≤◌, IsTrue, IfOk, length};
+ghost use Rattle.base.specs.Prelude.{most_held, most_processors};
+ghost use Rattle.journal.specs.Pasts.{UpTo};
+ghost use Rattle.journal.specs.Prelude.{ProcessorsInRange};
+ghost use Rattle.causes.specs.Prelude.{FirstReached, IsReach};
+
+use crate::takings::{Taking, first_above, numbers_of, takings_of};
+use journal::Event;
+use std::alloc::{AllocError, Global};
+
+/// What is looked up of a history to tell which events one reaches: happens before, or is.
+///
+/// Vector timestamps (Mattern 1989; Fidge 1988) tell of each processor which of its events is the first one that an
+/// event reaches.
+#[derive(Drop)]
+pub(crate) struct Reach {
+    /// Of each event, how many intervals its processor had closed before it.
+    numbers: Vec<u32>,
+    /// Of each of sixteen processors, its events that take.
+    takings: Vec<Vec<Taking>>,
+}
+
+impl Reach {
+    /// What is looked up of this history of so many processors. The only error is running out of memory.
+    pub(crate) fn new(
+        alloc: Global,
+        processors: usize,
+        events: &[Event],
+    ) -> Result<Reach, AllocError>
+        requires few { length events.now ≤ most_held }
+        requires few_processors { processors ≤ most_processors }
+        requires processors { ProcessorsInRange processors events.now }
+        ensures { IfOk result (IsReach events.now) }
+    {
+        let numbers = numbers_of(alloc, events)?;
+        let takings = takings_of(alloc, processors, events)?;
+        Ok(Reach { numbers, takings })
+    }
+
+    /// The processor's first event that the one at `from` is, or happens before.
+    pub(crate) fn first(&self, events: &[Event], from: usize, processor: usize) -> Option<usize>
+        requires tells { IsReach events.now self.now }
+        requires from { from < length events.now }
+        requires processor { processor < 16 }
+        ensures { FirstReached events.now from processor result }
+    {
+        let by = events[from].processor;
+        if by == processor {
+            return Some(from);
+        }
+        first_above(&self.takings[processor], by, self.numbers[from])
+    }
+
+    /// Whether the event at `from` is the one at this place, or happens before it.
+    pub(crate) fn reaches(&self, events: &[Event], from: usize, place: usize) -> bool
+        requires tells { IsReach events.now self.now }
+        requires from { from < length events.now }
+        requires place { place < length events.now }
+        ensures { IsTrue result ↔ UpTo events.now place from }
+    {
+        match self.first(events, from, events[place].processor) {
+            Some(first) => first <= place,
+            None => false,
+        }
+    }
+}

@@ -1,0 +1,152 @@
+//! The rivals of the store that a load answers: the other latest stores of its past, and how they came into the copy.
+ghost use Rattle.std.specs.Prelude.{◌≡◌, length};
+ghost use Rattle.causes.specs.Prelude.{AreWays};
+
+use causes::{Source, Ways};
+use journal::{Event, Kind};
+use std::alloc::{AllocError, Global};
+
+/// How many pages a memory has at most.
+const MOST_PAGES: usize = 64;
+
+/// A latest store of a load that isn't the one that it answers.
+#[derive(Clone, Copy)]
+pub struct Rival {
+    /// Where it stands.
+    pub store: usize,
+    /// Where the load's processor fetched it; None where it is its own, or where nobody knows what a page is.
+    pub fetch: Option<usize>,
+}
+
+/// What rivals are found by.
+#[derive(Drop)]
+struct Rivalry<'a> {
+    ways: &'a Ways,
+    events: &'a [Event],
+    /// How many words a page has, where that is known.
+    words: Option<usize>,
+    /// Of each page and processor, the places of its fetches of the page.
+    fetches: Vec<Vec<usize>>,
+}
+
+/// Of each page and processor, the places of its fetches of the page. The only error is running out of memory.
+fn fetches_of(alloc: Global, events: &[Event]) -> Result<Vec<Vec<usize>>, AllocError> {
+    let mut rows = Vec::with_capacity(alloc, MOST_PAGES * 16)?;
+    for _ in 0..MOST_PAGES * 16 {
+        rows.push(Vec::new(alloc))?;
+    }
+    for (place, event) in events.iter().enumerate() {
+        if let Kind::Fetch { page, .. } = event.kind
+            && page < MOST_PAGES
+            && event.processor < 16
+        {
+            if let Some(row) = rows.get_mut(page * 16 + event.processor) {
+                row.push(place)?;
+            }
+        }
+    }
+    Ok(rows)
+}
+
+/// The first of these places from this one on.
+fn first_from(places: &[usize], from: usize) -> Option<usize> {
+    let index = places.partition_point(|place| *place < from);
+    places.get(index).copied()
+}
+
+impl Rivalry<'_> {
+    /// Where the processor fetched the store to the address, which is another one's.
+    fn fetch_of(&self, store: usize, address: usize, processor: usize) -> Option<usize>
+        requires { AreWays self.now.events.now self.now.ways.now }
+    {
+        let words = self.words?;
+        if words == 0 || store >= self.events.len() || processor >= 16 {
+            return None;
+        }
+        let first = self.ways.first(self.events, store, processor)?;
+        let row = self.fetches.get(
+            (address / words)
+                .saturating_mul(16)
+                .saturating_add(processor),
+        )?;
+        first_from(row, first)
+    }
+
+    /// The rivals of the load of the address by the processor that has these latest stores and this source.
+    fn rivals(
+        &self,
+        alloc: Global,
+        latest: &[usize],
+        source: Option<Source>,
+        address: usize,
+        processor: usize,
+    ) -> Result<Vec<Rival>, AllocError>
+        requires { AreWays self.now.events.now self.now.ways.now }
+    {
+        let mut rivals = Vec::new(alloc);
+        for store in latest {
+            if source != Some(Source::StoreAt(*store)) {
+                let is_own = match self.events.get(*store) {
+                    Some(event) => event.processor == processor,
+                    None => false,
+                };
+                let fetch = if is_own {
+                    None
+                } else {
+                    self.fetch_of(*store, address, processor)
+                };
+                rivals.push(Rival {
+                    store: *store,
+                    fetch,
+                })?;
+            }
+        }
+        Ok(rivals)
+    }
+
+    /// The rivals of the event at this place, which has these latest stores and this source; none where it is no load.
+    fn rivals_at(
+        &self,
+        alloc: Global,
+        latest: &[usize],
+        source: Option<Source>,
+        event: Event,
+    ) -> Result<Vec<Rival>, AllocError>
+        requires { AreWays self.now.events.now self.now.ways.now }
+    {
+        match event.kind {
+            Kind::Load(address, _) => {
+                self.rivals(alloc, latest, source, address, event.processor)
+            }
+            _ => Ok(Vec::new(alloc)),
+        }
+    }
+}
+
+/// Of each event its rivals, where it is a load; else none. The only error is running out of memory.
+///
+/// It takes time in the order of the events and their latest stores, times the logarithm of the events.
+pub fn rivals_of(
+    alloc: Global,
+    ways: &Ways,
+    events: &[Event],
+    words: Option<usize>,
+    latest: &[Vec<usize>],
+    sources: &[Option<Source>],
+) -> Result<Vec<Vec<Rival>>, AllocError>
+    requires ways { AreWays events.now ways.now }
+    requires latest { length latest.now ≡ length events.now }
+    requires sources { length sources.now ≡ length events.now }
+{
+    let rivalry = Rivalry {
+        ways,
+        events,
+        words,
+        fetches: fetches_of(alloc, events)?,
+    };
+    let mut rows = Vec::with_capacity(alloc, events.len())?;
+    for place in 0..events.len() {
+        rows.push(rivalry.rivals_at(alloc, &latest[place], sources[place], events[place])?)?;
+    }
+    Ok(rows)
+}
