@@ -1,0 +1,124 @@
+-- Words whose accesses keep to guards have no race.
+use Rattle.std.proofs.Common.{ℕ, ◌≡◌, ◌≢◌, ◌<◌, ◌⊎◌, inl, inr, Bool, true, false, not, Option, Some, None, List, [], ◌∷◌, ◌++◌, length, take, drop, slice_get, suc, refl, sym, ap, subst, subst₂, ◌∙◌, arith, take-append-drop, append_assoc}
+use Rattle.std.specs.Prelude.{◌==◌, IsTrue}
+use Rattle.std.proofs.lemmas.Bool.{cases_order, eqb-true, eq-eqb}
+use Rattle.std.proofs.Math.Seq.{take-append_seam}
+use Rattle.base.proofs.SlicesAndCounts.{take-suc_at}
+use Rattle.journal.specs.declared.event.Event.{Event}
+use Rattle.journal.specs.declared.event.Kind.{Kind}
+use Rattle.journal.specs.declared.event.Kind.TheVariants.{Load, Store, Fetch}
+use Rattle.journal.specs.DidEvent.{event}
+use Rattle.journal.specs.Events.{At, address_of, count_of, is_depart, is_store, events_of}
+use Rattle.journal.specs.HappensBeforeEdges.{HappensBefore}
+use Rattle.journal.specs.Races.{Race}
+use Rattle.journal.specs.Sizes.{Sizes}
+use Rattle.journal.specs.WellFormed.{Does, Holds, WellFormed}
+use Rattle.journal.proofs.Order.HappensBefore.{before_goes_forward}
+use Rattle.journal.proofs.Order.CountedAndNumbered.{does_at}
+use Rattle.seats.specs.declared.guard.Guard.{Guard}
+use Rattle.seats.specs.declared.guard.Guard.TheVariants.{Under, Of, Shared, Open}
+use Rattle.seats.specs.Deeds.{deeds, is_deed}
+use Rattle.seats.specs.Guards.{Guards, KeepsTo, holds_after, lets_access, may_do, phase_after}
+use Rattle.seats.specs.Laws.{AllKeepTo, GuardedLaw}
+use Rattle.seats.proofs.Deeds.{own_deed, own_deeds-append}
+use Rattle.seats.proofs.Guards.{holds_is, phase_is}
+use Rattle.seats.proofs.Phases.{AccessAt, earlier, under_lock}
+
+-- the item behind a front
+item_behind : {A : Type 0} (front rest : List A) (x : A) → slice_get (front ++ x ∷ rest) (length front) ≡ Some x
+item_behind [] rest x = refl
+item_behind (y ∷ front) rest x = item_behind front rest x
+
+-- an access is no fetch
+access_deed : (k : Kind) (a : ℕ) → address_of k ≡ Some a → is_deed k ≡ true
+access_deed (Fetch w n r d) a e = absurd (cc)
+access_deed _ a e = refl
+
+-- who keeps to the guards was let do what it accessed
+allowed_at : (g : Guards) (h : List Event) (i p a : ℕ) → KeepsTo g p (deeds (events_of h p)) → (x : AccessAt h i p a)
+    → lets_access (g (count_of is_depart (take i h) p) a) p (holds_after (deeds (events_of (take i h) p))) (is_store x.kind)
+    ≡ true
+allowed_at g h i p a keeps x =
+    let ks = deeds (events_of (take i h) p) in
+    let rest = deeds (events_of (drop (suc i) h) p) in
+    let own : deeds (events_of (event p x.kind ∷ []) p) ≡ x.kind ∷ [] =
+    own_deed (event p x.kind) p (eq-eqb p p refl) (access_deed x.kind a x.address) in
+    let split : deeds (events_of h p) ≡ (ks ++ x.kind ∷ []) ++ rest =
+    (ap (λ es. deeds (events_of es p)) (sym (take-append-drop (suc i) h))
+    ∙ own_deeds-append (take (suc i) h) (drop (suc i) h) p
+    ∙ ap (λ es. deeds (events_of es p) ++ rest) (take-suc_at h i (event p x.kind) x.does)
+    ∙ ap (λ es. es ++ rest) (own_deeds-append (take i h) (event p x.kind ∷ []) p
+    ∙ ap (λ es. ks ++ es) own)) in
+    let whole : deeds (events_of h p) ≡ ks ++ x.kind ∷ rest = split ∙ append_assoc ks (x.kind ∷ []) rest in
+    let there : slice_get (deeds (events_of h p)) (length ks) ≡ Some x.kind =
+    ap (λ es. slice_get es (length ks)) whole ∙ item_behind ks rest x.kind in
+    let front : take (length ks) (deeds (events_of h p)) ≡ ks =
+    ap (take (length ks)) whole ∙ take-append_seam ks (x.kind ∷ rest) in
+    let may : may_do g p ks x.kind ≡ true = subst (λ es. may_do g p es x.kind ≡ true) front
+    (keeps.each (length ks) x.kind there) in
+    let at : lets_access (g (phase_after ks) a) p (holds_after ks) (is_store x.kind) ≡ true =
+    rw x.address at may in
+    subst (λ n. lets_access (g n a) p (holds_after ks) (is_store x.kind) ≡ true) (phase_is (take i h) p) at
+
+-- two accesses in one phase, one of them a store, that the guard lets two processors do
+in_phase : (s : Sizes) (h : List Event) (i k p q a : ℕ) → WellFormed s h → (x : AccessAt h i p a)
+    → (y : AccessAt h k q a) → i < k → p ≢ q → IsTrue (is_store x.kind) ⊎ IsTrue (is_store y.kind) → (o : Option Guard)
+    → lets_access o p (holds_after (deeds (events_of (take i h) p))) (is_store x.kind) ≡ true
+    → lets_access o q (holds_after (deeds (events_of (take k h) q))) (is_store y.kind) ≡ true
+    → HappensBefore h i k ⊎ (o ≡ Some Open)
+in_phase s h i k p q a well x y lt apart stores None mine theirs = absurd (cc)
+in_phase s h i k p q a well x y lt apart stores (Some (Under l)) mine theirs =
+    inl (under_lock s h i k p q a a l well x y lt apart (holds_is l p (take i h) mine) (holds_is l q (take k h) theirs))
+in_phase s h i k p q a well x y lt apart stores (Some (Of r)) mine theirs =
+    absurd (apart (sym (eqb-true r p mine) ∙ eqb-true r q theirs))
+in_phase s h i k p q a well x y lt apart stores (Some Shared) mine theirs = elim stores [
+  | inl first ↦ absurd (let no : not true ≡ true = subst (λ b. not b ≡ true) first mine in cc)
+  | inr second ↦ absurd (let no : not true ≡ true = subst (λ b. not b ≡ true) second theirs in cc)
+]
+in_phase s h i k p q a well x y lt apart stores (Some Open) mine theirs = inr refl
+
+pub guarded_law : GuardedLaw
+guarded_law s g h well keeps i k race = elim (cases_order (phase p i) (phase q k)) [
+  | inl is ↦ same is
+  | inr order ↦ elim order [
+    | inl lt ↦ absurd (race.unordered (earlier s h i k p q a a well x y lt))
+    | inr gt ↦ absurd (let back = before_goes_forward h (earlier s h k i q p a a well y x gt) in
+        let on = race.before in omega arith)
+  ]
+]
+  where
+    p : ℕ
+    p = race.first.processor
+
+    q : ℕ
+    q = race.second.processor
+
+    a : ℕ
+    a = race.conflict.address
+
+    x : AccessAt h i p a
+    x = record {
+      kind = race.first.kind;
+      does = does_at h i p race.first race.first_at refl;
+      address = race.conflict.first;
+    }
+
+    y : AccessAt h k q a
+    y = record {
+      kind = race.second.kind;
+      does = does_at h k q race.second race.second_at refl;
+      address = race.conflict.second;
+    }
+
+    phase : ℕ → ℕ → ℕ
+    phase r n = count_of is_depart (take n h) r
+
+    same : phase p i ≡ phase q k → (n : ℕ) × (g n a ≡ Some Open)
+    same is =
+        let theirs = subst (λ n. lets_access (g n a) q (holds_after (deeds (events_of (take k h) q))) (is_store y.kind) ≡ true)
+        (sym is) (allowed_at g h k q a (keeps q) y) in
+        elim (in_phase s h i k p q a well x y race.before race.apart race.conflict.stores (g (phase p i) a)
+        (allowed_at g h i p a (keeps p) x) theirs) [
+          | inl before ↦ absurd (race.unordered before)
+          | inr free ↦ (phase p i, free)
+        ]

@@ -1,0 +1,4 @@
+mod Deeds
+mod Guards
+mod Phases
+mod Guarded

@@ -1,0 +1,19 @@
+-- What is promised for itself.
+use Rattle.std.specs.Prelude.{ℕ, ◌≡◌, Some, List}
+use Rattle.journal.specs.declared.event.Event.{Event}
+use Rattle.journal.specs.Events.{events_of}
+use Rattle.journal.specs.Races.{Race}
+use Rattle.journal.specs.Sizes.{Sizes}
+use Rattle.journal.specs.WellFormed.{WellFormed}
+use Rattle.seats.specs.declared.guard.Guard.TheVariants.{Open}
+use Rattle.seats.specs.Deeds.{deeds}
+use Rattle.seats.specs.Guards.{Guards, KeepsTo}
+
+-- each processor keeps to the guards in what it did
+abbrev pub AllKeepTo : Guards → List Event → Type 0
+AllKeepTo g h = (p : ℕ) → KeepsTo g p (deeds (events_of h p))
+
+-- two accesses of a word race only if it is open to all in some phase
+abbrev pub GuardedLaw : Type 0
+GuardedLaw = (s : Sizes) (g : Guards) (h : List Event) → WellFormed s h → AllKeepTo g h
+    → (i k : ℕ) (r : Race h i k) → (n : ℕ) × (g n r.conflict.address ≡ Some Open)

@@ -1,0 +1,4 @@
+pub mod Deeds
+pub mod Guards
+pub mod Laws
+pub mod Prelude
