@@ -15,11 +15,11 @@ CHAIN = ("cluster 3 1 1 2/p 0/acquire 0/store 0 9/release 0/p 1/acquire 1/acquir
 
 # A script, its verdict, its outcomes as the text has them, and whether it hangs; of a racy one None.
 BY_HAND = [
-    (MESSAGE, "race-free", ["word 0 5  replies p1: 5"], False),
-    (COUNTER, "race-free", ["word 0 2  replies p0: 0  p1: 1", "word 0 2  replies p0: 1  p1: 0"], False),
+    (MESSAGE, "race-free", ["words 0 5 replies p1 5"], False),
+    (COUNTER, "race-free", ["words 0 2 replies p0 0 p1 1", "words 0 2 replies p0 1 p1 0"], False),
     (BUFFERING, "racy", None, None),
     # Each lock has one of two before the other, or both wait.
-    (CROSSED, "race-free", ["word 0 0"], True),
+    (CROSSED, "race-free", ["words 0 0"], True),
     # Where processor 2 has lock 1 first, nothing orders its load after the store.
     (CHAIN, "racy", None, None),
     # Nobody sets the flag.
@@ -32,21 +32,21 @@ BY_HAND = [
     ("cluster 2 1 1 0 1/p 0/await 0/store 0 1/p 1/await 0/load 0/show 0/", "race-free", [], True),
     # One store first, or the other.
     ("cluster 2 1 1 1/p 0/acquire 0/store 0 1/release 0/p 1/acquire 0/store 0 2/release 0/show 0/", "race-free",
-     ["word 0 1", "word 0 2"], False),
+     ["words 0 1", "words 0 2"], False),
     # Two locks order nothing between each other.
     ("cluster 2 1 1 2/p 0/acquire 0/store 0 1/release 0/p 1/acquire 1/store 0 2/release 1/show 0/", "racy", None, None),
     # Before a barrier and after it; a flag that was set behind the barrier.
     ("cluster 2 1 2 0/p 0/store 0 5/barrier/load 1/p 1/store 1 6/barrier/load 0/show 1 0/", "race-free",
-     ["word 1 6  word 0 5  replies p0: 6  p1: 5"], False),
+     ["words 1 6 0 5 replies p0 6 p1 5"], False),
     # Who has arrived early doesn't know what is stored behind its arrival.
     ("cluster 2 1 1 0/p 0/barrier/store 0 5/p 1/barrier/load 0/show 0/", "racy", None, None),
     # The same addresses, but one word each; loads alone.
-    ("cluster 3 1 2 0/p 0/store 0 1/p 1/store 1 2/p 2/cut/show 0 1/", "race-free", ["word 0 1  word 1 2"], False),
+    ("cluster 3 1 2 0/p 0/store 0 1/p 1/store 1 2/p 2/cut/show 0 1/", "race-free", ["words 0 1 1 2"], False),
     ("cluster 3 1 1 0/p 0/load 0/p 1/load 0/p 2/load 0/show 0/", "race-free",
-     ["word 0 0  replies p0: 0  p1: 0  p2: 0"], False),
+     ["words 0 0 replies p0 0 p1 0 p2 0"], False),
     # By way of a third processor.
     ("cluster 3 1 1 0 2/p 0/store 0 3/set 0/p 1/await 0/set 1/p 2/await 1/add 0 4294967295/show 0/", "race-free",
-     ["word 0 2  replies p2: 3"], False),
+     ["words 0 2 replies p2 3"], False),
     # A flag that two set: who awaits it may know the one alone.
     ("cluster 3 1 1 0 1/p 0/store 0 3/set 0/p 1/set 0/p 2/await 0/load 0/show 0/", "racy", None, None),
 ]
@@ -133,24 +133,28 @@ def damages(script, found):
     if found.race is not None:
         race = lines.index("race")
         yield "race-free", ["verdict race-free under every schedule", "outcomes 0", "hangs never", lines[-1]]
+        yield "a hang without events", [*lines[:-1], "hangs", lines[-1]]
         yield "a schedule cut short", without(race - 1)
         yield "events missing at its beginning", lines[:1] + lines[2:]
         yield "one event for both", lines[:race + 1] + [lines[race + 2]] * 2 + lines[race + 3:]
         return
     yield "racy", ["verdict racy", *lines[2:]]
-    yield "given up", ["verdict undecided after 1 states"]
+    yield "given up", ["verdict undecided", *lines[1:]]
+    yield "outcomes so far", [lines[0], lines[1] + " so far", *lines[2:]]
     count = len(found.outcomes)
     if count:
         yield "an outcome left out", [lines[0], f"outcomes {count - 1}", *lines[3:]]
         yield "an outcome twice", [lines[0], f"outcomes {count + 1}", lines[2], *lines[2:]]
-        yield "another word", [*lines[:2], lines[2].replace("word ", "word 1", 1), *lines[3:]]
+        yield "another word", [*lines[:2], lines[2].replace("words ", "words 1", 1), *lines[3:]]
     if count > 1:
         yield "another order", [*lines[:2], lines[3], lines[2], *lines[4:]]
     if found.hang is None:
         yield "a hang", [("hangs" if line == "hangs never" else line) for line in lines]
+        yield "hangs given up", [("hangs undecided" if line == "hangs never" else line) for line in lines]
     else:
         place = lines.index("hangs")
         yield "no hang", lines[:place] + ["hangs never", lines[-1]]
+        yield "hangs given up", lines[:place] + ["hangs undecided", lines[-1]]
         yield "a hang that can go on", without(len(lines) - 2 - len([it for it in lines if it.startswith("processor ")]))
         yield "a wait left out", without(len(lines) - 2)
 

@@ -17,6 +17,8 @@ class Answer:
     """What a text says."""
     verdict: str  # "race-free", "racy", "undecided"
     outcomes: list = None  # (words, replies) of each, as `shown_of` has them
+    are_all: bool = False  # there are no other outcomes
+    never_hangs: bool = False
     hang: list = None  # events
     waits: list = None  # lines
     race: list = None  # events
@@ -54,24 +56,32 @@ class Lines:
 def read(text):
     """What the text says. Wrong where it isn't of the form that docs/SCRIPTS.md has."""
     lines = Lines(text)
-    verdict = lines.next(r"verdict (race-free) under every schedule|verdict (racy)|verdict (undecided) after [0-9]+ states")
+    verdict = lines.next(r"verdict (race-free) under every schedule|verdict (racy|undecided)")
     answer = Answer(next(part for part in verdict.groups() if part))
-    if answer.verdict == "undecided":
-        if lines.lines:
-            raise Wrong("more than a line")
-        return answer
     if answer.verdict == "racy":
         answer.race = read_events(lines)
         lines.next("race")
         answer.racing = [lines.next("event .*")[0], lines.next("event .*")[0]]
+        read_hang(lines, answer, r"hangs" if lines.lines[:1] == ["hangs"] else None)
     else:
-        count = int(lines.next(r"outcomes (0|[1-9][0-9]*)")[1])
-        answer.outcomes = [read_outcome(lines.next("  (word .*)")[1]) for _ in range(count)]
-        if lines.next("hangs never|hangs")[0] == "hangs":
-            answer.hang = read_events(lines)
-            answer.waits = lines.while_begins("processor ")
+        count = lines.next(r"outcomes (0|[1-9][0-9]*)( so far)?")
+        answer.are_all = count[2] is None
+        answer.outcomes = [read_outcome(lines.next("  (words .*)")[1]) for _ in range(int(count[1]))]
+        read_hang(lines, answer, "hangs never|hangs undecided|hangs")
     lines.end()
     return answer
+
+
+def read_hang(lines, answer, pattern):
+    """Whether a schedule hangs: a line of this pattern, if there is one, and behind `hangs` the schedule."""
+    if pattern is None:
+        answer.never_hangs = False
+        return
+    line = lines.next(pattern)[0]
+    answer.never_hangs = line == "hangs never"
+    if line == "hangs":
+        answer.hang = read_events(lines)
+        answer.waits = lines.while_begins("processor ")
 
 
 def read_events(lines):
@@ -87,12 +97,13 @@ def read_events(lines):
 
 def read_outcome(line):
     """The shown words of an outcome's line, and what the loads answered."""
-    words, _, replies = line.partition("  replies ")
-    shown = [tuple(map(int, part.split(" ")[1:])) for part in words.split("  ")]
+    words, _, replies = line.partition(" replies p")
+    numbers = list(map(int, words.split(" ")[1:]))
+    shown = list(zip(numbers[::2], numbers[1::2]))
     answered = []
-    for part in replies.split("  ") if replies else []:
-        processor, *rest = part.split(" ")
-        answered.append((int(processor.removeprefix("p").removesuffix(":")), tuple(map(int, rest))))
+    for part in replies.split(" p") if replies else []:
+        processor, *rest = map(int, part.split(" "))
+        answered.append((processor, tuple(rest)))
     if outcome_line((tuple(shown), tuple(answered))) != "  " + line:
         raise Wrong(f"{line!r} is no outcome's line")
     return tuple(shown), tuple(answered)
@@ -108,9 +119,9 @@ def shown_of(script, replies):
 
 def outcome_line(outcome):
     words, replies = outcome
-    parts = ["word {} {}".format(*it) for it in words]
-    own = [f"p{processor}: " + " ".join(map(str, answers)) for processor, answers in replies]
-    return "  " + "  ".join(parts) + ("  replies " + "  ".join(own) if own else "")
+    parts = ["{} {}".format(*it) for it in words]
+    own = [f"p{processor} " + " ".join(map(str, answers)) for processor, answers in replies]
+    return "  " + " ".join(["words", *parts, *(["replies", *own] if own else [])])
 
 
 def ran(script, events):
@@ -159,7 +170,10 @@ def judge(script, found, text):
         judge_race(script, answer)
     else:
         judge_outcomes(script, found, answer)
-        judge_hang(script, found, answer)
+        if answer.never_hangs != (found.hang is None) or (answer.hang is None) != (found.hang is None):
+            raise Wrong("a hang" if found.hang is None else "no hang")
+    if answer.hang is not None:
+        judge_hang(script, answer)
 
 
 def judge_race(script, answer):
@@ -174,18 +188,18 @@ def judge_race(script, answer):
 
 def judge_outcomes(script, found, answer):
     wanted = [shown_of(script, replies) for replies in sorted(found.outcomes)]
+    if not answer.are_all:
+        raise Wrong("outcomes so far")
     if sorted(answer.outcomes) != sorted(wanted):
         raise Wrong(f"outcomes {answer.outcomes} where {wanted} are found")
     if answer.outcomes != wanted:
         raise Wrong(f"outcomes in another order than {wanted}")
 
 
-def judge_hang(script, found, answer):
-    if (answer.hang is None) != (found.hang is None):
-        raise Wrong("a hang" if found.hang is None else "no hang")
-    if answer.hang is not None:
-        memory = ran(script, answer.hang)
-        if not memory.is_stuck():
-            raise Wrong("the schedule that hangs can go on")
-        if answer.waits != wait_lines(memory):
-            raise Wrong(f"{answer.waits} where {wait_lines(memory)} are found")
+def judge_hang(script, answer):
+    """The events have to be a schedule after which nothing may come, and the waits those of its processors."""
+    memory = ran(script, answer.hang)
+    if not memory.is_stuck():
+        raise Wrong("the schedule that hangs can go on")
+    if answer.waits != wait_lines(memory):
+        raise Wrong(f"{answer.waits} where {wait_lines(memory)} are found")

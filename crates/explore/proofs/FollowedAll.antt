@@ -15,7 +15,7 @@ use Rattle.explore.proofs.Followed.{known_kept}
 use Rattle.explore.proofs.Machines.{next_within, some_at}
 
 module _ (s : Plan) (x y : States) (place : ℕ) (nexts : List (Option Kind)) (may : MayFollowAll s x place nexts) where
-  pub none_followed : AreFollowed s x x place 0
+  pub none_followed : AreFollowed s x x place nexts 0
   none_followed = record {
     keeps = λ k m at. at;
     found = may.found;
@@ -31,7 +31,7 @@ module _ (s : Plan) (x y : States) (place : ℕ) (nexts : List (Option Kind)) (m
       let same = same_Some f.0 m (sym (keeps place f.0 f.1) ∙ at) in
       subst (λ z. slice_get (states_of x) place ≡ Some z) same f.1
 
-  module _ (n : ℕ) (old : AreFollowed s x y place n) where
+  module _ (n : ℕ) (old : AreFollowed s x y place nexts n) where
     pub within_still : place < length (states_of y)
     within_still =
         let f = some_at (states_of x) place may.within in
@@ -40,7 +40,7 @@ module _ (s : Plan) (x y : States) (place : ℕ) (nexts : List (Option Kind)) (m
     -- an event that may come next
     module _ (k : Kind) (here : slice_index_or nexts n None ≡ Some k) where
       pub goes_on : (m : FlatState) → slice_get (states_of y) place ≡ Some m → StaysPossible s m n k
-      goes_on m at g knows = (may.next m (still_at old.keeps m at) g knows n k).0 here
+      goes_on m at = may.next m (still_at old.keeps m at) n k here
 
       pub may_step : (m : FlatState) → slice_get (states_of y) place ≡ Some m → IsStepOf m n k
       may_step m at =
@@ -61,31 +61,29 @@ module _ (s : Plan) (x y : States) (place : ℕ) (nexts : List (Option Kind)) (m
           let most = may.lawful.but_uneven.sizes.most_processors in
           omega arith
 
-      pub one_followed : (z : States) → IsFollowed s y z place n k → AreFollowed s x z place (n + 1)
+      pub one_followed : (z : States) → IsFollowed s y z place n k → AreFollowed s x z place nexts (n + 1)
       one_followed z followed = record {
         keeps = λ i m at. followed.keeps i m (old.keeps i m at);
         found = followed.found;
-        known = λ m g p j lt at knows next. elim (cases_eq p n) [
+        known = λ m g p j lt at knows told. elim (cases_eq p n) [
           | inl is ↦
-              (let told = (may.next m at g knows p j).1 next in
-              let same = same_Some k j (sym here ∙ ap (λ q. slice_index_or nexts q None) (sym is) ∙ told) in
+              (let same = same_Some k j (sym here ∙ ap (λ q. slice_index_or nexts q None) (sym is) ∙ told) in
               let known = followed.known m g (old.keeps place m at) knows in
               subst (λ q. IsKnown s (states_of z) (did g q j)) (sym is)
               (subst (λ i. IsKnown s (states_of z) (did g n i)) same known))
-          | inr isnt ↦ known_kept s (states_of y) (states_of z) _ followed.keeps (old.known m g p j (omega arith) at knows next)
+          | inr isnt ↦ known_kept s (states_of y) (states_of z) _ followed.keeps (old.known m g p j (omega arith) at knows told)
         ];
         few = (let one = followed.few in let before = old.few in omega (arith, one, before));
       }
 
     -- a processor that may do nothing
-    pub nobody_followed : ((k : Kind) → slice_index_or nexts n None ≢ Some k) → AreFollowed s x y place (n + 1)
+    pub nobody_followed : ((k : Kind) → slice_index_or nexts n None ≢ Some k) → AreFollowed s x y place nexts (n + 1)
     nobody_followed none = record {
       keeps = old.keeps;
       found = old.found;
-      known = λ m g p j lt at knows next. elim (cases_eq p n) [
-        | inl is ↦
-            absurd (none j (ap (λ q. slice_index_or nexts q None) (sym is) ∙ (may.next m at g knows p j).1 next))
-        | inr isnt ↦ old.known m g p j (omega arith) at knows next
+      known = λ m g p j lt at knows told. elim (cases_eq p n) [
+        | inl is ↦ absurd (none j (ap (λ q. slice_index_or nexts q None) (sym is) ∙ told))
+        | inr isnt ↦ old.known m g p j (omega arith) at knows told
       ];
       few = (let before = old.few in omega (arith, before));
     }

@@ -47,7 +47,7 @@ loads_few : (shown : List ℕ) → length (load_steps shown) ≡ length shown
 loads_few [] = refl
 loads_few (a ∷ shown) = ap suc (loads_few shown)
 
-section_few : (section : List Instruction) (shown : List ℕ) → length section ≤ 10000 → length shown ≤ 64
+pub section_few : (section : List Instruction) (shown : List ℕ) → length section ≤ 10000 → length shown ≤ 64
     → length (section_steps section shown) ≤ 20066
 section_few section shown few shows =
     let own = steps_few section in
@@ -124,7 +124,7 @@ length_total n = push_induction (λ (g : List Event). HasNoFetch g → Processor
         let longer = length-append g (e ∷ []) in
         omega arith
 
-shown_few : (s : Plan) (p : ℕ) → IsLawful s → length (shown_by s p) ≤ 64
+pub shown_few : (s : Plan) (p : ℕ) → IsLawful s → length (shown_by s p) ≤ 64
 shown_few s p lawful = go (p == 0)
   where
     go : (b : Bool) → length (cond b s.shown []) ≤ 64

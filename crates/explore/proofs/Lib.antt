@@ -12,6 +12,9 @@ pub mod Equals
 pub mod Followed
 pub mod FollowedAll
 pub mod FirstRaces
+pub mod Choosing
 pub mod Searched
+pub mod locksets
+pub mod reduced
 pub mod Determined
 pub mod Counted

@@ -1,38 +1,43 @@
 -- What a search knows, state by state.
 -- What was noted of the first states stays so as states are pushed on. One more state is either followed, where its next
 -- events are found, or ends: then it is whole and shows an outcome, or it hangs.
-use Rattle.std.proofs.Common.{ℕ, zero, suc, ◌≡◌, ◌≢◌, ◌+◌, ◌<◌, ◌≤◌, ◌↔◌, ◌⊎◌, inl, inr, List, [], ◌∷◌, Option, Some, length, map, slice_get, refl, sym, ap, subst, ◌∙◌, arith}
+use Rattle.std.proofs.Common.{ℕ, zero, suc, ◌≡◌, ◌≢◌, ◌+◌, ◌<◌, ◌≤◌, ◌↔◌, ◌⊎◌, inl, inr, Bool, false, List, [], ◌∷◌, Option, Some, length, map, slice_get, slice_index_or, refl, sym, ap, subst, ◌∙◌, arith}
 use Rattle.std.specs.Prelude.{None, MatchOption, unwrap_or}
 use Rattle.std.specs.Global.{Vec}
-use Rattle.std.proofs.lemmas.Bool.{cases_eq, cases_lt}
+use Rattle.std.proofs.lemmas.Bool.{cases_eq, cases_lt, false≢true}
 use Rattle.std.proofs.lemmas.List.{get_or_past}
 use Rattle.std.proofs.lemmas.Option.{none-some, same_Some, slice_get_within}
 use Rattle.base.specs.InOrderOnce.{Has, IsOnce}
 use Rattle.base.proofs.Joined.{has-append, has-cons, has-nil, in_order-append, in_order-nil, in_order_single}
-use Rattle.base.proofs.SlicesAndCounts.{push_induction}
 use Rattle.base.proofs.SliceSets.{same_places}
 use Rattle.journal.specs.declared.event.Event.{Event}
 use Rattle.journal.specs.declared.event.Kind.{Kind}
 use Rattle.journal.specs.DidEvent.{did}
 use Rattle.lrc_script.specs.Plan.{Plan}
-use Rattle.conformance.specs.Follows.{calls_of, Follows}
+use Rattle.conformance.specs.Follows.{Follows}
 use Rattle.explore.specs.declared.prefixes.script_call.ScriptCall.{ScriptCall}
 use Rattle.explore.specs.Prefixes.Beginnings.{IsFlatBeginning, IsHang}
 use Rattle.explore.specs.Prefixes.Laws.{HasNoNeighbours}
-use Rattle.explore.specs.Prefixes.Calling.{section_steps, shown_by}
-use Rattle.explore.proofs.prefixes.Beginnings.{next_begins, whole_done}
+use Rattle.explore.proofs.prefixes.Beginnings.{next_begins}
 use Rattle.explore.specs.declared.flat_state.FlatState.{FlatState}
 use Rattle.explore.specs.declared.neighbours.Neighbours.{Neighbours}
 use Rattle.explore.specs.declared.search.Search.{Search}
-use Rattle.explore.specs.Explored.{AreOutcomes, replies_of}
+use Rattle.explore.specs.declared.explored.Hanging.{Hanging}
+use Rattle.explore.specs.declared.explored.Hanging.TheVariants as hanging
+use Rattle.explore.specs.declared.explored.Verdict.{Verdict}
+use Rattle.explore.specs.declared.explored.Verdict.TheVariants as verdict
+use Rattle.explore.specs.Explored.{AreAllOutcomes, AreOutcomes, replies_of, settles}
 use Rattle.explore.specs.Followed.{AreFollowed}
+use Rattle.explore.specs.Free.{IsChoice}
 use Rattle.explore.specs.Found.{AreFound, IsKnown, Keeps, states_of}
-use Rattle.explore.specs.Machines.{Knows, items_of}
+use Rattle.explore.specs.Machines.{AreLawfulSteps, Knows, items_of}
 use Rattle.explore.specs.Nexts.{AreNexts, IsConflict}
 use Rattle.explore.specs.Outcomes.{AreReplies}
-use Rattle.explore.specs.Searched.{AreShown, Hangs, IsAmong, IsClosed, OutcomesNoted, IsQuiet, IsLookedThrough, VisitedUpTo, IsShownBy, HasUnvisited, MayNote, NoneHangs}
+use Rattle.explore.specs.Searched.{AreShown, Hangs, IsAmong, IsFollowedFree, IsFollowedWhole, IsReduced, OutcomesNoted, IsOpenHanging, IsOpenVerdict, IsQuiet, VisitedUpTo, IsShownBy, HasUnvisited, MayNote, NoneHangs}
 use Rattle.explore.proofs.Followed.{known_kept}
-use Rattle.explore.proofs.Machines.{next_within, some_at}
+use Rattle.explore.proofs.Machines.{some_at}
+use Rattle.explore.proofs.reduced.Ends.{MayConflict, ShowsThis, conflict_lasts, follows_ends, hang_lasts, shows_last}
+use Rattle.explore.proofs.reduced.Reaching.{FollowsAll, FollowsOne, reached}
 
 -- a state of the first ones was there before
 pub was_at : (old new : List FlatState) (place : ℕ) (m : FlatState) → Keeps old new → place < length old
@@ -40,18 +45,6 @@ pub was_at : (old new : List FlatState) (place : ℕ) (m : FlatState) → Keeps 
 was_at old new place m keeps lt at =
     let f = some_at old place lt in
     subst (λ z. slice_get old place ≡ Some z) (same_Some f.0 m (sym (keeps place f.0 f.1) ∙ at)) f.1
-
--- a whole run can't go on
-pub follows_ends : (s : Plan) (g : List Event) (p : ℕ) (k : Kind) → length s.sections ≡ s.processors → Follows s g
-    → ¬ IsFlatBeginning s (did g p k)
-follows_ends s g p k one follows next =
-    let both = (next_begins s g p k).0 next in
-    let within = next_within s g p k next in
-    let section = some_at s.sections p (omega arith) in
-    let called = both.1.calls.next section.0 section.1 in
-    let done = (whole_done s g both.0).0 follows p section.0 section.1 in
-    let lt = slice_get_within (section_steps section.0 (shown_by s p)) (length (calls_of g p)) called.step called.at in
-    omega arith
 
 module _ (s : Plan) (old new : List FlatState) (n : ℕ) (keeps : Keeps old new) (within : n ≤ length old) where
   shown_kept : (replies : List (List ℕ)) → IsShownBy s old n replies ↔ IsShownBy s new n replies
@@ -107,19 +100,28 @@ module _ (s : Plan) (old new : List FlatState) (n : ℕ) (keeps : Keeps old new)
             (subst (λ o. MatchOption o (NoneHangs s new n) (Hangs s new)) (sym hang) (hangs_kept x.hang hung));
       }
 
-  closed_kept : IsClosed s old n → IsClosed s new n
-  closed_kept closed place m g p k lt at knows next =
-      known_kept s old new (did g p k) keeps (closed place m g p k lt (was_at old new place m keeps (omega arith) at) knows next)
+  reduced_kept : (rows : List (Vec ScriptCall)) → IsReduced s rows old n → IsReduced s rows new n
+  reduced_kept rows reduced place m lt at = elim (reduced place m lt (was_at old new place m keeps (omega arith) at)) [
+    | inl whole ↦ inl (λ g p k knows next. known_kept s old new (did g p k) keeps (whole g p k knows next))
+    | inr one ↦ inr (record {
+      processor = one.processor;
+      kind = one.kind;
+      free = one.free;
+      next = one.next;
+      known = λ g knows. known_kept s old new (did g one.processor one.kind) keeps (one.known g knows);
+    })
+  ]
 
   quiet_kept : IsQuiet s old n → IsQuiet s new n
   quiet_kept quiet place m g p q a b lt at knows = quiet place m g p q a b lt (was_at old new place m keeps (omega arith) at) knows
 
 -- before the first state is looked at
-pub begun : (s : Plan) (x : Search) → AreFound s x.found → x.outcomes.keys ≡ [] → x.hang ≡ None → VisitedUpTo s x 0
-begun s x found outcomes hang = record {
+pub begun : (s : Plan) (x : Search) (rows : List (Vec ScriptCall)) → AreFound s x.found → x.outcomes.keys ≡ []
+    → x.hang ≡ None → VisitedUpTo s x rows 0
+begun s x rows found outcomes hang = record {
   found = found;
   within = omega arith;
-  closed = λ place m g p k lt. absurd (omega arith);
+  closed = λ place m lt. absurd (omega arith);
   quiet = λ place m g p q a b lt. absurd (omega arith);
   noted = record {
     shown = subst (λ ks. AreShown s (states_of x.found) 0 (map replies_of ks)) (sym outcomes) (record {
@@ -352,27 +354,22 @@ module _ (s : Plan) (x : Search) (steps : List (Vec ScriptCall)) (n : ℕ) (f : 
   }
 
 -- a state more was looked at
-pub looked : (s : Plan) (x z : Search) (steps : List (Vec ScriptCall)) (n : ℕ) (nexts : List (Option Kind)) → HasUnvisited s x steps n
+pub looked : (s : Plan) (x z : Search) (steps : List (Vec ScriptCall)) (n : ℕ) (nexts chosen : List (Option Kind))
+    → HasUnvisited s x steps n
     → ((m : FlatState) → slice_get (states_of x.found) n ≡ Some m → AreNexts s m nexts)
-    → ((p q : ℕ) (a b : Kind) → ¬ IsConflict nexts p q a b) → AreFollowed s x.found z.found n (length nexts)
-    → OutcomesNoted s z (n + 1) → VisitedUpTo s z (n + 1)
-looked s x z steps n nexts may are none followed noted =
+    → ((p q : ℕ) (a b : Kind) → ¬ IsConflict nexts p q a b) → IsChoice steps nexts chosen
+    → AreFollowed s x.found z.found n chosen (length chosen) → OutcomesNoted s z (n + 1) → VisitedUpTo s z steps (n + 1)
+looked s x z steps n nexts chosen may are none choice followed noted =
     let old = states_of x.found in
     let new = states_of z.found in
     let f = some_at old n may.more in
     record {
       found = followed.found;
       within = (let lt = slice_get_within new n f.0 (followed.keeps n f.0 f.1) in omega arith);
-      closed = λ place m g p k lt at knows next. elim (cases_eq place n) [
-        | inl is ↦
-            (let here = was_at old new n m followed.keeps may.more (subst (λ i. slice_get new i ≡ Some m) is at) in
-            elim (cases_lt p (length nexts)) [
-              | inl less ↦ followed.known m g p k less here knows next
-              | inr over ↦
-                  absurd (none-some k (sym (get_or_past nexts p None over) ∙ (are m here g knows p k).1 next))
-            ])
+      closed = λ place m lt at. elim (cases_eq place n) [
+        | inl is ↦ now m (was_at old new n m followed.keeps may.more (subst (λ i. slice_get new i ≡ Some m) is at))
         | inr isnt ↦
-            closed_kept s old new n followed.keeps may.searched.within may.searched.closed place m g p k (omega arith) at knows next
+            reduced_kept s old new n followed.keeps may.searched.within steps may.searched.closed place m (omega arith) at
       ];
       quiet = λ place m g p q a b lt at knows first second apart conflict. elim (cases_eq place n) [
         | inl is ↦
@@ -385,57 +382,99 @@ looked s x z steps n nexts may are none followed noted =
       ];
       noted = noted;
     }
+  where
+    -- an event that was chosen is followed
+    known : (m : FlatState) (g : List Event) (p : ℕ) (k : Kind) → slice_get (states_of x.found) n ≡ Some m → Knows s g m
+        → slice_index_or chosen p None ≡ Some k → IsKnown s (states_of z.found) (did g p k)
+    known m g p k here knows told = elim (cases_lt p (length chosen)) [
+      | inl less ↦ followed.known m g p k less here knows told
+      | inr over ↦ absurd (none-some k (sym (get_or_past chosen p None over) ∙ told))
+    ]
 
--- where all states are looked at, each beginning comes to one of them
-pub complete : (s : Plan) (x : Search) → VisitedUpTo s x (length (states_of x.found)) → (g : List Event)
-    → IsFlatBeginning s g → IsKnown s (states_of x.found) g
-complete s x searched =
-    push_induction (λ g. IsFlatBeginning s g → IsKnown s (states_of x.found) g) (λ begins. searched.found.first)
-    (λ g e known begins.
-    let before = known ((next_begins s g e.processor e.kind).0 begins).0 in
-    searched.closed before.place before.state g e.processor e.kind
-    (slice_get_within (states_of x.found) before.place before.state before.at) before.at before.knows begins)
+    now : (m : FlatState) → slice_get (states_of x.found) n ≡ Some m
+        → IsFollowedWhole s (states_of z.found) m ⊎ IsFollowedFree s steps (states_of z.found) m
+    now m here = elim choice [
+      | inl all ↦ inl (λ g p k knows next.
+          known m g p k here knows (ap (λ os. slice_index_or os p None) all ∙ (are m here g knows p k).1 next))
+      | inr one ↦ inr (record {
+        processor = one.processor;
+        kind = one.kind;
+        free = one.free;
+        next = λ g knows. (are m here g knows one.processor one.kind).0 one.at;
+        known = λ g knows. known m g one.processor one.kind here knows one.chosen_at;
+      })
+    ]
 
-pub none_hangs : (s : Plan) (x : Search) → VisitedUpTo s x (length (states_of x.found))
-    → NoneHangs s (states_of x.found) (length (states_of x.found)) → (g : List Event) → ¬ IsHang s g
-none_hangs s x searched none g hang =
-    let known = complete s x searched g hang.beginning in
-    none known.place known.state g (slice_get_within (states_of x.found) known.place known.state known.at) known.at
-    known.knows hang
+-- where all states are looked at, no kind of end is missed
+module _ (s : Plan) (x : Search) (steps : List (Vec ScriptCall)) (lawful : AreLawfulSteps s steps)
+    (searched : VisitedUpTo s x steps (length (states_of x.found))) where
+  followed_of : (h : List Event) → IsKnown s (states_of x.found) h
+      → FollowsAll s (IsKnown s (states_of x.found)) h ⊎ FollowsOne s steps (IsKnown s (states_of x.found)) h
+  followed_of h known =
+      let within = slice_get_within (states_of x.found) known.place known.state known.at in
+      elim (searched.closed known.place known.state within known.at) [
+        | inl whole ↦ inl (λ p k next. whole h p k known.knows next)
+        | inr one ↦ inr (record {
+          processor = one.processor;
+          kind = one.kind;
+          free = one.free;
+          next = one.next h known.knows;
+          found = one.known h known.knows;
+        })
+      ]
 
-pub no_neighbours : (s : Plan) (x : Search) → VisitedUpTo s x (length (states_of x.found)) → HasNoNeighbours s
-no_neighbours s x searched g p q a b first second apart =
-    let known = complete s x searched g ((next_begins s g p a).0 first).0 in
-    searched.quiet known.place known.state g p q a b
-    (slice_get_within (states_of x.found) known.place known.state known.at) known.at known.knows first second apart
+  pub none_hangs : NoneHangs s (states_of x.found) (length (states_of x.found)) → (g : List Event) → ¬ IsHang s g
+  none_hangs none g hang =
+      let r = reached s steps lawful (IsKnown s (states_of x.found)) (IsHang s) (hang_lasts s steps) followed_of
+      searched.found.first g hang.beginning hang in
+      let known = r.found in
+      none known.place known.state r.events (slice_get_within (states_of x.found) known.place known.state known.at) known.at
+      known.knows r.has
 
-pub all_outcomes : (s : Plan) (x : Search) → VisitedUpTo s x (length (states_of x.found))
+  pub no_neighbours : HasNoNeighbours s
+  no_neighbours g p q a b first second apart conflict =
+      let begins = ((next_begins s g p a).0 first).0 in
+      let r = reached s steps lawful (IsKnown s (states_of x.found)) (MayConflict s) (conflict_lasts s steps lawful) followed_of
+      searched.found.first g begins
+      (record { p = p; q = q; a = a; b = b; first = first; second = second; apart = apart; conflict = conflict }) in
+      let known = r.found in
+      let c = r.has in
+      searched.quiet known.place known.state r.events c.p c.q c.a c.b
+      (slice_get_within (states_of x.found) known.place known.state known.at) known.at known.knows c.first c.second c.apart
+      c.conflict
+
+  pub all_outcomes : AreAllOutcomes s (map replies_of x.outcomes.keys)
+  all_outcomes replies outcome =
+      let r = reached s steps lawful (IsKnown s (states_of x.found)) (ShowsThis s replies)
+      (shows_last s steps replies lawful.lawful.but_uneven.one_each) followed_of searched.found.first outcome.0
+      outcome.1.beginning (record { follows = outcome.1.follows; are = outcome.2 }) in
+      let known = r.found in
+      (searched.noted.shown.each replies).1 (record {
+        place = known.place;
+        within = slice_get_within (states_of x.found) known.place known.state known.at;
+        state = known.state;
+        at = known.at;
+        events = r.events;
+        knows = known.knows;
+        follows = r.has.follows;
+        are = r.has.are;
+      })
+
+pub some_outcomes : (s : Plan) (x : Search) (steps : List (Vec ScriptCall)) (n : ℕ) → VisitedUpTo s x steps n
     → AreOutcomes s (map replies_of x.outcomes.keys)
-all_outcomes s x searched =
-    let shown = searched.noted.shown in
-    record {
-      each = λ replies. (
-        λ has.
-            let by = (shown.each replies).0 has in
-            (by.events, record { beginning = by.knows.beginning; follows = by.follows }, by.are),
-        λ outcome.
-            let known = complete s x searched outcome.0 outcome.1.beginning in
-            (shown.each replies).1 (record {
-              place = known.place;
-              within = slice_get_within (states_of x.found) known.place known.state known.at;
-              state = known.state;
-              at = known.at;
-              events = outcome.0;
-              knows = known.knows;
-              follows = outcome.1.follows;
-              are = outcome.2;
-            }),
-      );
-      once = shown.once;
-    }
+some_outcomes s x steps n searched = record {
+  each = λ replies has.
+      let by = (searched.noted.shown.each replies).0 has in
+      (by.events, record { beginning = by.knows.beginning; follows = by.follows }, by.are);
+  once = searched.noted.shown.once;
+}
 
--- whatever was found is of the script
-pub through_found : (s : Plan) (x : Search) (steps : List (Vec ScriptCall)) (most : ℕ) (o : Option Neighbours)
-    → IsLookedThrough s x steps most o → AreFound s x.found
-through_found s x steps most None through = through.found
-through_found s x steps most (Some ns) racing = racing.found
+-- what is open is so where no two events conflict and not all states were looked at
+pub open_only : (o : Option Neighbours) (race_free through : Bool) (v : Verdict) (h : Hanging) → IsOpenVerdict o race_free v
+    → IsOpenHanging through h → (race_free ≡ false → through ≡ false) → settles v h through ≡ false
+    → (o ≡ None) × (through ≡ false)
+open_only o race_free through verdict.RaceFree hanging.Never none opens both is = (none, is)
+open_only o race_free through verdict.RaceFree (hanging.Hangs hang) none opens both is = (none, is)
+open_only o race_free through verdict.RaceFree hanging.Undecided none opens both is = (none, opens)
+open_only o race_free through (verdict.Racy racy) h none opens both is = absurd (false≢true (sym is))
+open_only o race_free through verdict.Undecided h none opens both is = (none.0, both none.1)

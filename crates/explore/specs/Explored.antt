@@ -1,5 +1,5 @@
 -- What an answer says of all runs of a script on one flat memory.
-use Rattle.std.specs.Prelude.{ℕ, ◌≡◌, ◌+◌, ◌<◌, ◌≤◌, ◌↔◌, MatchOption, Option, List, map, length}
+use Rattle.std.specs.Prelude.{ℕ, ◌≡◌, ◌+◌, ◌<◌, ◌≤◌, ⊤, Bool, true, false, IsTrue, List, map, length}
 use Rattle.std.specs.Global.{Vec}
 use Rattle.base.specs.InOrderOnce.{Has, IsOnce}
 use Rattle.journal.specs.declared.event.Event.{Event}
@@ -7,6 +7,8 @@ use Rattle.journal.specs.Races.{IsFirstRace}
 use Rattle.lrc_script.specs.Plan.{Plan}
 use Rattle.explore.specs.declared.explored.Explored.{Explored}
 use Rattle.explore.specs.declared.explored.Hang.{Hang}
+use Rattle.explore.specs.declared.explored.Hanging.{Hanging}
+use Rattle.explore.specs.declared.explored.Hanging.TheVariants as hanging
 use Rattle.explore.specs.declared.explored.Outcome.{Outcome}
 use Rattle.explore.specs.declared.explored.RacyEvents.{RacyEvents}
 use Rattle.explore.specs.declared.explored.Verdict.{Verdict}
@@ -34,26 +36,45 @@ pub record IsHangOf (s : Plan) (hang : Hang) : Type 0 where
 abbrev pub replies_of : Outcome → List (List ℕ)
 replies_of o = map (λ (v : Vec ℕ). v.items) o.replies.items
 
--- these are what whole runs show, each once
+-- whole runs show each of these, and each is there once
 pub record AreOutcomes (s : Plan) (outcomes : List (List (List ℕ))) : Type 0 where
-  pub each : (replies : List (List ℕ)) → Has outcomes replies ↔ IsOutcome s replies
+  pub each : (replies : List (List ℕ)) → Has outcomes replies → IsOutcome s replies
   pub once : IsOnce outcomes
 
--- what a search that ends race-free says
-pub record IsRaceFreeWith (s : Plan) (outcomes : List Outcome) (hang : Option Hang) : Type 0 where
-  pub race_free : IsFlatRaceFree s
-  pub shows : AreOutcomes s (map replies_of outcomes)
-  pub hangs : MatchOption hang ((g : List Event) → ¬ IsHang s g) (IsHangOf s)
+-- whole runs show nothing else
+abbrev pub AreAllOutcomes : Plan → List (List (List ℕ)) → Type 0
+AreAllOutcomes s outcomes = (replies : List (List ℕ)) → IsOutcome s replies → Has outcomes replies
 
--- what is so by the verdict; a search is given up only where there are more states than were asked for, or than fit
-abbrev pub IsVerdictOn : Plan → ℕ → ℕ → Verdict → Type 0
-IsVerdictOn s most states (verdict.RaceFree outcomes hang) = IsRaceFreeWith s outcomes.items hang
-IsVerdictOn s most states (verdict.Racy racy) = IsRacy s racy
-IsVerdictOn s most states verdict.Undecided = states_to_look_at s most < states
+-- what is so by the verdict
+abbrev pub IsVerdictOn : Plan → Verdict → Type 0
+IsVerdictOn s verdict.RaceFree = IsFlatRaceFree s
+IsVerdictOn s (verdict.Racy racy) = IsRacy s racy
+IsVerdictOn s verdict.Undecided = ⊤
+
+-- what is so by the answer on hangs
+abbrev pub IsHangingOn : Plan → Hanging → Type 0
+IsHangingOn s hanging.Never = (g : List Event) → ¬ IsHang s g
+IsHangingOn s (hanging.Hangs hang) = IsHangOf s hang
+IsHangingOn s hanging.Undecided = ⊤
+
+-- whether nothing is open, where all outcomes are known or not
+abbrev pub settles : Verdict → Hanging → Bool → Bool
+settles (verdict.Racy racy) _ all = true
+settles verdict.RaceFree hanging.Never all = all
+settles verdict.RaceFree (hanging.Hangs hang) all = all
+settles _ _ all = false
+
+abbrev pub is_settled : Explored → Bool
+is_settled answer = settles answer.verdict answer.hanging answer.are_all
 
 -- what an answer says, where so many states were asked for: the script has as many as were found, which are no more than
--- those to be looked at and what comes next after one, and the verdict
+-- those to be looked at and what comes next after one; each answer is true; and one is open only where there are more
+-- states than were asked for, or than fit
 pub record IsExplored (s : Plan) (most : ℕ) (answer : Explored) : Type 0 where
   pub states : HasStates s answer.states
   pub few : answer.states ≤ states_to_look_at s most + 16
-  pub verdict : IsVerdictOn s most answer.states answer.verdict
+  pub verdict : IsVerdictOn s answer.verdict
+  pub hanging : IsHangingOn s answer.hanging
+  pub outcomes : AreOutcomes s (map replies_of answer.outcomes.items)
+  pub all : IsTrue answer.are_all → AreAllOutcomes s (map replies_of answer.outcomes.items)
+  pub given_up : is_settled answer ≡ false → states_to_look_at s most < answer.states

@@ -1,28 +1,27 @@
 -- What is found after a state.
-use Rattle.std.specs.Prelude.{ℕ, ◌≡◌, ◌+◌, ◌<◌, ◌≤◌, Option, Some, List, length, slice_get}
+use Rattle.std.specs.Prelude.{ℕ, ◌≡◌, ◌+◌, ◌<◌, ◌≤◌, Option, Some, None, List, length, slice_get, slice_index_or}
 use Rattle.journal.specs.declared.event.Event.{Event}
 use Rattle.journal.specs.declared.event.Kind.{Kind}
 use Rattle.journal.specs.DidEvent.{did}
 use Rattle.lrc_script.specs.Plan.{Plan}
 use Rattle.lrc_script.specs.Lawful.{IsLawful}
-use Rattle.explore.specs.Prefixes.Beginnings.{IsFlatBeginning}
 use Rattle.explore.specs.declared.states.States.{States}
 use Rattle.explore.specs.declared.flat_state.FlatState.{FlatState}
-use Rattle.explore.specs.Found.{AreFound, IsKnown, Keeps, states_of}
+use Rattle.explore.specs.Found.{AreFound, IsKnown, Keeps, StaysPossible, states_of}
 use Rattle.explore.specs.Machines.{Knows}
-use Rattle.explore.specs.Nexts.{AreNexts}
 
--- of the state at this place of a lawful script these may come next
+-- of the state at this place of a lawful script each of these may come next
 pub record MayFollowAll (s : Plan) (x : States) (place : ℕ) (nexts : List (Option Kind)) : Type 0 where
   pub lawful : IsLawful s
   pub found : AreFound s x
   pub within : place < length (states_of x)
-  pub next : (m : FlatState) → slice_get (states_of x) place ≡ Some m → AreNexts s m nexts
+  pub next : (m : FlatState) → slice_get (states_of x) place ≡ Some m → (p : ℕ) (k : Kind)
+      → slice_index_or nexts p None ≡ Some k → StaysPossible s m p k
 
--- and below this number of processors, all that may come next is found
-pub record AreFollowed (s : Plan) (x y : States) (place n : ℕ) : Type 0 where
+-- and below this number of processors, what they make of it is found
+pub record AreFollowed (s : Plan) (x y : States) (place : ℕ) (nexts : List (Option Kind)) (n : ℕ) : Type 0 where
   pub keeps : Keeps (states_of x) (states_of y)
   pub found : AreFound s y
   pub known : (m : FlatState) (g : List Event) (p : ℕ) (k : Kind) → p < n → slice_get (states_of x) place ≡ Some m
-      → Knows s g m → IsFlatBeginning s (did g p k) → IsKnown s (states_of y) (did g p k)
+      → Knows s g m → slice_index_or nexts p None ≡ Some k → IsKnown s (states_of y) (did g p k)
   pub few : length (states_of y) ≤ length (states_of x) + n

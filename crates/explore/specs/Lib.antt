@@ -4,6 +4,9 @@ pub mod Explored
 pub mod Waits
 pub mod Waiting
 pub mod Machines
+pub mod Guarded
+pub mod Users
+pub mod Free
 pub mod Found
 pub mod Nexts
 pub mod Followed

@@ -1,5 +1,5 @@
 -- What a search knows after it has looked at some of the states that it has found.
-use Rattle.std.specs.Prelude.{ℕ, ◌≡◌, ◌≢◌, ◌<◌, ◌≤◌, ◌↔◌, ◌⊎◌, MatchOption, Option, Some, List, [], ◌∷◌, ◌++◌, length, map, slice_get}
+use Rattle.std.specs.Prelude.{ℕ, ◌≡◌, ◌≢◌, ◌+◌, ◌<◌, ◌≤◌, ◌↔◌, ◌⊎◌, ⊤, Bool, false, IsTrue, MatchOption, Option, Some, None, List, [], ◌∷◌, ◌++◌, length, map, slice_get}
 use Rattle.std.specs.Global.{Vec}
 use Rattle.base.specs.InOrderOnce.{Has, IsOnce}
 use Rattle.journal.specs.declared.event.Event.{Event}
@@ -13,17 +13,35 @@ use Rattle.explore.specs.Prefixes.Beginnings.{IsFlatBeginning, IsHang}
 use Rattle.explore.specs.declared.flat_state.FlatState.{FlatState}
 use Rattle.explore.specs.declared.neighbours.Neighbours.{Neighbours}
 use Rattle.explore.specs.declared.search.Search.{Search}
+use Rattle.explore.specs.declared.explored.Hanging.{Hanging}
+use Rattle.explore.specs.declared.explored.Hanging.TheVariants as hanging
+use Rattle.explore.specs.declared.explored.Verdict.{Verdict}
+use Rattle.explore.specs.declared.explored.Verdict.TheVariants as verdict
 use Rattle.explore.specs.Explored.{replies_of}
-use Rattle.explore.specs.Found.{AreFound, IsKnown, states_of}
+use Rattle.explore.specs.Free.{IsFree}
+use Rattle.explore.specs.Found.{AreFound, IsKnown, StaysPossible, states_of}
 use Rattle.explore.specs.Machines.{AreLawfulSteps, Knows}
 use Rattle.explore.specs.Nexts.{IsOver}
 use Rattle.explore.specs.Racing.{AreRacing}
 use Rattle.explore.specs.Outcomes.{AreReplies}
 
--- of the first n states, all that may come next is among the states
-abbrev pub IsClosed : Plan → List FlatState → ℕ → Type 0
-IsClosed s states n = (place : ℕ) (m : FlatState) (g : List Event) (p : ℕ) (k : Kind) → place < n
-    → slice_get states place ≡ Some m → Knows s g m → IsFlatBeginning s (did g p k) → IsKnown s states (did g p k)
+-- all that may come next after the state m is among the states
+abbrev pub IsFollowedWhole : Plan → List FlatState → FlatState → Type 0
+IsFollowedWhole s states m = (g : List Event) (p : ℕ) (k : Kind) → Knows s g m → IsFlatBeginning s (did g p k)
+    → IsKnown s states (did g p k)
+
+-- or what one free event makes of it
+pub record IsFollowedFree (s : Plan) (rows : List (Vec ScriptCall)) (states : List FlatState) (m : FlatState) : Type 0 where
+  pub processor : ℕ
+  pub kind : Kind
+  pub free : IsFree rows kind
+  pub next : StaysPossible s m processor kind
+  pub known : (g : List Event) → Knows s g m → IsKnown s states (did g processor kind)
+
+-- of each of the first n states
+abbrev pub IsReduced : Plan → List (Vec ScriptCall) → List FlatState → ℕ → Type 0
+IsReduced s rows states n = (place : ℕ) (m : FlatState) → place < n → slice_get states place ≡ Some m
+    → IsFollowedWhole s states m ⊎ IsFollowedFree s rows states m
 
 -- and no two next events conflict
 abbrev pub IsQuiet : Plan → List FlatState → ℕ → Type 0
@@ -71,31 +89,47 @@ pub record MayNote (s : Plan) (x : Search) (steps : List (Vec ScriptCall)) (plac
   pub noted : OutcomesNoted s x place
 
 -- the first n states have been looked at, and no two next events of them conflict
-pub record VisitedUpTo (s : Plan) (x : Search) (n : ℕ) : Type 0 where
+pub record VisitedUpTo (s : Plan) (x : Search) (rows : List (Vec ScriptCall)) (n : ℕ) : Type 0 where
   pub found : AreFound s x.found
   pub within : n ≤ length (states_of x.found)
-  pub closed : IsClosed s (states_of x.found) n
+  pub closed : IsReduced s rows (states_of x.found) n
   pub quiet : IsQuiet s (states_of x.found) n
   pub noted : OutcomesNoted s x n
 
 -- the first n states have been looked at, and there is one more
 pub record HasUnvisited (s : Plan) (x : Search) (steps : List (Vec ScriptCall)) (n : ℕ) : Type 0 where
   pub lawful : AreLawfulSteps s steps
-  pub searched : VisitedUpTo s x n
+  pub searched : VisitedUpTo s x steps n
   pub more : n < length (states_of x.found)
 
--- the first n states have been looked at; or some are found of which two next events conflict
+-- the first n states and one more have been looked at; or two next events of that one conflict
 abbrev pub IsLookedAt : Plan → Search → List (Vec ScriptCall) → ℕ → Option Neighbours → Type 0
-IsLookedAt s x steps n o = MatchOption o (VisitedUpTo s x n) (AreRacing s x.found steps)
+IsLookedAt s x steps n o =
+    MatchOption o (VisitedUpTo s x steps (n + 1)) (λ ns. VisitedUpTo s x steps n × AreRacing s x.found steps ns)
 
--- all states have been looked at, where they are no more than this
-pub record IsThrough (s : Plan) (x : Search) (most : ℕ) : Type 0 where
-  pub found : AreFound s x.found
-  pub searched : length (states_of x.found) ≤ most → VisitedUpTo s x (length (states_of x.found))
+-- some states have been looked at, and all where they are no more than this; or of one two next events conflict
+pub record IsLookedThrough (s : Plan) (x : Search) (steps : List (Vec ScriptCall)) (most : ℕ) (o : Option Neighbours)
+    : Type 0 where
+  pub some : (n : ℕ) × VisitedUpTo s x steps n
+  pub end :
+      MatchOption o (length (states_of x.found) ≤ most → VisitedUpTo s x steps (length (states_of x.found)))
+      (AreRacing s x.found steps)
 
--- that is so; or of some that are found two next events conflict
-abbrev pub IsLookedThrough : Plan → Search → List (Vec ScriptCall) → ℕ → Option Neighbours → Type 0
-IsLookedThrough s x steps most o = MatchOption o (IsThrough s x most) (AreRacing s x.found steps)
+-- some states have been looked at, or all
+pub record IsSearched (s : Plan) (x : Search) (steps : List (Vec ScriptCall)) (through : Bool) : Type 0 where
+  pub some : (n : ℕ) × VisitedUpTo s x steps n
+  pub all : IsTrue through → VisitedUpTo s x steps (length (states_of x.found))
+
+-- the verdict is open only where no two events conflict and not all states were looked at
+abbrev pub IsOpenVerdict : Option Neighbours → Bool → Verdict → Type 0
+IsOpenVerdict o through verdict.RaceFree = o ≡ None
+IsOpenVerdict o through (verdict.Racy racy) = ⊤
+IsOpenVerdict o through verdict.Undecided = (o ≡ None) × (through ≡ false)
+
+-- whether it hangs is open only where not all states were looked at
+abbrev pub IsOpenHanging : Bool → Hanging → Type 0
+IsOpenHanging through hanging.Undecided = through ≡ false
+IsOpenHanging through _ = ⊤
 
 -- this is one of these, or put at their end
 abbrev pub IsAmong : List (List (List ℕ)) → List (List (List ℕ)) → List (List ℕ) → Type 0

@@ -1,19 +1,28 @@
 //! What there is to say of all runs of a script on one flat memory.
+ghost use Rattle.std.specs.Prelude.{◌≡◌};
+ghost use Rattle.explore.specs.Explored.{is_settled};
+
 use journal::{Event, Kind};
 
-/// What all runs of a script on one flat memory come to.
+/// Whether two accesses of a script race in some order.
 #[derive(Drop)]
 pub enum Verdict {
     /// No two accesses race, whatever the order.
-    RaceFree {
-        /// What whole runs show, each kind of outcome once.
-        outcomes: Vec<Outcome>,
-        /// Events after which some processors wait for ever, if there are any.
-        hang: Option<Hang>,
-    },
+    RaceFree,
     /// Two accesses can race.
     Racy(RacyEvents),
-    /// The search was given up: there are more states than were asked for, or than fit.
+    /// No race was found, and the search was given up.
+    Undecided,
+}
+
+/// Whether a script can't go on in some order, before it is done.
+#[derive(Drop)]
+pub enum Hanging {
+    /// Whatever the order, each processor gets to its end.
+    Never,
+    /// After these events some processors wait for ever.
+    Hangs(Hang),
+    /// No hang was found, and not all states were looked at.
     Undecided,
 }
 
@@ -40,10 +49,28 @@ pub struct RacyEvents {
     pub first: usize,
 }
 
-/// What was found, and how long it took.
+/// What was found, and how long it took: three answers, each of which is final unless it says that it isn't.
 #[derive(Drop)]
 pub struct Explored {
     /// How many states were found.
     pub states: usize,
     pub verdict: Verdict,
+    pub hanging: Hanging,
+    /// What the whole runs show that were met, each outcome once.
+    pub outcomes: Vec<Outcome>,
+    /// Whether whole runs show nothing else.
+    pub are_all: bool,
+}
+
+impl Explored {
+    /// Whether nothing is open: the script races, or it doesn't and all is known of its hangs and outcomes.
+    pub fn is_settled(&self) -> bool
+        ensures { result ≡ is_settled self.now }
+    {
+        match (&self.verdict, &self.hanging) {
+            (Verdict::Racy(_), _) => true,
+            (Verdict::RaceFree, Hanging::Never | Hanging::Hangs(_)) => self.are_all,
+            _ => false,
+        }
+    }
 }

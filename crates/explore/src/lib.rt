@@ -1,16 +1,20 @@
 //! All schedules of a script on one flat memory: whether it races, whether it can hang, and what it can show.
 //!
-//! **What contracts see.** `IsExplored` is what an answer says, in the words of crate `explore`: no beginning races, these
-//! are the outcomes of the whole runs, each once, and this is a hang or there is none; or here is a race; or there are more
-//! states than were to be looked at (`states_to_look_at`). Inside, a
-//! `FlatState` knows events (`Knows`), so two machines that are found equal go on alike; `States` has the states, each once,
-//! with where it comes from (`AreFound`); `Search` has looked at the first of them (`IsSearched`).
+//! **What contracts see.** `IsExplored` is what an answer says: no beginning races, or here is a race; this is a hang, or
+//! there is none; these are outcomes of whole runs, each once, and all of them or some. An answer is open only if there are
+//! more states than were to be looked at (`states_to_look_at`). Inside, a `FlatState` knows events (`Knows`), so two machines
+//! that are found equal go on alike; `States` has the states, each once, with where it comes from (`AreFound`); `Search` has
+//! looked at the first of them (`VisitedUpTo`).
 //!
-//! **What is proved.** `explore` answers what `IsExplored` says. `Waiting` tells exactly whether an event may follow.
+//! **What is proved.** `explore` answers what `IsExplored` says. `guarded_words` says of a word only if it is so that no two
+//! accesses of it race; `to_follow` leaves out only what may as well come later (`proofs/reduced`). `Waiting` tells exactly
+//! whether an event may follow.
 #![tactic(auto)]
 
 mod explored;
 mod flat_state;
+mod free;
+mod guarded;
 mod neighbours;
 pub mod prefixes;
 mod progress;
@@ -21,7 +25,7 @@ mod states;
 mod wait;
 mod waiting;
 
-pub use explored::{Explored, Hang, Outcome, RacyEvents, Verdict};
+pub use explored::{Explored, Hang, Hanging, Outcome, RacyEvents, Verdict};
 pub use progress::{Progress, Silent};
 pub use search::explore;
 pub use waiting::Waiting;

@@ -1,17 +1,23 @@
 //! The search: each state of a script on one flat memory is looked at once.
-ghost use Rattle.std.specs.Prelude.{◌≡◌, ◌≢◌, ◌↔◌, ℕ, ◌+◌, ◌<◌, ◌≤◌, IfOk, OnOk, IsTrue, List, MatchOption, None, Some, length, map, slice_get};
-ghost use Rattle.journal.specs.declared.event.Event.{Event as AnEvent};
+ghost use Rattle.std.specs.Prelude.{◌≡◌, ◌↔◌, ◌+◌, ◌<◌, ◌≤◌, ⊤, IfOk, OnOk, IsTrue, List, MatchOption, length, map};
+ghost use Rattle.std.specs.Global.{Vec as AVec};
 ghost use Rattle.lrc_script.specs.Prelude.{IsLawful, Plan, plan_of};
-ghost use Rattle.explore.specs.Prefixes.Prelude.{IsHang};
-ghost use Rattle.explore.specs.Explored.{IsExplored, IsHangOf, IsVerdictOn, replies_of};
+ghost use Rattle.lrc_script.specs.Lawful.{plan_addresses};
+ghost use Rattle.explore.specs.declared.prefixes.script_call.ScriptCall.{ScriptCall as AStep};
+ghost use Rattle.explore.specs.Prefixes.Prelude.{IsFlatRaceFree};
+ghost use Rattle.explore.specs.Guarded.{AreGuarded};
+ghost use Rattle.explore.specs.Explored.{IsExplored, IsHangOf, IsHangingOn, IsVerdictOn, replies_of};
 ghost use Rattle.explore.specs.Found.{AreFound, states_of};
 ghost use Rattle.explore.specs.Machines.{AreLawfulSteps};
-ghost use Rattle.explore.specs.Searched.{Hangs, IsAmong, IsLookedAt, IsLookedThrough, OutcomesNoted, VisitedUpTo, HasUnvisited};
+ghost use Rattle.explore.specs.Racing.{AreRacing};
 ghost use Rattle.explore.specs.Room.{states_to_look_at};
-ghost use Rattle.explore.specs.Searched.{MayNote};
+ghost use Rattle.explore.specs.Searched.{Hangs, IsAmong, IsLookedAt, IsLookedThrough, OutcomesNoted, VisitedUpTo, HasUnvisited};
+ghost use Rattle.explore.specs.Searched.{IsOpenHanging, IsOpenVerdict, IsSearched, MayNote};
 
-use crate::explored::{Explored, Hang, Outcome, Verdict};
+use crate::explored::{Explored, Hang, Hanging, Outcome, Verdict};
 use crate::flat_state::FlatState;
+use crate::free::to_follow;
+use crate::guarded::{are_all, guarded_words};
 use crate::neighbours::{Neighbours, is_over, neighbours_in, nexts_of};
 use crate::prefixes::{ScriptCall, steps_of_script};
 use crate::progress::Progress;
@@ -49,6 +55,16 @@ fn is_past(states: usize, most: usize) -> bool
     states > most
 }
 
+/// Whether all states were looked at, where these two events conflict, or none do, and so many were to be looked at.
+fn is_through(neighbours: Option<Neighbours>, states: usize, most: usize) -> bool
+    ensures { IsTrue result ↔ ((neighbours ≡ None) × (states ≤ most)) }
+{
+    match neighbours {
+        Some(_) => false,
+        None => states <= most,
+    }
+}
+
 /// The outcomes as a list. The only error is running out of memory.
 fn listed(alloc: Global, outcomes: IndexSet<Outcome>) -> Result<Vec<Outcome>, AllocError>
     ensures { IfOk result (λ v. v.items ≡ outcomes.keys) }
@@ -60,7 +76,7 @@ impl Search {
     /// The first state alone. The only error is running out of memory.
     fn new(alloc: Global, script: &Script) -> Result<Search, AllocError>
         requires { IsLawful (plan_of script.now) }
-        ensures searched { IfOk result (λ x. VisitedUpTo (plan_of script.now) x 0) }
+        ensures searched { IfOk result (λ x. (rows : List (AVec AStep)) → VisitedUpTo (plan_of script.now) x rows 0) }
         ensures few { IfOk result (λ x. length (states_of x.found) ≤ 1) }
     {
         Ok(Search {
@@ -86,15 +102,17 @@ impl Search {
     }
 
     /// Looks at the state at this place: the two events that conflict, if there are such; else what comes next is
-    /// found, and what there is to note is noted.
+    /// found, by one event that is free or by all, and what there is to note is noted.
     fn look_at(
         &mut self,
         steps: &[Vec<ScriptCall>],
+        guarded: &[bool],
         place: usize,
     ) -> Result<Option<Neighbours>, AllocError>
-        requires { (s : Plan) × HasUnvisited s self.old steps.now place }
+        requires guarded { AreGuarded steps.now guarded.now }
+        requires unvisited { (s : Plan) × HasUnvisited s self.old steps.now place }
         ensures looked { IfOk result (λ o. (s : Plan) → HasUnvisited s self.old steps.now place
-            → IsLookedAt s self.new steps.now (place + 1) o) }
+            → IsLookedAt s self.new steps.now place o) }
         ensures few { IfOk result (λ _. (s : Plan) → HasUnvisited s self.old steps.now place
             → length (states_of self.new.found) ≤ length (states_of self.old.found) + 16) }
     {
@@ -109,7 +127,7 @@ impl Search {
         if is_over(&nexts) {
             self.note_end(steps, place)?;
         }
-        self.found.follow_all(place, &nexts)?;
+        self.found.follow_all(place, &to_follow(&nexts, guarded))?;
         Ok(None)
     }
 
@@ -117,13 +135,15 @@ impl Search {
     fn look_at_all<P: Progress>(
         &mut self,
         steps: &[Vec<ScriptCall>],
+        guarded: &[bool],
         most: usize,
         progress: &mut P,
     ) -> Result<Option<Neighbours>, AllocError>
-        requires { (s : Plan) × AreLawfulSteps s steps.now × VisitedUpTo s self.old 0 }
-        ensures looked { IfOk result (λ o. (s : Plan) → AreLawfulSteps s steps.now → VisitedUpTo s self.old 0
+        requires guarded { AreGuarded steps.now guarded.now }
+        requires searched { (s : Plan) × AreLawfulSteps s steps.now × VisitedUpTo s self.old steps.now 0 }
+        ensures looked { IfOk result (λ o. (s : Plan) → AreLawfulSteps s steps.now → VisitedUpTo s self.old steps.now 0
             → IsLookedThrough s self.new steps.now most o) }
-        ensures few { IfOk result (λ _. (s : Plan) → AreLawfulSteps s steps.now → VisitedUpTo s self.old 0
+        ensures few { IfOk result (λ _. (s : Plan) → AreLawfulSteps s steps.now → VisitedUpTo s self.old steps.now 0
             → length (states_of self.old.found) ≤ 1 → length (states_of self.new.found) ≤ most + 16) }
     {
         for place in 0..most {
@@ -135,7 +155,7 @@ impl Search {
             if place == states {
                 return Ok(None);
             }
-            if let Some(neighbours) = self.look_at(steps, place)? {
+            if let Some(neighbours) = self.look_at(steps, guarded, place)? {
                 return Ok(Some(neighbours));
             }
         }
@@ -155,55 +175,44 @@ impl Search {
         })
     }
 
-    /// The hang that was noted, if there is one. The only error is running out of memory.
-    fn hang(&self, alloc: Global, script: &Script) -> Result<Option<Hang>, AllocError>
+    /// Whether a state hangs, where all states have been looked at or not. The only error is running out of memory.
+    fn hanging(&self, alloc: Global, script: &Script, through: bool) -> Result<Hanging, AllocError>
         requires lawful { IsLawful (plan_of script.now) }
-        requires searched { VisitedUpTo (plan_of script.now) self.now (length (states_of self.now.found)) }
-        ensures { IfOk result (λ o. MatchOption o ((g : List AnEvent) → ¬ IsHang (plan_of script.now) g)
-            (IsHangOf (plan_of script.now))) }
+        requires searched { (rows : List (AVec AStep)) × AreLawfulSteps (plan_of script.now) rows
+            × IsSearched (plan_of script.now) self.now rows through }
+        ensures hanging { IfOk result (IsHangingOn (plan_of script.now)) }
+        ensures opens { IfOk result (IsOpenHanging through) }
     {
         match self.hang {
-            Some(place) => Ok(Some(self.hang_at(alloc, script.processors, place)?)),
-            None => Ok(None),
+            Some(place) => Ok(Hanging::Hangs(self.hang_at(alloc, script.processors, place)?)),
+            None if through => Ok(Hanging::Never),
+            None => Ok(Hanging::Undecided),
         }
     }
 
-    /// What is so where no two events conflict, and all states have been looked at; the outcomes are gone then. The only
-    /// error is running out of memory.
-    fn race_free(&mut self, alloc: Global, script: &Script) -> Result<Verdict, AllocError>
-        requires lawful { IsLawful (plan_of script.now) }
-        requires searched { VisitedUpTo (plan_of script.now) self.old (length (states_of self.old.found)) }
-        ensures { IfOk result (λ v. (most states : ℕ) → IsVerdictOn (plan_of script.now) most states v) }
-    {
-        let hang = self.hang(alloc, script)?;
-        let outcomes = mem::replace(&mut self.outcomes, IndexSet::new(alloc));
-        let outcomes = listed(alloc, outcomes)?;
-        Ok(Verdict::RaceFree { outcomes, hang })
-    }
-
-    /// What is so once the states have been looked at, where `most` were asked for and these two events conflict, or none
-    /// do; the outcomes are gone then. The only error is running out of memory.
+    /// Whether the script races: if these two events conflict it does; it may be known to be race-free. The only error is
+    /// running out of memory.
     fn verdict(
-        &mut self,
+        &self,
         alloc: Global,
         script: &Script,
         steps: &[Vec<ScriptCall>],
-        most: usize,
         neighbours: Option<Neighbours>,
+        race_free: bool,
     ) -> Result<Verdict, AllocError>
         requires lawful { IsLawful (plan_of script.now) }
-        requires looked { IsLookedThrough (plan_of script.now) self.old steps.now
-            (states_to_look_at (plan_of script.now) most) neighbours }
-        ensures { IfOk result (IsVerdictOn (plan_of script.now) most (length (states_of self.old.found))) }
+        requires free { IsTrue race_free → IsFlatRaceFree (plan_of script.now) }
+        requires racing { MatchOption neighbours ⊤ (AreRacing (plan_of script.now) self.now.found steps.now) }
+        ensures verdict { IfOk result (IsVerdictOn (plan_of script.now)) }
+        ensures opens { IfOk result (IsOpenVerdict neighbours race_free) }
     {
-        let most = states_to_look_at(script, most);
         match neighbours {
             Some(neighbours) => {
                 let racy = racy_events(alloc, script, steps, &self.found, neighbours)?;
                 Ok(Verdict::Racy(racy))
             }
-            None if is_past(self.found.len(), most) => Ok(Verdict::Undecided),
-            None => self.race_free(alloc, script),
+            None if race_free => Ok(Verdict::RaceFree),
+            None => Ok(Verdict::Undecided),
         }
     }
 
@@ -213,18 +222,33 @@ impl Search {
         alloc: Global,
         script: &Script,
         steps: &[Vec<ScriptCall>],
+        guarded: &[bool],
         most: usize,
         progress: &mut P,
     ) -> Result<Explored, AllocError>
         requires steps { AreLawfulSteps (plan_of script.now) steps.now }
-        requires searched { VisitedUpTo (plan_of script.now) self.old 0 }
+        requires long { length guarded.now ≡ plan_addresses (plan_of script.now) }
+        requires guarded { AreGuarded steps.now guarded.now }
+        requires searched { VisitedUpTo (plan_of script.now) self.old steps.now 0 }
         requires few { length (states_of self.old.found) ≤ 1 }
         ensures { IfOk result (IsExplored (plan_of script.now) most) }
     {
-        let neighbours = self.look_at_all(steps, states_to_look_at(script, most), progress)?;
+        let most = states_to_look_at(script, most);
+        let neighbours = self.look_at_all(steps, guarded, most, progress)?;
         let states = self.found.len();
-        let verdict = self.verdict(alloc, script, steps, most, neighbours)?;
-        Ok(Explored { states, verdict })
+        let through = is_through(neighbours, states, most);
+        let race_free = through | are_all(guarded);
+        let verdict = self.verdict(alloc, script, steps, neighbours, race_free)?;
+        let hanging = self.hanging(alloc, script, through)?;
+        let outcomes = mem::replace(&mut self.outcomes, IndexSet::new(alloc));
+        let outcomes = listed(alloc, outcomes)?;
+        Ok(Explored {
+            states,
+            verdict,
+            hanging,
+            outcomes,
+            are_all: through,
+        })
     }
 }
 
@@ -239,21 +263,24 @@ fn explore_steps<P: Progress>(
     requires { AreLawfulSteps (plan_of script.now) steps.now }
     ensures { IfOk result (IsExplored (plan_of script.now) most) }
 {
+    let guarded = guarded_words(alloc, script, steps)?;
     let mut search = Search::new(alloc, script)?;
-    search.answer(alloc, script, steps, most, progress)
+    search.answer(alloc, script, steps, &guarded, most, progress)
 }
 
-/// Looks at all states of the script on one flat memory, and says whether it races, what it can show, and whether it can
-/// hang. Where it finds more than `most` states, and none of which two next events conflict, it gives up
-/// (`Verdict::Undecided`). The only error is running out of memory.
+/// Looks at the states of the script on one flat memory, and says whether it races, whether it can hang, and what it can
+/// show. Where all words are guarded (`guarded_words`), it says race-free whatever it finds. It ends at the first two accesses that race, and gives up once it finds more than `most` states. Either way it says
+/// what it has found: a hang and outcomes that it met are there. The only error is running out of memory.
 ///
 /// It gives up, too, where it finds more states than fit (`states_that_fit`): those of which each has as many words as the
 /// memory, and a reply to each load that the script's sections make, and which have 2^27 words together. So the memory that
 /// it takes is bounded, whatever the script. While it looks, `progress` is told how many states were found.
 ///
-/// A state is what each processor has done, with the replies to its loads, the words, and who waits for what. Two
-/// accesses that conflict and may both come next make a race; where no state has such, no run races (by the law of
-/// neighbours in crate `explore`), on one flat memory or on the real one.
+/// A state is what each processor has done, with the replies to its loads, the words, and who waits for what. Where some
+/// processor may do next what commutes with all that others may do, that alone is followed (`to_follow`): a persistent set
+/// of one (Godefroid, Partial-order methods for the verification of concurrent systems, 1996). Two accesses that conflict
+/// and may both come next make a race; where no state that was found has such, no run races, on one flat memory or on the
+/// real one.
 pub fn explore<P: Progress>(
     alloc: Global,
     script: &Script,

@@ -90,7 +90,7 @@ impl States {
     pub fn follow_all(&mut self, place: usize, nexts: &[Option<Kind>]) -> Result<(), AllocError>
         requires { (s : Plan) × MayFollowAll s self.old place nexts.now }
         ensures { OnOk result ((s : Plan) → MayFollowAll s self.old place nexts.now
-            → AreFollowed s self.old self.new place (length nexts.now)) }
+            → AreFollowed s self.old self.new place nexts.now (length nexts.now)) }
     {
         for processor in 0..nexts.len() {
             if let Some(kind) = nexts[processor] {

@@ -4,4 +4,4 @@ pub use Rattle.lrc_commands.specs.JudgedTraces.{HasTraceText, IsFaithfulTrace, I
 pub use Rattle.lrc_commands.specs.JudgedTraces.{judged_model, judgement_in}
 pub use Rattle.lrc_commands.specs.Sampled.{IsSampleWritten, IsSampled}
 pub use Rattle.lrc_commands.specs.Explained.{IsExplainedBehind, IsEndAsked, IsExplained, IsRunExplained, ExplainedWritten, is_halted}
-pub use Rattle.lrc_commands.specs.Searched.{IsSearchWritten, SearchWritten, is_search_decided}
+pub use Rattle.lrc_commands.specs.Searched.{IsSearchWritten, SearchWritten}

@@ -1,23 +1,16 @@
 -- What the program does with a script whose schedules are all looked at.
-use Rattle.std.specs.Prelude.{ℕ, ◌≡◌, Bool, true, false, List, Option}
+use Rattle.std.specs.Prelude.{ℕ, ◌≡◌, Bool, List, Option}
 use Rattle.lrc_script.specs.Plan.{Plan}
-use Rattle.explore.specs.Explored.{IsExplored}
+use Rattle.explore.specs.Explored.{IsExplored, is_settled}
 use Rattle.explore.specs.declared.explored.Explored.{Explored}
-use Rattle.explore.specs.declared.explored.Verdict.{Verdict}
-use Rattle.explore.specs.declared.explored.Verdict.TheVariants.{Undecided}
 use Rattle.lrc_explore.specs.Texts.{ExploreWritten}
 use Rattle.lrc_program.specs.Served.{IsScriptRead}
-
--- whether the search came to its end
-abbrev pub is_search_decided : Verdict → Bool
-is_search_decided Undecided = false
-is_search_decided _ = true
 
 -- the script's schedules were looked at, that many states at most, and what was found was written
 pub record IsSearchWritten (most : ℕ) (decided : Bool) (script : Plan) (old new : Option (List ℕ)) : Type 0 where
   pub explored : Explored
   pub is : IsExplored script most explored
-  pub decided_is : is_search_decided explored.verdict ≡ decided
+  pub decided_is : is_settled explored ≡ decided
   pub written : ExploreWritten old new explored
 
 -- so were those of the script that the source had

@@ -3,10 +3,10 @@ ghost use Rattle.std.specs.Prelude.{◌≡◌, ◌≢◌, IfErr, IfOk, false, tr
 ghost use Rattle.std.specs.Io.KnownBytes.{Keeps};
 ghost use Rattle.lrc_script.specs.Prelude.{IsLawful, plan_of};
 ghost use Rattle.lrc_program.specs.Prelude.{IsNoScript};
-ghost use Rattle.lrc_commands.specs.Prelude.{IsStatusBeforeAnswer, IsInputsStatus, IsSearchWritten, SearchWritten, is_search_decided};
+ghost use Rattle.lrc_commands.specs.Prelude.{IsStatusBeforeAnswer, IsInputsStatus, IsSearchWritten, SearchWritten};
 
 use crate::fault::StudyFault;
-use explore::{Progress, Verdict, explore};
+use explore::{Progress, explore};
 use lrc_explore::render;
 use lrc_options::options::ExploreOptions;
 use lrc_program::program::read_script;
@@ -17,17 +17,7 @@ use std::io::{Read, Write};
 /// The exit status if the search was given up.
 const UNDECIDED: u8 = 7;
 
-/// Whether the search came to its end.
-fn is_decided(verdict: &Verdict) -> bool
-    ensures { result ≡ is_search_decided verdict.now }
-{
-    match verdict {
-        Verdict::Undecided => false,
-        _ => true,
-    }
-}
-
-/// Looks at all schedules of a script, and writes what was found. Answers whether the search came to its end.
+/// Looks at all schedules of a script, and writes what was found. Answers whether nothing is open.
 fn print_search<W: Write, P: Progress>(
     alloc: Global,
     options: &ExploreOptions,
@@ -44,7 +34,7 @@ fn print_search<W: Write, P: Progress>(
 {
     let explored = explore(alloc, script, options.most as usize, progress)?;
     render(alloc, script, &explored, out)?;
-    Ok(is_decided(&explored.verdict))
+    Ok(explored.is_settled())
 }
 
 /// Reads a script, looks at all its schedules, and writes what was found.
@@ -78,7 +68,7 @@ pub fn explore_program<S: Read, W: Write, E: Write, P: Progress>(
     // All schedules of the script that was read were looked at, and what was found was written, whole.
     ensures decided { result ≡ 0 → SearchWritten options.now.most true (S.remaining source.old)
         (W.contents out.old) (W.contents out.new) }
-    // The search was given up after as many states as the options say, or as fit, and that was written.
+    // The search was given up after as many states as the options say, or as fit, and what it had found was written.
     ensures undecided { result ≡ 7 → SearchWritten options.now.most false (S.remaining source.old)
         (W.contents out.old) (W.contents out.new) }
     // What is refused as a script is none.

@@ -22,11 +22,18 @@ lines_more xs i x at =
     ∙ ap (λ l. event_lines 0 (take i xs) ++ l)
     (append-nil (event_line (0 + length (take i xs)) x) ∙ ap (λ n. event_line n x) place))
 
--- three texts, added one after the other
-pub added_three : (old a b c x y new : List ℕ) → x ≡ old ++ a → y ≡ x ++ b → new ≡ y ++ c
-    → new ≡ old ++ (a ++ (b ++ c))
-added_three old a b c x y new ex ey en =
-    en
-    ∙ ap (λ t. t ++ c) (ey ∙ ap (λ t. t ++ b) ex)
-    ∙ append_assoc (old ++ a) b c
-    ∙ append_assoc old a (b ++ c)
+-- one more text
+more : (old a b x new : List ℕ) → x ≡ old ++ a → new ≡ x ++ b → new ≡ old ++ (a ++ b)
+more old a b x new ex en = en ∙ ap (λ t. t ++ b) ex ∙ append_assoc old a b
+
+-- four texts, added one after the other
+pub added_four : (old a b c d x y z new : List ℕ) → x ≡ old ++ a → y ≡ x ++ b → z ≡ y ++ c → new ≡ z ++ d
+    → new ≡ old ++ (((a ++ b) ++ c) ++ d)
+added_four old a b c d x y z new ex ey ez en =
+    more old ((a ++ b) ++ c) d z new (more old (a ++ b) c y z (more old a b x y ex ey) ez) en
+
+-- and five
+pub added_five : (old a b c d e x y z w new : List ℕ) → x ≡ old ++ a → y ≡ x ++ b → z ≡ y ++ c → w ≡ z ++ d → new ≡ w ++ e
+    → new ≡ old ++ ((((a ++ b) ++ c) ++ d) ++ e)
+added_five old a b c d e x y z w new ex ey ez ew en =
+    more old (((a ++ b) ++ c) ++ d) e w new (added_four old a b c d x y z w ex ey ez ew) en

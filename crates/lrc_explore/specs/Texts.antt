@@ -1,11 +1,14 @@
 -- What is promised of the text of what a search has found.
-use Rattle.std.specs.Prelude.{ℕ, ◌≡◌, ◌-◌, ⊤, List, [], ◌++◌, Option, Some, None, codes, length, slice_get}
+use Rattle.std.specs.Prelude.{ℕ, ◌≡◌, ◌-◌, ⊤, Bool, true, false, List, [], ◌++◌, Option, Some, None, codes, length, slice_get, vec_len}
 use Rattle.std.specs.Fmt.{decimal}
 use Rattle.std.specs.Io.KnownBytes.{Appends}
 use Rattle.journal.specs.declared.event.Event.{Event}
 use Rattle.lrc_report.specs.ReportText.{event_line, event_lines}
 use Rattle.explore.specs.declared.explored.Explored.{Explored}
 use Rattle.explore.specs.declared.explored.Hang.{Hang}
+use Rattle.explore.specs.declared.explored.Hanging.{Hanging}
+use Rattle.explore.specs.declared.explored.Hanging.TheVariants as hanging
+use Rattle.explore.specs.declared.explored.RacyEvents.{RacyEvents}
 use Rattle.explore.specs.declared.explored.Verdict.{Verdict}
 use Rattle.explore.specs.declared.explored.Verdict.TheVariants as verdict
 use Rattle.lrc_explore.specs.declared.fault.ExploreFault.{ExploreFault}
@@ -26,34 +29,54 @@ racy_lines events first =
     event_lines 0 events ++ codes "race\n" ++ line_at events first ++ line_at events (length events - 1)
 
 -- a schedule that hangs, and some lines on who waits
-abbrev pub IsHangText : Option Hang → List ℕ → Type 0
-IsHangText None text = text ≡ codes "hangs never\n"
-IsHangText (Some hang) text =
-    (waits : List ℕ) × (text ≡ codes "hangs\n" ++ event_lines 0 hang.events.items ++ waits)
+abbrev pub IsHangEvents : Hang → List ℕ → Type 0
+IsHangEvents hang text = (waits : List ℕ) × (text ≡ codes "hangs\n" ++ event_lines 0 hang.events.items ++ waits)
+
+-- whether a schedule hangs
+abbrev pub IsHangText : Hanging → List ℕ → Type 0
+IsHangText hanging.Never text = text ≡ codes "hangs never\n"
+IsHangText (hanging.Hangs hang) text = IsHangEvents hang text
+IsHangText hanging.Undecided text = text ≡ codes "hangs undecided\n"
+
+-- a schedule that hangs, if one was met
+abbrev pub IsMetText : Hanging → List ℕ → Type 0
+IsMetText (hanging.Hangs hang) text = IsHangEvents hang text
+IsMetText _ text = text ≡ []
 
 -- how many states were found
 abbrev pub states_line : ℕ → List ℕ
 states_line states = codes "states " ++ decimal states ++ codes "\n"
 
--- a search that was given up
-abbrev pub undecided_line : ℕ → List ℕ
-undecided_line states = codes "verdict undecided after " ++ decimal states ++ codes " states\n"
+-- whether there are no other outcomes
+abbrev pub outcomes_end : Bool → List ℕ
+outcomes_end true = codes "\n"
+outcomes_end false = codes " so far\n"
 
--- a script that doesn't race: some lines on its outcomes, and whether it hangs
-abbrev pub IsRaceFreeText : Option Hang → List ℕ → Type 0
-IsRaceFreeText hang text = (outcomes hangs : List ℕ) × IsHangText hang hangs × (text ≡ outcomes ++ hangs)
+-- how many were found
+abbrev pub outcomes_line : ℕ → Bool → List ℕ
+outcomes_line outcomes all = codes "outcomes " ++ decimal outcomes ++ outcomes_end all
 
--- the text by its verdict: first its line, at the end how many states were found
-abbrev pub IsTextOf : ℕ → Verdict → List ℕ → Type 0
-IsTextOf states (verdict.RaceFree outcomes hang) text =
-    (found : List ℕ) × IsRaceFreeText hang found
-    × (text ≡ codes "verdict race-free under every schedule\n" ++ found ++ states_line states)
-IsTextOf states (verdict.Racy racy) text =
-    text ≡ codes "verdict racy\n" ++ racy_lines racy.events.items racy.first ++ states_line states
-IsTextOf states verdict.Undecided text = text ≡ undecided_line states
+-- a script of which no race was found: the line of the verdict, the outcomes with some lines on them, and the hangs
+abbrev pub IsQuietText : List ℕ → Explored → List ℕ → Type 0
+IsQuietText verdict explored text =
+    (outcomes hangs : List ℕ) × IsHangText explored.hanging hangs
+    × (text ≡ verdict ++ outcomes_line (vec_len explored.outcomes) explored.are_all ++ outcomes ++ hangs
+    ++ states_line explored.states)
+
+-- a script that races: the schedule that does, and one that hangs, if it was met
+abbrev pub IsRacyText : RacyEvents → Explored → List ℕ → Type 0
+IsRacyText racy explored text =
+    (hang : List ℕ) × IsMetText explored.hanging hang
+    × (text ≡ codes "verdict racy\n" ++ racy_lines racy.events.items racy.first ++ hang ++ states_line explored.states)
+
+-- the text by its verdict
+abbrev pub IsTextOf : Verdict → Explored → List ℕ → Type 0
+IsTextOf verdict.RaceFree explored text = IsQuietText (codes "verdict race-free under every schedule\n") explored text
+IsTextOf (verdict.Racy racy) explored text = IsRacyText racy explored text
+IsTextOf verdict.Undecided explored text = IsQuietText (codes "verdict undecided\n") explored text
 
 abbrev pub IsExploreText : Explored → List ℕ → Type 0
-IsExploreText explored text = IsTextOf explored.states explored.verdict text
+IsExploreText explored text = IsTextOf explored.verdict explored text
 
 -- such a text was appended
 abbrev pub ExploreWritten : Option (List ℕ) → Option (List ℕ) → Explored → Type 0

@@ -25,12 +25,13 @@ fn split(replies: &[Vec<u32>], processor: usize, shown: usize) -> (&[u32], &[u32
 
 /// Adds a shown address with its word.
 fn put_word(text: &mut Vec<u8>, address: usize, word: u32) -> Result<(), AllocError> {
-    put_number(text, b"  word ", address as u64)?;
+    put_number(text, b" ", address as u64)?;
     put_number(text, b" ", u64::from(word))
 }
 
 /// Adds each shown address with its word.
 fn put_words(text: &mut Vec<u8>, shown: &[usize], words: &[u32]) -> Result<(), AllocError> {
+    text.extend_from_slice(b"  words")?;
     for (address, word) in shown.iter().zip(words) {
         put_word(text, *address, *word)?;
     }
@@ -38,14 +39,8 @@ fn put_words(text: &mut Vec<u8>, shown: &[usize], words: &[u32]) -> Result<(), A
 }
 
 /// Adds what the processor's own loads answered.
-fn put_own(
-    text: &mut Vec<u8>,
-    front: &[u8],
-    processor: usize,
-    own: &[u32],
-) -> Result<(), AllocError> {
-    put_number(text, front, processor as u64)?;
-    text.extend_from_slice(b":")?;
+fn put_own(text: &mut Vec<u8>, processor: usize, own: &[u32]) -> Result<(), AllocError> {
+    put_number(text, b" p", processor as u64)?;
     for word in own {
         put_number(text, b" ", u64::from(*word))?;
     }
@@ -54,12 +49,13 @@ fn put_own(
 
 /// Adds the replies of each processor that loads.
 fn put_replies(text: &mut Vec<u8>, replies: &[Vec<u32>], shown: usize) -> Result<(), AllocError> {
-    let mut front: &[u8] = b"  replies p";
+    let mut front: &[u8] = b" replies";
     for processor in 0..replies.len() {
         let (own, _) = split(replies, processor, shown);
         if !own.is_empty() {
-            put_own(text, front, processor, own)?;
-            front = b"  p";
+            text.extend_from_slice(front)?;
+            put_own(text, processor, own)?;
+            front = b"";
         }
     }
     Ok(())
@@ -77,22 +73,7 @@ fn put_outcome(
     text.extend_from_slice(b"\n")
 }
 
-/// Adds how many outcomes there are, and a line for each.
-fn put_outcomes(
-    text: &mut Vec<u8>,
-    shown: &[usize],
-    rows: &[&[Vec<u32>]],
-) -> Result<(), AllocError> {
-    put_number(text, b"outcomes ", rows.len() as u64)?;
-    text.extend_from_slice(b"\n")?;
-    for replies in rows {
-        put_outcome(text, shown, *replies)?;
-    }
-    Ok(())
-}
-
-/// How many outcomes there are, and a line for each, of runs that show these addresses. The only error is running out of
-/// memory.
+/// A line for each outcome, of runs that show these addresses. The only error is running out of memory.
 pub fn outcomes_text(
     alloc: Global,
     shown: &[usize],
@@ -100,6 +81,8 @@ pub fn outcomes_text(
 ) -> Result<Vec<u8>, AllocError> {
     let rows = sorted(alloc, outcomes)?;
     let mut text = Vec::new(alloc);
-    put_outcomes(&mut text, shown, &rows)?;
+    for replies in &rows {
+        put_outcome(&mut text, shown, *replies)?;
+    }
     Ok(text)
 }

@@ -86,17 +86,18 @@ pub(crate) const EXPLORE: &str =
     "The script is as `lrc run --help` tells it. All orders of its events on one flat memory are looked at; where
 none of them races, each run of the script is one of them. What is printed:
   verdict race-free under every schedule
-    outcomes N             whole runs have N results, a line each:
-      word A V  replies pP: V ..
+                           or `verdict undecided`: the search was given up, and none that it met races
+    outcomes N             whole runs have N results, a line each; with `so far`, there may be others
+      words A V .. replies pP V ..
                              address A has V in the end, and the loads of processor P answered V .., in order
-    hangs never            or `hangs`, then the events of a schedule that can't go on, and who waits for what
-  verdict racy             then the events of a schedule that races, and its two accesses behind `race`
+    hangs never            or `hangs`, then the events of a schedule that can't go on, and who waits for what;
+                           or `hangs undecided`: the search was given up, and none that it met hangs
+  verdict racy             then the events of a schedule that races, its two accesses behind `race`, and a
+                           schedule that can't go on, if one was met
   states N                 N states were found
-  verdict undecided after N states
-                           the search was given up; nothing else is printed
 
 Statuses: 0 done, whatever the verdict; 2 the script is refused; 4 running out of memory, or a failed
-write; 5 usage, or the file can't be read; 7 undecided.";
+write; 5 usage, or the file can't be read; 7 the search was given up.";
 
 /// What a trace is, and what is printed of it.
 pub(crate) const TRACE: &str =

@@ -1,6 +1,6 @@
 -- A script that never hangs on one flat memory never gets stuck.
 -- What a history has begun, it has begun on one flat memory without its fetches; what may come next there may come next here.
-use Rattle.std.proofs.Common.{ℕ, ◌≡◌, ◌<◌, inl, inr, List, false, None, length, sym, ap, subst, ◌∙◌}
+use Rattle.std.proofs.Common.{ℕ, ◌≡◌, ◌<◌, inl, inr, List, false, length, sym, ap, subst, ◌∙◌}
 use Rattle.journal.specs.declared.event.Event.{Event}
 use Rattle.journal.specs.declared.event.Kind.{Kind}
 use Rattle.journal.specs.DidEvent.{did, event}
@@ -12,11 +12,12 @@ use Rattle.conformance.specs.Begins.{BeginsScript, BeginsSection}
 use Rattle.conformance.specs.Follows.{plan_sizes, calls_of, is_fetch, Follows, FollowsSection}
 use Rattle.conformance.proofs.WithoutFetches.Embeds.{without_fetches, without_fetches_of}
 use Rattle.conformance.proofs.WithoutFetches.Runs.{calls_without_fetches}
-use Rattle.explore.specs.Prefixes.Beginnings.{IsFlatBeginning, IsFlatRaceFree}
+use Rattle.explore.specs.Prefixes.Beginnings.{IsFlatBeginning, IsFlatRaceFree, IsHang}
 use Rattle.explore.specs.Prefixes.Calling.{shown_by}
-use Rattle.explore.specs.Explored.{IsRaceFreeWith}
+use Rattle.explore.specs.declared.explored.Explored.{Explored}
+use Rattle.explore.specs.Explored.{IsHangingOn}
 use Rattle.explore.proofs.Machines.{next_within}
-use Rattle.lrc_explore.specs.Schedules.Laws.{GoesOnLaw, IsUnfinished, NeverStuckLaw}
+use Rattle.lrc_explore.specs.Schedules.Laws.{GoesOnLaw, IsFoundHangless, IsUnfinished, NeverStuckLaw}
 use Rattle.lrc_explore.proofs.schedules.Begun.{fetchless_push, flat_part, replays_whole}
 use Rattle.lrc_explore.proofs.schedules.Calls.{counts_same}
 use Rattle.lrc_explore.proofs.schedules.Deciding.{Decided, decided_some}
@@ -56,21 +57,24 @@ module _ (s : Plan) (h : List Event) (begun : IsUnfinished s h) (free : IsFlatRa
       begun.unfinished (λ p section at.
       subst (FollowsSection section (shown_by s p)) (calls_without_fetches p h) (follows p section at))
 
+never : (s : Plan) (answer : Explored) → IsFoundHangless s answer → (g : List Event) → ¬ IsHang s g
+never s answer f = subst (IsHangingOn s) f.hanging f.found.explored.hanging
+
 pub never_stuck : NeverStuckLaw
-never_stuck s outcomes h f stuck = free.hangs (without_fetches h) (record {
-  beginning = flat s h stuck.begun free.race_free;
-  unfinished = unfinished s h stuck.begun free.race_free;
+never_stuck s answer h f stuck = never s answer f (without_fetches h) (record {
+  beginning = flat s h stuck.begun free;
+  unfinished = unfinished s h stuck.begun free;
   stuck = λ p k next.
       let well = stuck.begun.well_formed in
       stuck.stuck p k (call s h well p k next) (well_longer s h well p k next) (begins_longer s h well p k next);
 })
   where
-    free : IsRaceFreeWith s outcomes.items None
-    free = found s outcomes None f
+    free : IsFlatRaceFree s
+    free = found s answer f.found
 
 -- some processor's next call may come, or none may, which would be a hang
 pub goes_on : GoesOnLaw
-goes_on s outcomes h lawful f begun = elim some [
+goes_on s answer h lawful f begun = elim some [
   | inl next ↦ record {
     processor = next.0;
     kind = next.2.0;
@@ -78,17 +82,17 @@ goes_on s outcomes h lawful f begun = elim some [
     well_formed = well_longer s h begun.well_formed next.0 next.2.0 next.2.1;
     begins = begins_longer s h begun.well_formed next.0 next.2.0 next.2.1;
   }
-  | inr none ↦ absurd (free.hangs (without_fetches h) (record {
-    beginning = flat s h begun free.race_free;
-    unfinished = unfinished s h begun free.race_free;
+  | inr none ↦ absurd (never s answer f (without_fetches h) (record {
+    beginning = flat s h begun free;
+    unfinished = unfinished s h begun free;
     stuck = λ p k next. none (p, next_within s (without_fetches h) p k next, (k, next));
   }))
 ]
   where
-    free : IsRaceFreeWith s outcomes.items None
-    free = found s outcomes None f
+    free : IsFlatRaceFree s
+    free = found s answer f.found
 
     some : Decided ((p : ℕ) × (p < s.processors) × ((k : Kind) × IsFlatBeginning s (did (without_fetches h) p k)))
     some =
         decided_some (λ p. (k : Kind) × IsFlatBeginning s (did (without_fetches h) p k)) (λ p.
-        decided_next s (without_fetches h) p (flat s h begun free.race_free) lawful.but_uneven.one_each) s.processors
+        decided_next s (without_fetches h) p (flat s h begun free) lawful.but_uneven.one_each) s.processors

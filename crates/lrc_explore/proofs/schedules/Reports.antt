@@ -1,8 +1,7 @@
 -- What a report of a race-free script says.
 -- The report's history has no race, and replays; without its fetches it is a whole run on one flat memory, with the same
 -- calls. So what its loads answered is an outcome, and stands in the list.
-use Rattle.std.proofs.Common.{ℕ, zero, suc, ◌≡◌, ◌<◌, List, [], ◌∷◌, ◌++◌, map, length, Option, Some, slice_get, refl, sym, ap, subst, ◌∙◌, arith}
-use Rattle.std.specs.Global.{Vec}
+use Rattle.std.proofs.Common.{ℕ, zero, suc, ◌≡◌, ◌<◌, List, [], ◌∷◌, ◌++◌, map, length, Some, slice_get, refl, sym, ap, subst, ◌∙◌, arith}
 use Rattle.std.proofs.lemmas.Bool.{false_from_ne_true}
 use Rattle.std.proofs.lemmas.Option.{same_Some, slice_get_within}
 use Rattle.journal.specs.declared.event.Event.{Event}
@@ -13,13 +12,12 @@ use Rattle.conformance.specs.Begins.{BeginsScript}
 use Rattle.conformance.specs.Follows.{calls_of, load_of, FollowsSection}
 use Rattle.conformance.proofs.WithoutFetches.Embeds.{without_fetches}
 use Rattle.conformance.proofs.WithoutFetches.Runs.{calls_without_fetches}
-use Rattle.explore.specs.Prefixes.Beginnings.{IsWhole}
+use Rattle.explore.specs.Prefixes.Beginnings.{IsFlatRaceFree, IsWhole}
 use Rattle.explore.proofs.prefixes.Beginnings.{follows_begins}
 use Rattle.explore.specs.Prefixes.Calling.{shown_by}
 use Rattle.conformance.specs.Reports.{AreReportedReplies}
-use Rattle.explore.specs.declared.explored.Hang.{Hang}
-use Rattle.explore.specs.declared.explored.Outcome.{Outcome}
-use Rattle.explore.specs.Explored.{IsRaceFreeWith, IsVerdictOn}
+use Rattle.explore.specs.declared.explored.Explored.{Explored}
+use Rattle.explore.specs.Explored.{IsVerdictOn}
 use Rattle.explore.specs.Outcomes.{AreReplies, replies_in}
 use Rattle.lrc_explore.specs.Schedules.Laws.{EndsWith, IsFoundRaceFree, ReportLaw}
 use Rattle.lrc_explore.proofs.schedules.Begun.{flat_part, race_free, replays_whole}
@@ -68,19 +66,18 @@ ends_shown calls shown last = record {
 }
 
 -- a script that was found race-free is
-pub found : (s : Plan) (outcomes : Vec Outcome) (hang : Option Hang) → IsFoundRaceFree s outcomes hang
-    → IsRaceFreeWith s outcomes.items hang
-found s outcomes hang f = subst (IsVerdictOn s f.most f.answer.states) f.verdict f.explored.verdict
+pub found : (s : Plan) (answer : Explored) → IsFoundRaceFree s answer → IsFlatRaceFree s
+found s answer f = subst (IsVerdictOn s) f.verdict f.explored.verdict
 
 pub report_law : ReportLaw
-report_law s outcomes hang r f is = record {
+report_law s answer r f is = record {
   race_free = false_from_ne_true r.racy
       (λ yes. let race = is.tells.racy.0 yes in
-      race_free s free.race_free h is.tells.well_formed is.tells.explained begins race.0 race.1 race.2);
-  listed = record {
+      race_free s free h is.tells.well_formed is.tells.explained begins race.0 race.1 race.2);
+  listed = λ all. record {
     replies = shown.0;
     are = shown.1;
-    listed = (free.shows.each shown.0).1 (without_fetches h, whole, shows_fetchless s h shown.0 shown.1);
+    listed = f.explored.all all shown.0 (without_fetches h, whole, shows_fetchless s h shown.0 shown.1);
     shown = ends;
   };
 }
@@ -88,8 +85,8 @@ report_law s outcomes hang r f is = record {
     h : List Event
     h = is.history
 
-    free : IsRaceFreeWith s outcomes.items hang
-    free = found s outcomes hang f
+    free : IsFlatRaceFree s
+    free = found s answer f
 
     begins : BeginsScript s h
     begins = follows_begins s h is.tells.follows
@@ -98,7 +95,7 @@ report_law s outcomes hang r f is = record {
     whole = record {
       beginning =
           flat_part s h is.tells.well_formed begins
-          (replays_whole s free.race_free h is.tells.well_formed is.tells.explained begins);
+          (replays_whole s free h is.tells.well_formed is.tells.explained begins);
       follows = λ p section at.
           subst (FollowsSection section (shown_by s p)) (sym (calls_without_fetches p h)) (is.tells.follows p section at);
     }

@@ -1,6 +1,5 @@
 -- What is promised of the runs of a script whose schedules were searched.
-use Rattle.std.specs.Prelude.{ℕ, ◌≡◌, ◌++◌, false, Option, Some, None, List, map, replicate, slice_get}
-use Rattle.std.specs.Global.{Vec}
+use Rattle.std.specs.Prelude.{ℕ, ◌≡◌, ◌++◌, false, IsTrue, Some, List, map, replicate, slice_get}
 use Rattle.base.specs.InOrderOnce.{Has}
 use Rattle.journal.specs.declared.event.Event.{Event}
 use Rattle.journal.specs.declared.event.Kind.{Kind}
@@ -17,7 +16,7 @@ use Rattle.conformance.specs.Follows.{plan_sizes, is_fetch, Follows}
 use Rattle.conformance.specs.Reports.{IsReportOf}
 use Rattle.explore.specs.Prefixes.Beginnings.{IsFlatRaceFree}
 use Rattle.explore.specs.declared.explored.Explored.{Explored}
-use Rattle.explore.specs.declared.explored.Hang.{Hang}
+use Rattle.explore.specs.declared.explored.Hanging.TheVariants as hanging
 use Rattle.explore.specs.declared.explored.Outcome.{Outcome}
 use Rattle.explore.specs.declared.explored.Verdict.TheVariants as verdict
 use Rattle.explore.specs.Explored.{IsExplored, replies_of}
@@ -28,12 +27,16 @@ abbrev pub BegunLaw : Type 0
 BegunLaw = (s : Plan) (h : List Event) → IsFlatRaceFree s → WellFormed (plan_sizes s) h → Explained h → BeginsScript s h
     → RaceFree h × Replays (replicate (plan_addresses s) 0) h
 
--- a search has found the script race-free, with these outcomes
-pub record IsFoundRaceFree (s : Plan) (outcomes : Vec Outcome) (hang : Option Hang) : Type 0 where
+-- a search has found the script race-free
+pub record IsFoundRaceFree (s : Plan) (answer : Explored) : Type 0 where
   pub most : ℕ
-  pub answer : Explored
   pub explored : IsExplored s most answer
-  pub verdict : answer.verdict ≡ verdict.RaceFree outcomes hang
+  pub verdict : answer.verdict ≡ verdict.RaceFree
+
+-- and that it never hangs
+pub record IsFoundHangless (s : Plan) (answer : Explored) : Type 0 where
+  pub found : IsFoundRaceFree s answer
+  pub hanging : answer.hanging ≡ hanging.Never
 
 -- the words end with these
 pub record EndsWith (words last : List ℕ) : Type 0 where
@@ -51,15 +54,15 @@ pub record IsListed (s : Plan) (outcomes : List Outcome) (r : Report) (h : List 
   pub listed : Has (map replies_of outcomes) replies
   pub shown : (words : List ℕ) → slice_get replies 0 ≡ Some words → EndsWith words (words_shown r)
 
--- the report says race-free, and its history is listed
-pub record IsForetold (s : Plan) (outcomes : List Outcome) (r : Report) (h : List Event) : Type 0 where
+-- the report says race-free, and where all outcomes were found its history is listed
+pub record IsForetold (s : Plan) (answer : Explored) (r : Report) (h : List Event) : Type 0 where
   pub race_free : r.racy ≡ false
-  pub listed : IsListed s outcomes r h
+  pub listed : IsTrue answer.are_all → IsListed s answer.outcomes.items r h
 
 -- a search that finds a script race-free foretells each report of it, by its whole history
 abbrev pub ReportLaw : Type 0
-ReportLaw = (s : Plan) (outcomes : Vec Outcome) (hang : Option Hang) (r : Report) → IsFoundRaceFree s outcomes hang
-    → (is : IsReportOf s r) → IsForetold s outcomes.items r is.history
+ReportLaw = (s : Plan) (answer : Explored) (r : Report) → IsFoundRaceFree s answer → (is : IsReportOf s r)
+    → IsForetold s answer r is.history
 
 -- the history has begun the script, and isn't whole
 pub record IsUnfinished (s : Plan) (h : List Event) : Type 0 where
@@ -75,7 +78,7 @@ pub record IsStuck (s : Plan) (h : List Event) : Type 0 where
 
 -- if a search finds a script race-free and no hang, no history of it is stuck
 abbrev pub NeverStuckLaw : Type 0
-NeverStuckLaw = (s : Plan) (outcomes : Vec Outcome) (h : List Event) → IsFoundRaceFree s outcomes None → ¬ IsStuck s h
+NeverStuckLaw = (s : Plan) (answer : Explored) (h : List Event) → IsFoundHangless s answer → ¬ IsStuck s h
 
 -- this call may come next
 pub record CanContinue (s : Plan) (h : List Event) : Type 0 where
@@ -87,5 +90,5 @@ pub record CanContinue (s : Plan) (h : List Event) : Type 0 where
 
 -- if a search finds a lawful script race-free and no hang, each history of it that isn't whole may go on by some call
 abbrev pub GoesOnLaw : Type 0
-GoesOnLaw = (s : Plan) (outcomes : Vec Outcome) (h : List Event) → IsLawful s → IsFoundRaceFree s outcomes None
+GoesOnLaw = (s : Plan) (answer : Explored) (h : List Event) → IsLawful s → IsFoundHangless s answer
     → IsUnfinished s h → CanContinue s h

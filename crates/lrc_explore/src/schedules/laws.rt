@@ -9,8 +9,8 @@ pub fn begun_law()
 {}
 
 /// If a search finds a script race-free, each report of it says race-free, whatever the lock, the seed and the order of
-/// the threads were. What its loads answered, processor by processor, is one of the outcomes found, and the words that it
-/// shows are the last ones of processor 0. This is said of the whole history, with what cuts took off it.
+/// the threads were. If it finds all outcomes, what its loads answered, processor by processor, is one of them, and the
+/// words that it shows are the last ones of processor 0. This is said of the whole history, with what cuts took off it.
 pub fn report_law()
     ensures { ReportLaw }
 {}

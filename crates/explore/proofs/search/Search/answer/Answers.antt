@@ -1,31 +1,123 @@
-use Rattle.std.proofs.Common.{subst, sym, arith}
-use Rattle.lrc_script.specs.Plan.{plan_of}
-use Rattle.explore.specs.Explored.{IsVerdictOn}
-use Rattle.explore.specs.Searched.{IsLookedThrough}
-use Rattle.explore.proofs.Searched.{through_found}
+use Rattle.std.proofs.Common.{◌≡◌, ◌≤◌, ◌<◌, ◌↔◌, inl, inr, Bool, true, false, IsTrue, ℕ, List, Option, Some, map, length, refl, sym, subst, ap, ◌∙◌, arith}
+use Rattle.std.specs.Prelude.{None, MatchOption, ⊤, ◌||◌, slice_index_or}
+use Rattle.std.specs.Global.{Vec}
+use Rattle.std.proofs.lemmas.Bool.{cases_lt, false≢true}
+use Rattle.lrc_script.specs.Plan.{Plan, plan_of}
+use Rattle.explore.specs.declared.neighbours.Neighbours.{Neighbours}
+use Rattle.explore.specs.declared.prefixes.script_call.ScriptCall.{ScriptCall}
+use Rattle.explore.specs.declared.search.Search.{Search}
+use Rattle.explore.specs.Explored.{AreAllOutcomes, AreOutcomes, is_settled, replies_of}
+use Rattle.explore.specs.Found.{states_of}
+use Rattle.explore.specs.Guarded.{AreGuarded}
+use Rattle.explore.specs.Machines.{AreLawfulSteps}
+use Rattle.explore.specs.Prefixes.Beginnings.{IsFlatRaceFree}
+use Rattle.explore.specs.Racing.{AreRacing}
+use Rattle.lrc_script.specs.Lawful.{plan_addresses}
+use Rattle.explore.proofs.locksets.Law.{guarded_law}
+use Rattle.explore.proofs.locksets.Noted.{address_within, rows_within, unused_guarded}
+use Rattle.explore.proofs.prefixes.Neighbours.Law.{neighbours}
+use Rattle.explore.specs.Searched.{IsLookedThrough, IsSearched, VisitedUpTo}
+use Rattle.explore.proofs.Searched.{all_outcomes, no_neighbours, open_only, some_outcomes}
 use Rattle.explore.proofs.search.Search.answer.Goals as goal
 
-pub verdict-requires-clause-looked : goal.verdict-requires-clause-looked
-verdict-requires-clause-looked g c =
+-- where a search came through, all was looked at
+searched : (s : Plan) (x : Search) (steps : List (Vec ScriptCall)) (most states : ℕ) (o : Option Neighbours) (through : Bool)
+    → IsLookedThrough s x steps most o → states ≡ length (states_of x.found)
+    → IsTrue through ↔ ((o ≡ None) × (states ≤ most)) → IsSearched s x steps through
+searched s x steps most states o through looked count tells = record {
+  some = looked.some;
+  all = λ yes.
+      let both = tells.0 yes in
+      let few : length (states_of x.found) ≤ most = (let le = both.1 in omega arith) in
+      subst (λ n. MatchOption n (length (states_of x.found) ≤ most → VisitedUpTo s x steps (length (states_of x.found)))
+      (AreRacing s x.found steps)) both.0 looked.end few;
+}
+
+racing : (s : Plan) (x : Search) (steps : List (Vec ScriptCall)) (o : Option Neighbours) (P : Type 0)
+    → MatchOption o P (AreRacing s x.found steps) → MatchOption o ⊤ (AreRacing s x.found steps)
+racing s x steps None P h = tt
+racing s x steps (Some n) P h = h
+
+past : (most states : ℕ) (o : Option Neighbours) (through : Bool) → IsTrue through ↔ ((o ≡ None) × (states ≤ most))
+    → o ≡ None → through ≡ false → most < states
+past most states o through tells none isnt = elim (cases_lt most states) [
+  | inl lt ↦ lt
+  | inr le ↦ absurd (false≢true (sym isnt ∙ tells.1 (none, omega arith)))
+]
+
+-- where the text or the search shows it, no beginning races
+race_free : (s : Plan) (x : Search) (steps : List (Vec ScriptCall)) (words : List Bool) (through all : Bool)
+    → AreLawfulSteps s steps → IsSearched s x steps through → AreGuarded steps words → length words ≡ plan_addresses s
+    → (IsTrue all → (w : ℕ) → w < length words → IsTrue (slice_index_or words w false)) → IsTrue (through || all)
+    → IsFlatRaceFree s
+race_free s x steps words true all lawful looked guarded long each shown =
+    neighbours s (no_neighbours s x steps lawful (looked.all refl))
+race_free s x steps words false all lawful looked guarded long each shown =
+    guarded_law s steps lawful (λ w. elim (cases_lt w (length words)) [
+      | inl lt ↦ guarded w (each shown w lt)
+      | inr past ↦ unused_guarded steps w (λ p row i step row_at at address.
+          let within = address_within (plan_addresses s) w step (rows_within s steps lawful p row row_at i step at) address in
+          omega arith)
+    ])
+
+neither : (through all : Bool) → (through || all) ≡ false → through ≡ false
+neither true all is = is
+neither false all is = refl
+
+pub verdict-requires-clause-free : goal.verdict-requires-clause-free
+verdict-requires-clause-free g c =
     let s = plan_of c.args.script.now in
-    subst (λ n. IsLookedThrough s c.look_at_all.new.self c.args.steps.now n c.in_ok-neighbours.neighbours)
-    c.states_to_look_at.ensures
-    (c.in_ok-neighbours.ensures.looked s c.requires.steps c.requires.searched)
+    race_free s c.look_at_all.new.self c.args.steps.now c.args.guarded.now c.is_through-through.result c.are_all.result
+    c.requires.steps
+    (searched s c.look_at_all.new.self c.args.steps.now c.states_to_look_at-most.result c.len-states.result
+    c.in_ok-neighbours.neighbours c.is_through-through.result
+    (c.in_ok-neighbours.ensures.looked s c.requires.steps c.requires.searched) c.len-states.ensures.count
+    c.is_through-through.ensures) c.requires.guarded c.requires.long c.are_all.ensures
+
+pub verdict-requires-clause-racing : goal.verdict-requires-clause-racing
+verdict-requires-clause-racing g c =
+    let s = plan_of c.args.script.now in
+    racing s c.look_at_all.new.self c.args.steps.now c.in_ok-neighbours.neighbours _
+    (c.in_ok-neighbours.ensures.looked s c.requires.steps c.requires.searched).end
+
+pub hanging-requires-clause-searched : goal.hanging-requires-clause-searched
+hanging-requires-clause-searched g c =
+    let s = plan_of c.args.script.now in (
+      c.args.steps.now,
+      c.requires.steps,
+      searched s c.look_at_all.new.self c.args.steps.now c.states_to_look_at-most.result c.len-states.result
+          c.in_ok-neighbours.neighbours c.is_through-through.result
+          (c.in_ok-neighbours.ensures.looked s c.requires.steps c.requires.searched) c.len-states.ensures.count
+          c.is_through-through.ensures,
+    )
 
 pub returns : goal.returns
 returns g c =
     let s = plan_of c.args.script.now in
+    let x = c.look_at_all.new.self in
+    let steps = c.args.steps.now in
     let looked = c.in_ok-neighbours.ensures in
-    let most = c.states_to_look_at.ensures in
+    let through = looked.looked s c.requires.steps c.requires.searched in
+    let most = c.states_to_look_at-most.ensures in
     let count = c.len-states.ensures.count in
+    let all = searched s x steps c.states_to_look_at-most.result c.len-states.result c.in_ok-neighbours.neighbours
+    c.is_through-through.result through count c.is_through-through.ensures in
+    let keys = sym (c.in_ok-outcomes.ensures ∙ ap (λ o. o.keys) c.replace-outcomes.ensures.value) in
     record {
-      states =
-          c.len-states.ensures.states s
-          (through_found s c.look_at_all.new.self c.args.steps.now c.states_to_look_at.result
-          c.in_ok-neighbours.neighbours (looked.looked s c.requires.steps c.requires.searched));
+      states = c.len-states.ensures.states s through.some.1.found;
       few = (
           let found = looked.few s c.requires.steps c.requires.searched c.requires.few in
           omega (arith, found, count, most));
-      verdict =
-          subst (λ n. IsVerdictOn s c.args.most n c.in_ok-verdict.verdict) (sym count) c.in_ok-verdict.ensures;
+      verdict = c.in_ok-verdict.ensures.verdict;
+      hanging = c.in_ok-hanging.ensures.hanging;
+      outcomes = subst (λ os. AreOutcomes s (map replies_of os)) keys (some_outcomes s x steps through.some.0 through.some.1);
+      all = λ yes.
+          subst (λ os. AreAllOutcomes s (map replies_of os)) keys (all_outcomes s x steps c.requires.steps (all.all yes));
+      given_up = λ opens.
+          let both = open_only c.in_ok-neighbours.neighbours (c.is_through-through.result || c.are_all.result)
+          c.is_through-through.result c.in_ok-verdict.verdict c.in_ok-hanging.hanging c.in_ok-verdict.ensures.opens
+          c.in_ok-hanging.ensures.opens (neither c.is_through-through.result c.are_all.result) opens in
+          let more = past c.states_to_look_at-most.result c.len-states.result c.in_ok-neighbours.neighbours
+          c.is_through-through.result c.is_through-through.ensures both.0 both.1 in
+          omega (arith, more, most);
     }

@@ -14,8 +14,8 @@ use Rattle.explore.proofs.search.Search.look_at.Goals as goal
 
 pub nexts_of-nexts-requires : goal.nexts_of-nexts-requires
 nexts_of-nexts-requires c =
-    let s = c.requires.0 in
-    let may = c.requires.1 in
+    let s = c.requires.unvisited.0 in
+    let may = c.requires.unvisited.1 in
     let g = may.searched.found.known c.args.place c.at.result.now c.at.ensures in
     record { plan = s; lawful = may.lawful; events = g.0; knows = g.1 }
 
@@ -23,27 +23,29 @@ pub returns-in-Some-clause-looked : goal.returns-in-Some-clause-looked
 returns-in-Some-clause-looked c = λ s may.
     let f = c.at.result.now in
     let nexts = c.nexts_of-nexts.ensures.nexts s may.lawful in
-    let conflict = c.in-Some.ensures in
-    record {
-      lawful = may.lawful;
-      found = may.searched.found;
-      are = record {
-        within = may.more;
-        apart = conflict.apart;
-        conflict = conflict.conflict;
-        first = λ m at g knows.
-            let mine = subst (λ x. Knows s g x) (same_Some m f (sym at ∙ c.at.ensures)) knows in
-            (nexts g mine c.in-Some.first.processor c.in-Some.first.kind).0 conflict.first;
-        second = λ m at g knows.
-            let mine = subst (λ x. Knows s g x) (same_Some m f (sym at ∙ c.at.ensures)) knows in
-            (nexts g mine c.in-Some.second.processor c.in-Some.second.kind).0 conflict.second;
-      };
-    }
+    let conflict = c.in-Some.ensures in (
+      may.searched,
+      record {
+        lawful = may.lawful;
+        found = may.searched.found;
+        are = record {
+          within = may.more;
+          apart = conflict.apart;
+          conflict = conflict.conflict;
+          first = λ m at g knows.
+              let mine = subst (λ x. Knows s g x) (same_Some m f (sym at ∙ c.at.ensures)) knows in
+              (nexts g mine c.in-Some.first.processor c.in-Some.first.kind).0 conflict.first;
+          second = λ m at g knows.
+              let mine = subst (λ x. Knows s g x) (same_Some m f (sym at ∙ c.at.ensures)) knows in
+              (nexts g mine c.in-Some.second.processor c.in-Some.second.kind).0 conflict.second;
+        };
+      },
+    )
 
 pub note_end-requires : goal.note_end-requires
 note_end-requires c =
-    let s = c.requires.0 in
-    let may = c.requires.1 in
+    let s = c.requires.unvisited.0 in
+    let may = c.requires.unvisited.1 in
     let f = c.at.result.now in
     let nexts = c.nexts_of-nexts.ensures.nexts s may.lawful in (
       s,
@@ -60,22 +62,22 @@ note_end-requires c =
 
 pub follow_all-requires : goal.follow_all-requires
 follow_all-requires c =
-    let s = c.requires.0 in
-    let may = c.requires.1 in
+    let s = c.requires.unvisited.0 in
+    let may = c.requires.unvisited.1 in
     let f = c.at.result.now in
     let same : c.if-is_over.self.found ≡ c.args.self.now.found = elim c.if-is_over.branch [
       | then-is_over+in_ok-note_end w ↦ ap (λ (z : Search). z.found) w.self-is ∙ w.in_ok-note_end.ensures.found
       | else-is_over w ↦ ap (λ (z : Search). z.found) w.self-is
     ] in (
       s,
-      subst (λ x. MayFollowAll s x c.args.place c.nexts_of-nexts.result) (sym same)
+      subst (λ x. MayFollowAll s x c.args.place c.to_follow.result) (sym same)
           (record {
             lawful = may.lawful.lawful;
             found = may.searched.found;
             within = may.more;
-            next = λ m at.
-                subst (λ x. AreNexts s x c.nexts_of-nexts.result) (same_Some f m (sym c.at.ensures ∙ at))
-                (c.nexts_of-nexts.ensures.nexts s may.lawful);
+            next = λ m at p k told g knows.
+                (c.nexts_of-nexts.ensures.nexts s may.lawful g
+                (subst (Knows s g) (same_Some m f (sym at ∙ c.at.ensures)) knows) p k).0 (c.to_follow.ensures.among p k told);
           }),
     )
 
@@ -84,25 +86,25 @@ returns-clause-few c = λ s may.
     let x = c.args.self.now.found in
     let place = c.args.place in
     let f = c.at.result.now in
-    let nexts = c.nexts_of-nexts.result in
+    let chosen = c.to_follow.result in
     let new = c.follow_all.new.self in
     let same : c.if-is_over.self.found ≡ x = elim c.if-is_over.branch [
       | then-is_over+in_ok-note_end w ↦ ap (λ (z : Search). z.found) w.self-is ∙ w.in_ok-note_end.ensures.found
       | else-is_over w ↦ ap (λ (z : Search). z.found) w.self-is
     ] in
-    let may_follow : MayFollowAll s x place nexts = record {
+    let may_follow : MayFollowAll s x place chosen = record {
       lawful = may.lawful.lawful;
       found = may.searched.found;
       within = may.more;
-      next = λ m at.
-          subst (λ y. AreNexts s y nexts) (same_Some f m (sym c.at.ensures ∙ at))
-          (c.nexts_of-nexts.ensures.nexts s may.lawful);
+      next = λ m at p k told g knows.
+          (c.nexts_of-nexts.ensures.nexts s may.lawful g (subst (Knows s g) (same_Some m f (sym at ∙ c.at.ensures)) knows) p k).0
+          (c.to_follow.ensures.among p k told);
     } in
     let followed =
-    subst (λ y. AreFollowed s y new place (length nexts)) same
-    (c.in_ok-follow_all.ensures s (subst (λ y. MayFollowAll s y place nexts) (sym same) may_follow)) in
+    subst (λ y. AreFollowed s y new place chosen (length chosen)) same
+    (c.in_ok-follow_all.ensures s (subst (λ y. MayFollowAll s y place chosen) (sym same) may_follow)) in
     let few = followed.few in
-    let long = c.nexts_of-nexts.ensures.long in
+    let long = c.to_follow.ensures.long in
     omega (arith, few, long)
 
 pub returns-clause-looked : goal.returns-clause-looked
@@ -111,6 +113,7 @@ returns-clause-looked c = λ s may.
     let place = c.args.place in
     let f = c.at.result.now in
     let nexts = c.nexts_of-nexts.result in
+    let chosen = c.to_follow.result in
     let are = c.nexts_of-nexts.ensures.nexts s may.lawful in
     let new = c.follow_all.new.self in
     let same : c.if-is_over.self.found ≡ x.found = elim c.if-is_over.branch [
@@ -119,11 +122,15 @@ returns-clause-looked c = λ s may.
     ] in
     let each : (m : FlatState) → slice_get (states_of x.found) place ≡ Some m → AreNexts s m nexts =
     (λ m at. subst (λ y. AreNexts s y nexts) (same_Some f m (sym c.at.ensures ∙ at)) are) in
-    let may_follow : MayFollowAll s x.found place nexts =
-    record { lawful = may.lawful.lawful; found = may.searched.found; within = may.more; next = each } in
+    let may_follow : MayFollowAll s x.found place chosen = record {
+      lawful = may.lawful.lawful;
+      found = may.searched.found;
+      within = may.more;
+      next = λ m at p k told g knows. (each m at g knows p k).0 (c.to_follow.ensures.among p k told);
+    } in
     let followed =
-    subst (λ y. AreFollowed s y new place (length nexts)) same
-    (c.in_ok-follow_all.ensures s (subst (λ y. MayFollowAll s y place nexts) (sym same) may_follow)) in
+    subst (λ y. AreFollowed s y new place chosen (length chosen)) same
+    (c.in_ok-follow_all.ensures s (subst (λ y. MayFollowAll s y place chosen) (sym same) may_follow)) in
     let noted : OutcomesNoted s c.if-is_over.self (place + 1) = elim c.if-is_over.branch [
       | then-is_over+in_ok-note_end w ↦
           subst (λ z. OutcomesNoted s z (place + 1)) (sym w.self-is) (w.in_ok-note_end.ensures.noted s (record {
@@ -144,6 +151,7 @@ returns-clause-looked c = λ s may.
     ] in
     let z : Search = record { found = new; outcomes = c.if-is_over.self.outcomes; hang = c.if-is_over.self.hang } in
     let more = may.more in
-    looked s x z c.args.steps.now place nexts may each c.in_default.ensures followed
+    looked s x z c.args.steps.now place nexts chosen may each c.in_default.ensures
+    (c.to_follow.ensures.choice c.args.steps.now c.requires.guarded) followed
     (noted_kept s (states_of x.found) (states_of new) (place + 1) followed.keeps (omega arith) c.if-is_over.self z
     (ap states_of same) refl refl refl noted)

@@ -14,15 +14,15 @@ not_past most states past tells isnt = elim (cases_lt most states) [
 
 pub returns-then-is_past-clause-looked : goal.returns-then-is_past-clause-looked
 returns-then-is_past-clause-looked g c = λ s lawful searched. record {
-  found = (c.loop-place.invariant.searched s lawful searched).found;
-  searched = λ few. absurd (let over = c.is_past.ensures.0 c.if-is_past.true in let is = c.len-states.ensures.count in omega arith);
+  some = (c.loop-place.place, c.loop-place.invariant.searched s lawful searched);
+  end = λ few. absurd (let over = c.is_past.ensures.0 c.if-is_past.true in let is = c.len-states.ensures.count in omega arith);
 }
 
 pub returns-then-place-states-clause-looked : goal.returns-then-place-states-clause-looked
 returns-then-place-states-clause-looked g c = λ s lawful searched. record {
-  found = (c.loop-place.invariant.searched s lawful searched).found;
-  searched = λ few.
-      subst (VisitedUpTo s c.loop-place.self) (c.if-place-states.true ∙ c.len-states.ensures.count)
+  some = (c.loop-place.place, c.loop-place.invariant.searched s lawful searched);
+  end = λ few.
+      subst (VisitedUpTo s c.loop-place.self c.args.steps.now) (c.if-place-states.true ∙ c.len-states.ensures.count)
       (c.loop-place.invariant.searched s lawful searched);
 }
 
@@ -38,15 +38,15 @@ returns-then-is_past-clause-few g c = c.loop-place.invariant.few
 pub returns-then-place-states-clause-few : goal.returns-then-place-states-clause-few
 returns-then-place-states-clause-few g c = c.loop-place.invariant.few
 
-pub look_at-requires : goal.look_at-requires
-look_at-requires g c =
-    let s = c.requires.0 in
-    let searched = c.loop-place.invariant.searched s c.requires.1 c.requires.2 in
+pub look_at-requires-clause-unvisited : goal.look_at-requires-clause-unvisited
+look_at-requires-clause-unvisited g c =
+    let s = c.requires.searched.0 in
+    let searched = c.loop-place.invariant.searched s c.requires.searched.1 c.requires.searched.2 in
     let within = searched.within in
     let is = c.len-states.ensures.count in
     let isnt = c.if-place-states.false in
     let lt : c.loop-place.place < length (states_of c.loop-place.self.found) = omega arith in
-    (s, record { lawful = c.requires.1; searched = searched; more = lt })
+    (s, record { lawful = c.requires.searched.1; searched = searched; more = lt })
 
 pub loop-place-preserved : goal.loop-place-preserved
 loop-place-preserved g c = record {
@@ -56,7 +56,7 @@ loop-place-preserved g c = record {
       let is = c.len-states.ensures.count in
       let isnt = c.if-place-states.false in
       let lt : c.loop-place.place < length (states_of c.loop-place.self.found) = omega (arith, within, is, isnt) in
-      subst (λ o. IsLookedAt s c.look_at.new.self c.args.steps.now (c.loop-place.place + 1) o)
+      subst (λ o. IsLookedAt s c.look_at.new.self c.args.steps.now c.loop-place.place o)
       (none_of c.in_ok-neighbours.field-0 c.in_default.not-Some)
       (c.in_ok-neighbours.ensures.looked s (record { lawful = lawful; searched = old; more = lt }));
   few = λ s lawful searched one.
@@ -69,6 +69,18 @@ loop-place-preserved g c = record {
       let more = c.in_ok-neighbours.ensures.few s (record { lawful = lawful; searched = old; more = lt }) in
       omega (arith, more, under, is);
 }
+
+pub returns-in-Some-clause-looked : goal.returns-in-Some-clause-looked
+returns-in-Some-clause-looked g c = λ s lawful searched.
+    let old = c.loop-place.invariant.searched s lawful searched in
+    let within = old.within in
+    let is = c.len-states.ensures.count in
+    let isnt = c.if-place-states.false in
+    let lt : c.loop-place.place < length (states_of c.loop-place.self.found) = omega (arith, within, is, isnt) in
+    let both =
+    subst (λ o. IsLookedAt s c.look_at.new.self c.args.steps.now c.loop-place.place o) c.in-Some.is
+    (c.in_ok-neighbours.ensures.looked s (record { lawful = lawful; searched = old; more = lt })) in
+    record { some = (c.loop-place.place, both.0); end = both.1 }
 
 pub returns-in-Some-clause-few : goal.returns-in-Some-clause-few
 returns-in-Some-clause-few g c = λ s lawful searched one.
@@ -85,12 +97,12 @@ pub returns-clause-looked : goal.returns-clause-looked
 returns-clause-looked g c = λ s lawful searched.
     let old = c.loop-place.invariant.searched s lawful searched in
     record {
-      found = old.found;
-      searched = λ few.
+      some = (c.loop-place.place, old);
+      end = λ few.
           let within = old.within in
           let over = c.loop-place-test.false in
           let end : c.loop-place.place ≡ length (states_of c.loop-place.self.found) = omega arith in
-          subst (VisitedUpTo s c.loop-place.self) end old;
+          subst (VisitedUpTo s c.loop-place.self c.args.steps.now) end old;
     }
 
 pub returns-clause-few : goal.returns-clause-few

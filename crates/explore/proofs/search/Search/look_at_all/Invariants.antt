@@ -7,7 +7,7 @@ use Rattle.explore.proofs.search.Search.look_at_all.Given as goal
 
 abbrev pub invariant-loop-place : goal.invariant-loop-place
 invariant-loop-place g l = record {
-  searched : (s : Plan) → AreLawfulSteps s l.steps → VisitedUpTo s l.initial.self 0 → VisitedUpTo s l.self l.place;
-  few : (s : Plan) → AreLawfulSteps s l.steps → VisitedUpTo s l.initial.self 0
+  searched : (s : Plan) → AreLawfulSteps s l.steps → VisitedUpTo s l.initial.self l.steps 0 → VisitedUpTo s l.self l.steps l.place;
+  few : (s : Plan) → AreLawfulSteps s l.steps → VisitedUpTo s l.initial.self l.steps 0
       → length (states_of l.initial.self.found) ≤ 1 → length (states_of l.self.found) ≤ l.most + 16;
 }

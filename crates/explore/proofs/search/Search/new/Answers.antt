@@ -7,6 +7,6 @@ pub returns : goal.returns
 returns c =
     let s = plan_of c.args.script.now in
     record {
-      searched = begun s _ (c.in_ok-new-2.ensures.found s c.in_ok-new.ensures) c.new-3.ensures.empty refl;
+      searched = λ rows. begun s _ rows (c.in_ok-new-2.ensures.found s c.in_ok-new.ensures) c.new-3.ensures.empty refl;
       few = c.in_ok-new-2.ensures.few;
     }

@@ -34,9 +34,9 @@ loop-processor-preserved c = λ s may.
           let here = w.in-Some.is in
           let followed = w.in_ok-follow.ensures s old.found (small_still s x y place nexts may n old k here)
           (goes_on s x y place nexts may n old k here) in
-          subst (λ z. AreFollowed s x z place (n + 1)) (sym w.self-is)
+          subst (λ z. AreFollowed s x z place nexts (n + 1)) (sym w.self-is)
           (one_followed s x y place nexts may n old k here w.follow.new.self followed))
       | in_default w ↦
-          subst (λ z. AreFollowed s x z place (n + 1)) (sym w.self-is)
+          subst (λ z. AreFollowed s x z place nexts (n + 1)) (sym w.self-is)
           (nobody_followed s x y place nexts may n old w.in_default.not-Some)
     ]

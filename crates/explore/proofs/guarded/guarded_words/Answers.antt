@@ -1,0 +1,23 @@
+use Rattle.std.proofs.Common.{ℕ, ◌≡◌, IsTrue, false, map, slice_index_or, subst, sym, ap, ◌∙◌}
+use Rattle.std.proofs.lemmas.Result.{IfOk-weaker}
+use Rattle.explore.specs.declared.guarded.WordUse.{WordUse}
+use Rattle.lrc_script.specs.Plan.{plan_of}
+use Rattle.explore.specs.Guarded.{AreGuarded}
+use Rattle.explore.proofs.locksets.Noted.{flags_of, each_few, guarded_word, rows_within}
+use Rattle.explore.proofs.guarded.guarded_words.Goals as goal
+
+pub uses-requires-clause-within : goal.uses-requires-clause-within
+uses-requires-clause-within c = rows_within (plan_of c.args.script.now) c.args.steps.now c.requires
+
+pub uses-requires-clause-few : goal.uses-requires-clause-few
+uses-requires-clause-few c = each_few (plan_of c.args.script.now) c.args.steps.now c.requires
+
+pub returns-clause-guarded : goal.returns-clause-guarded
+returns-clause-guarded c =
+    IfOk-weaker c.flags_of.result _ _
+    (λ v is w yes.
+    let words = c.in_ok-words.words.items in
+    let told = subst (λ bs. IsTrue (slice_index_or bs w false)) (is ∙ ap (map (λ (x : WordUse). x.is_guarded)) c.deref.ensures.value) yes in
+    let found = flags_of words w told in
+    guarded_word words c.args.steps.now w found.0 c.in_ok-words.ensures.noted c.in_ok-words.ensures.sound found.1 found.2)
+    c.flags_of.ensures

@@ -1,0 +1,66 @@
+use Rattle.std.proofs.Common.{◌≡◌, length, refl, subst, arith}
+use Rattle.std.proofs.lemmas.Option.{slice_get-get_or}
+use Rattle.std.specs.Prelude.{vec_len}
+use Rattle.explore.specs.Users.{AreNoted}
+use Rattle.explore.specs.Guarded.{held_at}
+use Rattle.explore.proofs.locksets.Noted.{held_step, keeps_on, keeps_same, none_held, noted_kept, noted_more, phase_small, phase_step, used_phase, within_size}
+use Rattle.explore.proofs.guarded.note_row.Goals as goal
+
+pub loop-step-init : goal.loop-step-init
+loop-step-init c = record {
+  phase = refl;
+  held = λ q. none_held 32 q;
+  keeps = keeps_same c.args.words.now.items;
+  noted = λ i w step lt. absurd (omega arith);
+}
+
+pub loop-step-preserved : goal.loop-step-preserved
+loop-step-preserved c =
+    let n = c.loop-step.step-index in
+    let row = c.args.row.now in
+    let at = slice_get-get_or row n _ c.loop-step-test.true in
+    let old = c.loop-step.invariant in
+    let keeps = c.in_ok-note_step.ensures.keeps in
+    record {
+      phase = phase_step row n _ _ _ c.phase_after-phase.ensures old.phase at;
+      held = λ q. held_step row n q _ _ _ (c.hold.ensures.held q) (old.held q) at;
+      keeps = keeps_on _ _ _ old.keeps keeps;
+      noted =
+          noted_more _ _ row n _ at (noted_kept _ _ _ row n keeps old.noted)
+          (λ w address. used_phase _ w _ _ _ _ (held_at row n) old.phase
+          (c.in_ok-note_step.ensures.noted (held_at row n) old.held w address));
+    }
+
+pub note_step-requires : goal.note_step-requires
+note_step-requires c =
+    let n = c.loop-step.step-index in
+    let at = slice_get-get_or c.args.row.now n _ c.loop-step-test.true in
+    let long = c.loop-step.invariant.keeps.long in
+    let size = c.loop-step.words.ok.0 in
+    let before = c.args.words.now.ok.0 in
+    let same : vec_len c.args.words.now ≡ vec_len c.loop-step.words = omega arith in
+    within_size (vec_len c.args.words.now) (vec_len c.loop-step.words) _ same (c.requires.within n _ at)
+
+pub hold-requires : goal.hold-requires
+hold-requires c =
+    let n = c.loop-step.step-index in
+    let at = slice_get-get_or c.args.row.now n _ c.loop-step-test.true in
+    (vec_len c.args.words.now, c.requires.within n _ at)
+
+pub phase_after-phase-requires : goal.phase_after-phase-requires
+phase_after-phase-requires c =
+    let lt = c.loop-step-test.true in
+    let small = phase_small c.args.row.now c.loop-step.step-index (omega arith) in
+    let is = c.loop-step.invariant.phase in
+    let few = c.requires.few in
+    omega (arith, small, is, few)
+
+pub returns-clause-keeps : goal.returns-clause-keeps
+returns-clause-keeps c = c.loop-step.invariant.keeps
+
+pub returns-clause-noted : goal.returns-clause-noted
+returns-clause-noted c =
+    let over = c.loop-step-test.false in
+    let top = c.loop-step.auto.step-index-end in
+    let end : c.loop-step.step-index ≡ length c.args.row.now = omega arith in
+    subst (AreNoted c.loop-step.words.items c.args.processor c.args.row.now) end c.loop-step.invariant.noted

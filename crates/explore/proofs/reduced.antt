@@ -1,0 +1,4 @@
+pub mod Same
+pub mod Swapping
+pub mod Reaching
+pub mod Ends

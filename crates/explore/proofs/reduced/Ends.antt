@@ -1,0 +1,134 @@
+-- What a reduced search looks for: hangs, what whole runs show, and two next events that conflict.
+use Rattle.std.proofs.Common.{ℕ, ◌≡◌, ◌≢◌, inl, inr, List, length, Some, slice_get, sym, ap, subst, ◌∙◌, arith}
+use Rattle.std.specs.Global.{Vec}
+use Rattle.std.proofs.lemmas.Option.{slice_get_within}
+use Rattle.journal.specs.declared.event.Event.{Event}
+use Rattle.journal.specs.declared.event.Kind.{Kind}
+use Rattle.journal.specs.DidEvent.{did, event}
+use Rattle.journal.specs.Races.{Conflict}
+use Rattle.lrc_script.specs.Plan.{Plan}
+use Rattle.conformance.specs.Follows.{calls_of, Follows, FollowsSection}
+use Rattle.explore.specs.declared.prefixes.script_call.ScriptCall.{ScriptCall}
+use Rattle.explore.specs.Free.{IsFree}
+use Rattle.explore.specs.Machines.{AreLawfulSteps}
+use Rattle.explore.specs.Outcomes.{AreReplies, replies_in}
+use Rattle.explore.specs.Prefixes.Beginnings.{IsFlatBeginning, IsHang}
+use Rattle.explore.specs.Prefixes.Calling.{section_steps, shown_by}
+use Rattle.explore.proofs.locksets.Law.{guarded_quiet}
+use Rattle.explore.proofs.Machines.{next_within, some_at}
+use Rattle.explore.proofs.prefixes.Beginnings.{next_begins, whole_done}
+use Rattle.explore.proofs.reduced.Same.{IsSame, other_way, same_calls, same_next}
+use Rattle.explore.proofs.reduced.Swapping.{next_after}
+use Rattle.explore.proofs.reduced.Reaching.{IsLasting, next_once}
+
+-- a whole run can't go on
+pub follows_ends : (s : Plan) (g : List Event) (p : ℕ) (k : Kind) → length s.sections ≡ s.processors → Follows s g
+    → ¬ IsFlatBeginning s (did g p k)
+follows_ends s g p k one follows next =
+    let both = (next_begins s g p k).0 next in
+    let within = next_within s g p k next in
+    let section = some_at s.sections p (omega arith) in
+    let called = both.1.calls.next section.0 section.1 in
+    let done = (whole_done s g both.0).0 follows p section.0 section.1 in
+    let lt = slice_get_within (section_steps section.0 (shown_by s p)) (length (calls_of g p)) called.step called.at in
+    omega arith
+
+follows_same : (s : Plan) (g h : List Event) → IsSame s g h → Follows s g → Follows s h
+follows_same s g h same follows p section at =
+    subst (FollowsSection section (shown_by s p)) (same_calls s g h p same) (follows p section at)
+
+replies_same : (s : Plan) (g h : List Event) (replies : List (List ℕ)) → IsSame s g h → AreReplies s g replies
+    → AreReplies s h replies
+replies_same s g h replies same are = record {
+  long = are.long;
+  each = λ p lt. are.each p lt ∙ ap (λ ks. Some (replies_in ks)) (same_calls s g h p same);
+}
+
+-- a hang
+pub hang_lasts : (s : Plan) (rows : List (Vec ScriptCall)) → IsLasting s rows (IsHang s)
+hang_lasts s rows = record {
+  shared = λ g h same begins hang. record {
+    beginning = begins;
+    unfinished = λ follows. hang.unfinished (follows_same s h g (other_way s g h same) follows);
+    stuck = λ p k next. hang.stuck p k (same_next s h g p k (other_way s g h same) hang.beginning next);
+  };
+  stays = λ g p k free next hang. absurd (hang.stuck p k next);
+}
+
+-- a whole run that shows this
+pub record ShowsThis (s : Plan) (replies : List (List ℕ)) (g : List Event) : Type 0 where
+  pub follows : Follows s g
+  pub are : AreReplies s g replies
+
+pub shows_last : (s : Plan) (rows : List (Vec ScriptCall)) (replies : List (List ℕ)) → length s.sections ≡ s.processors
+    → IsLasting s rows (ShowsThis s replies)
+shows_last s rows replies long = record {
+  shared = λ g h same begins shows. record {
+    follows = follows_same s g h same shows.follows;
+    are = replies_same s g h replies same shows.are;
+  };
+  stays = λ g p k free next shows. absurd (follows_ends s g p k long shows.follows next);
+}
+
+-- two next events that conflict
+pub record MayConflict (s : Plan) (g : List Event) : Type 0 where
+  pub p : ℕ
+  pub q : ℕ
+  pub a : Kind
+  pub b : Kind
+  pub first : IsFlatBeginning s (did g p a)
+  pub second : IsFlatBeginning s (did g q b)
+  pub apart : p ≢ q
+  pub conflict : Conflict (event p a) (event q b)
+
+turned : (p q : ℕ) (a b : Kind) → Conflict (event p a) (event q b) → Conflict (event q b) (event p a)
+turned p q a b c = record {
+  address = c.address;
+  first = c.second;
+  second = c.first;
+  stores = elim c.stores [ inl is ↦ inr is | inr is ↦ inl is ];
+}
+
+module _ (s : Plan) (rows : List (Vec ScriptCall)) (steps : AreLawfulSteps s rows) (g : List Event) (r : ℕ) (k : Kind)
+    (free : IsFree rows k) (next : IsFlatBeginning s (did g r k)) where
+  -- a free event conflicts with no other that may come next
+  calm : (p : ℕ) (a : Kind) → r ≢ p → IsFlatBeginning s (did g p a) → ¬ Conflict (event r k) (event p a)
+  calm p a apart first c = guarded_quiet s rows steps g r p k a next first apart c (free.guarded c.address c.first)
+
+  -- and so is another's than those that do
+  others : (p q : ℕ) (a b : Kind) → p ≢ q → IsFlatBeginning s (did g p a) → IsFlatBeginning s (did g q b)
+      → Conflict (event p a) (event q b) → r ≢ p
+  others p q a b apart first second conflict is =
+      let mine = subst (λ t. IsFlatBeginning s (did g t a)) (sym is) first in
+      let same = next_once s g r k a steps.lawful.but_uneven.one_each next mine in
+      calm q b (λ other. apart (sym is ∙ other)) second
+      (subst (λ c. Conflict (event r c) (event q b)) (sym same)
+      (subst (λ t. Conflict (event t a) (event q b)) (sym is) conflict))
+
+pub conflict_lasts : (s : Plan) (rows : List (Vec ScriptCall)) → AreLawfulSteps s rows → IsLasting s rows (MayConflict s)
+conflict_lasts s rows steps = record {
+  shared = λ g h same begins m. record {
+    p = m.p;
+    q = m.q;
+    a = m.a;
+    b = m.b;
+    first = same_next s g h m.p m.a same begins m.first;
+    second = same_next s g h m.q m.b same begins m.second;
+    apart = m.apart;
+    conflict = m.conflict;
+  };
+  stays = λ g r k free next m.
+      let one = others s rows steps g r k free next m.p m.q m.a m.b m.apart m.first m.second m.conflict in
+      let two = others s rows steps g r k free next m.q m.p m.b m.a (λ is. m.apart (sym is)) m.second m.first
+      (turned m.p m.q m.a m.b m.conflict) in
+      record {
+        p = m.p;
+        q = m.q;
+        a = m.a;
+        b = m.b;
+        first = next_after s g r m.p k m.a one (calm s rows steps g r k free next m.p m.a one m.first) next m.first;
+        second = next_after s g r m.q k m.b two (calm s rows steps g r k free next m.q m.b two m.second) next m.second;
+        apart = m.apart;
+        conflict = m.conflict;
+      };
+}

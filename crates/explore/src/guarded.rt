@@ -1,0 +1,288 @@
+//! Which words the script's text shows to be guarded: accesses of them that conflict are apart by a barrier, or made under
+//! one lock. Whatever the order of events, they don't race.
+//!
+//! It is the lockset discipline of Savage, Burrows, Nelson, Sobalvarro and Anderson (Eraser, TOCS 1997), for each phase
+//! between two barriers by itself, and of the text, so that it holds of every run.
+ghost use Rattle.std.specs.Prelude.{◌≡◌, ◌≢◌, ◌↔◌, ℕ, ◌+◌, ◌<◌, ◌≤◌, ◌^◌, ◌⊎◌, ◌&&◌, ◌||◌, ◌==◌, not, Bool, IsTrue, List, None, Some};
+ghost use Rattle.std.specs.Prelude.{IfOk, MatchOption, OnOk, cond, false, length, map, slice_get, slice_index_or, vec_len};
+ghost use Rattle.std.specs.BTreeMap.{get};
+ghost use Rattle.std.specs.Ordering.{nat_cmp};
+ghost use Rattle.lrc_script.specs.Lawful.{plan_addresses};
+ghost use Rattle.lrc_script.specs.Prelude.{plan_of};
+ghost use Rattle.explore.specs.declared.guarded.Users.{Users as TheUsers};
+ghost use Rattle.explore.specs.declared.guarded.WordUse.{WordUse as AWordUse};
+ghost use Rattle.explore.specs.Guarded.{AreGuarded, GuardedLaw, departs, is_held_after_step, step_address, step_stores};
+ghost use Rattle.explore.specs.Machines.{AreLawfulSteps};
+ghost use Rattle.explore.specs.Users.{AreNoted, AreRowsNoted, AreRowsWithin, AreSoundUses, AreStepsWithin, HasNoted, IsCleanUse, IsUser};
+ghost use Rattle.explore.specs.Users.{AreRowsFew, IsUsed, IsUsedAt, IsStepWithin, KeepUses};
+
+use crate::prefixes::ScriptCall;
+use journal::Kind;
+use lrc_script::script::Script;
+use std::alloc::{AllocError, Global};
+use std::collections::BTreeMap;
+
+/// Who accesses a word in one phase, and how.
+#[derive(Clone, Copy)]
+pub struct Users {
+    /// One of them.
+    processor: usize,
+    /// Whether there are others.
+    are_several: bool,
+    /// Whether one of them stores.
+    stores: bool,
+    /// The locks that are held at each access.
+    locks: [bool; 32],
+}
+
+/// Who accesses a word in each phase.
+#[derive(Drop)]
+pub struct WordUse {
+    phases: BTreeMap<usize, Users>,
+    /// Whether in each phase nobody else accesses it, nobody stores, or a lock is common to all.
+    is_guarded: bool,
+}
+
+/// The locks that are in both sets.
+fn common(first: &[bool; 32], second: &[bool; 32]) -> [bool; 32]
+    ensures { (l : ℕ) → IsTrue (slice_index_or result l false)
+        → IsTrue (slice_index_or first.now l false) × IsTrue (slice_index_or second.now l false) }
+{
+    let mut both = [false; 32];
+    for lock in 0..32 {
+        both[lock] = first[lock] & second[lock];
+    }
+    both
+}
+
+/// Whether there is a lock in the set.
+fn has_any(locks: &[bool; 32]) -> bool
+    ensures { IsTrue result → (l : ℕ) × IsTrue (slice_index_or locks.now l false) }
+{
+    for lock in 0..32 {
+        if locks[lock] {
+            return true;
+        }
+    }
+    false
+}
+
+impl Users {
+    /// These users and those.
+    fn join(self, other: Users) -> Users
+        ensures { (p : ℕ) (store : Bool) (held : ℕ → Bool) → IsUser self p store held ⊎ IsUser other p store held
+            → IsUser result p store held }
+    {
+        Users {
+            processor: self.processor,
+            are_several: self.are_several | other.are_several | (self.processor != other.processor),
+            stores: self.stores | other.stores,
+            locks: common(&self.locks, &other.locks),
+        }
+    }
+
+    /// Whether it is one user alone, or nobody stores, or a lock is common to all.
+    fn are_clean(&self) -> bool
+        ensures { IsTrue result → IsCleanUse self.now }
+    {
+        !self.are_several || !self.stores || has_any(&self.locks)
+    }
+}
+
+impl WordUse {
+    /// Nobody's.
+    fn new(alloc: Global) -> WordUse
+        ensures { (phase : ℕ) → get nat_cmp result.phases phase ≡ None }
+    {
+        WordUse {
+            phases: BTreeMap::new(alloc),
+            is_guarded: true,
+        }
+    }
+
+    /// The users in this phase, and these.
+    fn joined(&self, phase: usize, user: Users) -> Users
+        ensures old { (u : TheUsers) → get nat_cmp self.now.phases phase ≡ Some u → (p : ℕ) (store : Bool) (held : ℕ → Bool)
+            → IsUser u p store held → IsUser result p store held }
+        ensures new { (p : ℕ) (store : Bool) (held : ℕ → Bool) → IsUser user p store held
+            → IsUser result p store held }
+    {
+        match self.phases.get(&phase).copied() {
+            Some(users) => users.join(user),
+            None => user,
+        }
+    }
+
+    /// Takes note of users in this phase. The only error is running out of memory, after which this may be of no use.
+    fn note(&mut self, phase: usize, user: Users) -> Result<(), AllocError>
+        ensures { OnOk result (HasNoted self.old self.new phase user) }
+    {
+        let users = self.joined(phase, user);
+        self.is_guarded &= users.are_clean();
+        self.phases.insert(phase, users)?;
+        Ok(())
+    }
+}
+
+/// The address that a step accesses.
+fn address_of(step: ScriptCall) -> Option<usize>
+    ensures { result ≡ step_address step }
+{
+    match step {
+        ScriptCall::Call(Kind::Load(address, _) | Kind::Store(address, _)) => Some(address),
+        ScriptCall::Call(_) => None,
+        ScriptCall::Adds(address, _) => Some(address),
+    }
+}
+
+/// Whether it stores.
+fn stores(step: ScriptCall) -> bool
+    ensures { result ≡ step_stores step }
+{
+    matches!(
+        step,
+        ScriptCall::Call(Kind::Store(_, _)) | ScriptCall::Adds(_, _)
+    )
+}
+
+/// Whether it departs from the barrier.
+fn departs(step: ScriptCall) -> bool
+    ensures { result ≡ departs step }
+{
+    matches!(step, ScriptCall::Call(Kind::Depart))
+}
+
+/// Takes note of the lock that the step takes or gives up.
+fn hold(held: &mut [bool; 32], step: ScriptCall)
+    requires { (size : ℕ) × IsStepWithin size step }
+    ensures held { (l : ℕ) → slice_index_or held.new l false
+        ≡ is_held_after_step l (slice_index_or held.old l false) step }
+    ensures long { length held.new ≡ length held.old }
+{
+    match step {
+        ScriptCall::Call(Kind::Acquire(lock)) => held[lock] = true,
+        ScriptCall::Call(Kind::Release(lock)) => held[lock] = false,
+        _ => {}
+    }
+}
+
+/// The phase after the step.
+fn phase_after(phase: usize, step: ScriptCall) -> usize
+    requires { phase < 2 ^ 20 }
+    ensures { result ≡ phase + cond (departs step) 1 0 }
+{
+    if departs(step) { phase + 1 } else { phase }
+}
+
+/// Takes note of what the processor's step accesses in this phase, with these locks held. The only error is running out of
+/// memory, after which this may be of no use.
+fn note_step(
+    words: &mut Vec<WordUse>,
+    processor: usize,
+    phase: usize,
+    locks: &[bool; 32],
+    step: ScriptCall,
+) -> Result<(), AllocError>
+    requires { IsStepWithin (vec_len words.old) step }
+    ensures keeps { OnOk result (KeepUses words.old.items words.new.items) }
+    ensures noted { OnOk result ((held : ℕ → Bool) → ((l : ℕ) → slice_index_or locks.now l false ≡ held l) → (w : ℕ)
+        → step_address step ≡ Some w → IsUsedAt words.new.items w phase processor (step_stores step) held) }
+{
+    if let Some(address) = address_of(step) {
+        let user = Users {
+            processor,
+            are_several: false,
+            stores: stores(step),
+            locks: *locks,
+        };
+        words[address].note(phase, user)?;
+    }
+    Ok(())
+}
+
+/// Takes note of what a processor's steps access. The only error is running out of memory, after which this may be of no use.
+fn note_row(
+    words: &mut Vec<WordUse>,
+    processor: usize,
+    row: &[ScriptCall],
+) -> Result<(), AllocError>
+    requires within { AreStepsWithin (vec_len words.old) row.now }
+    requires few { length row.now < 2 ^ 20 }
+    ensures keeps { OnOk result (KeepUses words.old.items words.new.items) }
+    ensures noted { OnOk result (AreNoted words.new.items processor row.now (length row.now)) }
+{
+    let mut phase = 0;
+    let mut held = [false; 32];
+    for step in row {
+        note_step(words, processor, phase, &held, *step)?;
+        phase = phase_after(phase, *step);
+        hold(&mut held, *step);
+    }
+    Ok(())
+}
+
+/// So many words that nobody uses. The only error is running out of memory.
+fn unused(alloc: Global, size: usize) -> Result<Vec<WordUse>, AllocError>
+    ensures long { IfOk result (λ v. vec_len v ≡ size) }
+    ensures sound { IfOk result (λ v. AreSoundUses v.items) }
+{
+    let mut words = Vec::new(alloc);
+    for _ in 0..size {
+        words.push(WordUse::new(alloc))?;
+    }
+    Ok(words)
+}
+
+/// Who uses each of the words. The only error is running out of memory.
+fn uses(alloc: Global, size: usize, steps: &[Vec<ScriptCall>]) -> Result<Vec<WordUse>, AllocError>
+    requires within { AreRowsWithin size steps.now }
+    requires few { AreRowsFew steps.now }
+    ensures long { IfOk result (λ v. vec_len v ≡ size) }
+    ensures noted { IfOk result (λ v. AreRowsNoted v.items steps.now (length steps.now)) }
+    ensures sound { IfOk result (λ v. AreSoundUses v.items) }
+{
+    let mut words = unused(alloc, size)?;
+    for processor in 0..steps.len() {
+        note_row(&mut words, processor, &steps[processor])?;
+    }
+    Ok(words)
+}
+
+/// Of each word whether it is guarded. The only error is running out of memory.
+fn flags_of(alloc: Global, words: &[WordUse]) -> Result<Vec<bool>, AllocError>
+    ensures { IfOk result (λ v. v.items ≡ map (λ (x : AWordUse). x.is_guarded) words.now) }
+{
+    let mut flags = Vec::new(alloc);
+    for word in words {
+        flags.push(word.is_guarded)?;
+    }
+    Ok(flags)
+}
+
+/// Of each word of the script, whether the text shows it to be guarded. The only error is running out of memory.
+pub fn guarded_words(
+    alloc: Global,
+    script: &Script,
+    steps: &[Vec<ScriptCall>],
+) -> Result<Vec<bool>, AllocError>
+    requires { AreLawfulSteps (plan_of script.now) steps.now }
+    ensures long { IfOk result (λ v. vec_len v ≡ plan_addresses (plan_of script.now)) }
+    ensures guarded { IfOk result (λ v. AreGuarded steps.now v.items) }
+{
+    let words = uses(alloc, script.pages * script.words, steps)?;
+    flags_of(alloc, &words)
+}
+
+/// Whether all of these hold.
+pub fn are_all(words: &[bool]) -> bool
+    ensures { IsTrue result → (w : ℕ) → w < length words.now → IsTrue (slice_index_or words.now w false) }
+{
+    words.iter().all(|is| *is)
+}
+
+/// A script of which all words are guarded has no race, whatever the order of events. Two accesses that may both come next
+/// are in one phase, since each processor has arrived as often as any has departed; and a lock has one holder. So no two of
+/// them conflict, and by the law of neighbours no beginning races.
+pub fn guarded_law()
+    ensures { GuardedLaw }
+{}
