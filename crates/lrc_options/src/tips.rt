@@ -7,7 +7,7 @@ use clap::{Command, Error};
 use std::alloc::{AllocError, Global};
 
 /// Each command with each option that it has. Of the commands that have an option the first one is named.
-const OPTIONS: [(&str, &str); 15] = [
+const OPTIONS: [(&str, &str); 17] = [
     ("run", "--tries"),
     ("run", "--lock"),
     ("run", "--journal"),
