@@ -1,11 +1,17 @@
 use Rattle.std.proofs.Common.{◌++◌, ap, sym, subst, ◌∙◌}
-use Rattle.lrc_explore.specs.Texts.{IsHangText}
+use Rattle.std.specs.Prelude.{vec_len}
+use Rattle.lrc_explore.specs.Texts.{IsHangText, outcomes_line, states_line}
 use Rattle.lrc_explore.proofs.rendering.quiet_text.Goals as goal
 
 pub returns : goal.returns
-returns c = (
-  c.deref-2.result.now,
-  c.deref-3.result.now,
-  subst (IsHangText c.args.explored.now.hanging) (sym c.deref-3.ensures.value) c.in_ok-hangs.ensures,
-  c.in_ok-put_quiet.ensures ∙ ap (λ t. t ++ _) c.new-text.ensures.items,
-)
+returns c =
+    let explored = c.args.explored.now in
+    let outcomes = c.deref-2.result.now in
+    let hangs = c.deref-3.result.now in
+    let told = c.args.verdict.now ++ outcomes_line (vec_len explored.outcomes) explored.are_all ++ outcomes ++ hangs
+    ++ states_line explored.states in (
+      outcomes,
+      hangs,
+      subst (IsHangText explored.hanging) (sym c.deref-3.ensures.value) c.in_ok-hangs.ensures,
+      c.in_ok-put_quiet.ensures ∙ ap (λ t. t ++ told) c.new-text.ensures.items,
+    )
