@@ -1,4 +1,4 @@
-use Rattle.std.proofs.Common.{false, length, refl, arith}
+use Rattle.std.proofs.Common.{length, refl, arith}
 use Rattle.std.proofs.lemmas.Option.{slice_get_read, slice_get_within}
 use Rattle.lrc_sample.proofs.Tallies.{none_more}
 use Rattle.lrc_sample.proofs.tally.find.Goals as goal
