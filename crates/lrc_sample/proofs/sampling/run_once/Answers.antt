@@ -10,7 +10,7 @@ returns-in-Ok g c =
     let s = plan_of c.args.script.now in
     let made = c.requires.made in
     let o = c.in_ok-outcome.outcome in
-    let turns = c.in_ok-schedule.schedule.turns.items in
+    let turns = c.in_ok-schedule.field-0.schedule.turns.items in
     let one = c.in_ok-outcome.ensures (scheduled s turns) c.in_ok-schedule.ensures in
     made_next s (run_of c.args.seed) o turns c.args.lines.now.items c.note.new.lines.items made one
     (c.in-Ok.ensures.tally made.outcomes made.noted (sym made.are.many))

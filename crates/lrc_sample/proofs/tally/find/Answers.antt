@@ -1,4 +1,4 @@
-use Rattle.std.proofs.Common.{false, length, refl, arith}
+use Rattle.std.proofs.Common.{length, refl, arith}
 use Rattle.std.proofs.lemmas.Option.{slice_get_read, slice_get_within}
 use Rattle.lrc_sample.proofs.Tallies.{none_more}
 use Rattle.lrc_sample.proofs.tally.find.Goals as goal
@@ -7,8 +7,8 @@ pub loop-place-preserved : goal.loop-place-preserved
 loop-place-preserved c =
     let xs = c.args.lines.now in
     let n = c.loop-place.place in
-    let item = c.loop-place-item.result in
-    let at = slice_get_read xs (length xs) n item refl c.loop-place-test.true c.loop-place-item.is in
+    let item = c.index-lines-place.result in
+    let at = slice_get_read xs (length xs) n item refl c.loop-place-test.true c.index-lines-place.is in
     none_more xs c.args.outcome.now n item c.loop-place.invariant at
     (λ e. let yes = c.is_same.ensures.1 e in let isnt = c.if-is_same.false in absurd (cc))
 
@@ -16,8 +16,8 @@ pub returns-then-is_same : goal.returns-then-is_same
 returns-then-is_same c =
     let xs = c.args.lines.now in
     let n = c.loop-place.place in
-    let item = c.loop-place-item.result in
-    let at = slice_get_read xs (length xs) n item refl c.loop-place-test.true c.loop-place-item.is in
+    let item = c.index-lines-place.result in
+    let at = slice_get_read xs (length xs) n item refl c.loop-place-test.true c.index-lines-place.is in
     (item, (at, c.is_same.ensures.0 c.if-is_same.true))
 
 pub returns : goal.returns
