@@ -1,4 +1,3 @@
-use Rattle.std.proofs.Common.{codes}
 use Rattle.clap.specs.Words.{found_of}
 use Rattle.lrc_options.proofs.CommandLine.{model_read, no_model}
 use Rattle.lrc_options.proofs.command_line.model_of.Goals as goal
