@@ -1,5 +1,5 @@
 //! Why a command that studies a script or a trace ends without an answer.
-ghost use Rattle.std.specs.Prelude.{◌≡◌, ◌≢◌, ◌⊎◌};
+ghost use Rattle.std.specs.Prelude.{◌≡◌, ◌≢◌};
 ghost use Rattle.lrc_check.specs.Prelude.{IsTraces};
 ghost use Rattle.lrc_check.specs.Prelude.{IsBeforeOutput as IsBeforeText};
 ghost use Rattle.lrc_explain.specs.declared.fault.ExplainFault.TheVariants as explain;
