@@ -28,7 +28,7 @@ fn most() -> Sizes
     }
 }
 
-/// The history has 2^20 events and is faithful, and its first race is this.
+/// The history has 2^20 events and is faithful, and the nearest of its first races is this.
 fn is_faithful<R: Abort + AllocGlobal>(
     rt: &R,
     events: &[Event],
@@ -110,11 +110,11 @@ fn pairs(alloc: Global, addresses: usize) -> Result<Vec<Event>, AllocError> {
 /// All race at all addresses.
 #[test]
 fn racy(rt: HostRuntime) -> Result<(), Fail> {
-    is_faithful(&rt, &pairs(rt.alloc(), 4096)?, Some((0, 2)))
+    is_faithful(&rt, &pairs(rt.alloc(), 4096)?, Some((1, 2)))
 }
 
 /// All race at one address.
 #[test]
 fn one_address(rt: HostRuntime) -> Result<(), Fail> {
-    is_faithful(&rt, &pairs(rt.alloc(), 1)?, Some((0, 2)))
+    is_faithful(&rt, &pairs(rt.alloc(), 1)?, Some((1, 2)))
 }
