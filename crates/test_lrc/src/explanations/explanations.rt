@@ -559,7 +559,7 @@ fn leading<R: Abort + AllocGlobal>(
     Ok(())
 }
 
-/// A way goes over each processor by the first of its events that is reached. None leads backwards, or to what was not
+/// A way goes over each processor by the first of its events that is reached, and by the last hand-overs. None leads backwards, or to what was not
 /// heard of.
 #[test]
 fn ways(rt: HostRuntime) -> Result<(), Fail> {
@@ -598,7 +598,7 @@ fn ways(rt: HostRuntime) -> Result<(), Fail> {
             &by_lock,
             &[
                 (0, 3, Some(&[0, 1, 2, 3])),
-                (0, 7, Some(&[0, 1, 6, 7])),
+                (0, 7, Some(&[0, 1, 2, 4, 6, 7])),
                 (3, 7, Some(&[3, 4, 6, 7])),
                 (1, 2, Some(&[1, 2])),
                 (0, 5, Some(&[0, 5])),
