@@ -6,11 +6,11 @@ use Rattle.journal.specs.RacesFrom.{RaceFreeFrom, IsFirstRaceFrom}
 use Rattle.journal.specs.Traffic.{messages, records, words}
 use Rattle.bench.specs.declared.work.Work.{Work}
 use Rattle.bench.specs.declared.work.Work.TheVariants as work
-use Rattle.bench.specs.declared.work.Answer.{Answer}
-use Rattle.bench.specs.declared.work.Answer.TheVariants.{Events, FirstRace, Replays, Traffic}
+use Rattle.bench.specs.declared.work.WorkAnswer.{WorkAnswer}
+use Rattle.bench.specs.declared.work.WorkAnswer.TheVariants.{Events, FirstRace, Replays, Traffic}
 
 -- the answer is of this work on the journal
-abbrev pub IsAnswerOf : Work → Log → Answer → Type 0
+abbrev pub IsAnswerOf : Work → Log → WorkAnswer → Type 0
 IsAnswerOf work.FirstRace j (FirstRace o) =
     MatchOption o (RaceFreeFrom j.base j.events) (λ r. IsFirstRaceFrom j.base j.events r.0 r.1)
 IsAnswerOf work.Replay j (Replays r) = IsTrue r ↔ replays j.base.memory j.events
@@ -24,10 +24,10 @@ IsAnswerOf work.Copy j (Events n) = n ≡ length j.events
 IsAnswerOf _ j _ = ⊥
 
 -- the word that names the work
-abbrev pub name_of : Work → List ℕ
-name_of work.Build = codes "build"
-name_of work.Append = codes "append"
-name_of work.FirstRace = codes "first_race"
-name_of work.Replay = codes "replay"
-name_of work.Traffic = codes "traffic"
-name_of work.Copy = codes "copy"
+abbrev pub work_name : Work → List ℕ
+work_name work.Build = codes "build"
+work_name work.Append = codes "append"
+work_name work.FirstRace = codes "first_race"
+work_name work.Replay = codes "replay"
+work_name work.Traffic = codes "traffic"
+work_name work.Copy = codes "copy"

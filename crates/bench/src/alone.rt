@@ -31,7 +31,7 @@ pub fn grants<R: Wait>(rt: &R, alloc: Global, times: usize) -> Result<u64> {
 
 /// What each of sixteen processors does until its open block is full.
 #[derive(Clone, Copy)]
-pub enum Access {
+pub enum TimedAccess {
     Nothing,
     Load,
     Store,
@@ -59,16 +59,16 @@ fn stores(processor: &mut Processor<BookLock>) -> Result<u32, Refused> {
 }
 
 /// Makes the accesses, and answers the words read.
-fn fill_block(processor: &mut Processor<BookLock>, access: Access) -> Result<u32, Refused> {
+fn fill_block(processor: &mut Processor<BookLock>, access: TimedAccess) -> Result<u32, Refused> {
     match access {
-        Access::Nothing => Ok(0),
-        Access::Load => loads(processor),
-        Access::Store => stores(processor),
+        TimedAccess::Nothing => Ok(0),
+        TimedAccess::Load => loads(processor),
+        TimedAccess::Store => stores(processor),
     }
 }
 
 /// A new cluster of sixteen processors, of which each does so on its own.
-fn fill_blocks(alloc: Global, access: Access) -> Result<u32, Refused> {
+fn fill_blocks(alloc: Global, access: TimedAccess) -> Result<u32, Refused> {
     let (_cluster, mut all) = Cluster::<BookLock>::new(alloc, 16, 1, 64, 0, 0)?;
     let mut words = 0;
     for processor in &mut all {
@@ -78,7 +78,7 @@ fn fill_blocks(alloc: Global, access: Access) -> Result<u32, Refused> {
 }
 
 /// Makes so many clusters of sixteen processors, which do so, 4096 accesses in all, and answers the words read.
-pub fn accesses(alloc: Global, access: Access, times: usize) -> Result<u64> {
+pub fn accesses(alloc: Global, access: TimedAccess, times: usize) -> Result<u64> {
     let mut words = 0;
     for _ in 0..times {
         words |= fill_blocks(alloc, access)?;

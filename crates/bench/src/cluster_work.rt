@@ -1,7 +1,7 @@
 //! What is measured of the cluster, of its lock and of scripts.
 ghost use Rattle.std.specs.Prelude.{◌≤◌, ◌^◌};
 
-use crate::alone::{Access, accesses, fetches, grants};
+use crate::alone::{TimedAccess, accesses, fetches, grants};
 use crate::scripts::{OnScript, do_on_script};
 use crate::threads::{Row, Tickets, entries, tasks};
 use anyhow::Result;
@@ -24,7 +24,7 @@ pub enum ClusterWork {
     /// The same of the array lock.
     Row,
     /// A cluster of sixteen processors, each with 256 of these accesses besides.
-    Accesses(Access),
+    Accesses(TimedAccess),
     /// Ask, take and release of a free lock.
     Grant,
     /// What each thread does with its processor.
@@ -41,9 +41,9 @@ impl ClusterWork {
         Some(match name {
             "tickets" => ClusterWork::Tickets,
             "row" => ClusterWork::Row,
-            "blank" => ClusterWork::Accesses(Access::Nothing),
-            "load" => ClusterWork::Accesses(Access::Load),
-            "store" => ClusterWork::Accesses(Access::Store),
+            "blank" => ClusterWork::Accesses(TimedAccess::Nothing),
+            "load" => ClusterWork::Accesses(TimedAccess::Load),
+            "store" => ClusterWork::Accesses(TimedAccess::Store),
             "grant" => ClusterWork::Grant,
             "hand_over" => ClusterWork::Threads(ADD),
             "barrier" => ClusterWork::Threads(Task::Meet),

@@ -11,7 +11,7 @@ mod threads;
 mod work;
 
 use crate::cluster_work::{order_of, perform};
-use crate::work::{Answer, journal_order_of, measure};
+use crate::work::{WorkAnswer, journal_order_of, measure};
 use anyhow::Result;
 use std::io;
 use std::process::ExitCode;
@@ -20,13 +20,13 @@ use std::sync::Wait;
 use std::thread::Threads;
 
 /// Prints a journal's answer.
-fn print(rt: &HostRuntime, answer: Answer) -> io::Result<()> {
+fn print(rt: &HostRuntime, answer: WorkAnswer) -> io::Result<()> {
     match answer {
-        Answer::Events(events) => println!(rt; "{events}"),
-        Answer::FirstRace(None) => println!(rt; "none"),
-        Answer::FirstRace(Some((first, second))) => println!(rt; "{first} {second}"),
-        Answer::Replays(replays) => println!(rt; "{replays}"),
-        Answer::Traffic(traffic) => {
+        WorkAnswer::Events(events) => println!(rt; "{events}"),
+        WorkAnswer::FirstRace(None) => println!(rt; "none"),
+        WorkAnswer::FirstRace(Some((first, second))) => println!(rt; "{first} {second}"),
+        WorkAnswer::Replays(replays) => println!(rt; "{replays}"),
+        WorkAnswer::Traffic(traffic) => {
             println!(rt;
                 "{} {} {}",
                 traffic.messages, traffic.records, traffic.words

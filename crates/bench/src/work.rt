@@ -1,6 +1,6 @@
 //! What is measured of a journal.
 ghost use Rattle.std.specs.Prelude.{◌≡◌, ◌^◌, ◌≤◌, IfOk, IfSome};
-ghost use Rattle.bench.specs.Answers.{IsAnswerOf, name_of};
+ghost use Rattle.bench.specs.Answers.{IsAnswerOf, work_name};
 
 use crate::journals::build;
 use journal::{Journal, MOST_HELD, Traffic};
@@ -20,7 +20,7 @@ pub enum Work {
 impl Work {
     /// The work of this name.
     pub fn named(name: &str) -> Option<Work>
-        ensures { IfSome result (λ w. name.now ≡ name_of w) }
+        ensures { IfSome result (λ w. name.now ≡ work_name w) }
     {
         match name {
             "build" => Some(Work::Build),
@@ -36,7 +36,7 @@ impl Work {
 
 /// What the work gave.
 #[derive(Clone, Copy)]
-pub enum Answer {
+pub enum WorkAnswer {
     Events(usize),
     FirstRace(Option<(usize, usize)>),
     Replays(bool),
@@ -44,16 +44,16 @@ pub enum Answer {
 }
 
 /// Does the work once.
-fn do_once(alloc: Global, work: Work, journal: &Journal) -> Result<Answer, AllocError>
+fn do_once(alloc: Global, work: Work, journal: &Journal) -> Result<WorkAnswer, AllocError>
     ensures { IfOk result (IsAnswerOf work journal.now) }
 {
     match work {
-        Work::Build => Ok(Answer::Events(journal.len())),
-        Work::Append => Ok(Answer::Events(build(alloc, journal.len())?.len())),
-        Work::FirstRace => Ok(Answer::FirstRace(journal.first_race()?)),
-        Work::Replay => Ok(Answer::Replays(journal.replay()?.is_some())),
-        Work::Traffic => Ok(Answer::Traffic(journal.traffic())),
-        Work::Copy => Ok(Answer::Events(journal.copy()?.len())),
+        Work::Build => Ok(WorkAnswer::Events(journal.len())),
+        Work::Append => Ok(WorkAnswer::Events(build(alloc, journal.len())?.len())),
+        Work::FirstRace => Ok(WorkAnswer::FirstRace(journal.first_race()?)),
+        Work::Replay => Ok(WorkAnswer::Replays(journal.replay()?.is_some())),
+        Work::Traffic => Ok(WorkAnswer::Traffic(journal.traffic())),
+        Work::Copy => Ok(WorkAnswer::Events(journal.copy()?.len())),
     }
 }
 
@@ -63,7 +63,7 @@ pub fn do_times(
     work: Work,
     journal: &Journal,
     more: usize,
-) -> Result<Answer, AllocError>
+) -> Result<WorkAnswer, AllocError>
     ensures { IfOk result (IsAnswerOf work journal.now) }
 {
     for _ in 0..more {
@@ -97,7 +97,7 @@ pub fn journal_order_of(words: &[String]) -> Option<JournalOrder> {
 }
 
 /// Builds the journal, does the work, and gives the last answer.
-pub fn measure(alloc: Global, order: JournalOrder) -> Result<Answer, AllocError> {
+pub fn measure(alloc: Global, order: JournalOrder) -> Result<WorkAnswer, AllocError> {
     let journal = build(alloc, order.events)?;
     do_times(alloc, order.work, &journal, order.more)
 }

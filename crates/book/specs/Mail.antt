@@ -7,7 +7,7 @@ use Rattle.journal.specs.Sizes.{Sizes}
 use Rattle.journal.specs.WellFormed.{Allowed}
 use Rattle.journal.specs.Brings.{Brings}
 use Rattle.transit.specs.Letters.{Letter}
-use Rattle.transit.specs.Letters.Kind.{grant, departure}
+use Rattle.transit.specs.Letters.LetterKind.{grant, departure}
 use Rattle.transit.specs.Letters
 use Rattle.book.specs.Stamps.{IsStamp}
 

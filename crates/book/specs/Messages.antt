@@ -6,7 +6,7 @@ use Rattle.journal.specs.declared.event.Kind.TheVariants.{Await}
 use Rattle.interval.specs.SentIntervals.{SentRecord}
 use Rattle.interval.specs.Closings.{Closings, closings_between}
 use Rattle.transit.specs.Letters.{Letter}
-use Rattle.transit.specs.Letters.Kind.{signal}
+use Rattle.transit.specs.Letters.LetterKind.{signal}
 use Rattle.book.specs.State.{State, time_of}
 
 -- the signal of a flag with this time, to one with that timestamp

@@ -19,7 +19,7 @@ use Rattle.lockq.specs.LockQueues.{unheld_lock, lock_at, with_lock, asked_lock, 
 use Rattle.barrier.specs.Episodes.{Episodes, unmet_episodes, episode_full, episode_with_arrival, episode_arrived, episode_departed}
 use Rattle.transit.specs.Letters.{Letter, letter}
 use Rattle.transit.specs.declared.message.Message.{Message}
-use Rattle.transit.specs.Letters.Kind.{grant, departure}
+use Rattle.transit.specs.Letters.LetterKind.{grant, departure}
 use Rattle.journal.specs.DidEvent.{event}
 use Rattle.book.specs.State.{State, time_of}
 use Rattle.book.specs.Messages.{message_for}

@@ -16,7 +16,7 @@ use Rattle.cluster.specs.Clusters.{SharedCluster}
 use Rattle.cluster.specs.Taking.{awaited_event, IsTakingCall}
 use Rattle.cluster.specs.Waiting.{IsWaitingCall}
 use Rattle.cluster.specs.declared.waited.Waited.{Waited}
-use Rattle.example_jacobi.specs.Workers.{HasLoaded, IsAtWork, IsSameWorker, MayStore, Placed, StoresAreOwn, Waits, Works, placed}
+use Rattle.example_jacobi.specs.Workers.{HasLoaded, IsAtWork, IsSameWorker, MayStore, Placed, StoresAreOwn, Waits, Works, placed_local}
 
 -- no store is where it may not be
 pub own_none : StoresAreOwn []
@@ -163,8 +163,8 @@ works_fetch c m n page (Ok x) at err ok = subst (Works c m) (sym ok.after)
 works_fetch c m n page (Err e) at err ok = works_same c m n at err
 
 -- a worker whose processor made a call
-pub same_by : (old mid : Placed) (c : SharedCluster) (m n : Local) → IsSameWorker old mid → placed c m ≡ mid → Works c m n
-    → IsSameWorker old (placed c n)
+pub same_by : (old mid : Placed) (c : SharedCluster) (m n : Local) → IsSameWorker old mid → placed_local c m ≡ mid → Works c m n
+    → IsSameWorker old (placed_local c n)
 same_by old mid c m n same is works = record {
   cluster = ap (λ (x : Placed). x.cluster) is ∙ same.cluster;
   number = works.number ∙ ap (λ (x : Placed). x.processor.number) is ∙ same.number;

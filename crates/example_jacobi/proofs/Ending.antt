@@ -25,7 +25,7 @@ use Rattle.journal.proofs.FromBase.Whole.{same_law}
 use Rattle.cluster.specs.Copies.Local.{Local, new_local}
 use Rattle.cluster.specs.Clusters.{IsNewCluster, SharedCluster}
 use Rattle.cluster.specs.Finishing.{AreAllToFinish, IsFinished}
-use Rattle.example_jacobi.specs.declared.running.Fault.{Fault}
+use Rattle.example_jacobi.specs.declared.running.JacobiFault.{JacobiFault}
 use Rattle.example_jacobi.specs.Runs.{AreAtWork, IsAtWorkAs, IsRun, plate}
 use Rattle.example_jacobi.specs.Workers.{HasLoaded, IsAtWork, StoresAreOwn, Works}
 use Rattle.example_jacobi.proofs.Calling.{own_none}
@@ -35,9 +35,9 @@ pub new_at_work : (c : SharedCluster) (p : ℕ) → IsAtWork c (new_local c.lock
 new_at_work c p = record { lock_is = refl; sizes_are = refl; stores = own_none; waits = λ a v e. cc }
 
 -- all processors came back from their threads
-pub all_back : (c : SharedCluster) (jobs ms : List Local) (outcomes : List (Result Local Fault)) → IsNewCluster c jobs
+pub all_back : (c : SharedCluster) (jobs ms : List Local) (outcomes : List (Result Local JacobiFault)) → IsNewCluster c jobs
     → length outcomes ≡ length jobs → map Ok ms ≡ outcomes
-    → ((k : ℕ) (r : Result Local Fault) → k < length jobs → (job : Local) × (job ≡ get_or jobs k job)
+    → ((k : ℕ) (r : Result Local JacobiFault) → k < length jobs → (job : Local) × (job ≡ get_or jobs k job)
     × IfOk (get_or outcomes k r) (Works c job))
     → AreAtWork c ms
 all_back c jobs ms outcomes new long are gives = record { all = many ∙ new.all; each = each }
@@ -52,10 +52,10 @@ all_back c jobs ms outcomes new long are gives = record { all = many ∙ new.all
         let job = gives p (Ok m) less in
         let is = new.each p job.0 (slice_get_read jobs (length jobs) p job.0 refl less job.1) in
         let there : slice_get outcomes p ≡ Some (Ok m) =
-        subst (λ (os : List (Result Local Fault)). slice_get os p ≡ Some (Ok m)) are
+        subst (λ (os : List (Result Local JacobiFault)). slice_get os p ≡ Some (Ok m)) are
         (slice_get-map Ok ms p ∙ ap (option_map Ok) at) in
         let here = get_or_from_slice_get outcomes p (Ok m) (Ok m) there in
-        let works : Works c job.0 m = subst (λ (r : Result Local Fault). IfOk r (Works c job.0)) here job.2 in
+        let works : Works c job.0 m = subst (λ (r : Result Local JacobiFault). IfOk r (Works c job.0)) here job.2 in
         record { at_work = works.at_work; number_is = works.number ∙ ap (λ (l : Local). l.number) is }
 
 -- one of them, where it is there

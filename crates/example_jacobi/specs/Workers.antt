@@ -46,8 +46,8 @@ pub record Placed : Type 0 where
   pub cluster : SharedCluster
   pub processor : Local
 
-abbrev pub placed : SharedCluster → Local → Placed
-placed c m = record { cluster = c; processor = m }
+abbrev pub placed_local : SharedCluster → Local → Placed
+placed_local c m = record { cluster = c; processor = m }
 
 -- it works at the same cluster, with the same number
 pub record IsSameWorker (old new : Placed) : Type 0 where

@@ -2,7 +2,7 @@
 ghost use Rattle.std.specs.Prelude.{◌≡◌, ◌+◌, ◌*◌, ◌/◌, ◌%◌, ◌<◌, IfOk, sum};
 ghost use Rattle.example_jacobi.specs.Prelude.{IsAtWork, IsSameWorker, Works};
 
-use crate::running::Fault;
+use crate::running::JacobiFault;
 use crate::worker::Worker;
 use cluster::{BookLock, Cluster, Processor, Refused};
 use std::sync::Wait;
@@ -88,7 +88,7 @@ impl<'a, R: Wait> Worker<'a, R> {
     }
 
     /// All of its part. They meet after each sweep, so whatever one loads of a row was stored in an earlier sweep.
-    fn cool(&mut self) -> Result<(), Fault>
+    fn cool(&mut self) -> Result<(), JacobiFault>
         requires { self.old.processor.number < 4 }
         ensures { IsSameWorker self.old self.new }
     {
@@ -114,7 +114,7 @@ pub(crate) fn work<R: Wait>(
     rt: &R,
     cluster: &Cluster<BookLock>,
     processor: Processor<BookLock>,
-) -> Result<Processor<BookLock>, Fault>
+) -> Result<Processor<BookLock>, JacobiFault>
     requires at_work { IsAtWork cluster.now processor }
     requires number { processor.number < 4 }
     ensures { IfOk result (λ worked. Works cluster.now processor worked) }

@@ -12,7 +12,7 @@ use thiserror::Error;
 
 /// Why a run fails.
 #[derive(Clone, Copy, Debug, Error)]
-pub enum Fault {
+pub enum JacobiFault {
     /// A call was refused, and its caller can do nothing about it; or memory was refused.
     #[error("{0}")]
     Refused(#[from] Refused),
@@ -24,9 +24,9 @@ pub enum Fault {
     Race(usize, usize),
 }
 
-impl From<AllocError> for Fault {
-    fn from(error: AllocError) -> Fault {
-        Fault::Refused(Refused::from(error))
+impl From<AllocError> for JacobiFault {
+    fn from(error: AllocError) -> JacobiFault {
+        JacobiFault::Refused(Refused::from(error))
     }
 }
 
@@ -35,7 +35,7 @@ impl From<AllocError> for Fault {
 ///
 /// [`Race`](Fault::Race) where the journal has a race; [`Stuck`](Fault::Stuck) where a processor waited in vain and
 /// none was refused; else [`Refused`](Fault::Refused), of the least processor with one.
-pub fn run<R: Threads + Wait + Sync>(rt: &R, alloc: Global) -> Result<(u32, Journal), Fault>
+pub fn run<R: Threads + Wait + Sync>(rt: &R, alloc: Global) -> Result<(u32, Journal), JacobiFault>
     ensures { IfOk result (λ r. IsRun plate r.0 r.1) }
 {
     // A page for each row of both grids, and one for the total; one lock, and no flags.
@@ -44,7 +44,7 @@ pub fn run<R: Threads + Wait + Sync>(rt: &R, alloc: Global) -> Result<(u32, Jour
     let total = processors[0].load(TOTAL)?;
     let journal = cluster.finish(processors);
     match journal.first_race()? {
-        Some((first, second)) => Err(Fault::Race(first, second)),
+        Some((first, second)) => Err(JacobiFault::Race(first, second)),
         None => Ok((total, journal)),
     }
 }
@@ -55,7 +55,7 @@ fn work_all<R: Threads + Wait + Sync>(
     alloc: Global,
     cluster: &Cluster<BookLock>,
     processors: Vec<Processor<BookLock>>,
-) -> Result<Vec<Processor<BookLock>>, Fault>
+) -> Result<Vec<Processor<BookLock>>, JacobiFault>
     requires new { IsNewCluster cluster.now processors.items }
     requires four { cluster.now.sizes.processors ≡ 4 }
     ensures { IfOk result (λ ms. AreAtWork cluster.now ms.items) }
@@ -63,7 +63,7 @@ fn work_all<R: Threads + Wait + Sync>(
     let outcomes = map_vec(
         rt,
         processors,
-        &|processor: Processor<BookLock>| -> Result<Processor<BookLock>, Fault>
+        &|processor: Processor<BookLock>| -> Result<Processor<BookLock>, JacobiFault>
             requires at_work { IsAtWork cluster.now processor }
             requires number { processor.number < 4 }
             ensures { IfOk result (λ worked. Works cluster.entry.now processor worked) }
@@ -74,7 +74,10 @@ fn work_all<R: Threads + Wait + Sync>(
 
 /// What came back from all threads, in their order, or why one brought nothing. Stuck is told only where no other
 /// fault is: it comes of waiting for one that was refused.
-fn gathered<X: Drop>(alloc: Global, outcomes: Vec<Result<X, Fault>>) -> Result<Vec<X>, Fault>
+fn gathered<X: Drop>(
+    alloc: Global,
+    outcomes: Vec<Result<X, JacobiFault>>,
+) -> Result<Vec<X>, JacobiFault>
     ensures { IfOk result (λ all. map Ok all.items ≡ outcomes.items) }
 {
     if let Some(fault) = first_fault(outcomes.as_slice()) {
@@ -88,10 +91,10 @@ fn gathered<X: Drop>(alloc: Global, outcomes: Vec<Result<X, Fault>>) -> Result<V
 }
 
 /// The first fault but for Stuck.
-fn first_fault<X>(outcomes: &[Result<X, Fault>]) -> Option<Fault> {
+fn first_fault<X>(outcomes: &[Result<X, JacobiFault>]) -> Option<JacobiFault> {
     for outcome in outcomes {
         match outcome {
-            Ok(_) | Err(Fault::Stuck) => (),
+            Ok(_) | Err(JacobiFault::Stuck) => (),
             Err(fault) => return Some(*fault),
         }
     }

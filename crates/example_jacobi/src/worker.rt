@@ -1,7 +1,7 @@
 //! A processor on its thread: the calls, and what one does about their refusals.
 ghost use Rattle.example_jacobi.specs.Prelude.{IsSameWorker, MayStore};
 
-use crate::running::Fault;
+use crate::running::JacobiFault;
 use cluster::{BookLock, Cluster, Processor, Refused, Waited};
 use std::marker::Model;
 use std::sync::Wait;
@@ -15,11 +15,11 @@ pub(crate) struct Worker<'a, R> {
 }
 
 impl<'a, R> Model for Worker<'a, R> {
-    ghost use Rattle.example_jacobi.specs.Workers.{IsAtWork, Placed, placed};
+    ghost use Rattle.example_jacobi.specs.Workers.{IsAtWork, Placed, placed_local};
 
     ghost Value = { Placed };
 
-    ghost view = { λ w. placed w.cluster.now w.processor };
+    ghost view = { λ w. placed_local w.cluster.now w.processor };
 
     ghost invariant = { λ w. IsAtWork w.cluster.now w.processor };
 }
@@ -48,26 +48,26 @@ impl<'a, R: Wait> Worker<'a, R> {
 
     /// Takes what the processor waits for, as soon as it has come. Until then it sleeps. [`Stuck`](Fault::Stuck) where
     /// nothing can come any more.
-    fn take(&mut self) -> Result<(), Fault>
+    fn take(&mut self) -> Result<(), JacobiFault>
         ensures { IsSameWorker self.old self.new }
     {
         for _ in self.rt.forever() {
             match self.try_take() {
                 Ok(()) => return Ok(()),
                 Err(Refused::NotYet) => self.wait()?,
-                Err(refused) => return Err(Fault::Refused(refused)),
+                Err(refused) => return Err(JacobiFault::Refused(refused)),
             }
         }
         unreachable!()
     }
 
     /// Waits until what the processor awaits may have come.
-    fn wait(&mut self) -> Result<(), Fault>
+    fn wait(&mut self) -> Result<(), JacobiFault>
         ensures { IsSameWorker self.old self.new }
     {
         match self.cluster.wait(self.rt, &mut self.processor)? {
             Waited::MayHaveCome => Ok(()),
-            Waited::Stuck | Waited::Deserted => Err(Fault::Stuck),
+            Waited::Stuck | Waited::Deserted => Err(JacobiFault::Stuck),
         }
     }
 
@@ -79,7 +79,7 @@ impl<'a, R: Wait> Worker<'a, R> {
     }
 
     /// Passes the barrier: what any of them stored before it, all know of after it.
-    pub(crate) fn meet(&mut self) -> Result<(), Fault>
+    pub(crate) fn meet(&mut self) -> Result<(), JacobiFault>
         ensures { IsSameWorker self.old self.new }
     {
         self.cluster.arrive(self.rt, &mut self.processor)?;
@@ -87,7 +87,7 @@ impl<'a, R: Wait> Worker<'a, R> {
     }
 
     /// Adds to the word at the address, modulo 2^32, under lock 0.
-    pub(crate) fn add(&mut self, address: usize, value: u32) -> Result<(), Fault>
+    pub(crate) fn add(&mut self, address: usize, value: u32) -> Result<(), JacobiFault>
         requires { MayStore self.old.processor.number address }
         ensures { IsSameWorker self.old self.new }
     {

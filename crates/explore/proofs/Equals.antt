@@ -15,8 +15,8 @@ use Rattle.explore.specs.declared.wait.WaitCode.{WaitCode}
 use Rattle.explore.specs.declared.wait.Seat.{Seat}
 use Rattle.explore.specs.declared.flat_state.FlatState.{FlatState}
 use Rattle.explore.specs.declared.waiting.Waiting.{Waiting}
-use Rattle.explore.specs.declared.explored.Outcome.{Outcome}
-use Rattle.explore.specs.Explored.{replies_of}
+use Rattle.explore.specs.declared.explored.ScriptOutcome.{ScriptOutcome}
+use Rattle.explore.specs.Explored.{outcome_replies}
 use Rattle.explore.specs.Machines.{SameState, items_of}
 use Rattle.explore.specs.Searched.{IsAmong}
 use Rattle.explore.specs.Waiting.{IsLikeWaiting}
@@ -120,31 +120,31 @@ rows_eq (v ∷ vs) (w ∷ ws) same =
     (subst (λ xs. pointwise nat_eq v.items xs ≡ true) first (nat_list_eq_equiv.refl v.items)) (rows_eq vs ws rest)
 
 -- what `==` tests of outcomes
-abbrev pub outcome_eq : Outcome → Outcome → Bool
+abbrev pub outcome_eq : ScriptOutcome → ScriptOutcome → Bool
 outcome_eq a b = pointwise (λ (v w : Vec ℕ). pointwise nat_eq v.items w.items) a.replies.items b.replies.items
 
-outcome_same : (a b : Outcome) → outcome_eq a b ≡ true → replies_of b ≡ replies_of a
+outcome_same : (a b : ScriptOutcome) → outcome_eq a b ≡ true → outcome_replies b ≡ outcome_replies a
 outcome_same a b h =
     same_items (λ (v : Vec ℕ). v.items) (λ (v w : Vec ℕ). pointwise nat_eq v.items w.items)
     (λ v w. same_numbers v.items w.items) a.replies.items b.replies.items h
 
-found_has : (o : Outcome) (ks : List Outcome) → list_any (outcome_eq o) ks ≡ true
-    → Has (map replies_of ks) (replies_of o)
+found_has : (o : ScriptOutcome) (ks : List ScriptOutcome) → list_any (outcome_eq o) ks ≡ true
+    → Has (map outcome_replies ks) (outcome_replies o)
 found_has o [] h = absurd (false≢true h)
 found_has o (k ∷ ks) h = go (outcome_eq o k) refl (λ later. found_has o ks later)
   where
     go : (b : Bool) → outcome_eq o k ≡ b
-        → (list_any (outcome_eq o) ks ≡ true → Has (map replies_of ks) (replies_of o))
-        → Has (replies_of k ∷ map replies_of ks) (replies_of o)
-    go true is rest = (has-cons (replies_of k) (map replies_of ks) (replies_of o)).1 (inl (outcome_same o k is))
+        → (list_any (outcome_eq o) ks ≡ true → Has (map outcome_replies ks) (outcome_replies o))
+        → Has (outcome_replies k ∷ map outcome_replies ks) (outcome_replies o)
+    go true is rest = (has-cons (outcome_replies k) (map outcome_replies ks) (outcome_replies o)).1 (inl (outcome_same o k is))
     go false is rest =
-        (has-cons (replies_of k) (map replies_of ks) (replies_of o)).1
+        (has-cons (outcome_replies k) (map outcome_replies ks) (outcome_replies o)).1
         (inr (rest (sym (ap (λ b. b || list_any (outcome_eq o) ks) is) ∙ h)))
 
-has_found : (o : Outcome) (ks : List Outcome) → Has (map replies_of ks) (replies_of o)
+has_found : (o : ScriptOutcome) (ks : List ScriptOutcome) → Has (map outcome_replies ks) (outcome_replies o)
     → list_any (outcome_eq o) ks ≡ true
-has_found o [] has = absurd (has-nil (replies_of o) has)
-has_found o (k ∷ ks) has = elim ((has-cons (replies_of k) (map replies_of ks) (replies_of o)).0 has) [
+has_found o [] has = absurd (has-nil (outcome_replies o) has)
+has_found o (k ∷ ks) has = elim ((has-cons (outcome_replies k) (map outcome_replies ks) (outcome_replies o)).0 has) [
   | inl is ↦ ap (λ b. b || list_any (outcome_eq o) ks) (rows_eq o.replies.items k.replies.items (sym is))
   | inr later ↦ or_right (outcome_eq o k) (has_found o ks later)
 ]
@@ -154,15 +154,15 @@ has_found o (k ∷ ks) has = elim ((has-cons (replies_of k) (map replies_of ks) 
     or_right false h = h
 
 -- what `insert` does to the outcomes
-pub among : (ks : List Outcome) (o : Outcome) (new : List Outcome)
+pub among : (ks : List ScriptOutcome) (o : ScriptOutcome) (new : List ScriptOutcome)
     → new ≡ (if list_any (outcome_eq o) ks then ks else ks ++ o ∷ [])
-    → IsAmong (map replies_of ks) (map replies_of new) (replies_of o)
+    → IsAmong (map outcome_replies ks) (map outcome_replies new) (outcome_replies o)
 among ks o new is = go (list_any (outcome_eq o) ks) refl is
   where
     go : (b : Bool) → list_any (outcome_eq o) ks ≡ b → new ≡ (if b then ks else ks ++ o ∷ [])
-        → IsAmong (map replies_of ks) (map replies_of new) (replies_of o)
-    go true any same = inl (found_has o ks any, ap (λ (os : List Outcome). map replies_of os) same)
+        → IsAmong (map outcome_replies ks) (map outcome_replies new) (outcome_replies o)
+    go true any same = inl (found_has o ks any, ap (λ (os : List ScriptOutcome). map outcome_replies os) same)
     go false any pushed = inr (
       (λ has. false≢true (sym any ∙ has_found o ks has)),
-      ap (λ (os : List Outcome). map replies_of os) pushed ∙ map-append replies_of ks (o ∷ []),
+      ap (λ (os : List ScriptOutcome). map outcome_replies os) pushed ∙ map-append outcome_replies ks (o ∷ []),
     )

@@ -12,7 +12,7 @@ use Rattle.explore.specs.Prefixes.Beginnings.{IsFlatBeginning}
 use Rattle.explore.specs.declared.states.States.{States}
 use Rattle.explore.specs.declared.states.Origin.{Origin}
 use Rattle.explore.specs.declared.flat_state.FlatState.{FlatState}
-use Rattle.explore.specs.Found.{AreFound, ComesFrom, StaysPossible, StateAdded, IsFollowed, IsKnown, Keeps, WasPushed, WasThere, states_of}
+use Rattle.explore.specs.Found.{AreFound, ComesFrom, StaysPossible, StateAdded, IsStateFollowed, IsKnown, Keeps, WasPushed, WasThere, states_of}
 use Rattle.explore.specs.Machines.{Knows}
 use Rattle.explore.proofs.Likes.{knows_like}
 
@@ -125,7 +125,7 @@ module _ (s : Plan) (x y : States) (m : FlatState) (was : WasThere x y m) where
 pub followed : (s : Plan) (x y : States) (place p : ℕ) (k : Kind) (f m : FlatState) → AreFound s x
     → slice_get (states_of x) place ≡ Some f → StaysPossible s f p k
     → ((g : List Event) → Knows s g f → IsFlatBeginning s (did g p k) → Knows s (did g p k) m)
-    → StateAdded x y m (Some (record { from = place; event = event p k })) → IsFollowed s x y place p k
+    → StateAdded x y m (Some (record { from = place; event = event p k })) → IsStateFollowed s x y place p k
 followed s x y place p k f m old at goes steps (inl was) = record {
   keeps = there_keeps s x y m was;
   found = there_found s x y m was old;

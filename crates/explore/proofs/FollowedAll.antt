@@ -9,7 +9,7 @@ use Rattle.lrc_script.specs.Plan.{Plan}
 use Rattle.explore.specs.declared.states.States.{States}
 use Rattle.explore.specs.declared.flat_state.FlatState.{FlatState}
 use Rattle.explore.specs.Followed.{AreFollowed, MayFollowAll}
-use Rattle.explore.specs.Found.{StaysPossible, IsFollowed, IsKnown, Keeps, states_of}
+use Rattle.explore.specs.Found.{StaysPossible, IsStateFollowed, IsKnown, Keeps, states_of}
 use Rattle.explore.specs.Machines.{IsStepOf}
 use Rattle.explore.proofs.Followed.{known_kept}
 use Rattle.explore.proofs.Machines.{next_within, some_at}
@@ -61,7 +61,7 @@ module _ (s : Plan) (x y : States) (place : ℕ) (nexts : List (Option Kind)) (m
           let most = may.lawful.but_uneven.sizes.most_processors in
           omega arith
 
-      pub one_followed : (z : States) → IsFollowed s y z place n k → AreFollowed s x z place nexts (n + 1)
+      pub one_followed : (z : States) → IsStateFollowed s y z place n k → AreFollowed s x z place nexts (n + 1)
       one_followed z followed = record {
         keeps = λ i m at. followed.keeps i m (old.keeps i m at);
         found = followed.found;

@@ -26,14 +26,14 @@ use Rattle.explore.specs.declared.explored.Hanging.{Hanging}
 use Rattle.explore.specs.declared.explored.Hanging.TheVariants as hanging
 use Rattle.explore.specs.declared.explored.Verdict.{Verdict}
 use Rattle.explore.specs.declared.explored.Verdict.TheVariants as verdict
-use Rattle.explore.specs.Explored.{AreAllOutcomes, AreOutcomes, replies_of, settles}
+use Rattle.explore.specs.Explored.{AreAllOutcomes, AreOutcomes, outcome_replies, settles}
 use Rattle.explore.specs.Followed.{AreFollowed}
 use Rattle.explore.specs.Free.{IsChoice}
 use Rattle.explore.specs.Found.{AreFound, IsKnown, Keeps, states_of}
 use Rattle.explore.specs.Machines.{AreLawfulSteps, Knows, items_of}
-use Rattle.explore.specs.Nexts.{AreNexts, IsConflict}
+use Rattle.explore.specs.Nexts.{AreNexts, AreNextInConflict}
 use Rattle.explore.specs.Outcomes.{AreReplies}
-use Rattle.explore.specs.Searched.{AreShown, Hangs, IsAmong, IsFollowedFree, IsFollowedWhole, IsReduced, OutcomesNoted, IsOpenHanging, IsOpenVerdict, IsQuiet, VisitedUpTo, IsShownBy, HasUnvisited, MayNote, NoneHangs}
+use Rattle.explore.specs.Searched.{AreOutcomesShown, Hangs, IsAmong, IsFollowedFree, IsFollowedWhole, IsReduced, OutcomesNoted, IsOpenHanging, IsOpenVerdict, IsQuiet, VisitedUpTo, IsShownBy, HasUnvisited, MayNote, NoneHangs}
 use Rattle.explore.proofs.Followed.{known_kept}
 use Rattle.explore.proofs.Machines.{some_at}
 use Rattle.explore.proofs.reduced.Ends.{MayConflict, ShowsThis, conflict_lasts, follows_ends, hang_lasts, shows_last}
@@ -83,12 +83,12 @@ module _ (s : Plan) (old new : List FlatState) (n : ℕ) (keeps : Keeps old new)
   pub noted_kept : (x y : Search) → states_of x.found ≡ old → states_of y.found ≡ new → y.outcomes.keys ≡ x.outcomes.keys
       → y.hang ≡ x.hang → OutcomesNoted s x n → OutcomesNoted s y n
   noted_kept x y is_old is_new outcomes hang noted =
-      let shows = subst (λ ms. AreShown s ms n (map replies_of x.outcomes.keys)) is_old noted.shown in
+      let shows = subst (λ ms. AreOutcomesShown s ms n (map outcome_replies x.outcomes.keys)) is_old noted.shown in
       let hung = subst (λ ms. MatchOption x.hang (NoneHangs s ms n) (Hangs s ms)) is_old noted.hang in
       record {
         shown =
-            subst (λ ms. AreShown s ms n (map replies_of y.outcomes.keys)) (sym is_new)
-            (subst (λ ks. AreShown s new n (map replies_of ks)) (sym outcomes) (record {
+            subst (λ ms. AreOutcomesShown s ms n (map outcome_replies y.outcomes.keys)) (sym is_new)
+            (subst (λ ks. AreOutcomesShown s new n (map outcome_replies ks)) (sym outcomes) (record {
               each = λ replies. (
                 λ has. (shown_kept replies).0 ((shows.each replies).0 has),
                 λ by. (shows.each replies).1 ((shown_kept replies).1 by),
@@ -124,7 +124,7 @@ begun s x rows found outcomes hang = record {
   closed = λ place m lt. absurd (omega arith);
   quiet = λ place m g p q a b lt. absurd (omega arith);
   noted = record {
-    shown = subst (λ ks. AreShown s (states_of x.found) 0 (map replies_of ks)) (sym outcomes) (record {
+    shown = subst (λ ks. AreOutcomesShown s (states_of x.found) 0 (map outcome_replies ks)) (sym outcomes) (record {
       each = λ replies. ((λ has. absurd (has-nil replies has)), (λ by. absurd (let lt = by.within in omega arith)));
       once = in_order-nil _;
     });
@@ -166,12 +166,12 @@ module _ (s : Plan) (states : List FlatState) (n : ℕ) (f : FlatState) (at : sl
   )
 
   pub unfinished_shown : (x y : Search) → states_of x.found ≡ states → states_of y.found ≡ states
-      → y.outcomes.keys ≡ x.outcomes.keys → AreShown s (states_of x.found) n (map replies_of x.outcomes.keys)
-      → AreShown s (states_of y.found) (n + 1) (map replies_of y.outcomes.keys)
+      → y.outcomes.keys ≡ x.outcomes.keys → AreOutcomesShown s (states_of x.found) n (map outcome_replies x.outcomes.keys)
+      → AreOutcomesShown s (states_of y.found) (n + 1) (map outcome_replies y.outcomes.keys)
   unfinished_shown x y is_x is_y outcomes old =
-      subst (λ ms. AreShown s ms (n + 1) (map replies_of y.outcomes.keys)) (sym is_y)
-      (subst (λ ks. AreShown s states (n + 1) (map replies_of ks)) (sym outcomes)
-      (let shows = subst (λ ms. AreShown s ms n (map replies_of x.outcomes.keys)) is_x old in
+      subst (λ ms. AreOutcomesShown s ms (n + 1) (map outcome_replies y.outcomes.keys)) (sym is_y)
+      (subst (λ ks. AreOutcomesShown s states (n + 1) (map outcome_replies ks)) (sym outcomes)
+      (let shows = subst (λ ms. AreOutcomesShown s ms n (map outcome_replies x.outcomes.keys)) is_x old in
       record {
         each = λ replies. (
           λ has. (skipped_shown replies).0 ((shows.each replies).0 has),
@@ -296,8 +296,8 @@ module _ (s : Plan) (x : Search) (steps : List (Vec ScriptCall)) (n : ℕ) (f : 
     })
   ]
 
-  shown_more : (old new : List (List (List ℕ))) → AreShown s (states_of x.found) n old
-      → IsAmong old new (items_of f.replies.items) → AreShown s (states_of x.found) (n + 1) new
+  shown_more : (old new : List (List (List ℕ))) → AreOutcomesShown s (states_of x.found) n old
+      → IsAmong old new (items_of f.replies.items) → AreOutcomesShown s (states_of x.found) (n + 1) new
   shown_more old new shows (inl was) = record {
     each = λ replies. (
       λ has. shows_before replies ((shows.each replies).0 (subst (λ rs. Has rs replies) was.1 has)),
@@ -341,12 +341,12 @@ module _ (s : Plan) (x : Search) (steps : List (Vec ScriptCall)) (n : ℕ) (f : 
   whole_hang (Some place) h = h
 
   pub noted_whole : (y : Search) → states_of y.found ≡ states_of x.found → y.hang ≡ x.hang
-      → IsAmong (map replies_of x.outcomes.keys) (map replies_of y.outcomes.keys) (items_of f.replies.items)
+      → IsAmong (map outcome_replies x.outcomes.keys) (map outcome_replies y.outcomes.keys) (items_of f.replies.items)
       → OutcomesNoted s y (n + 1)
   noted_whole y found hang among = record {
     shown =
-        subst (λ ms. AreShown s ms (n + 1) (map replies_of y.outcomes.keys)) (sym found)
-        (shown_more (map replies_of x.outcomes.keys) (map replies_of y.outcomes.keys) may.noted.shown among);
+        subst (λ ms. AreOutcomesShown s ms (n + 1) (map outcome_replies y.outcomes.keys)) (sym found)
+        (shown_more (map outcome_replies x.outcomes.keys) (map outcome_replies y.outcomes.keys) may.noted.shown among);
     hang =
         subst (λ ms. MatchOption y.hang (NoneHangs s ms (n + 1)) (Hangs s ms)) (sym found)
         (subst (λ o. MatchOption o (NoneHangs s (states_of x.found) (n + 1)) (Hangs s (states_of x.found))) (sym hang)
@@ -357,7 +357,7 @@ module _ (s : Plan) (x : Search) (steps : List (Vec ScriptCall)) (n : ℕ) (f : 
 pub looked : (s : Plan) (x z : Search) (steps : List (Vec ScriptCall)) (n : ℕ) (nexts chosen : List (Option Kind))
     → HasUnvisited s x steps n
     → ((m : FlatState) → slice_get (states_of x.found) n ≡ Some m → AreNexts s m nexts)
-    → ((p q : ℕ) (a b : Kind) → ¬ IsConflict nexts p q a b) → IsChoice steps nexts chosen
+    → ((p q : ℕ) (a b : Kind) → ¬ AreNextInConflict nexts p q a b) → IsChoice steps nexts chosen
     → AreFollowed s x.found z.found n chosen (length chosen) → OutcomesNoted s z (n + 1) → VisitedUpTo s z steps (n + 1)
 looked s x z steps n nexts chosen may are none choice followed noted =
     let old = states_of x.found in
@@ -443,7 +443,7 @@ module _ (s : Plan) (x : Search) (steps : List (Vec ScriptCall)) (lawful : AreLa
       (slice_get_within (states_of x.found) known.place known.state known.at) known.at known.knows c.first c.second c.apart
       c.conflict
 
-  pub all_outcomes : AreAllOutcomes s (map replies_of x.outcomes.keys)
+  pub all_outcomes : AreAllOutcomes s (map outcome_replies x.outcomes.keys)
   all_outcomes replies outcome =
       let r = reached s steps lawful (IsKnown s (states_of x.found)) (ShowsThis s replies)
       (shows_last s steps replies lawful.lawful.but_uneven.one_each) followed_of searched.found.first outcome.0
@@ -461,7 +461,7 @@ module _ (s : Plan) (x : Search) (steps : List (Vec ScriptCall)) (lawful : AreLa
       })
 
 pub some_outcomes : (s : Plan) (x : Search) (steps : List (Vec ScriptCall)) (n : ℕ) → VisitedUpTo s x steps n
-    → AreOutcomes s (map replies_of x.outcomes.keys)
+    → AreOutcomes s (map outcome_replies x.outcomes.keys)
 some_outcomes s x steps n searched = record {
   each = λ replies has.
       let by = (searched.noted.shown.each replies).0 has in

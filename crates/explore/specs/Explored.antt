@@ -9,7 +9,7 @@ use Rattle.explore.specs.declared.explored.Explored.{Explored}
 use Rattle.explore.specs.declared.explored.Hang.{Hang}
 use Rattle.explore.specs.declared.explored.Hanging.{Hanging}
 use Rattle.explore.specs.declared.explored.Hanging.TheVariants as hanging
-use Rattle.explore.specs.declared.explored.Outcome.{Outcome}
+use Rattle.explore.specs.declared.explored.ScriptOutcome.{ScriptOutcome}
 use Rattle.explore.specs.declared.explored.RacyEvents.{RacyEvents}
 use Rattle.explore.specs.declared.explored.Verdict.{Verdict}
 use Rattle.explore.specs.declared.explored.Verdict.TheVariants as verdict
@@ -33,8 +33,8 @@ pub record IsHangOf (s : Plan) (hang : Hang) : Type 0 where
   pub waits : AreAwaited hang.events.items hang.waits.items
 
 -- an outcome, as it lies outside of memory
-abbrev pub replies_of : Outcome → List (List ℕ)
-replies_of o = map (λ (v : Vec ℕ). v.items) o.replies.items
+abbrev pub outcome_replies : ScriptOutcome → List (List ℕ)
+outcome_replies o = map (λ (v : Vec ℕ). v.items) o.replies.items
 
 -- whole runs show each of these, and each is there once
 pub record AreOutcomes (s : Plan) (outcomes : List (List (List ℕ))) : Type 0 where
@@ -75,6 +75,6 @@ pub record IsExplored (s : Plan) (most : ℕ) (answer : Explored) : Type 0 where
   pub few : answer.states ≤ states_to_look_at s most + 16
   pub verdict : IsVerdictOn s answer.verdict
   pub hanging : IsHangingOn s answer.hanging
-  pub outcomes : AreOutcomes s (map replies_of answer.outcomes.items)
-  pub all : IsTrue answer.are_all → AreAllOutcomes s (map replies_of answer.outcomes.items)
+  pub outcomes : AreOutcomes s (map outcome_replies answer.outcomes.items)
+  pub all : IsTrue answer.are_all → AreAllOutcomes s (map outcome_replies answer.outcomes.items)
   pub given_up : is_settled answer ≡ false → states_to_look_at s most < answer.states

@@ -66,7 +66,7 @@ abbrev pub StaysPossible : Plan → FlatState → ℕ → Kind → Type 0
 StaysPossible s m p k = (g : List Event) → Knows s g m → IsFlatBeginning s (did g p k)
 
 -- what the state at this place comes to by p's event is found
-pub record IsFollowed (s : Plan) (x y : States) (place p : ℕ) (k : Kind) : Type 0 where
+pub record IsStateFollowed (s : Plan) (x y : States) (place p : ℕ) (k : Kind) : Type 0 where
   pub keeps : Keeps (states_of x) (states_of y)
   pub found : AreFound s y
   pub known : (m : FlatState) (g : List Event) → slice_get (states_of x) place ≡ Some m → Knows s g m

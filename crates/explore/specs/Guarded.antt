@@ -69,6 +69,6 @@ abbrev pub AreGuarded : List (Vec ScriptCall) → List Bool → Type 0
 AreGuarded rows words = (w : ℕ) → IsTrue (slice_index_or words w false) → IsGuarded rows w
 
 -- a script of which all words are guarded doesn't race
-abbrev pub GuardedLaw : Type 0
-GuardedLaw = (s : Plan) (rows : List (Vec ScriptCall)) → AreLawfulSteps s rows → ((w : ℕ) → IsGuarded rows w)
+abbrev pub GuardedTextLaw : Type 0
+GuardedTextLaw = (s : Plan) (rows : List (Vec ScriptCall)) → AreLawfulSteps s rows → ((w : ℕ) → IsGuarded rows w)
     → IsFlatRaceFree s

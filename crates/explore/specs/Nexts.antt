@@ -21,7 +21,7 @@ abbrev pub IsOver : Plan → FlatState → Type 0
 IsOver s m = (g : List Event) (p : ℕ) (k : Kind) → Knows s g m → ¬ IsFlatBeginning s (did g p k)
 
 -- what p and q may do next conflicts
-pub record IsConflict (nexts : List (Option Kind)) (p q : ℕ) (a b : Kind) : Type 0 where
+pub record AreNextInConflict (nexts : List (Option Kind)) (p q : ℕ) (a b : Kind) : Type 0 where
   pub apart : p ≢ q
   pub first : slice_index_or nexts p None ≡ Some a
   pub second : slice_index_or nexts q None ≡ Some b

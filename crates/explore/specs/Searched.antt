@@ -17,7 +17,7 @@ use Rattle.explore.specs.declared.explored.Hanging.{Hanging}
 use Rattle.explore.specs.declared.explored.Hanging.TheVariants as hanging
 use Rattle.explore.specs.declared.explored.Verdict.{Verdict}
 use Rattle.explore.specs.declared.explored.Verdict.TheVariants as verdict
-use Rattle.explore.specs.Explored.{replies_of}
+use Rattle.explore.specs.Explored.{outcome_replies}
 use Rattle.explore.specs.Free.{IsFree}
 use Rattle.explore.specs.Found.{AreFound, IsKnown, StaysPossible, states_of}
 use Rattle.explore.specs.Machines.{AreLawfulSteps, Knows}
@@ -61,7 +61,7 @@ pub record IsShownBy (s : Plan) (states : List FlatState) (n : ℕ) (replies : L
   pub are : AreReplies s events replies
 
 -- these are what the first n states show, each once
-pub record AreShown (s : Plan) (states : List FlatState) (n : ℕ) (outcomes : List (List (List ℕ))) : Type 0 where
+pub record AreOutcomesShown (s : Plan) (states : List FlatState) (n : ℕ) (outcomes : List (List (List ℕ))) : Type 0 where
   pub each : (replies : List (List ℕ)) → Has outcomes replies ↔ IsShownBy s states n replies
   pub once : IsOnce outcomes
 
@@ -77,7 +77,7 @@ pub record Hangs (s : Plan) (states : List FlatState) (place : ℕ) : Type 0 whe
 
 -- what is noted of the first n states: the outcomes, and a hang, if there is one
 pub record OutcomesNoted (s : Plan) (x : Search) (n : ℕ) : Type 0 where
-  pub shown : AreShown s (states_of x.found) n (map replies_of x.outcomes.keys)
+  pub shown : AreOutcomesShown s (states_of x.found) n (map outcome_replies x.outcomes.keys)
   pub hang : MatchOption x.hang (NoneHangs s (states_of x.found) n) (Hangs s (states_of x.found))
 
 -- the state at this place, after which nothing may come next, may be noted

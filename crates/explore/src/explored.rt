@@ -28,7 +28,7 @@ pub enum Hanging {
 
 /// What a whole run shows.
 #[derive(Drop, PartialEq, Eq, Hash)]
-pub struct Outcome {
+pub struct ScriptOutcome {
     /// Of each processor, what its loads answered, in order. The last ones of processor 0 show the words at the end.
     pub replies: Vec<Vec<u32>>,
 }
@@ -57,7 +57,7 @@ pub struct Explored {
     pub verdict: Verdict,
     pub hanging: Hanging,
     /// What the whole runs show that were met, each outcome once.
-    pub outcomes: Vec<Outcome>,
+    pub outcomes: Vec<ScriptOutcome>,
     /// Whether whole runs show nothing else.
     pub are_all: bool,
 }

@@ -11,7 +11,7 @@ ghost use Rattle.lrc_script.specs.Lawful.{plan_addresses};
 ghost use Rattle.lrc_script.specs.Prelude.{plan_of};
 ghost use Rattle.explore.specs.declared.guarded.Users.{Users as TheUsers};
 ghost use Rattle.explore.specs.declared.guarded.WordUse.{WordUse as AWordUse};
-ghost use Rattle.explore.specs.Guarded.{AreGuarded, GuardedLaw, departs, is_held_after_step, step_address, step_stores};
+ghost use Rattle.explore.specs.Guarded.{AreGuarded, GuardedTextLaw, departs, is_held_after_step, step_address, step_stores};
 ghost use Rattle.explore.specs.Machines.{AreLawfulSteps};
 ghost use Rattle.explore.specs.Users.{AreNoted, AreRowsNoted, AreRowsWithin, AreSoundUses, AreStepsWithin, HasNoted, IsCleanUse, IsUser};
 ghost use Rattle.explore.specs.Users.{AreRowsFew, IsUsed, IsUsedAt, IsStepWithin, KeepUses};
@@ -284,5 +284,5 @@ pub fn are_all(words: &[bool]) -> bool
 /// are in one phase, since each processor has arrived as often as any has departed; and a lock has one holder. So no two of
 /// them conflict, and by the law of neighbours no beginning races.
 pub fn guarded_law()
-    ensures { GuardedLaw }
+    ensures { GuardedTextLaw }
 {}

@@ -25,7 +25,7 @@ mod states;
 mod wait;
 mod waiting;
 
-pub use explored::{Explored, Hang, Hanging, Outcome, RacyEvents, Verdict};
+pub use explored::{Explored, Hang, Hanging, RacyEvents, ScriptOutcome, Verdict};
 pub use progress::{Progress, Silent};
 pub use search::explore;
 pub use waiting::Waiting;

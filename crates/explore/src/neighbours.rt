@@ -4,7 +4,7 @@ ghost use Rattle.journal.specs.declared.event.Kind.{Kind as AKind};
 ghost use Rattle.journal.specs.Prelude.{Conflict, event};
 ghost use Rattle.lrc_script.specs.Prelude.{Plan};
 ghost use Rattle.explore.specs.Machines.{AreLawfulSteps, IsRunning};
-ghost use Rattle.explore.specs.Nexts.{AreNexts, IsConflict};
+ghost use Rattle.explore.specs.Nexts.{AreNexts, AreNextInConflict};
 
 use crate::flat_state::FlatState;
 use crate::prefixes::ScriptCall;
@@ -57,8 +57,8 @@ fn conflicts(first: Kind, second: Kind) -> bool
 /// The first other processor whose next event conflicts with this one.
 fn neighbour_of(nexts: &[Option<Kind>], processor: usize, kind: Kind) -> Option<(usize, Kind)>
     requires { slice_index_or nexts.now processor None ≡ Some kind }
-    ensures { MatchOption result ((q : ℕ) (b : AKind) → ¬ IsConflict nexts.now processor q kind b)
-        (λ r. IsConflict nexts.now processor r.0 kind r.1) }
+    ensures { MatchOption result ((q : ℕ) (b : AKind) → ¬ AreNextInConflict nexts.now processor q kind b)
+        (λ r. AreNextInConflict nexts.now processor r.0 kind r.1) }
 {
     for other in 0..nexts.len() {
         if let Some(next) = nexts[other] {
@@ -72,8 +72,8 @@ fn neighbour_of(nexts: &[Option<Kind>], processor: usize, kind: Kind) -> Option<
 
 /// The first two next events that conflict, by two processors.
 pub fn neighbours_in(nexts: &[Option<Kind>]) -> Option<(Event, Event)>
-    ensures { MatchOption result ((p q : ℕ) (a b : AKind) → ¬ IsConflict nexts.now p q a b)
-        (λ r. IsConflict nexts.now r.0.processor r.1.processor r.0.kind r.1.kind) }
+    ensures { MatchOption result ((p q : ℕ) (a b : AKind) → ¬ AreNextInConflict nexts.now p q a b)
+        (λ r. AreNextInConflict nexts.now r.0.processor r.1.processor r.0.kind r.1.kind) }
 {
     for processor in 0..nexts.len() {
         if let Some(kind) = nexts[processor] {

@@ -6,7 +6,7 @@ ghost use Rattle.lrc_script.specs.Lawful.{plan_addresses};
 ghost use Rattle.explore.specs.declared.prefixes.script_call.ScriptCall.{ScriptCall as AStep};
 ghost use Rattle.explore.specs.Prefixes.Prelude.{IsFlatRaceFree};
 ghost use Rattle.explore.specs.Guarded.{AreGuarded};
-ghost use Rattle.explore.specs.Explored.{IsExplored, IsHangOf, IsHangingOn, IsVerdictOn, replies_of};
+ghost use Rattle.explore.specs.Explored.{IsExplored, IsHangOf, IsHangingOn, IsVerdictOn, outcome_replies};
 ghost use Rattle.explore.specs.Found.{AreFound, states_of};
 ghost use Rattle.explore.specs.Machines.{AreLawfulSteps};
 ghost use Rattle.explore.specs.Racing.{AreRacing};
@@ -14,7 +14,7 @@ ghost use Rattle.explore.specs.Room.{states_to_look_at};
 ghost use Rattle.explore.specs.Searched.{Hangs, IsAmong, IsLookedAt, IsLookedThrough, OutcomesNoted, VisitedUpTo, HasUnvisited};
 ghost use Rattle.explore.specs.Searched.{IsOpenHanging, IsOpenVerdict, IsSearched, MayNote};
 
-use crate::explored::{Explored, Hang, Hanging, Outcome, Verdict};
+use crate::explored::{Explored, Hang, Hanging, ScriptOutcome, Verdict};
 use crate::flat_state::FlatState;
 use crate::free::to_follow;
 use crate::guarded::{are_all, guarded_words};
@@ -34,15 +34,18 @@ use std::mem;
 pub struct Search {
     found: States,
     /// What the whole runs among them show.
-    outcomes: IndexSet<Outcome>,
+    outcomes: IndexSet<ScriptOutcome>,
     /// The place of a state that hangs.
     hang: Option<usize>,
 }
 
 /// Adds an outcome, if it is a new one. The only error is running out of memory.
-fn add_outcome(outcomes: &mut IndexSet<Outcome>, outcome: Outcome) -> Result<(), AllocError>
-    ensures { OnOk result (IsAmong (map replies_of outcomes.old.keys) (map replies_of outcomes.new.keys)
-        (replies_of outcome)) }
+fn add_outcome(
+    outcomes: &mut IndexSet<ScriptOutcome>,
+    outcome: ScriptOutcome,
+) -> Result<(), AllocError>
+    ensures { OnOk result (IsAmong (map outcome_replies outcomes.old.keys) (map outcome_replies outcomes.new.keys)
+        (outcome_replies outcome)) }
 {
     outcomes.insert(outcome)?;
     Ok(())
@@ -66,7 +69,10 @@ fn is_through(neighbours: Option<Neighbours>, states: usize, most: usize) -> boo
 }
 
 /// The outcomes as a list. The only error is running out of memory.
-fn listed(alloc: Global, outcomes: IndexSet<Outcome>) -> Result<Vec<Outcome>, AllocError>
+fn listed(
+    alloc: Global,
+    outcomes: IndexSet<ScriptOutcome>,
+) -> Result<Vec<ScriptOutcome>, AllocError>
     ensures { IfOk result (λ v. v.items ≡ outcomes.keys) }
 {
     outcomes.into_iter().collect(alloc)
@@ -95,7 +101,7 @@ impl Search {
         let state = self.found.at(place);
         if state.is_whole(steps) {
             let replies = state.replies()?;
-            return add_outcome(&mut self.outcomes, Outcome { replies });
+            return add_outcome(&mut self.outcomes, ScriptOutcome { replies });
         }
         self.hang = Some(self.hang.unwrap_or(place));
         Ok(())

@@ -3,7 +3,7 @@ ghost use Rattle.std.specs.Prelude.{◌≡◌, ℕ, ◌<◌, ◌≤◌, [], List
 ghost use Rattle.journal.specs.declared.event.Event.{Event as AnEvent};
 ghost use Rattle.lrc_script.specs.Prelude.{Plan};
 ghost use Rattle.explore.specs.declared.flat_state.FlatState.{FlatState as AMachine};
-ghost use Rattle.explore.specs.Found.{AreFound, StaysPossible, StateAdded, IsFollowed, states_of};
+ghost use Rattle.explore.specs.Found.{AreFound, StaysPossible, StateAdded, IsStateFollowed, states_of};
 ghost use Rattle.explore.specs.Followed.{AreFollowed, MayFollowAll};
 ghost use Rattle.explore.specs.States.{HasStates};
 ghost use Rattle.explore.specs.Machines.{SameState, IsStepOf, Knows};
@@ -77,7 +77,7 @@ impl States {
         requires step { (m : AMachine) → slice_get (states_of self.old) place ≡ Some m → IsStepOf m processor kind }
         ensures { OnOk result ((s : Plan) → AreFound s self.old → processor < 16
             → ((m : AMachine) → slice_get (states_of self.old) place ≡ Some m → StaysPossible s m processor kind)
-            → IsFollowed s self.old self.new place processor kind) }
+            → IsStateFollowed s self.old self.new place processor kind) }
     {
         let mut state = self.at(place).copy()?;
         state.step(processor, kind)?;

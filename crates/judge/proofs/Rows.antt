@@ -9,7 +9,7 @@ use Rattle.base.proofs.Joined.{has-nil, has-cons, has-append, has-map, in_order-
 use Rattle.base.proofs.OnceWithout.{once-append}
 use Rattle.base.proofs.FilteredInOrder.{has-filter, in_order-filter}
 use Rattle.judge.specs.declared.tally.Tally.{Tally}
-use Rattle.judge.specs.Tallies.{row_index, numbers, mark, is_between, TallyAdded, Adds, IsTallyRow, IsMark, IsTallyOf}
+use Rattle.judge.specs.Tallies.{row_index, numbers, tally_mark, is_between, TallyAdded, Adds, IsTallyRow, IsMark, IsTallyOf}
 
 count_cons : (p : ℕ → Bool) (k : ℕ) (row : List ℕ) → count_by p (k ∷ row) ≡ cond (p k) 1 0 + count_by p row
 count_cons p k row = sum_by-cons (λ x. cond (p x) 1 0) k row
@@ -177,10 +177,10 @@ pub tally_next : {A : Type 0} (P Q : ℕ → ℕ → A → Type 0) (f : A → �
 tally_next {A} P Q f M N most old new n x q y lt more marked link past marked_past adds is =
     elim adds [ inl added ↦ add added | inr known ↦ keep known ]
   where
-    was : f y < mark old (row_index x q) → P n q y
+    was : f y < tally_mark old (row_index x q) → P n q y
     was less =
         let last = (is.marks x q lt).last (λ none. omega arith) in
-        let le = marked_past (mark old (row_index x q) - 1) last in
+        let le = marked_past (tally_mark old (row_index x q) - 1) last in
         link.1 (subst (M x q) (omega arith) last)
 
     others_row : (m r : ℕ) → ((m ≡ n) × (r ≡ q) → ⊥) → (z : A) → P m r z ↔ Q m r z
@@ -189,14 +189,14 @@ tally_next {A} P Q f M N most old new n x q y lt more marked link past marked_pa
       λ h. elim (more.others m r z h) [ inl o ↦ o | inr s ↦ absurd (apart (s.0, s.1)) ],
     )
 
-    mark_kept : (a r : ℕ) → ((a ≡ x) × (r ≡ q) → ⊥) → IsMark (M a r) (mark old (row_index a r))
-        → IsMark (N a r) (mark old (row_index a r))
+    mark_kept : (a r : ℕ) → ((a ≡ x) × (r ≡ q) → ⊥) → IsMark (M a r) (tally_mark old (row_index a r))
+        → IsMark (N a r) (tally_mark old (row_index a r))
     mark_kept a r apart m = record {
       below = λ k h. elim (marked.others a r k h) [ inl o ↦ m.below k o | inr s ↦ absurd (apart (s.0, s.1)) ];
-      last = λ some. marked.same a r (mark old (row_index a r) - 1) (m.last some);
+      last = λ some. marked.same a r (tally_mark old (row_index a r) - 1) (m.last some);
     }
 
-    keep : (f y < mark old (row_index x q)) × (new ≡ old) → IsTallyOf Q f N (most + 1) new
+    keep : (f y < tally_mark old (row_index x q)) × (new ≡ old) → IsTallyOf Q f N (most + 1) new
     keep h = subst (λ t. IsTallyOf Q f N (most + 1) t) (sym h.1) (record {
       rows = λ m r within. row_same (P m r) (Q m r) f (numbers old.rows.items (row_index m r)) (all m r) (is.rows m r within);
       marks = λ a r within. record {
@@ -205,7 +205,7 @@ tally_next {A} P Q f M N most old new n x q y lt more marked link past marked_pa
           | inr s ↦ subst (λ z. M z r k) (sym s.0) (subst (λ z. M x z k) (sym s.1)
               (subst (M x q) (sym s.2) (link.0 (was h.0))))
         ]);
-        last = λ some. marked.same a r (mark old (row_index a r) - 1) ((is.marks a r within).last some);
+        last = λ some. marked.same a r (tally_mark old (row_index a r) - 1) ((is.marks a r within).last some);
       };
       few = λ r. (let few = is.few r in omega arith);
     })
@@ -249,7 +249,7 @@ tally_next {A} P Q f M N most old new n x q y lt more marked link past marked_pa
               (others_row m r (λ s. apart (let first = s.0 in let second = s.1 in omega arith))) (is.rows m r within))
         ]
 
-        now : IsMark (N x q) (mark new (row_index x q))
+        now : IsMark (N x q) (tally_mark new (row_index x q))
         now = record {
           below = λ k h. elim (marked.others x q k h) [
             | inl o ↦ (let le = marked_past k o in let is = a.marked in omega arith)
@@ -258,13 +258,13 @@ tally_next {A} P Q f M N most old new n x q y lt more marked link past marked_pa
           last = λ some. subst (N x q) (let is = a.marked in omega arith) marked.now;
         }
 
-        marks : (b r : ℕ) → r < 16 → IsMark (N b r) (mark new (row_index b r))
+        marks : (b r : ℕ) → r < 16 → IsMark (N b r) (tally_mark new (row_index b r))
         marks b r within = elim (cases_eq (row_index b r) (row_index x q)) [
           | inl same ↦
               (let first : x ≡ b = omega arith in
               let second : q ≡ r = omega arith in
-              subst (λ z. IsMark (N z r) (mark new (row_index z r))) first
-              (subst (λ z. IsMark (N x z) (mark new (row_index x z))) second now))
+              subst (λ z. IsMark (N z r) (tally_mark new (row_index z r))) first
+              (subst (λ z. IsMark (N x z) (tally_mark new (row_index x z))) second now))
           | inr apart ↦
               subst (IsMark (N b r)) (sym (a.others_marked (row_index b r) apart))
               (mark_kept b r (λ s. apart (let first = s.0 in let second = s.1 in omega arith)) (is.marks b r within))
@@ -292,7 +292,7 @@ tally_same P Q f M N most t same marks is = record {
   rows = λ m r lt. row_same (P m r) (Q m r) f (numbers t.rows.items (row_index m r)) (same m r) (is.rows m r lt);
   marks = λ a r lt. record {
     below = λ k h. (is.marks a r lt).below k ((marks a r k).1 h);
-    last = λ some. (marks a r (mark t (row_index a r) - 1)).0 ((is.marks a r lt).last some);
+    last = λ some. (marks a r (tally_mark t (row_index a r) - 1)).0 ((is.marks a r lt).last some);
   };
   few = λ r. (let few = is.few r in omega arith);
 }
@@ -309,7 +309,7 @@ row_none {A} P f row is none = subst (IsTallyRow P f) (sym is) (record {
 
 -- a tally of no values
 pub tally_none : {A : Type 0} (P : ℕ → ℕ → A → Type 0) (f : A → ℕ) (M : ℕ → ℕ → ℕ → Type 0) (most : ℕ) (t : Tally)
-    → ((r : ℕ) → numbers t.rows.items r ≡ []) → ((m : ℕ) → mark t m ≡ 0) → ((m r : ℕ) (z : A) → ¬ P m r z)
+    → ((r : ℕ) → numbers t.rows.items r ≡ []) → ((m : ℕ) → tally_mark t m ≡ 0) → ((m r : ℕ) (z : A) → ¬ P m r z)
     → ((m r k : ℕ) → ¬ M m r k) → IsTallyOf P f M most t
 tally_none P f M most t empty zeros none unmarked = record {
   rows = λ m r lt. row_none (P m r) f (numbers t.rows.items (row_index m r)) (empty (row_index m r)) (none m r);

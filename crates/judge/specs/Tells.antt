@@ -6,7 +6,7 @@ use Rattle.journal.specs.declared.event.Kind.TheVariants.{Ask, Acquire, Release,
 use Rattle.journal.specs.Events.{At, count_of, is_arrive, is_depart}
 use Rattle.journal.specs.WellFormed.{Does, Holds, LastIs}
 use Rattle.judge.specs.declared.front.LastEvent.{LastEvent}
-use Rattle.judge.specs.declared.front.Front.{Front}
+use Rattle.judge.specs.declared.front.Frontier.{Frontier}
 use Rattle.judge.specs.Sizes.{AreSmall, sizes_of}
 
 -- p has done nothing
@@ -22,7 +22,7 @@ abbrev pub IsSet : List Event → ℕ → Type 0
 IsSet j f = (k : ℕ) × (q : ℕ) × Does j k q (Set f)
 
 -- the front tells this history so far
-pub record IsFrontOf (j : List Event) (x : Front) : Type 0 where
+pub record IsFrontOf (j : List Event) (x : Frontier) : Type 0 where
   pub sizes : AreSmall (sizes_of x.sizes)
   pub place : x.place ≡ length j
   pub long : length x.last ≡ 16

@@ -25,7 +25,7 @@ pub(crate) struct LastEvent {
 
 /// A history, taken an event at a time, of which it tells whether an event may come next.
 #[derive(Drop)]
-pub struct Front {
+pub struct Frontier {
     pub(crate) sizes: Sizes,
     /// How many events there are.
     pub(crate) place: usize,
@@ -94,14 +94,14 @@ fn set(flags: &mut [bool; 32], kind: Kind)
     }
 }
 
-impl Front {
+impl Frontier {
     /// Before the first event.
-    pub fn new(sizes: Sizes) -> Front
+    pub fn new(sizes: Sizes) -> Frontier
         requires { AreSmall (sizes_of sizes) }
         ensures tells { IsFrontOf [] result }
         ensures sizes { result.sizes ≡ sizes }
     {
-        Front {
+        Frontier {
             sizes,
             place: 0,
             last: [None; 16],

@@ -3,7 +3,7 @@ ghost use Rattle.std.specs.Prelude.{◌≤◌, MatchOption, length};
 ghost use Rattle.base.specs.Prelude.{most_held};
 ghost use Rattle.judge.specs.Prelude.{AreSmall, IsFirstIllFormed, WellFormedIn, sizes_of};
 
-use crate::front::Front;
+use crate::front::Frontier;
 use crate::sizes::Sizes;
 use crate::why::Why;
 use journal::Event;
@@ -28,7 +28,7 @@ pub fn first_ill_formed(sizes: Sizes, events: &[Event], lax: bool) -> Option<Ill
     ensures { MatchOption result (WellFormedIn lax (sizes_of sizes) events.now)
         (IsFirstIllFormed lax (sizes_of sizes) events.now) }
 {
-    let mut front = Front::new(sizes);
+    let mut front = Frontier::new(sizes);
     for place in 0..events.len() {
         let event = events[place];
         if let Some(why) = front.may_follow(event, lax) {

@@ -33,7 +33,7 @@ mod tally;
 mod why;
 
 pub use flat_memory::FlatMemory;
-pub use front::Front;
+pub use front::Frontier;
 pub use gaps::Gaps;
 pub use judge::{IllFormed, first_ill_formed};
 pub use laws::{lax_law, owed_stays_law, range_law, why_law};

@@ -1,7 +1,7 @@
 //! Tallies of what was stored, by intervals.
 ghost use Rattle.std.specs.Prelude.{◌≡◌, ℕ, ◌<◌, ◌≤◌, ◌^◌, [], count_by, IfOk, OnOk, nat_lt, vec_len};
 ghost use Rattle.base.specs.InOrderOnce.{InOrder};
-ghost use Rattle.judge.specs.Prelude.{Adds, is_between, mark, numbers};
+ghost use Rattle.judge.specs.Prelude.{Adds, is_between, tally_mark, numbers};
 
 use std::alloc::{AllocError, Global};
 
@@ -56,7 +56,7 @@ impl Tally {
         ensures rows { IfOk result (λ t. vec_len t.rows ≡ rows) }
         ensures marks { IfOk result (λ t. vec_len t.marks ≡ marks) }
         ensures empty { IfOk result (λ t. (r : ℕ) → numbers t.rows.items r ≡ []) }
-        ensures unmarked { IfOk result (λ t. (m : ℕ) → mark t m ≡ 0) }
+        ensures unmarked { IfOk result (λ t. (m : ℕ) → tally_mark t m ≡ 0) }
     {
         Ok(Tally {
             rows: no_numbers(alloc, rows)?,
@@ -67,11 +67,11 @@ impl Tally {
     /// Adds the number to the row, unless it was added for the mark. The only error is running out of memory.
     pub(crate) fn add(&mut self, row: usize, mark: usize, number: u32) -> Result<(), AllocError>
         requires row { row < vec_len self.old.rows }
-        requires mark { mark < vec_len self.old.marks }
+        requires mark { tally_mark < vec_len self.old.marks }
         requires room { number < 2 ^ 22 }
         ensures rows { vec_len self.new.rows ≡ vec_len self.old.rows }
         ensures marks { vec_len self.new.marks ≡ vec_len self.old.marks }
-        ensures adds { OnOk result (Adds self.old self.new row mark number) }
+        ensures adds { OnOk result (Adds self.old self.new row tally_mark number) }
     {
         if self.marks[mark] <= number {
             self.rows[row].push(number)?;

@@ -16,7 +16,7 @@ ghost use Rattle.lrc_check.specs.Prelude.{is_load as is_a_load, raced, unjudged_
 use crate::checked::{Checked, Lie, Rules, TraceVerdict, Unexplained};
 use journal::{Event, Kind, traffic_of};
 use judge::{
-    Front, Gaps, IllFormed, MemoryModel, Miscounted, Owed, Permitted, Races, Sizes, miscount,
+    Frontier, Gaps, IllFormed, MemoryModel, Miscounted, Owed, Permitted, Races, Sizes, miscount,
 };
 use std::alloc::{AllocError, Global};
 
@@ -31,7 +31,7 @@ pub struct TraceJudge {
     model: MemoryModel,
     lax: bool,
     sizes: Sizes,
-    front: Front,
+    front: Frontier,
     races: Races,
     /// The first race so far, the nearest one: the places of the two accesses.
     race: Option<(usize, usize)>,
@@ -88,7 +88,7 @@ impl TraceJudge {
             model,
             lax,
             sizes,
-            front: Front::new(sizes),
+            front: Frontier::new(sizes),
             races: Races::new(alloc, sizes.processors, addresses)?,
             race: None,
             owed: Owed::new(alloc, model, sizes)?,

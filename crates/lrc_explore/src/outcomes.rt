@@ -1,11 +1,11 @@
 //! What whole runs show, a line each.
 
 use crate::numbers::put_number;
-use explore::Outcome;
+use explore::ScriptOutcome;
 use std::alloc::{AllocError, Global};
 
 /// What the loads of each processor answered, of each outcome: in rising order.
-fn sorted(alloc: Global, outcomes: &[Outcome]) -> Result<Vec<&[Vec<u32>]>, AllocError> {
+fn sorted(alloc: Global, outcomes: &[ScriptOutcome]) -> Result<Vec<&[Vec<u32>]>, AllocError> {
     let mut rows = Vec::with_capacity(alloc, outcomes.len())?;
     for outcome in outcomes {
         rows.push(outcome.replies.as_slice())?;
@@ -77,7 +77,7 @@ fn put_outcome(
 pub fn outcomes_text(
     alloc: Global,
     shown: &[usize],
-    outcomes: &[Outcome],
+    outcomes: &[ScriptOutcome],
 ) -> Result<Vec<u8>, AllocError> {
     let rows = sorted(alloc, outcomes)?;
     let mut text = Vec::new(alloc);

@@ -250,7 +250,7 @@ pub record AreGivenOptions (words : List Text) (o : Asked) : Type 0 where
   pub asked : AreAskedOptionsOf name rows o
 
 -- the words give a seed and a schedule, and the fault says so
-pub record IsConflict (locks models : ValueParser) (words : List Text) (e : Error) : Type 0 where
+pub record IsOptionConflict (locks models : ValueParser) (words : List Text) (e : Error) : Type 0 where
   pub name : Text
   pub rows : List Row
   pub command : subcommand_of (lrc_rules locks models) words ≡ Some (name, rows)
@@ -268,4 +268,4 @@ pub record IsRefusedCommandLine (words : List Text) (e : Error) : Type 0 where
   pub models : ValueParser
   pub models_are : TakesNames
       (codes "race-free" ∷ codes "happens-before" ∷ codes "lazy-release" ∷ codes "sequential" ∷ []) models
-  pub kind : HasKind (fault_of (lrc_rules locks models) words) e ⊎ IsConflict locks models words e
+  pub kind : HasKind (fault_of (lrc_rules locks models) words) e ⊎ IsOptionConflict locks models words e

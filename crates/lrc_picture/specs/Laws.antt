@@ -17,11 +17,11 @@ abbrev pub ApartLaw : Type 0
 ApartLaw = (g : Grid) (p q : ℕ) → p < q → LanesApart g p q
 
 -- the mark lies within the picture, with a step to the right edge
-pub record IsInside (g : Grid) (m : Mark) : Type 0 where
+pub record IsMarkInside (g : Grid) (m : Mark) : Type 0 where
   pub across : m.at.x + g.step ≤ width_of g
   pub down : m.at.y + 24 ≤ height_of g
 
 abbrev pub InsideLaw : Type 0
 InsideLaw =
     (n : ℕ) (j : List Event) (l : Layout) (k : ℕ) (m : Mark) → ProcessorsInRange n j → IsLayoutOf n j l
-    → slice_get l.marks.items k ≡ Some m → IsInside l.grid m
+    → slice_get l.marks.items k ≡ Some m → IsMarkInside l.grid m

@@ -10,7 +10,7 @@ use Rattle.std.proofs.lemmas.Option.{slice_get_within, slice_get-get_or}
 use Rattle.base.specs.InOrderOnce.{InOrder}
 use Rattle.lrc_sample.specs.declared.outcome.SampleOutcome.{SampleOutcome}
 use Rattle.lrc_sample.specs.declared.tally.TallyLine.{TallyLine}
-use Rattle.lrc_sample.specs.Tally.{AreShown, CountsRuns, run_of, times_of}
+use Rattle.lrc_sample.specs.Tally.{AreLinesShown, CountsRuns, run_of, times_of}
 use Rattle.lrc_sample.specs.Order.{AreFrequentFirst, AreSeenInOrder, RankedAbove}
 use Rattle.lrc_sample.proofs.Swaps.{moved, moved_back, swapped}
 use Rattle.lrc_sample.proofs.Tallies.{item_at, times_few}
@@ -47,14 +47,14 @@ tally_moved os xs ys moves is = IsPermutation-keeps xs (CountsRuns os) is (tally
 
 -- two lines in each other's place show what they did
 shown_swapped : (shows : List ℕ → SampleOutcome → Type 0) (lines : List TallyLine) (i j : ℕ) → i < length lines
-    → j < length lines → AreShown shows lines → AreShown shows (swap lines i j)
+    → j < length lines → AreLinesShown shows lines → AreLinesShown shows (swap lines i j)
 shown_swapped shows lines i j first second shown a has =
     shown a (moved i j has.0, sym (swapped lines i j has.0 first second) ∙ has.1)
 
 -- and so do lines in another order
 pub shown_moved : (shows : List ℕ → SampleOutcome → Type 0) (xs ys : List TallyLine) → IsPermutation xs ys
-    → AreShown shows xs → AreShown shows ys
-shown_moved shows xs ys moves is = IsPermutation-keeps xs (AreShown shows) is (shown_swapped shows) ys moves
+    → AreLinesShown shows xs → AreLinesShown shows ys
+shown_moved shows xs ys moves is = IsPermutation-keeps xs (AreLinesShown shows) is (shown_swapped shows) ys moves
 
 -- what stands in order pairwise does so all over
 chain : {A : Type 0} (R : A → A → Type 0) → ((a b c : A) → R a b → R b c → R a c) → (xs : List A)

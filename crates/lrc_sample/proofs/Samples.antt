@@ -10,7 +10,7 @@ use Rattle.lrc_sample.specs.declared.tally.TallyLine.{TallyLine}
 use Rattle.lrc_sample.specs.declared.sampling.Sampled.{Sampled}
 use Rattle.lrc_sample.specs.Order.{AreFrequentFirst, AreSeenInOrder, TallyStarted}
 use Rattle.lrc_sample.specs.Samples.{IsMade, IsSampleOf, Shows}
-use Rattle.lrc_sample.specs.Tally.{AreShown, CountsRuns, times_of}
+use Rattle.lrc_sample.specs.Tally.{AreLinesShown, CountsRuns, times_of}
 
 -- before the first run
 pub made_none : (s : Plan) → IsMade s 0 []
@@ -31,7 +31,7 @@ made_none s = record {
 
 -- one run more
 pub made_next : (s : Plan) (n : ℕ) (o : SampleOutcome) (turns : List ℕ) (old new : List TallyLine) (is : IsMade s n old)
-    → Shows s turns o → TallyStarted (is.outcomes ++ o ∷ []) new → AreShown (Shows s) new → IsMade s (n + 1) new
+    → Shows s turns o → TallyStarted (is.outcomes ++ o ∷ []) new → AreLinesShown (Shows s) new → IsMade s (n + 1) new
 made_next s n o turns old new is one noted shown = record {
   outcomes = is.outcomes ++ o ∷ [];
   are = record { many = omega (arith, length-append is.outcomes (o ∷ []), is.are.many); each = each };
@@ -52,7 +52,7 @@ made_few s n lines few is = omega (arith, few, is.noted.tally.sum, is.are.many)
 -- in order
 pub sample_of : (s : Plan) (n : ℕ) (old : List TallyLine) (sampled : Sampled) (is : IsMade s n old)
     → ((os : List SampleOutcome) → CountsRuns os old → CountsRuns os sampled.lines.items)
-    → ((p : Plan) → AreShown (Shows p) old → AreShown (Shows p) sampled.lines.items)
+    → ((p : Plan) → AreLinesShown (Shows p) old → AreLinesShown (Shows p) sampled.lines.items)
     → (AreSeenInOrder old → AreFrequentFirst sampled.lines.items) → IsSampleOf s n sampled
 sample_of s n old sampled is tally shown order = record {
   outcomes = is.outcomes;

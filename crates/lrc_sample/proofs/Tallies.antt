@@ -12,7 +12,7 @@ use Rattle.base.proofs.SliceSets.{slice_get-set_found, slice_get-set_other, slic
 use Rattle.conformance.specs.declared.schedule.Schedule.{Schedule}
 use Rattle.lrc_sample.specs.declared.outcome.SampleOutcome.{SampleOutcome}
 use Rattle.lrc_sample.specs.declared.tally.TallyLine.{TallyLine}
-use Rattle.lrc_sample.specs.Tally.{AreShown, IsLineOf, CountsRuns, run_of, times_of}
+use Rattle.lrc_sample.specs.Tally.{AreLinesShown, IsLineOf, CountsRuns, run_of, times_of}
 use Rattle.lrc_sample.specs.Order.{AreSeenInOrder, TallyStarted}
 use Rattle.lrc_sample.proofs.Lines.{counted, line_again, line_new, line_other, run_before, stays}
 
@@ -208,8 +208,8 @@ new_at os lines o seed schedule none place is = record {
 -- the line that counts one run more shows what it did
 pub shown_again : (shows : List ℕ → SampleOutcome → Type 0) (lines : List TallyLine) (o : SampleOutcome) (k : ℕ)
     (d now : TallyLine) → now ≡ slice_index_or lines k d
-    → ((line : TallyLine) × ((slice_get lines k ≡ Some line) × (line.outcome ≡ o))) → AreShown shows lines
-    → AreShown shows (slice_set lines k (counted now))
+    → ((line : TallyLine) × ((slice_get lines k ≡ Some line) × (line.outcome ≡ o))) → AreLinesShown shows lines
+    → AreLinesShown shows (slice_set lines k (counted now))
 shown_again shows lines o k d now read found shown a (j, has) = elim (cases_eq j k) [
   | inl here ↦
       (let same : found.0 ≡ now = sym (item_at lines k found.0 d found.1.0) ∙ sym read in
@@ -223,8 +223,8 @@ shown_again shows lines o k d now read found shown a (j, has) = elim (cases_eq j
 
 -- and so does the line of a first run
 pub shown_new : (shows : List ℕ → SampleOutcome → Type 0) (lines : List TallyLine) (o : SampleOutcome) (seed : Option ℕ)
-    (schedule : Schedule) → AreShown shows lines → shows schedule.turns.items o
-    → AreShown shows (lines ++ noted o seed schedule ∷ [])
+    (schedule : Schedule) → AreLinesShown shows lines → shows schedule.turns.items o
+    → AreLinesShown shows (lines ++ noted o seed schedule ∷ [])
 shown_new shows lines o seed schedule shown new a (j, has) = elim (push_cases lines (noted o seed schedule) j a has) [
   | inl old ↦ shown a (j, old.1)
   | inr last ↦

@@ -7,7 +7,7 @@ use Rattle.lrc_sample.specs.declared.tally.TallyLine.{TallyLine}
 use Rattle.lrc_sample.specs.declared.sampling.Sampled.{Sampled}
 use Rattle.lrc_sample.specs.Order.{AreFrequentFirst, TallyStarted}
 use Rattle.lrc_sample.specs.Outcomes.{IsSampleOutcomeOf}
-use Rattle.lrc_sample.specs.Tally.{AreShown, CountsRuns}
+use Rattle.lrc_sample.specs.Tally.{AreLinesShown, CountsRuns}
 
 -- it is what the script's run by this schedule comes to
 abbrev pub Shows : Plan → List ℕ → SampleOutcome → Type 0
@@ -23,7 +23,7 @@ pub record IsMade (s : Plan) (runs : ℕ) (lines : List TallyLine) : Type 0 wher
   pub outcomes : List SampleOutcome
   pub are : AreSampleOutcomesOf s runs outcomes
   pub noted : TallyStarted outcomes lines
-  pub shown : AreShown (Shows s) lines
+  pub shown : AreLinesShown (Shows s) lines
 
 -- the script was run so many times, and the lines tell what the runs came to, how often and where first, and a schedule that
 -- shows it
@@ -31,5 +31,5 @@ pub record IsSampleOf (s : Plan) (runs : ℕ) (sampled : Sampled) : Type 0 where
   pub outcomes : List SampleOutcome
   pub are : AreSampleOutcomesOf s runs outcomes
   pub tally : CountsRuns outcomes sampled.lines.items
-  pub shown : AreShown (Shows s) sampled.lines.items
+  pub shown : AreLinesShown (Shows s) sampled.lines.items
   pub order : AreFrequentFirst sampled.lines.items

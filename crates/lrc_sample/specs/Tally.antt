@@ -30,5 +30,5 @@ pub record CountsRuns (outcomes : List SampleOutcome) (lines : List TallyLine) :
   pub sum : sum_by times_of lines ≡ length outcomes
 
 -- each line's schedule shows its outcome
-abbrev pub AreShown : (List ℕ → SampleOutcome → Type 0) → List TallyLine → Type 0
-AreShown shows lines = (line : TallyLine) → Has lines line → shows line.schedule.turns.items line.outcome
+abbrev pub AreLinesShown : (List ℕ → SampleOutcome → Type 0) → List TallyLine → Type 0
+AreLinesShown shows lines = (line : TallyLine) → Has lines line → shows line.schedule.turns.items line.outcome

@@ -43,8 +43,8 @@ outcome_text (Ended answers) = answers_text answers
 outcome_text (Stuck processor) = codes "stuck " ++ decimal processor
 
 -- how often, the outcome, and a schedule that shows it
-abbrev pub line_text : TallyLine → List ℕ
-line_text l =
+abbrev pub tally_line_text : TallyLine → List ℕ
+tally_line_text l =
     (codes "result " ++ (decimal l.times ++ codes " "))
     ++ (outcome_text l.outcome ++ (codes " schedule " ++ (schedule_text l.schedule.turns.items ++ codes "\n")))
 
@@ -54,4 +54,4 @@ runs_in lines = min (sum_by times_of lines) (2 ^ 64 - 1)
 
 -- how many runs there were, and each outcome in a line of its own
 abbrev pub sample_text : Sampled → List ℕ
-sample_text s = (codes "runs " ++ (decimal (runs_in s.lines.items) ++ codes "\n")) ++ flat_map line_text s.lines.items
+sample_text s = (codes "runs " ++ (decimal (runs_in s.lines.items) ++ codes "\n")) ++ flat_map tally_line_text s.lines.items

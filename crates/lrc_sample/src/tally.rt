@@ -3,7 +3,7 @@ ghost use Rattle.std.specs.Prelude.{ℕ, ◌≡◌, ◌≢◌, ◌<◌, ◌-◌,
 ghost use Rattle.std.specs.List.{sum_by};
 ghost use Rattle.lrc_sample.specs.declared.outcome.SampleOutcome.{SampleOutcome};
 ghost use Rattle.lrc_sample.specs.declared.tally.TallyLine.{TallyLine};
-ghost use Rattle.lrc_sample.specs.Prelude.{AreFrequentFirst, AreSeenInOrder, AreShown, Shows, TallyStarted};
+ghost use Rattle.lrc_sample.specs.Prelude.{AreFrequentFirst, AreSeenInOrder, AreLinesShown, Shows, TallyStarted};
 ghost use Rattle.lrc_sample.specs.Prelude.{CountsRuns, run_of, times_of};
 ghost use Rattle.lrc_script.specs.Prelude.{Plan};
 
@@ -42,8 +42,8 @@ pub fn note(
     schedule: Schedule,
 ) -> Result<(), AllocError>
     requires { sum_by times_of lines.old.items < 2 ^ 64 - 1 }
-    ensures shown { OnOk result ((s : Plan) → AreShown (Shows s) lines.old.items
-        → Shows s schedule.turns.items outcome → AreShown (Shows s) lines.new.items) }
+    ensures shown { OnOk result ((s : Plan) → AreLinesShown (Shows s) lines.old.items
+        → Shows s schedule.turns.items outcome → AreLinesShown (Shows s) lines.new.items) }
     ensures tally { OnOk result ((outcomes : List SampleOutcome) → TallyStarted outcomes lines.old.items
         → run_of seed ≡ length outcomes → TallyStarted (outcomes ++ outcome ∷ []) lines.new.items) }
 {
@@ -64,7 +64,7 @@ pub fn sort(lines: &mut Vec<TallyLine>) -> Result<(), AllocError>
     requires { sum_by times_of lines.old.items < 2 ^ 64 }
     ensures tally { (outcomes : List SampleOutcome) → CountsRuns outcomes lines.old.items
         → CountsRuns outcomes lines.new.items }
-    ensures shown { (s : Plan) → AreShown (Shows s) lines.old.items → AreShown (Shows s) lines.new.items }
+    ensures shown { (s : Plan) → AreLinesShown (Shows s) lines.old.items → AreLinesShown (Shows s) lines.new.items }
     ensures order { OnOk result (AreSeenInOrder lines.old.items → AreFrequentFirst lines.new.items) }
 {
     lines.sort_by_key(|line| u64::MAX - line.times)

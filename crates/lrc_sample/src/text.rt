@@ -4,7 +4,7 @@ ghost use Rattle.std.specs.Fmt.{decimal};
 ghost use Rattle.std.specs.Io.KnownBytes.{Appends};
 ghost use Rattle.std.specs.List.{flat_map};
 ghost use Rattle.lrc_sample.specs.declared.text.TextFault.TheVariants.{NoMemory, Output};
-ghost use Rattle.lrc_sample.specs.Prelude.{all_replies_text, answers_text, line_text, outcome_text, owner_text, replies_text, runs_in};
+ghost use Rattle.lrc_sample.specs.Prelude.{all_replies_text, answers_text, tally_line_text, outcome_text, owner_text, replies_text, runs_in};
 ghost use Rattle.lrc_sample.specs.Prelude.{sample_text, word_text};
 
 use crate::outcome::{Answers, Reply, SampleOutcome};
@@ -120,7 +120,7 @@ fn put_times(text: &mut String, times: u64) -> Result<(), AllocError>
 
 /// Adds a line.
 fn put_line(text: &mut String, line: &TallyLine) -> Result<(), AllocError>
-    ensures { OnOk result (string_bytes text.new ≡ string_bytes text.old ++ line_text line.now) }
+    ensures { OnOk result (string_bytes text.new ≡ string_bytes text.old ++ tally_line_text line.now) }
 {
     put_times(text, line.times)?;
     put_outcome(text, &line.outcome)?;
@@ -131,7 +131,7 @@ fn put_line(text: &mut String, line: &TallyLine) -> Result<(), AllocError>
 
 /// Adds all lines.
 fn put_lines(text: &mut String, lines: &[TallyLine]) -> Result<(), AllocError>
-    ensures { OnOk result (string_bytes text.new ≡ string_bytes text.old ++ flat_map line_text lines.now) }
+    ensures { OnOk result (string_bytes text.new ≡ string_bytes text.old ++ flat_map tally_line_text lines.now) }
 {
     for line in lines {
         put_line(text, line)?;

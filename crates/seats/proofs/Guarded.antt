@@ -19,7 +19,7 @@ use Rattle.seats.specs.declared.guard.Guard.{Guard}
 use Rattle.seats.specs.declared.guard.Guard.TheVariants.{Under, Of, Shared, Open}
 use Rattle.seats.specs.Deeds.{deeds, is_deed}
 use Rattle.seats.specs.Guards.{Guards, KeepsTo, holds_after, lets_access, may_do, phase_after}
-use Rattle.seats.specs.Laws.{AllKeepTo, GuardedLaw}
+use Rattle.seats.specs.Laws.{AllKeepTo, PhaseGuardLaw}
 use Rattle.seats.proofs.Deeds.{own_deed, own_deeds-append}
 use Rattle.seats.proofs.Guards.{holds_is, phase_is}
 use Rattle.seats.proofs.Phases.{AccessAt, earlier, under_lock}
@@ -77,7 +77,7 @@ in_phase s h i k p q a well x y lt apart stores (Some Shared) mine theirs = elim
 ]
 in_phase s h i k p q a well x y lt apart stores (Some Open) mine theirs = inr refl
 
-pub guarded_law : GuardedLaw
+pub guarded_law : PhaseGuardLaw
 guarded_law s g h well keeps i k race = elim (cases_order (phase p i) (phase q k)) [
   | inl is ↦ same is
   | inr order ↦ elim order [

@@ -14,6 +14,6 @@ abbrev pub AllKeepTo : Guards → List Event → Type 0
 AllKeepTo g h = (p : ℕ) → KeepsTo g p (deeds (events_of h p))
 
 -- two accesses of a word race only if it is open to all in some phase
-abbrev pub GuardedLaw : Type 0
-GuardedLaw = (s : Sizes) (g : Guards) (h : List Event) → WellFormed s h → AllKeepTo g h
+abbrev pub PhaseGuardLaw : Type 0
+PhaseGuardLaw = (s : Sizes) (g : Guards) (h : List Event) → WellFormed s h → AllKeepTo g h
     → (i k : ℕ) (r : Race h i k) → (n : ℕ) × (g n r.conflict.address ≡ Some Open)

@@ -1,2 +1,2 @@
 -- The words that contracts name, passed on from one place. Declares nothing.
-pub use Rattle.seats.specs.Laws.{GuardedLaw}
+pub use Rattle.seats.specs.Laws.{PhaseGuardLaw}

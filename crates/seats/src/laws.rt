@@ -1,8 +1,8 @@
 //! Laws, as contracts of functions that do nothing: the check proves each by its name.
-ghost use Rattle.seats.specs.Prelude.{GuardedLaw};
+ghost use Rattle.seats.specs.Prelude.{PhaseGuardLaw};
 
 /// If each processor keeps to the guards in what it does, then no two accesses of a word race, but of one that was open
 /// to all.
 pub fn guarded_law()
-    ensures { GuardedLaw }
+    ensures { PhaseGuardLaw }
 {}

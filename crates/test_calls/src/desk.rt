@@ -2,7 +2,7 @@
 ghost use Rattle.std.specs.Prelude.{◌≤◌, ◌^◌};
 
 use crate::answer::Said;
-use crate::fault::Fault;
+use crate::fault::ListFault;
 use crate::kept::Kept;
 use crate::line::Deed;
 use crate::look::{Look, seen_of};
@@ -11,7 +11,7 @@ use cluster::{BookTurn, Processor};
 use journal::Journal;
 use std::alloc::Global;
 use std::sync::Wait;
-use test_crews::crews::{Answer, Call, Crew};
+use test_crews::crews::{Call, CallAnswer, Crew};
 
 /// The cluster that is open, and the journal at hand.
 #[derive(Drop)]
@@ -39,15 +39,15 @@ impl<'r, T: BookTurn + Drop, R: Wait> Desk<'r, T, R> {
     }
 
     /// The journal at hand.
-    pub fn journal(&self) -> Result<&Journal, Fault> {
+    pub fn journal(&self) -> Result<&Journal, ListFault> {
         self.kept.journal()
     }
 
     /// The processor with this number; None where there is none.
-    pub fn processor(&self, p: usize) -> Result<Option<&Processor<T>>, Fault> {
+    pub fn processor(&self, p: usize) -> Result<Option<&Processor<T>>, ListFault> {
         match &self.crew {
             Some(crew) => Ok(crew.processor(p)),
-            None => Err(Fault::NoCluster),
+            None => Err(ListFault::NoCluster),
         }
     }
 
@@ -57,7 +57,7 @@ impl<'r, T: BookTurn + Drop, R: Wait> Desk<'r, T, R> {
     }
 
     /// Does the deed, and once more where it is refused memory and that is asked for.
-    pub fn perform(&mut self, deed: Deed) -> Result<Said, Fault>
+    pub fn perform(&mut self, deed: Deed) -> Result<Said, ListFault>
         requires { T.ENTRIES ≤ 2 ^ 40 }
     {
         match self.attempt(deed) {
@@ -67,7 +67,7 @@ impl<'r, T: BookTurn + Drop, R: Wait> Desk<'r, T, R> {
     }
 
     /// Does the deed.
-    fn attempt(&mut self, deed: Deed) -> Result<Said, Fault>
+    fn attempt(&mut self, deed: Deed) -> Result<Said, ListFault>
         requires { T.ENTRIES ≤ 2 ^ 40 }
     {
         match deed {
@@ -92,7 +92,7 @@ impl<'r, T: BookTurn + Drop, R: Wait> Desk<'r, T, R> {
     }
 
     /// Makes the call. Where it is refused, it looks whether what is seen of its processor is as it was.
-    fn make(&mut self, p: usize, call: Call) -> Result<Said, Fault> {
+    fn make(&mut self, p: usize, call: Call) -> Result<Said, ListFault> {
         let before = self.seen(p)?;
         let outcome = self.call(p, call);
         self.compared(p, before, outcome)
@@ -103,8 +103,8 @@ impl<'r, T: BookTurn + Drop, R: Wait> Desk<'r, T, R> {
         &self,
         p: usize,
         before: Option<Look>,
-        outcome: Result<Said, Fault>,
-    ) -> Result<Said, Fault> {
+        outcome: Result<Said, ListFault>,
+    ) -> Result<Said, ListFault> {
         match outcome {
             Ok(Said::Refused(refused)) => self.refused(p, before, refused),
             outcome => outcome,
@@ -112,7 +112,7 @@ impl<'r, T: BookTurn + Drop, R: Wait> Desk<'r, T, R> {
     }
 
     /// What is said of a refusal, by what was seen of the processor before.
-    fn refused(&self, p: usize, before: Option<Look>, refused: Refused) -> Result<Said, Fault> {
+    fn refused(&self, p: usize, before: Option<Look>, refused: Refused) -> Result<Said, ListFault> {
         if self.seen(p)? == before {
             Ok(Said::Refused(refused))
         } else {
@@ -121,7 +121,7 @@ impl<'r, T: BookTurn + Drop, R: Wait> Desk<'r, T, R> {
     }
 
     /// What can be seen of the processor; None if there is none, or if nobody looks.
-    fn seen(&self, p: usize) -> Result<Option<Look>, Fault> {
+    fn seen(&self, p: usize) -> Result<Option<Look>, ListFault> {
         match self.processor(p)? {
             Some(processor) if !self.blind => Ok(Some(seen_of(processor, self.alloc)?)),
             _ => Ok(None),
@@ -129,14 +129,14 @@ impl<'r, T: BookTurn + Drop, R: Wait> Desk<'r, T, R> {
     }
 
     /// Makes the call, and keeps the journal that it answers.
-    fn call(&mut self, p: usize, call: Call) -> Result<Said, Fault> {
+    fn call(&mut self, p: usize, call: Call) -> Result<Said, ListFault> {
         let Some(crew) = &mut self.crew else {
-            return Err(Fault::NoCluster);
+            return Err(ListFault::NoCluster);
         };
         match crew.call(self.rt, p, call) {
-            Ok(Answer::Done) => Ok(Said::Done),
-            Ok(Answer::Word(word)) => Ok(Said::Word(word)),
-            Ok(Answer::Copy(journal)) => {
+            Ok(CallAnswer::Done) => Ok(Said::Done),
+            Ok(CallAnswer::Word(word)) => Ok(Said::Word(word)),
+            Ok(CallAnswer::Copy(journal)) => {
                 self.kept = Kept::Answered(journal);
                 Ok(Said::Done)
             }
@@ -145,13 +145,13 @@ impl<'r, T: BookTurn + Drop, R: Wait> Desk<'r, T, R> {
     }
 
     /// Ends the cluster, and keeps its journal.
-    fn finish(&mut self) -> Result<Said, Fault> {
+    fn finish(&mut self) -> Result<Said, ListFault> {
         match self.crew.take() {
             Some(crew) => {
                 self.kept = Kept::Answered(crew.finish());
                 Ok(Said::Done)
             }
-            None => Err(Fault::NoCluster),
+            None => Err(ListFault::NoCluster),
         }
     }
 }

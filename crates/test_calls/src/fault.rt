@@ -5,7 +5,7 @@ use std::io;
 
 /// Why the program ends before the list does.
 #[derive(Clone, Copy, PartialEq, Eq)]
-pub enum Fault {
+pub enum ListFault {
     /// The line is no call.
     NoCall,
     /// No cluster is open.
@@ -18,35 +18,35 @@ pub enum Fault {
     Output,
 }
 
-impl Fault {
+impl ListFault {
     /// What is said of it.
     pub fn text(self) -> &'static str {
         match self {
-            Fault::NoCall => "no such call",
-            Fault::NoCluster => "no cluster is open",
-            Fault::NoJournal => "no such journal",
-            Fault::NoMemory => "out of memory",
-            Fault::Output => "output failed",
+            ListFault::NoCall => "no such call",
+            ListFault::NoCluster => "no cluster is open",
+            ListFault::NoJournal => "no such journal",
+            ListFault::NoMemory => "out of memory",
+            ListFault::Output => "output failed",
         }
     }
 
     /// The program's status.
     pub fn status(self) -> u8 {
         match self {
-            Fault::NoMemory | Fault::Output => 4,
+            ListFault::NoMemory | ListFault::Output => 4,
             _ => 2,
         }
     }
 }
 
-impl From<io::Error> for Fault {
-    fn from(_error: io::Error) -> Fault {
-        Fault::Output
+impl From<io::Error> for ListFault {
+    fn from(_error: io::Error) -> ListFault {
+        ListFault::Output
     }
 }
 
-impl From<AllocError> for Fault {
-    fn from(_error: AllocError) -> Fault {
-        Fault::NoMemory
+impl From<AllocError> for ListFault {
+    fn from(_error: AllocError) -> ListFault {
+        ListFault::NoMemory
     }
 }

@@ -3,7 +3,7 @@ ghost use Rattle.std.specs.Prelude.{◌≤◌, ◌^◌};
 
 use crate::answer::{Said, Turns};
 use crate::desk::Desk;
-use crate::fault::Fault;
+use crate::fault::ListFault;
 use crate::line::{Deed, Question, Reading};
 use crate::print::{say, say_event, say_events, say_numbers, say_turns, say_whether};
 use book::Refused;
@@ -14,10 +14,10 @@ use std::io::Write;
 use std::sync::Wait;
 
 /// What a write comes to.
-fn written(outcome: io::Result<()>) -> Result<(), Fault> {
+fn written(outcome: io::Result<()>) -> Result<(), ListFault> {
     match outcome {
         Ok(()) => Ok(()),
-        Err(_) => Err(Fault::Output),
+        Err(_) => Err(ListFault::Output),
     }
 }
 
@@ -26,7 +26,7 @@ pub fn perform<T: BookTurn + Drop, R: Wait, W: Write>(
     desk: &mut Desk<'_, T, R>,
     out: &mut W,
     deed: Deed,
-) -> Result<(), Fault>
+) -> Result<(), ListFault>
     requires { T.ENTRIES ≤ 2 ^ 40 }
 {
     let said = desk.perform(deed)?;
@@ -39,7 +39,7 @@ pub fn repeat<T: BookTurn + Drop, R: Wait, W: Write>(
     out: &mut W,
     times: usize,
     deed: Deed,
-) -> Result<(), Fault>
+) -> Result<(), ListFault>
     requires { T.ENTRIES ≤ 2 ^ 40 }
 {
     let mut turns = Turns {
@@ -54,7 +54,7 @@ pub fn repeat<T: BookTurn + Drop, R: Wait, W: Write>(
 }
 
 /// The answers in turn after one more; those before it are printed where it is another.
-fn after<W: Write>(out: &mut W, turns: Turns, said: Said) -> Result<Turns, Fault> {
+fn after<W: Write>(out: &mut W, turns: Turns, said: Said) -> Result<Turns, ListFault> {
     if turns.count == 0 || turns.said == said {
         let count = turns.count.saturating_add(1);
         return Ok(Turns { said, count });
@@ -69,7 +69,7 @@ pub fn see<T: BookTurn + Drop, R: Wait, W: Write>(
     out: &mut W,
     p: usize,
     question: Question,
-) -> Result<(), Fault> {
+) -> Result<(), ListFault> {
     match desk.processor(p)? {
         Some(processor) => written(say_seen(processor, out, question)),
         None => written(say(out, Said::Refused(Refused::OutOfRange))),
@@ -101,24 +101,24 @@ pub fn read<T: BookTurn + Drop, R: Wait, W: Write>(
     desk: &Desk<'_, T, R>,
     out: &mut W,
     reading: Reading,
-) -> Result<(), Fault> {
+) -> Result<(), ListFault> {
     let journal = desk.journal()?;
     match read_once(journal, out, reading) {
-        Err(Fault::NoMemory) if desk.again() => read_once(journal, out, reading),
+        Err(ListFault::NoMemory) if desk.again() => read_once(journal, out, reading),
         outcome => outcome,
     }
 }
 
 /// Answers what is read of the journal.
-fn read_once<W: Write>(journal: &Journal, out: &mut W, reading: Reading) -> Result<(), Fault> {
+fn read_once<W: Write>(journal: &Journal, out: &mut W, reading: Reading) -> Result<(), ListFault> {
     match reading {
         Reading::Replay => match journal.replay() {
             Ok(memory) => written(say_memory(out, memory)),
-            Err(_) => Err(Fault::NoMemory),
+            Err(_) => Err(ListFault::NoMemory),
         },
         Reading::Race => match journal.first_race() {
             Ok(race) => written(say_race(out, race)),
-            Err(_) => Err(Fault::NoMemory),
+            Err(_) => Err(ListFault::NoMemory),
         },
         _ => written(say_kept(journal, out, reading)),
     }

@@ -1,7 +1,7 @@
 //! The journal at hand.
 
 use crate::answer::Said;
-use crate::fault::Fault;
+use crate::fault::ListFault;
 use crate::written::Written;
 use book::Refused;
 use journal::{Event, Journal};
@@ -20,9 +20,9 @@ pub enum Kept {
 
 impl Kept {
     /// The journal at hand.
-    pub fn journal(&self) -> Result<&Journal, Fault> {
+    pub fn journal(&self) -> Result<&Journal, ListFault> {
         match self {
-            Kept::Nothing => Err(Fault::NoJournal),
+            Kept::Nothing => Err(ListFault::NoJournal),
             Kept::Answered(journal) => Ok(journal),
             Kept::Given(written) => Ok(written.journal()),
         }
@@ -40,18 +40,18 @@ impl Kept {
     }
 
     /// Puts the event at the end of the journal that was begun.
-    pub fn append(&mut self, place: u64, event: Event) -> Result<Said, Fault> {
+    pub fn append(&mut self, place: u64, event: Event) -> Result<Said, ListFault> {
         match self {
             Kept::Given(written) => Ok(Said::of(written.append(place, event))),
-            _ => Err(Fault::NoJournal),
+            _ => Err(ListFault::NoJournal),
         }
     }
 
     /// Cuts the journal that was begun.
-    pub fn cut(&mut self) -> Result<Said, Fault> {
+    pub fn cut(&mut self) -> Result<Said, ListFault> {
         match self {
             Kept::Given(written) => Ok(Said::of(written.cut())),
-            _ => Err(Fault::NoJournal),
+            _ => Err(ListFault::NoJournal),
         }
     }
 }

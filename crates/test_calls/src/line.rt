@@ -1,6 +1,6 @@
 //! The lines of a list.
 
-use crate::names::Name;
+use crate::names::ListName;
 use journal::{Event, Kind};
 use test_crews::crews::Call;
 
@@ -70,7 +70,7 @@ type Words<'l> = [&'l str; MOST_WORDS];
 /// A name, and the numbers behind it.
 #[derive(Clone, Copy)]
 struct Phrase {
-    name: Name,
+    name: ListName,
     numbers: [usize; 5],
     count: usize,
 }
@@ -107,7 +107,7 @@ fn phrase_of(name: &str, words: &[&str]) -> Option<Phrase> {
         count = count.saturating_add(1);
     }
     Some(Phrase {
-        name: Name::of(name)?,
+        name: ListName::of(name)?,
         numbers,
         count,
     })
@@ -122,18 +122,18 @@ fn store(address: usize, number: usize) -> Option<Call> {
 fn call_of(phrase: Phrase) -> Option<Call> {
     let [first, second, ..] = phrase.numbers;
     match (phrase.name, phrase.count) {
-        (Name::Load, 1) => Some(Call::Load(first)),
-        (Name::Store, 2) => store(first, second),
-        (Name::Fetch, 1) => Some(Call::Fetch(first)),
-        (Name::Ask, 1) => Some(Call::Ask(first)),
-        (Name::Release, 1) => Some(Call::Release(first)),
-        (Name::Arrive, 0) => Some(Call::Arrive),
-        (Name::Set, 1) => Some(Call::Set(first)),
-        (Name::Watch, 1) => Some(Call::Watch(first)),
-        (Name::Take, 0) => Some(Call::Take),
-        (Name::Flush, 0) => Some(Call::Flush),
-        (Name::Audit, 0) => Some(Call::Audit),
-        (Name::Cut, 0) => Some(Call::Cut),
+        (ListName::Load, 1) => Some(Call::Load(first)),
+        (ListName::Store, 2) => store(first, second),
+        (ListName::Fetch, 1) => Some(Call::Fetch(first)),
+        (ListName::Ask, 1) => Some(Call::Ask(first)),
+        (ListName::Release, 1) => Some(Call::Release(first)),
+        (ListName::Arrive, 0) => Some(Call::Arrive),
+        (ListName::Set, 1) => Some(Call::Set(first)),
+        (ListName::Watch, 1) => Some(Call::Watch(first)),
+        (ListName::Take, 0) => Some(Call::Take),
+        (ListName::Flush, 0) => Some(Call::Flush),
+        (ListName::Audit, 0) => Some(Call::Audit),
+        (ListName::Cut, 0) => Some(Call::Cut),
         _ => None,
     }
 }
@@ -142,13 +142,13 @@ fn call_of(phrase: Phrase) -> Option<Call> {
 fn question_of(phrase: Phrase) -> Option<Question> {
     let [first, ..] = phrase.numbers;
     match (phrase.name, phrase.count) {
-        (Name::Page, 1) => Some(Question::Page(first)),
-        (Name::Valid, 1) => Some(Question::Valid(first)),
-        (Name::Holds, 1) => Some(Question::Holds(first)),
-        (Name::Time, 0) => Some(Question::Time),
-        (Name::Waiting, 0) => Some(Question::Waiting),
-        (Name::Room, 0) => Some(Question::Room),
-        (Name::Number, 0) => Some(Question::Number),
+        (ListName::Page, 1) => Some(Question::Page(first)),
+        (ListName::Valid, 1) => Some(Question::Valid(first)),
+        (ListName::Holds, 1) => Some(Question::Holds(first)),
+        (ListName::Time, 0) => Some(Question::Time),
+        (ListName::Waiting, 0) => Some(Question::Waiting),
+        (ListName::Room, 0) => Some(Question::Room),
+        (ListName::Number, 0) => Some(Question::Number),
         _ => None,
     }
 }
@@ -157,14 +157,14 @@ fn question_of(phrase: Phrase) -> Option<Question> {
 fn reading_of(phrase: Phrase) -> Option<Reading> {
     let [first, ..] = phrase.numbers;
     match (phrase.name, phrase.count) {
-        (Name::Events, 0) => Some(Reading::Events),
-        (Name::Count, 0) => Some(Reading::Count),
-        (Name::At, 1) => Some(Reading::At(first)),
-        (Name::Replay, 0) => Some(Reading::Replay),
-        (Name::Race, 0) => Some(Reading::Race),
-        (Name::Traffic, 0) => Some(Reading::Traffic),
-        (Name::Base, 0) => Some(Reading::Base),
-        (Name::Gone, 0) => Some(Reading::Gone),
+        (ListName::Events, 0) => Some(Reading::Events),
+        (ListName::Count, 0) => Some(Reading::Count),
+        (ListName::At, 1) => Some(Reading::At(first)),
+        (ListName::Replay, 0) => Some(Reading::Replay),
+        (ListName::Race, 0) => Some(Reading::Race),
+        (ListName::Traffic, 0) => Some(Reading::Traffic),
+        (ListName::Base, 0) => Some(Reading::Base),
+        (ListName::Gone, 0) => Some(Reading::Gone),
         _ => None,
     }
 }
@@ -173,10 +173,10 @@ fn reading_of(phrase: Phrase) -> Option<Reading> {
 fn deed_of(phrase: Phrase) -> Option<Deed> {
     let [first, second, ..] = phrase.numbers;
     match (phrase.name, phrase.count) {
-        (Name::Cluster, 4 | 5) => Some(Deed::Open(phrase.numbers)),
-        (Name::Finish, 0) => Some(Deed::Finish),
-        (Name::Journal, 2) => Some(Deed::Begin(first, second)),
-        (Name::Cut, 0) => Some(Deed::Cut),
+        (ListName::Cluster, 4 | 5) => Some(Deed::Open(phrase.numbers)),
+        (ListName::Finish, 0) => Some(Deed::Finish),
+        (ListName::Journal, 2) => Some(Deed::Begin(first, second)),
+        (ListName::Cut, 0) => Some(Deed::Cut),
         _ => None,
     }
 }
@@ -205,17 +205,17 @@ fn fetched([page, writers, records, words, _]: [usize; 5]) -> Option<Kind> {
 fn kind_of(phrase: Phrase) -> Option<Kind> {
     let [first, second, ..] = phrase.numbers;
     match (phrase.name, phrase.count) {
-        (Name::Load, 2) => loaded(first, second),
-        (Name::Store, 2) => stored(first, second),
-        (Name::Fetch, 4) => fetched(phrase.numbers),
-        (Name::Ask, 1) => Some(Kind::Ask(first)),
-        (Name::Acquire, 1) => Some(Kind::Acquire(first)),
-        (Name::Release, 1) => Some(Kind::Release(first)),
-        (Name::Arrive, 0) => Some(Kind::Arrive),
-        (Name::Depart, 0) => Some(Kind::Depart),
-        (Name::Set, 1) => Some(Kind::Set(first)),
-        (Name::Watch, 1) => Some(Kind::Watch(first)),
-        (Name::Await, 1) => Some(Kind::Await(first)),
+        (ListName::Load, 2) => loaded(first, second),
+        (ListName::Store, 2) => stored(first, second),
+        (ListName::Fetch, 4) => fetched(phrase.numbers),
+        (ListName::Ask, 1) => Some(Kind::Ask(first)),
+        (ListName::Acquire, 1) => Some(Kind::Acquire(first)),
+        (ListName::Release, 1) => Some(Kind::Release(first)),
+        (ListName::Arrive, 0) => Some(Kind::Arrive),
+        (ListName::Depart, 0) => Some(Kind::Depart),
+        (ListName::Set, 1) => Some(Kind::Set(first)),
+        (ListName::Watch, 1) => Some(Kind::Watch(first)),
+        (ListName::Await, 1) => Some(Kind::Await(first)),
         _ => None,
     }
 }

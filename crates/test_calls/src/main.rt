@@ -40,10 +40,10 @@ mod print;
 mod written;
 
 use crate::desk::Desk;
-use crate::fault::Fault;
+use crate::fault::ListFault;
 use crate::following::{perform, read, repeat, see};
 use crate::line::{Action, Deed, action_of};
-use crate::options::{Options, options_of};
+use crate::options::{ListOptions, options_of};
 use book::Book;
 use cluster::{BookLock, BookTurn, Rule, TicketBookLock};
 use std::alloc::Global;
@@ -64,11 +64,11 @@ fn follow<T: BookTurn + Drop, R: Wait, W: Write>(
     desk: &mut Desk<'_, T, R>,
     out: &mut W,
     line: &str,
-) -> Result<(), Fault>
+) -> Result<(), ListFault>
     requires { T.ENTRIES ≤ 2 ^ 40 }
 {
     match action_of(line) {
-        None => Err(Fault::NoCall),
+        None => Err(ListFault::NoCall),
         Some(Action::Nothing) => Ok(()),
         Some(Action::Do(deed)) => perform(desk, out, deed),
         Some(Action::Repeat(times, p, call)) => repeat(desk, out, times, Deed::Make(p, call)),
@@ -82,7 +82,7 @@ fn follow_all<T: BookTurn + Drop, R: Wait, W: Write>(
     desk: &mut Desk<'_, T, R>,
     out: &mut W,
     text: &str,
-) -> Result<(), (usize, Fault)>
+) -> Result<(), (usize, ListFault)>
     requires { T.ENTRIES ≤ 2 ^ 40 }
 {
     for (index, line) in text.lines().enumerate() {
@@ -94,12 +94,12 @@ fn follow_all<T: BookTurn + Drop, R: Wait, W: Write>(
 }
 
 /// Says why the program ends early, and answers the status.
-fn refuse(rt: &HostRuntime, line: usize, fault: Fault) -> u8 {
+fn refuse(rt: &HostRuntime, line: usize, fault: ListFault) -> u8 {
     let number = line.saturating_add(1);
     let text = fault.text();
     let mut err = rt.stderr();
     let _ = match fault {
-        Fault::NoMemory | Fault::Output => writeln!(err, "calls: {text}"),
+        ListFault::NoMemory | ListFault::Output => writeln!(err, "calls: {text}"),
         _ => writeln!(err, "calls: line {number}: {text}"),
     };
     fault.status()
@@ -110,9 +110,9 @@ fn serve<T: BookTurn + Drop, R: Wait>(
     alloc: Global,
     handle: &R,
     out: &mut BufWriter<Stdout>,
-    options: &Options,
+    options: &ListOptions,
     text: &str,
-) -> Result<(), (usize, Fault)>
+) -> Result<(), (usize, ListFault)>
     requires { T.ENTRIES ≤ 2 ^ 40 }
 {
     let mut desk = Desk::<T, R>::new(handle, alloc, options.again, options.blind);
@@ -123,10 +123,10 @@ fn serve<T: BookTurn + Drop, R: Wait>(
 fn serve_by<R: Wait>(
     alloc: Global,
     handle: &R,
-    options: &Options,
+    options: &ListOptions,
     out: &mut BufWriter<Stdout>,
     text: &str,
-) -> Result<(), (usize, Fault)> {
+) -> Result<(), (usize, ListFault)> {
     match (options.few, options.ticket) {
         (false, false) => serve::<BookLock, R>(alloc, handle, out, options, text),
         (false, true) => serve::<TicketBookLock, R>(alloc, handle, out, options, text),
@@ -139,13 +139,13 @@ fn serve_by<R: Wait>(
 fn conclude(
     rt: &HostRuntime,
     out: &mut BufWriter<Stdout>,
-    outcome: Result<(), (usize, Fault)>,
+    outcome: Result<(), (usize, ListFault)>,
 ) -> u8 {
     let is_written = out.flush().is_ok();
     match outcome {
         Err((line, fault)) => refuse(rt, line, fault),
         Ok(()) if is_written => 0,
-        Ok(()) => refuse(rt, 0, Fault::Output),
+        Ok(()) => refuse(rt, 0, ListFault::Output),
     }
 }
 
@@ -181,7 +181,7 @@ fn read_words<R: Wait>(rt: &HostRuntime, handle: &R) -> io::Result<u8> {
 /// The status where nothing was done.
 fn status_of(rt: &HostRuntime, error: &io::Error) -> u8 {
     if error.kind() == io::ErrorKind::OutOfMemory {
-        return refuse(rt, 0, Fault::NoMemory);
+        return refuse(rt, 0, ListFault::NoMemory);
     }
     let _ = writeln!(rt.stderr(), "calls: the list cannot be read");
     5

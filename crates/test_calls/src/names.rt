@@ -2,7 +2,7 @@
 
 /// What a line's name is.
 #[derive(Clone, Copy)]
-pub enum Name {
+pub enum ListName {
     Acquire,
     Arrive,
     Ask,
@@ -39,45 +39,45 @@ pub enum Name {
 }
 
 /// How each name is written.
-static NAMES: [(&str, Name); 33] = [
-    ("acquire", Name::Acquire),
-    ("arrive", Name::Arrive),
-    ("ask", Name::Ask),
-    ("at", Name::At),
-    ("audit", Name::Audit),
-    ("await", Name::Await),
-    ("base", Name::Base),
-    ("cluster", Name::Cluster),
-    ("count", Name::Count),
-    ("cut", Name::Cut),
-    ("depart", Name::Depart),
-    ("events", Name::Events),
-    ("fetch", Name::Fetch),
-    ("finish", Name::Finish),
-    ("flush", Name::Flush),
-    ("gone", Name::Gone),
-    ("holds", Name::Holds),
-    ("journal", Name::Journal),
-    ("load", Name::Load),
-    ("number", Name::Number),
-    ("page", Name::Page),
-    ("race", Name::Race),
-    ("release", Name::Release),
-    ("replay", Name::Replay),
-    ("room", Name::Room),
-    ("set", Name::Set),
-    ("store", Name::Store),
-    ("take", Name::Take),
-    ("time", Name::Time),
-    ("traffic", Name::Traffic),
-    ("valid", Name::Valid),
-    ("waiting", Name::Waiting),
-    ("watch", Name::Watch),
+static NAMES: [(&str, ListName); 33] = [
+    ("acquire", ListName::Acquire),
+    ("arrive", ListName::Arrive),
+    ("ask", ListName::Ask),
+    ("at", ListName::At),
+    ("audit", ListName::Audit),
+    ("await", ListName::Await),
+    ("base", ListName::Base),
+    ("cluster", ListName::Cluster),
+    ("count", ListName::Count),
+    ("cut", ListName::Cut),
+    ("depart", ListName::Depart),
+    ("events", ListName::Events),
+    ("fetch", ListName::Fetch),
+    ("finish", ListName::Finish),
+    ("flush", ListName::Flush),
+    ("gone", ListName::Gone),
+    ("holds", ListName::Holds),
+    ("journal", ListName::Journal),
+    ("load", ListName::Load),
+    ("number", ListName::Number),
+    ("page", ListName::Page),
+    ("race", ListName::Race),
+    ("release", ListName::Release),
+    ("replay", ListName::Replay),
+    ("room", ListName::Room),
+    ("set", ListName::Set),
+    ("store", ListName::Store),
+    ("take", ListName::Take),
+    ("time", ListName::Time),
+    ("traffic", ListName::Traffic),
+    ("valid", ListName::Valid),
+    ("waiting", ListName::Waiting),
+    ("watch", ListName::Watch),
 ];
 
-impl Name {
+impl ListName {
     /// The name that is written so.
-    pub fn of(word: &str) -> Option<Name> {
+    pub fn of(word: &str) -> Option<ListName> {
         for (text, name) in &NAMES {
             if *text == word {
                 return Some(*name);

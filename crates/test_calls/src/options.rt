@@ -2,7 +2,7 @@
 
 /// What the program's words ask for.
 #[derive(Clone, Copy)]
-pub struct Options<'w> {
+pub struct ListOptions<'w> {
     /// The ticket lock, in place of the array lock.
     pub ticket: bool,
     /// A lock with few entries.
@@ -16,7 +16,7 @@ pub struct Options<'w> {
 }
 
 /// The options with one word more; None where it is none.
-fn with<'w>(options: Options<'w>, word: &'w str) -> Option<Options<'w>> {
+fn with<'w>(options: ListOptions<'w>, word: &'w str) -> Option<ListOptions<'w>> {
     let mut options = options;
     match word {
         "--ticket" => options.ticket = true,
@@ -30,8 +30,8 @@ fn with<'w>(options: Options<'w>, word: &'w str) -> Option<Options<'w>> {
 }
 
 /// Reads the program's words, its name first; None where they ask for nothing that it does.
-pub fn options_of<'w>(words: &'w [String]) -> Option<Options<'w>> {
-    let mut options = Options {
+pub fn options_of<'w>(words: &'w [String]) -> Option<ListOptions<'w>> {
+    let mut options = ListOptions {
         ticket: false,
         few: false,
         again: false,

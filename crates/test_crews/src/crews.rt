@@ -12,6 +12,6 @@ mod running;
 #[cfg(test)]
 mod tests;
 
-pub use self::calls::{Answer, Call};
+pub use self::calls::{Call, CallAnswer};
 pub use self::crew::Crew;
-pub use self::running::{Ended, Task, run, run_each};
+pub use self::running::{CrewEnd, Task, run, run_each};

@@ -5,14 +5,14 @@ use Rattle.transit.specs.declared.message.Message.{Message}
 use Rattle.transit.specs.declared.message.Message.TheVariants.{Grant, Departure, Signal}
 
 -- what a message brings: a lock, the end of a barrier episode, or a flag
-pub data Kind : Type 0 where
-  grant : Kind
-  departure : Kind
-  signal : Kind
+pub data LetterKind : Type 0 where
+  grant : LetterKind
+  departure : LetterKind
+  signal : LetterKind
 
 -- a message's kind, its timestamp, and what is sent with it
 pub record Letter : Type 0 where
-  pub kind : Kind
+  pub kind : LetterKind
   pub time : List ℕ
   pub notices : List SentRecord
 

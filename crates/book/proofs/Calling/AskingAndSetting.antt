@@ -12,7 +12,7 @@ use Rattle.interval.specs.SentIntervals.{SentRecord}
 use Rattle.interval.specs.Closings.{KeepsClosingsBetween, pushed, closings_between}
 use Rattle.lockq.specs.LockQueues.{Locks, unheld_lock, lock_at, with_lock, lock_line, asked_lock}
 use Rattle.transit.specs.Letters.{Letter}
-use Rattle.transit.specs.Letters.Kind.{grant}
+use Rattle.transit.specs.Letters.LetterKind.{grant}
 use Rattle.book.specs.Lines.{IsLock}
 use Rattle.book.specs.Flags.{IsFlag}
 use Rattle.book.specs.State.{State, time_of}

@@ -18,7 +18,7 @@ use Rattle.journal.proofs.Times.KeptArrives.{kind_kept, arrivals_others}
 use Rattle.journal.proofs.Journals.WellFormedLast.{last_cases, holds_cases, holds_now}
 use Rattle.transit.specs.Letters
 use Rattle.transit.specs.Letters.{Letter}
-use Rattle.transit.specs.Letters.Kind.{grant, departure, signal}
+use Rattle.transit.specs.Letters.LetterKind.{grant, departure, signal}
 use Rattle.journal.specs.DidEvent.{event, did}
 use Rattle.book.specs.Stamps.{IsStamp}
 use Rattle.book.specs.Mail.{MailCarries, MailLets, ComesByMail, IsMail}

@@ -20,7 +20,7 @@ use Rattle.interval.specs.SentIntervals.{SentRecord}
 use Rattle.interval.specs.Closings.{closings_between}
 use Rattle.lockq.specs.LockQueues.{Lock, unheld_lock, lock_at, lock_line, asked_lock, released_lock}
 use Rattle.transit.specs.Letters.{Letter}
-use Rattle.transit.specs.Letters.Kind.{grant}
+use Rattle.transit.specs.Letters.LetterKind.{grant}
 use Rattle.journal.specs.DidEvent.{event, did}
 use Rattle.book.specs.Stamps.{EachAt, IsStamp}
 use Rattle.book.specs.Lines.{IsLine, IsLock}

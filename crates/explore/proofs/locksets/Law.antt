@@ -20,7 +20,7 @@ use Rattle.lrc_script.specs.declared.script.Instruction.{Instruction}
 use Rattle.lrc_script.specs.Plan.{Plan}
 use Rattle.conformance.specs.Follows.{calls_of, plan_sizes}
 use Rattle.explore.specs.declared.prefixes.script_call.ScriptCall.{ScriptCall}
-use Rattle.explore.specs.Guarded.{GuardedLaw, HaveCommonLock, IsAccessAt, IsGuarded, departs, is_held_after_step, held_at, phase_at, step_address, step_stores}
+use Rattle.explore.specs.Guarded.{GuardedTextLaw, HaveCommonLock, IsAccessAt, IsGuarded, departs, is_held_after_step, held_at, phase_at, step_address, step_stores}
 use Rattle.explore.specs.Machines.{AreLawfulSteps}
 use Rattle.explore.specs.Prefixes.Beginnings.{IsFlatBeginning}
 use Rattle.explore.specs.Prefixes.Calling.{last_reply, section_steps, shown_by}
@@ -142,6 +142,6 @@ guarded_quiet s rows steps g p q a b one other apart c guarded =
     apart (holds_alone (plan_sizes s) g first.0.well_formed p q common.lock (x.holds common.lock common.first)
     (y.holds common.lock common.second))
 
-pub guarded_law : GuardedLaw
+pub guarded_law : GuardedTextLaw
 guarded_law s rows steps all =
     neighbours s (λ g p q a b one other apart c. guarded_quiet s rows steps g p q a b one other apart c (all c.address))

@@ -23,7 +23,7 @@ use Rattle.journal.proofs.Times.LeavingCloses.{own_order}
 use Rattle.journal.proofs.Times.Uses.{ordered_before}
 use Rattle.judge.specs.declared.sources.stored.Stored.{Stored}
 use Rattle.judge.specs.Sources.Latest.{IsLatest}
-use Rattle.judge.specs.Sources.Last.{IsLast, AreLast, IsFollowed, IsUnfollowed}
+use Rattle.judge.specs.Sources.Last.{IsLast, AreLast, IsStoreFollowed, IsUnfollowed}
 use Rattle.judge.specs.declared.sources.readable.Sources.{Sources}
 use Rattle.judge.specs.Sources.Tells.{AreStoresOf}
 
@@ -206,7 +206,7 @@ latest_unfollowed j times p a v q i last given x =
           (omega arith))))
     ]
 
-    free : ¬ IsFollowed times last q up.store
+    free : ¬ IsStoreFollowed times last q up.store
     free f =
         let theirs = found j times p a f.by last f.store given f.at in
         let order = (last_order j times p a q f.by last up.store f.store given up.at f.at).1 f.counts in

@@ -27,7 +27,7 @@ abbrev pub AreLast : List Event → List (List ℕ) → ℕ → ℕ → List (Op
 AreLast j times p a last = (q : ℕ) (o : Option Stored) → slice_get last q ≡ Some o → IsLastOf j times p a q o
 
 -- the timestamp of one of these stores counts the interval of q's store s
-pub record IsFollowed (times : List (List ℕ)) (last : List (Option Stored)) (q : ℕ) (s : Stored) : Type 0 where
+pub record IsStoreFollowed (times : List (List ℕ)) (last : List (Option Stored)) (q : ℕ) (s : Stored) : Type 0 where
   pub by : ℕ
   pub store : Stored
   pub at : slice_get last by ≡ Some (Some store)
@@ -38,4 +38,4 @@ pub record IsUnfollowed (times : List (List ℕ)) (last : List (Option Stored)) 
   pub store : Stored
   pub at : slice_get last q ≡ Some (Some store)
   pub place : store.place ≡ i
-  pub free : ¬ IsFollowed times last q store
+  pub free : ¬ IsStoreFollowed times last q store

@@ -8,7 +8,7 @@ ghost use Rattle.journal.specs.declared.event.Kind.TheVariants.{Load, Store};
 ghost use Rattle.journal.specs.ExplainedAnswers.{IsAnswer};
 ghost use Rattle.journal.specs.Prelude.{AddressInRange, AddressesInRange, ProcessorsInRange, did};
 ghost use Rattle.judge.specs.declared.sources.stored.Stored.{Stored};
-ghost use Rattle.judge.specs.Sources.Prelude.{StoresAreKept, AreLast, IsFollowed, IsLatest, IsUnfollowed, AreStoresOf};
+ghost use Rattle.judge.specs.Sources.Prelude.{StoresAreKept, AreLast, IsStoreFollowed, IsLatest, IsUnfollowed, AreStoresOf};
 
 use crate::sources::known::Known;
 use crate::sources::stored::{Stored, last_below};
@@ -77,7 +77,7 @@ fn raise(time: &mut Clock, other: &Clock)
 fn unfollowed(last: &LastStores, joined: &Clock, by: usize) -> Option<usize>
     requires by { by < 16 }
     ensures { (times : List (List ℕ)) → ((s : Stored)
-        → (s.interval < slice_index joined.now by) ↔ IsFollowed times last.now by s)
+        → (s.interval < slice_index joined.now by) ↔ IsStoreFollowed times last.now by s)
         → (i : ℕ) → (result ≡ Some i) ↔ IsUnfollowed times last.now by i }
 {
     let store = last[by]?;
@@ -129,7 +129,7 @@ impl Sources {
         requires { (r : ℕ) (s : Stored) → slice_get last.now r ≡ Some (Some s)
             → s.time < vec_len self.now.known.times }
         ensures { (q : ℕ) (s : Stored) → (s.interval < slice_index result q)
-            ↔ IsFollowed self.now.known.times.items last.now q s }
+            ↔ IsStoreFollowed self.now.known.times.items last.now q s }
     {
         let mut joined = [0; 16];
         for store in last {

@@ -4,12 +4,12 @@ use Rattle.std.specs.Str.{bytes_eq}
 use Rattle.std.proofs.lemmas.Slice.Eq.{bytes_eq-Decides}
 use Rattle.journal.specs.declared.event.Kind.{Kind}
 use Rattle.journal.specs.declared.event.Kind.TheVariants as kind
-use Rattle.lrc_check.specs.declared.traces.names.Name.{Name}
-use Rattle.lrc_check.specs.declared.traces.names.Name.TheVariants.{Load, Store, Fetch, Ask, Acquire, Release, Arrive, Depart, Set, Watch, Await}
-use Rattle.lrc_check.specs.Traces.Names.{operand_count, kind_from, name_of, numbers_of, word_of}
+use Rattle.lrc_check.specs.declared.traces.names.EventName.{EventName}
+use Rattle.lrc_check.specs.declared.traces.names.EventName.TheVariants.{Load, Store, Fetch, Ask, Acquire, Release, Arrive, Depart, Set, Watch, Await}
+use Rattle.lrc_check.specs.Traces.Names.{operand_count, kind_from, event_name, numbers_of, word_of}
 
 -- the name of what an event did
-abbrev pub name_for : Kind → Name
+abbrev pub name_for : Kind → EventName
 name_for (kind.Load a v) = Load
 name_for (kind.Store a v) = Store
 name_for (kind.Fetch w n r d) = Fetch
@@ -22,7 +22,7 @@ name_for (kind.Set f) = Set
 name_for (kind.Watch f) = Watch
 name_for (kind.Await f) = Await
 
-written_if : (w : List ℕ) (n : Name) (rest : Option Name) (found : Name)
+written_if : (w : List ℕ) (n : EventName) (rest : Option EventName) (found : EventName)
     → (rest ≡ Some found → w ≡ word_of found) → cond (bytes_eq w (word_of n)) (Some n) rest ≡ Some found
     → w ≡ word_of found
 written_if w n rest found later e =
@@ -33,7 +33,7 @@ written_if w n rest found later e =
     ] refl e
 
 -- a word that is read as a name is how it is written
-pub name_written : (w : List ℕ) (n : Name) → name_of w ≡ Some n → w ≡ word_of n
+pub name_written : (w : List ℕ) (n : EventName) → event_name w ≡ Some n → w ≡ word_of n
 name_written w n e =
     written_if w Load _ n
     (written_if w Store _ n (written_if w Fetch _ n (written_if w Ask _ n (written_if w Acquire _ n
@@ -41,7 +41,7 @@ name_written w n e =
     (written_if w Watch _ n (written_if w Await _ n (λ h. absurd cc))))))))))) e
 
 -- what is written as a name is read as it
-pub name_again : (n : Name) → name_of (word_of n) ≡ Some n
+pub name_again : (n : EventName) → event_name (word_of n) ≡ Some n
 name_again Load = refl
 name_again Store = refl
 name_again Fetch = refl
@@ -55,20 +55,20 @@ name_again Watch = refl
 name_again Await = refl
 
 -- two names aren't written alike
-pub names_differ : (n m : Name) → word_of n ≡ word_of m → n ≡ m
+pub names_differ : (n m : EventName) → word_of n ≡ word_of m → n ≡ m
 names_differ n m e =
-    let first = name_again n in let second = name_again m in let both = ap name_of e in
+    let first = name_again n in let second = name_again m in let both = ap event_name e in
     let same : Some n ≡ Some m = cc in cc
 
 -- what is read of a name and numbers has this name and these numbers
-pub record IsKindOf (n : Name) (ns : List ℕ) (k : Kind) : Type 0 where
+pub record IsKindOf (n : EventName) (ns : List ℕ) (k : Kind) : Type 0 where
   pub name_is : n ≡ name_for k
   pub numbers_are : ns ≡ numbers_of k
 
-kind_is : (n : Name) (ns : List ℕ) (j k : Kind) → Some j ≡ Some k → IsKindOf n ns j → IsKindOf n ns k
+kind_is : (n : EventName) (ns : List ℕ) (j k : Kind) → Some j ≡ Some k → IsKindOf n ns j → IsKindOf n ns k
 kind_is n ns j k e h = let same : j ≡ k = cc in subst (IsKindOf n ns) same h
 
-pub kind_takes : (n : Name) (ns : List ℕ) (k : Kind) → kind_from n ns ≡ Some k → IsKindOf n ns k
+pub kind_takes : (n : EventName) (ns : List ℕ) (k : Kind) → kind_from n ns ≡ Some k → IsKindOf n ns k
 kind_takes Load (a ∷ v ∷ []) k e = kind_is _ _ _ k e (record { name_is = refl; numbers_are = refl })
 kind_takes Load _ k e = absurd cc
 kind_takes Store (a ∷ v ∷ []) k e = kind_is _ _ _ k e (record { name_is = refl; numbers_are = refl })
@@ -121,7 +121,7 @@ numbers_counted (kind.Watch f) = refl
 numbers_counted (kind.Await f) = refl
 
 -- so many numbers are read
-pub kind_counted : (n : Name) (ns : List ℕ) → length ns ≡ operand_count n → kind_from n ns ≡ None → ⊥
+pub kind_counted : (n : EventName) (ns : List ℕ) → length ns ≡ operand_count n → kind_from n ns ≡ None → ⊥
 kind_counted Load (a ∷ v ∷ []) l e = absurd cc
 kind_counted Load _ l e = absurd (omega arith)
 kind_counted Store (a ∷ v ∷ []) l e = absurd cc

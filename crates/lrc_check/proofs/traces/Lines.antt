@@ -14,8 +14,8 @@ use Rattle.lrc_script.proofs.Reading.Numbers.{AreWordNumbers, number_again, numb
 use Rattle.lrc_script.proofs.Reading.Words.{HasNo, HasNo-append, joined_words, words_from_split}
 use Rattle.lrc_script.proofs.Reading.Lines.{decimal_has_no, line_numbers_are_words, is_plain, line_split, plain_bytes}
 use Rattle.lrc_report.specs.ReportText.{event_line, kind_text}
-use Rattle.lrc_check.specs.declared.traces.names.Name.{Name}
-use Rattle.lrc_check.specs.declared.traces.names.Name.TheVariants.{Load, Store, Fetch, Ask, Acquire, Release, Arrive, Depart, Set, Watch, Await}
+use Rattle.lrc_check.specs.declared.traces.names.EventName.{EventName}
+use Rattle.lrc_check.specs.declared.traces.names.EventName.TheVariants.{Load, Store, Fetch, Ask, Acquire, Release, Arrive, Depart, Set, Watch, Await}
 use Rattle.lrc_check.specs.Traces.Names.{kind_from, numbers_of, word_of}
 use Rattle.lrc_check.specs.Traces.Lines.{IsShaped}
 use Rattle.lrc_check.proofs.traces.Called.{kind_again, name_for, names_differ, numbers_counted}
@@ -90,7 +90,7 @@ plain_word w plain =
     let both = and_parts (ltb 0 (length w)) (list_all (λ b. not (eqb b 32) && not (eqb b 10)) w) plain in
     ((line_split w [] plain tt).first, (plain_bytes w both.1).1)
 
-name_plain : (n : Name) → is_plain (word_of n) ≡ true
+name_plain : (n : EventName) → is_plain (word_of n) ≡ true
 name_plain Load = refl
 name_plain Store = refl
 name_plain Fetch = refl
@@ -163,14 +163,14 @@ splits_agree line w v ws vs h k =
     (cc, cc)
 
 -- what two shapes of one line have in common: all
-pub record IsSameShape (a b : List ℕ) (n : Name) (ws : List (List ℕ)) (c d : List ℕ) (m : Name) (vs : List (List ℕ))
+pub record IsSameShape (a b : List ℕ) (n : EventName) (ws : List (List ℕ)) (c d : List ℕ) (m : EventName) (vs : List (List ℕ))
     : Type 0 where
   pub place : a ≡ c
   pub processor : b ≡ d
   pub name : n ≡ m
   pub numbers : ws ≡ vs
 
-pub shapes_agree : (line a b : List ℕ) (n : Name) (ws : List (List ℕ)) (c d : List ℕ) (m : Name)
+pub shapes_agree : (line a b : List ℕ) (n : EventName) (ws : List (List ℕ)) (c d : List ℕ) (m : EventName)
     (vs : List (List ℕ)) → IsShaped line a b n ws → IsShaped line c d m vs → IsSameShape a b n ws c d m vs
 shapes_agree line a b n ws c d m vs h k =
     let same = (splits_agree line _ _ _ _ h.split k.split).1 in
@@ -192,7 +192,7 @@ kinds_same : (j k : Kind) → name_for j ≡ name_for k → numbers_of j ≡ num
 kinds_same j k names numbers =
     let first = kind_again j in let second = kind_again k in
     let both : kind_from (name_for j) (numbers_of j) ≡ kind_from (name_for k) (numbers_of k) =
-    ap (λ (n : Name). kind_from n (numbers_of j)) names ∙ ap (kind_from (name_for k)) numbers in
+    ap (λ (n : EventName). kind_from n (numbers_of j)) names ∙ ap (kind_from (name_for k)) numbers in
     let same : Some j ≡ Some k = cc in cc
 
 -- two events at their places aren't written alike

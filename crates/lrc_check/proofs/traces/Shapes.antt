@@ -15,8 +15,8 @@ use Rattle.lrc_script.specs.LineReading.{ReadFails, has_bytes, number_read, numb
 use Rattle.lrc_script.proofs.Reading.Numbers.{AreWordNumbers, number_again, number_takes, numbers_refused, numbers_take}
 use Rattle.lrc_script.proofs.Reading.Words.{joined_words, words_from_split, parts_words_whole, words_split_from_parts}
 use Rattle.lrc_check.specs.declared.traces.fault.TraceFault.{TraceFault}
-use Rattle.lrc_check.specs.declared.traces.names.Name.{Name}
-use Rattle.lrc_check.specs.Traces.Names.{operand_count, kind_from, name_of, numbers_of, word_of}
+use Rattle.lrc_check.specs.declared.traces.names.EventName.{EventName}
+use Rattle.lrc_check.specs.Traces.Names.{operand_count, kind_from, event_name, numbers_of, word_of}
 use Rattle.lrc_check.specs.Traces.Lines.{GivesKind, HasBadNumber, HasNoShape, IsEventLine, IsShaped}
 use Rattle.lrc_check.specs.Traces.Faults.{IsNoEvent, fault_from}
 use Rattle.lrc_check.proofs.traces.Called.{kind_counted, kind_takes, name_again, name_for, name_written}
@@ -43,15 +43,15 @@ words_same a text b r test is same =
     ] refl test
 
 -- the words of a line that has a shape
-shape_parts : (line a b : List ℕ) (n : Name) (ns : List (List ℕ)) → IsShaped line a b n ns
+shape_parts : (line a b : List ℕ) (n : EventName) (ns : List (List ℕ)) → IsShaped line a b n ns
     → (parts_of_line 32 line ≡ codes "event" ∷ a ∷ b ∷ word_of n ∷ ns) × (list_all has_bytes (parts_of_line 32 line) ≡ true)
 shape_parts line a b n ns h =
     let p = words_from_split line _ _ h.split in (p.0, ap (list_all has_bytes) p.0 ∙ p.1)
 
 -- words with the shape
-pub shaped_from : (line w a b x : List ℕ) (n : Name) (ns : List (List ℕ))
+pub shaped_from : (line w a b x : List ℕ) (n : EventName) (ns : List (List ℕ))
     → parts_of_line 32 line ≡ w ∷ a ∷ b ∷ x ∷ ns → list_all has_bytes (parts_of_line 32 line) ≡ true → w ≡ codes "event"
-    → name_of x ≡ Some n → length ns ≡ operand_count n → IsShaped line a b n ns
+    → event_name x ≡ Some n → length ns ≡ operand_count n → IsShaped line a b n ns
 shaped_from line w a b x n ns parts have event name count =
     let word = name_written x n name in
     let parts' : parts_of_line 32 line ≡ codes "event" ∷ a ∷ b ∷ word_of n ∷ ns =
@@ -80,21 +80,21 @@ unshaped_short line ws parts short a b n ns h =
     omega (arith, ap (λ (t : List (List ℕ)). length t) (sym parts ∙ p), short)
 
 pub unshaped_name : (line w a b x : List ℕ) (ns : List (List ℕ)) → parts_of_line 32 line ≡ w ∷ a ∷ b ∷ x ∷ ns
-    → name_of x ≡ None → HasNoShape line
+    → event_name x ≡ None → HasNoShape line
 unshaped_name line w a b x ns parts none a' b' n ms h =
     let p = (shape_parts line a' b' n ms h).0 in
     let same : (w ∷ a ∷ b ∷ x ∷ ns) ≡ (codes "event" ∷ a' ∷ b' ∷ word_of n ∷ ms) = sym parts ∙ p in
     let word : x ≡ word_of n = cc in
-    let again : Some n ≡ None = sym (name_again n) ∙ ap name_of (sym word) ∙ none in
+    let again : Some n ≡ None = sym (name_again n) ∙ ap event_name (sym word) ∙ none in
     absurd cc
 
-pub unshaped_count : (line w a b x : List ℕ) (m : Name) (ns : List (List ℕ)) → parts_of_line 32 line ≡ w ∷ a ∷ b ∷ x ∷ ns
-    → name_of x ≡ Some m → length ns ≢ operand_count m → HasNoShape line
+pub unshaped_count : (line w a b x : List ℕ) (m : EventName) (ns : List (List ℕ)) → parts_of_line 32 line ≡ w ∷ a ∷ b ∷ x ∷ ns
+    → event_name x ≡ Some m → length ns ≢ operand_count m → HasNoShape line
 unshaped_count line w a b x m ns parts some ne a' b' n ms h =
     let p = (shape_parts line a' b' n ms h).0 in
     let same : (w ∷ a ∷ b ∷ x ∷ ns) ≡ (codes "event" ∷ a' ∷ b' ∷ word_of n ∷ ms) = sym parts ∙ p in
     let word : x ≡ word_of n = cc in
-    let again : Some n ≡ Some m = sym (name_again n) ∙ ap name_of (sym word) ∙ some in
+    let again : Some n ≡ Some m = sym (name_again n) ∙ ap event_name (sym word) ∙ some in
     let names : n ≡ m = cc in
     let numbers : ns ≡ ms = cc in
     ne (ap (λ (t : List (List ℕ)). length t) numbers ∙ h.count ∙ ap operand_count names)
@@ -105,7 +105,7 @@ no_number : (w : List ℕ) → number_read w ≡ None → (n : ℕ) → n < 2 ^ 
 no_number w none n small same =
     let again : None ≡ Some n = sym none ∙ ap number_read same ∙ number_again n small in cc
 
-pub bad_place : (line a b : List ℕ) (n : Name) (ns : List (List ℕ)) → IsShaped line a b n ns → number_read a ≡ None
+pub bad_place : (line a b : List ℕ) (n : EventName) (ns : List (List ℕ)) → IsShaped line a b n ns → number_read a ≡ None
     → HasBadNumber line
 bad_place line a b n ns h none = record {
   place = a;
@@ -118,7 +118,7 @@ bad_place line a b n ns h none = record {
   no_number = no_number a none;
 }
 
-pub bad_processor : (line a b : List ℕ) (n : Name) (ns : List (List ℕ)) → IsShaped line a b n ns
+pub bad_processor : (line a b : List ℕ) (n : EventName) (ns : List (List ℕ)) → IsShaped line a b n ns
     → number_read b ≡ None → HasBadNumber line
 bad_processor line a b n ns h none = record {
   place = a;
@@ -131,7 +131,7 @@ bad_processor line a b n ns h none = record {
   no_number = no_number b none;
 }
 
-bad_others : (line a b : List ℕ) (n : Name) (ns : List (List ℕ)) (e : ScriptFault) → IsShaped line a b n ns
+bad_others : (line a b : List ℕ) (n : EventName) (ns : List (List ℕ)) (e : ScriptFault) → IsShaped line a b n ns
     → numbers_read_after [] ns ≡ Err e → (e ≡ script.BadNumber) × HasBadNumber line
 bad_others line a b n ns e h read =
     let refused = numbers_refused [] ns e read in (
@@ -149,7 +149,7 @@ bad_others line a b n ns e h read =
     )
 
 -- why the numbers behind the name weren't read
-pub numbers_fault : (line a b : List ℕ) (n : Name) (ns : List (List ℕ)) (e : ScriptFault) (f : TraceFault)
+pub numbers_fault : (line a b : List ℕ) (n : EventName) (ns : List (List ℕ)) (e : ScriptFault) (f : TraceFault)
     → IsShaped line a b n ns → ReadFails e (numbers_read_after [] ns) → f ≡ fault_from e → IsNoEvent f line
 numbers_fault line a b n ns script.NoMemory f h read same =
     subst (λ (x : TraceFault). IsNoEvent x line) (sym same) tt
@@ -160,7 +160,7 @@ numbers_fault line a b n ns e f h read same =
 -- ---- the event
 
 -- as many numbers as stand behind the name make a kind
-pub kind_read : (line a b : List ℕ) (n : Name) (ns : List (List ℕ)) (ms : List ℕ) → IsShaped line a b n ns
+pub kind_read : (line a b : List ℕ) (n : EventName) (ns : List (List ℕ)) (ms : List ℕ) → IsShaped line a b n ns
     → numbers_read_after [] ns ≡ Ok ms → kind_from n ms ≡ None → ⊥
 kind_read line a b n ns ms h read none =
     let t = numbers_take [] ns ms read in
@@ -170,7 +170,7 @@ kind_read line a b n ns ms h read none =
     kind_counted n ms long none
 
 -- what is read of an event's words
-event_whole : (line a b : List ℕ) (n : Name) (ns : List (List ℕ)) (i p : ℕ) (ms : List ℕ) (k : Kind)
+event_whole : (line a b : List ℕ) (n : EventName) (ns : List (List ℕ)) (i p : ℕ) (ms : List ℕ) (k : Kind)
     → line ≡ joined_words 32 (codes "event") (a ∷ b ∷ word_of n ∷ ns) → number_read a ≡ Some i → number_read b ≡ Some p
     → numbers_read_after [] ns ≡ Ok ms → kind_from n ms ≡ Some k
     → IsEventLine line i (record { processor = p; kind = k })
@@ -185,7 +185,7 @@ event_whole line a b n ns i p ms k whole place processor read kind =
     ≡ (decimal i ∷ decimal p ∷ word_of (name_for k) ∷ map decimal (numbers_of k)) =
     ap (λ (x : List ℕ). x ∷ b ∷ word_of n ∷ ns) a-is.0
     ∙ ap (λ (x : List ℕ). decimal i ∷ x ∷ word_of n ∷ ns) b-is.0
-    ∙ ap (λ (x : Name). decimal i ∷ decimal p ∷ word_of x ∷ ns) c.name_is
+    ∙ ap (λ (x : EventName). decimal i ∷ decimal p ∷ word_of x ∷ ns) c.name_is
     ∙ ap (λ (x : List (List ℕ)). decimal i ∷ decimal p ∷ word_of (name_for k) ∷ x)
     (t.words_are ∙ ap (map decimal) (sym numbers)) in
     let bytes : line ≡ event_bytes i e =
@@ -196,15 +196,15 @@ event_whole line a b n ns i p ms k whole place processor read kind =
     }
 
 -- what is read of an event's line
-pub event_found : (line a b : List ℕ) (n : Name) (ns : List (List ℕ)) (i p : ℕ) (ms : List ℕ) (k : Kind)
+pub event_found : (line a b : List ℕ) (n : EventName) (ns : List (List ℕ)) (i p : ℕ) (ms : List ℕ) (k : Kind)
     → IsShaped line a b n ns → number_read a ≡ Some i → number_read b ≡ Some p → numbers_read_after [] ns ≡ Ok ms
     → kind_from n ms ≡ Some k → IsEventLine line i (record { processor = p; kind = k })
 event_found line a b n ns i p ms k h place processor read kind =
     event_whole line a b n ns i p ms k h.split.whole place processor read kind
 
 -- what is read of its words, whose shape the numbers show
-pub event_quick : (line w a b x : List ℕ) (n : Name) (ns : List (List ℕ)) (i p : ℕ) (k : Kind)
-    → parts_of_line 32 line ≡ w ∷ a ∷ b ∷ x ∷ ns → w ≡ codes "event" → name_of x ≡ Some n → number_read a ≡ Some i
+pub event_quick : (line w a b x : List ℕ) (n : EventName) (ns : List (List ℕ)) (i p : ℕ) (k : Kind)
+    → parts_of_line 32 line ≡ w ∷ a ∷ b ∷ x ∷ ns → w ≡ codes "event" → event_name x ≡ Some n → number_read a ≡ Some i
     → number_read b ≡ Some p → GivesKind n ns k → IsEventLine line i (record { processor = p; kind = k })
 event_quick line w a b x n ns i p k parts event name place processor gives =
     let parts' : parts_of_line 32 line ≡ codes "event" ∷ a ∷ b ∷ word_of n ∷ ns =

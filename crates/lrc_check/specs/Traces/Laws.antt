@@ -19,8 +19,8 @@ abbrev pub OneTraceLaw : Type 0
 OneTraceLaw = (s : Sizes) (es : List Event) → IsTrace s es → IsNoOther (trace_text s es) s es
 
 -- a well formed journal of words, no longer than a journal can be, is a trace
-abbrev pub WellFormedLaw : Type 0
-WellFormedLaw = (s : Sizes) (es : List Event) → AreLawfulSizes (head s) → length es ≤ most_held → WellFormed s es
+abbrev pub WellFormedTraceLaw : Type 0
+WellFormedTraceLaw = (s : Sizes) (es : List Event) → AreLawfulSizes (head s) → length es ≤ most_held → WellFormed s es
     → All (λ e. HasWords e.kind) es → IsTrace s es
 
 -- what is printed of a journal of which nothing was cut off is, behind the line of its sizes, the text of a trace of

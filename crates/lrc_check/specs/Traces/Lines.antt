@@ -10,25 +10,25 @@ use Rattle.journal.specs.WellFormed.{KindInRange}
 use Rattle.lrc_script.specs.LineFaults.{IsLineSplit}
 use Rattle.lrc_script.specs.LineReading.{numbers_read_after}
 use Rattle.lrc_report.specs.ReportText.{cut_line, event_line}
-use Rattle.lrc_check.specs.declared.traces.names.Name.{Name}
+use Rattle.lrc_check.specs.declared.traces.names.EventName.{EventName}
 use Rattle.lrc_check.specs.Traces.Lawful.{IsWithin}
 use Rattle.lrc_check.specs.Traces.Names.{operand_count, kind_from, numbers_of, word_of}
 
 -- the line is the word `event` and others, with one space before each: a place, a processor, a name, and as many
 -- words as the name has numbers
-pub record IsShaped (line place processor : List ℕ) (name : Name) (numbers : List (List ℕ)) : Type 0 where
+pub record IsShaped (line place processor : List ℕ) (name : EventName) (numbers : List (List ℕ)) : Type 0 where
   pub split : IsLineSplit line (codes "event") (place ∷ processor ∷ word_of name ∷ numbers)
   pub count : length numbers ≡ operand_count name
 
 -- the words are numbers, and with these an event of this name did what k says
-pub record GivesKind (name : Name) (words : List (List ℕ)) (k : Kind) : Type 0 where
+pub record GivesKind (name : EventName) (words : List (List ℕ)) (k : Kind) : Type 0 where
   pub numbers : List ℕ
   pub read : numbers_read_after [] words ≡ Ok numbers
   pub kind : kind_from name numbers ≡ Some k
 
 -- no words make the line such a one
 abbrev pub HasNoShape : List ℕ → Type 0
-HasNoShape line = (place processor : List ℕ) (name : Name) (numbers : List (List ℕ))
+HasNoShape line = (place processor : List ℕ) (name : EventName) (numbers : List (List ℕ))
     → ¬ IsShaped line place processor name numbers
 
 -- the word isn't a number below 2 ^ 32 in decimal, with no leading zero
@@ -39,7 +39,7 @@ IsNoNumber word = (n : ℕ) → n < 2 ^ 32 → word ≢ decimal n
 pub record HasBadNumber (line : List ℕ) : Type 0 where
   pub place : List ℕ
   pub processor : List ℕ
-  pub name : Name
+  pub name : EventName
   pub numbers : List (List ℕ)
   pub shape : IsShaped line place processor name numbers
   pub bad : List ℕ

@@ -3,11 +3,11 @@ use Rattle.std.specs.Prelude.{ℕ, if◌then◌else◌, List, [], ◌∷◌, cod
 use Rattle.std.specs.Str.{bytes_eq}
 use Rattle.journal.specs.declared.event.Kind.{Kind}
 use Rattle.journal.specs.declared.event.Kind.TheVariants as kind
-use Rattle.lrc_check.specs.declared.traces.names.Name.{Name}
-use Rattle.lrc_check.specs.declared.traces.names.Name.TheVariants.{Load, Store, Fetch, Ask, Acquire, Release, Arrive, Depart, Set, Watch, Await}
+use Rattle.lrc_check.specs.declared.traces.names.EventName.{EventName}
+use Rattle.lrc_check.specs.declared.traces.names.EventName.TheVariants.{Load, Store, Fetch, Ask, Acquire, Release, Arrive, Depart, Set, Watch, Await}
 
 -- how a name is written
-abbrev pub word_of : Name → List ℕ
+abbrev pub word_of : EventName → List ℕ
 word_of Load = codes "load"
 word_of Store = codes "store"
 word_of Fetch = codes "fetch"
@@ -21,7 +21,7 @@ word_of Watch = codes "watch"
 word_of Await = codes "await"
 
 -- how many numbers stand behind it
-abbrev pub operand_count : Name → ℕ
+abbrev pub operand_count : EventName → ℕ
 operand_count Load = 2
 operand_count Store = 2
 operand_count Fetch = 4
@@ -44,8 +44,8 @@ numbers_of (kind.Watch f) = f ∷ []
 numbers_of (kind.Await f) = f ∷ []
 
 -- the name that is written so
-abbrev pub name_of : List ℕ → Option Name
-name_of w =
+abbrev pub event_name : List ℕ → Option EventName
+event_name w =
     if bytes_eq w (codes "load") then Some Load else
     if bytes_eq w (codes "store") then Some Store else
     if bytes_eq w (codes "fetch") then Some Fetch else
@@ -59,7 +59,7 @@ name_of w =
     if bytes_eq w (codes "await") then Some Await else None
 
 -- what an event of this name and these numbers did
-abbrev pub kind_from : Name → List ℕ → Option Kind
+abbrev pub kind_from : EventName → List ℕ → Option Kind
 kind_from Load (a ∷ v ∷ []) = Some (kind.Load a v)
 kind_from Store (a ∷ v ∷ []) = Some (kind.Store a v)
 kind_from Fetch (n ∷ w ∷ r ∷ d ∷ []) = Some (kind.Fetch w n r d)

@@ -1,5 +1,5 @@
 //! Laws, as contracts of functions that do nothing: the check proves each by its name.
-ghost use Rattle.lrc_check.specs.Traces.Prelude.{CutRefusedLaw, OneTraceLaw, PrintedLaw, WellFormedLaw};
+ghost use Rattle.lrc_check.specs.Traces.Prelude.{CutRefusedLaw, OneTraceLaw, PrintedLaw, WellFormedTraceLaw};
 
 /// No two traces have one text.
 pub fn one_trace_law()
@@ -14,7 +14,7 @@ pub fn printed_law()
 
 /// A journal that is well formed and not too long is a trace.
 pub fn well_formed_law()
-    ensures { WellFormedLaw }
+    ensures { WellFormedTraceLaw }
 {}
 
 /// What is printed of a journal of which something was cut off has a fault at its second line: that it was cut.

@@ -5,7 +5,7 @@ ghost use Rattle.lrc_check.specs.Traces.Prelude.{GivesKind, HasNoShape, EventRea
 ghost use Rattle.lrc_check.specs.Traces.Prelude.{Refuses, head, sizes_of};
 
 use crate::traces::fault::TraceFault;
-use crate::traces::names::Name;
+use crate::traces::names::EventName;
 use crate::traces::range::event_fault;
 use crate::traces::trace::Sizes;
 use journal::{Event, Kind};
@@ -19,7 +19,7 @@ use std::alloc::Global;
 struct Words<'a> {
     place: &'a [u8],
     processor: &'a [u8],
-    name: Name,
+    name: EventName,
     numbers: Option<&'a [u8]>,
 }
 
@@ -49,7 +49,7 @@ fn words_of(line: &[u8]) -> Option<Words<'_>>
     let (place, rest) = next_word(rest)?;
     let (processor, rest) = next_word(rest)?;
     let (word, numbers) = next_word(rest)?;
-    let name = Name::of(word)?;
+    let name = EventName::of(word)?;
     if number_count(numbers) != name.numbers() {
         return None;
     }
@@ -64,7 +64,7 @@ fn words_of(line: &[u8]) -> Option<Words<'_>>
 /// What an event of this name did, where the words are numbers, and as many as stand behind the name.
 // Within the loop over lines its answer doesn't go through memory, which is some 20 instructions a line.
 #[inline(always)]
-fn kind_of(alloc: Global, name: Name, words: Option<&[u8]>) -> Option<Kind>
+fn kind_of(alloc: Global, name: EventName, words: Option<&[u8]>) -> Option<Kind>
     ensures { IfSome result (GivesKind name (parts_left_of_line 32 words.entry)) }
 {
     if let Some(few) = few_numbers(words) {
@@ -88,7 +88,7 @@ fn quick_event(alloc: Global, line: &[u8]) -> Option<(usize, Event)>
     let (place, rest) = next_word(rest)?;
     let (processor, rest) = next_word(rest)?;
     let (word, numbers) = next_word(rest)?;
-    let name = Name::of(word)?;
+    let name = EventName::of(word)?;
     let at = number(place)?;
     let by = number(processor)?;
     let kind = kind_of(alloc, name, numbers)?;

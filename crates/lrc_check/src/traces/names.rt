@@ -1,12 +1,12 @@
 //! What an event's line calls what the event did.
 ghost use Rattle.std.specs.Prelude.{◌≡◌};
-ghost use Rattle.lrc_check.specs.Traces.Prelude.{name_of, operand_count, kind_from};
+ghost use Rattle.lrc_check.specs.Traces.Prelude.{event_name, operand_count, kind_from};
 
 use journal::Kind;
 
 /// The name of what an event did.
 #[derive(Clone, Copy)]
-pub enum Name {
+pub enum EventName {
     Load,
     Store,
     Fetch,
@@ -20,33 +20,33 @@ pub enum Name {
     Await,
 }
 
-impl Name {
+impl EventName {
     /// The name that is written so.
-    pub fn of(word: &[u8]) -> Option<Name>
-        ensures { result ≡ name_of word.now }
+    pub fn of(word: &[u8]) -> Option<EventName>
+        ensures { result ≡ event_name word.now }
     {
         if word == b"load".as_slice() {
-            Some(Name::Load)
+            Some(EventName::Load)
         } else if word == b"store".as_slice() {
-            Some(Name::Store)
+            Some(EventName::Store)
         } else if word == b"fetch".as_slice() {
-            Some(Name::Fetch)
+            Some(EventName::Fetch)
         } else if word == b"ask".as_slice() {
-            Some(Name::Ask)
+            Some(EventName::Ask)
         } else if word == b"acquire".as_slice() {
-            Some(Name::Acquire)
+            Some(EventName::Acquire)
         } else if word == b"release".as_slice() {
-            Some(Name::Release)
+            Some(EventName::Release)
         } else if word == b"arrive".as_slice() {
-            Some(Name::Arrive)
+            Some(EventName::Arrive)
         } else if word == b"depart".as_slice() {
-            Some(Name::Depart)
+            Some(EventName::Depart)
         } else if word == b"set".as_slice() {
-            Some(Name::Set)
+            Some(EventName::Set)
         } else if word == b"watch".as_slice() {
-            Some(Name::Watch)
+            Some(EventName::Watch)
         } else if word == b"await".as_slice() {
-            Some(Name::Await)
+            Some(EventName::Await)
         } else {
             None
         }
@@ -57,9 +57,9 @@ impl Name {
         ensures { result ≡ operand_count self }
     {
         match self {
-            Name::Arrive | Name::Depart => 0,
-            Name::Load | Name::Store => 2,
-            Name::Fetch => 4,
+            EventName::Arrive | EventName::Depart => 0,
+            EventName::Load | EventName::Store => 2,
+            EventName::Fetch => 4,
             _ => 1,
         }
     }
@@ -69,22 +69,22 @@ impl Name {
         ensures { result ≡ kind_from self numbers.now }
     {
         match (self, numbers) {
-            (Name::Load, [a, v]) => Some(Kind::Load(*a as usize, *v)),
-            (Name::Store, [a, v]) => Some(Kind::Store(*a as usize, *v)),
-            (Name::Fetch, [n, w, r, d]) => Some(Kind::Fetch {
+            (EventName::Load, [a, v]) => Some(Kind::Load(*a as usize, *v)),
+            (EventName::Store, [a, v]) => Some(Kind::Store(*a as usize, *v)),
+            (EventName::Fetch, [n, w, r, d]) => Some(Kind::Fetch {
                 writers: *w,
                 page: *n as usize,
                 records: *r,
                 words: *d,
             }),
-            (Name::Ask, [l]) => Some(Kind::Ask(*l as usize)),
-            (Name::Acquire, [l]) => Some(Kind::Acquire(*l as usize)),
-            (Name::Release, [l]) => Some(Kind::Release(*l as usize)),
-            (Name::Arrive, []) => Some(Kind::Arrive),
-            (Name::Depart, []) => Some(Kind::Depart),
-            (Name::Set, [f]) => Some(Kind::Set(*f as usize)),
-            (Name::Watch, [f]) => Some(Kind::Watch(*f as usize)),
-            (Name::Await, [f]) => Some(Kind::Await(*f as usize)),
+            (EventName::Ask, [l]) => Some(Kind::Ask(*l as usize)),
+            (EventName::Acquire, [l]) => Some(Kind::Acquire(*l as usize)),
+            (EventName::Release, [l]) => Some(Kind::Release(*l as usize)),
+            (EventName::Arrive, []) => Some(Kind::Arrive),
+            (EventName::Depart, []) => Some(Kind::Depart),
+            (EventName::Set, [f]) => Some(Kind::Set(*f as usize)),
+            (EventName::Watch, [f]) => Some(Kind::Watch(*f as usize)),
+            (EventName::Await, [f]) => Some(Kind::Await(*f as usize)),
             _ => None,
         }
     }

@@ -17,9 +17,9 @@ use Rattle.conformance.specs.Reports.{IsReportOf}
 use Rattle.explore.specs.Prefixes.Beginnings.{IsFlatRaceFree}
 use Rattle.explore.specs.declared.explored.Explored.{Explored}
 use Rattle.explore.specs.declared.explored.Hanging.TheVariants as hanging
-use Rattle.explore.specs.declared.explored.Outcome.{Outcome}
+use Rattle.explore.specs.declared.explored.ScriptOutcome.{ScriptOutcome}
 use Rattle.explore.specs.declared.explored.Verdict.TheVariants as verdict
-use Rattle.explore.specs.Explored.{IsExplored, replies_of}
+use Rattle.explore.specs.Explored.{IsExplored, outcome_replies}
 use Rattle.explore.specs.Outcomes.{AreReplies}
 
 -- an explained history that only begins a script, of which no beginning on one flat memory races, has no race and replays
@@ -48,10 +48,10 @@ abbrev pub words_shown : Report → List ℕ
 words_shown r = map (λ (x : ℕ × ℕ). x.1) r.shown.items
 
 -- what the loads of the history answered is one of the outcomes, and ends at processor 0 with what the report shows
-pub record IsListed (s : Plan) (outcomes : List Outcome) (r : Report) (h : List Event) : Type 0 where
+pub record IsListed (s : Plan) (outcomes : List ScriptOutcome) (r : Report) (h : List Event) : Type 0 where
   pub replies : List (List ℕ)
   pub are : AreReplies s h replies
-  pub listed : Has (map replies_of outcomes) replies
+  pub listed : Has (map outcome_replies outcomes) replies
   pub shown : (words : List ℕ) → slice_get replies 0 ≡ Some words → EndsWith words (words_shown r)
 
 -- the report says race-free, and where all outcomes were found its history is listed

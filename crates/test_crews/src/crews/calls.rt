@@ -27,7 +27,7 @@ pub enum Call {
 
 /// What a call answers that isn't refused.
 #[derive(Drop)]
-pub enum Answer {
+pub enum CallAnswer {
     Done,
     Word(u32),
     Copy(Journal),
@@ -64,7 +64,7 @@ pub(crate) fn make<T: BookTurn, R: Wait>(
     rt: &R,
     processor: &mut Processor<T>,
     call: Call,
-) -> Result<Answer, Refused>
+) -> Result<CallAnswer, Refused>
     requires { IsOf cluster.now processor.old }
     ensures { StaysItself cluster.now processor.old processor.new (result_err result) }
 {
@@ -85,23 +85,23 @@ pub(crate) fn make<T: BookTurn, R: Wait>(
 }
 
 /// The same of a call that answers nothing.
-fn done(outcome: Result<(), Refused>) -> Result<Answer, Refused>
+fn done(outcome: Result<(), Refused>) -> Result<CallAnswer, Refused>
     ensures { result_err result ≡ result_err outcome }
 {
     outcome?;
-    Ok(Answer::Done)
+    Ok(CallAnswer::Done)
 }
 
 /// The same of a load.
-fn word(outcome: Result<u32, Refused>) -> Result<Answer, Refused>
+fn word(outcome: Result<u32, Refused>) -> Result<CallAnswer, Refused>
     ensures { result_err result ≡ result_err outcome }
 {
-    Ok(Answer::Word(outcome?))
+    Ok(CallAnswer::Word(outcome?))
 }
 
 /// The same of an audit.
-fn copy(outcome: Result<Journal, Refused>) -> Result<Answer, Refused>
+fn copy(outcome: Result<Journal, Refused>) -> Result<CallAnswer, Refused>
     ensures { result_err result ≡ result_err outcome }
 {
-    Ok(Answer::Copy(outcome?))
+    Ok(CallAnswer::Copy(outcome?))
 }

@@ -4,7 +4,7 @@ ghost use Rattle.std.specs.Option.{option_map};
 ghost use Rattle.cluster.specs.Prelude.{IsNewCluster, IsFinished};
 ghost use Rattle.test_crews.specs.Crews.Crews.{IsTurnOf, HaveSameCalls};
 
-use crate::crews::calls::{Answer, Call, make};
+use crate::crews::calls::{Call, CallAnswer, make};
 use book::Refused;
 use cluster::{BookTurn, Cluster, Processor};
 use journal::Journal;
@@ -59,7 +59,7 @@ impl<T: BookTurn> Crew<T> {
 
     /// Makes this call on processor `p`. Refused as the call is, or [`OutOfRange`](Refused::OutOfRange) where
     /// there is no such processor. A refused call changes no processor's accepted calls.
-    pub fn call<R: Wait>(&mut self, rt: &R, p: usize, call: Call) -> Result<Answer, Refused>
+    pub fn call<R: Wait>(&mut self, rt: &R, p: usize, call: Call) -> Result<CallAnswer, Refused>
         ensures own { IsTurnOf p self.old self.new }
         ensures refused { OnErr result (HaveSameCalls self.old.all self.new.all) }
     {

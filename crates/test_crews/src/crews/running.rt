@@ -35,7 +35,7 @@ pub enum Task {
 
 /// Why a processor ends before its tasks are done.
 #[derive(Clone, Copy, Debug, PartialEq, Eq, Error)]
-pub enum Ended {
+pub enum CrewEnd {
     /// A call was refused.
     #[error("{0}")]
     Refused(#[from] Refused),
@@ -50,9 +50,9 @@ pub enum Ended {
     Left,
 }
 
-impl From<AllocError> for Ended {
-    fn from(error: AllocError) -> Ended {
-        Ended::Refused(Refused::from(error))
+impl From<AllocError> for CrewEnd {
+    fn from(error: AllocError) -> CrewEnd {
+        CrewEnd::Refused(Refused::from(error))
     }
 }
 
@@ -82,15 +82,15 @@ fn rest<T: BookTurn, R: Wait>(
     cluster: &Cluster<T>,
     rt: &R,
     processor: &mut Processor<T>,
-) -> Result<(), Ended>
+) -> Result<(), CrewEnd>
     requires { IsOf cluster.now processor.old }
     ensures own { IsOf cluster.now processor.new }
     ensures number { processor.new.number ≡ processor.old.number }
 {
     match wait_on(cluster, rt, processor)? {
         Waited::MayHaveCome => Ok(()),
-        Waited::Stuck => Err(Ended::Stuck),
-        Waited::Deserted => Err(Ended::Deserted),
+        Waited::Stuck => Err(CrewEnd::Stuck),
+        Waited::Deserted => Err(CrewEnd::Deserted),
     }
 }
 
@@ -99,7 +99,7 @@ fn take<T: BookTurn, R: Wait>(
     cluster: &Cluster<T>,
     rt: &R,
     processor: &mut Processor<T>,
-) -> Result<(), Ended>
+) -> Result<(), CrewEnd>
     requires { IsOf cluster.now processor.old }
     ensures own { IsOf cluster.now processor.new }
     ensures number { processor.new.number ≡ processor.old.number }
@@ -108,7 +108,7 @@ fn take<T: BookTurn, R: Wait>(
         match insist(cluster, rt, processor, Call::Take) {
             Ok(()) => return Ok(()),
             Err(Refused::NotYet) => rest(cluster, rt, processor)?,
-            Err(refused) => return Err(Ended::Refused(refused)),
+            Err(refused) => return Err(CrewEnd::Refused(refused)),
         }
     }
     unreachable!()
@@ -120,7 +120,7 @@ fn wait_for<T: BookTurn, R: Wait>(
     rt: &R,
     processor: &mut Processor<T>,
     call: Call,
-) -> Result<(), Ended>
+) -> Result<(), CrewEnd>
     requires { IsOf cluster.now processor.old }
     ensures own { IsOf cluster.now processor.new }
     ensures number { processor.new.number ≡ processor.old.number }
@@ -153,7 +153,7 @@ fn add<T: BookTurn, R: Wait>(
     processor: &mut Processor<T>,
     lock: usize,
     address: usize,
-) -> Result<(), Ended>
+) -> Result<(), CrewEnd>
     requires { IsOf cluster.now processor.old }
     ensures own { IsOf cluster.now processor.new }
     ensures number { processor.new.number ≡ processor.old.number }
@@ -176,7 +176,7 @@ fn pass<T: BookTurn, R: Wait>(
     rt: &R,
     processor: &mut Processor<T>,
     last: usize,
-) -> Result<(), Ended>
+) -> Result<(), CrewEnd>
     requires { IsOf cluster.now processor.old }
     ensures own { IsOf cluster.now processor.new }
     ensures number { processor.new.number ≡ processor.old.number }
@@ -196,7 +196,7 @@ fn dawdle<T: BookTurn, R: Wait>(
     cluster: &Cluster<T>,
     rt: &R,
     processor: &mut Processor<T>,
-) -> Result<(), Ended>
+) -> Result<(), CrewEnd>
     requires { IsOf cluster.now processor.old }
     ensures own { IsOf cluster.now processor.new }
     ensures number { processor.new.number ≡ processor.old.number }
@@ -213,7 +213,7 @@ fn perform<T: BookTurn, R: Wait>(
     rt: &R,
     processor: &mut Processor<T>,
     task: Task,
-) -> Result<(), Ended>
+) -> Result<(), CrewEnd>
     requires { IsOf cluster.now processor.old }
     ensures own { IsOf cluster.now processor.new }
     ensures number { processor.new.number ≡ processor.old.number }
@@ -226,7 +226,7 @@ fn perform<T: BookTurn, R: Wait>(
         Task::Hold => wait_for(cluster, rt, processor, Call::Ask(own)),
         Task::Cross => wait_for(cluster, rt, processor, Call::Ask(own ^ 1)),
         Task::Dawdle { processor: who } if who == own => dawdle(cluster, rt, processor),
-        Task::Leave { processor: who } if who == own => Err(Ended::Left),
+        Task::Leave { processor: who } if who == own => Err(CrewEnd::Left),
         Task::Dawdle { .. } | Task::Leave { .. } => Ok(()),
     }
 }
@@ -237,7 +237,7 @@ fn perform_all<T: BookTurn, R: Wait>(
     rt: &R,
     processor: &mut Processor<T>,
     tasks: &[Task],
-) -> Result<(), Ended>
+) -> Result<(), CrewEnd>
     requires { IsOf cluster.now processor.old }
     ensures own { IsOf cluster.now processor.new }
     ensures number { processor.new.number ≡ processor.old.number }
@@ -254,14 +254,14 @@ fn work<T: BookTurn, R: Wait>(
     rt: &R,
     mut processor: Processor<T>,
     tasks: &[Task],
-) -> (Processor<T>, Result<(), Ended>)
+) -> (Processor<T>, Result<(), CrewEnd>)
     requires { IsOf cluster.now processor }
     ensures own { IsOf cluster.now result.0 }
     ensures number { result.0.number ≡ processor.number }
 {
     let outcome = perform_all(cluster, rt, &mut processor, tasks);
     // Whoever is stuck or deserted has told all others by that.
-    if let Err(Ended::Refused(_) | Ended::Left) = outcome {
+    if let Err(CrewEnd::Refused(_) | CrewEnd::Left) = outcome {
         cluster.end(processor.number());
     }
     (processor, outcome)
@@ -270,8 +270,8 @@ fn work<T: BookTurn, R: Wait>(
 /// The processors that came back, in order, and how each ended.
 fn gathered<T: BookTurn>(
     alloc: Global,
-    results: Vec<(Processor<T>, Result<(), Ended>)>,
-) -> Result<(Vec<Processor<T>>, Vec<Result<(), Ended>>), AllocError>
+    results: Vec<(Processor<T>, Result<(), CrewEnd>)>,
+) -> Result<(Vec<Processor<T>>, Vec<Result<(), CrewEnd>>), AllocError>
     ensures { IfOk result (λ r. r.0.items ≡ map (λ p. p.0) results.items) }
 {
     let mut processors = Vec::with_capacity(alloc, results.len())?;
@@ -290,7 +290,7 @@ pub fn run_each<T: BookTurn + Send + Drop, R: Threads + Wait + Sync>(
     alloc: Global,
     crew: Crew<T>,
     tasks: &[Task],
-) -> Result<(Crew<T>, Vec<Result<(), Ended>>), AllocError>
+) -> Result<(Crew<T>, Vec<Result<(), CrewEnd>>), AllocError>
     ensures { IfOk result (λ r. r.0.cluster ≡ crew.cluster) }
 {
     let Crew {
@@ -301,7 +301,7 @@ pub fn run_each<T: BookTurn + Send + Drop, R: Threads + Wait + Sync>(
     let results = map_vec(
         rt,
         processors,
-        &|processor: Processor<T>| -> (Processor<T>, Result<(), Ended>)
+        &|processor: Processor<T>| -> (Processor<T>, Result<(), CrewEnd>)
             requires { IsOf shared.now processor }
             ensures own { IsOf shared.entry.now result.0 }
             ensures number { result.0.number ≡ processor.number }
@@ -321,7 +321,7 @@ pub fn run<T: BookTurn + Send + Drop, R: Threads + Wait + Sync>(
     alloc: Global,
     crew: Crew<T>,
     tasks: &[Task],
-) -> Result<(Crew<T>, Result<(), Ended>), AllocError>
+) -> Result<(Crew<T>, Result<(), CrewEnd>), AllocError>
     ensures { IfOk result (λ r. r.0.cluster ≡ crew.cluster) }
 {
     let (crew, outcomes) = run_each(rt, alloc, crew, tasks)?;
@@ -329,7 +329,7 @@ pub fn run<T: BookTurn + Send + Drop, R: Threads + Wait + Sync>(
 }
 
 /// The first outcome that isn't Ok.
-fn first_of(outcomes: &[Result<(), Ended>]) -> Result<(), Ended> {
+fn first_of(outcomes: &[Result<(), CrewEnd>]) -> Result<(), CrewEnd> {
     for outcome in outcomes {
         (*outcome)?;
     }

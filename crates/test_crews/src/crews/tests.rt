@@ -3,7 +3,7 @@
 ghost use Rattle.std.specs.Prelude.{◌≡◌, ◌≤◌, ◌^◌, length};
 ghost use Rattle.test_memory.specs.Reaching.Prelude.{IsTable};
 
-use crate::crews::{Answer, Call, Crew, Ended, Task, run, run_each};
+use crate::crews::{Call, CallAnswer, Crew, CrewEnd, Task, run, run_each};
 use book::Refused;
 use cluster::{BookLock, BookTurn, TicketBookLock};
 use journal::{Event, Journal, Kind};
@@ -24,7 +24,7 @@ fn loads_fresh<T: BookTurn, R: Wait>(
         crew.call(rt, p, Call::Fetch(page))?;
     }
     match crew.call(rt, p, Call::Load(address))? {
-        Answer::Word(word) => Ok(word),
+        CallAnswer::Word(word) => Ok(word),
         _ => Err(Refused::NotYet),
     }
 }
@@ -41,7 +41,7 @@ fn finds<T: BookTurn, R: Wait>(crew: &mut Crew<T>, rt: &R) -> Result<u32, Refuse
 /// The journal that an audit of processor 0 answers.
 fn audited<T: BookTurn, R: Wait>(crew: &mut Crew<T>, rt: &R) -> Result<Journal, Refused> {
     match crew.call(rt, 0, Call::Audit)? {
-        Answer::Copy(journal) => Ok(journal),
+        CallAnswer::Copy(journal) => Ok(journal),
         _ => Err(Refused::NotYet),
     }
 }
@@ -57,7 +57,7 @@ fn replays_to(journal: &Journal, wanted: &[u32]) -> Result<bool, Refused> {
 /// Each of two threads adds one a hundred times, under a lock.
 fn counts<T: BookTurn + Send + Drop, R: Abort + Threads + Wait + Sync + AllocGlobal>(
     rt: &R,
-) -> Result<(), Ended>
+) -> Result<(), CrewEnd>
     requires { T.ENTRIES ≤ 2 ^ 40 }
 {
     let crew = Crew::<T>::new(rt.alloc(), [2, 1, 1, 1, 0])?;
@@ -110,7 +110,7 @@ const SUMS: [u32; 16] = [0, 32, 0, 0, 0, 0, 32, 0, 0, 0, 0, 32, 32, 0, 0, 0];
 /// Sixteen threads add under four locks in turn, and meet, twice.
 fn meets_twice<T: BookTurn + Send + Drop, R: Abort + Threads + Wait + Sync + AllocGlobal>(
     rt: &R,
-) -> Result<(), Ended>
+) -> Result<(), CrewEnd>
     requires { T.ENTRIES ≤ 2 ^ 40 }
 {
     let [first, second, third, fourth] = ADDS;
@@ -205,7 +205,7 @@ fn sixteen_threads_meet_with_tickets(rt: HostRuntime) -> Result<(), Fail> {
 struct Ending {
     sizes: [usize; 5],
     tasks: &'static [Task],
-    outcomes: &'static [Result<(), Ended>],
+    outcomes: &'static [Result<(), CrewEnd>],
 }
 
 /// How processors end that wait for each other. Each of these has to come to its end under every schedule.
@@ -235,13 +235,17 @@ const ENDINGS: [Ending; 7] = [
     Ending {
         sizes: [2, 1, 1, 2, 0],
         tasks: &[Task::Hold, Task::Meet, Task::Cross],
-        outcomes: &[Err(Ended::Stuck); 2],
+        outcomes: &[Err(CrewEnd::Stuck); 2],
     },
     // One ends before the barrier, and the others wait there.
     Ending {
         sizes: [3, 1, 1, 0, 0],
         tasks: &[Task::Leave { processor: 1 }, Task::Meet],
-        outcomes: &[Err(Ended::Deserted), Err(Ended::Left), Err(Ended::Deserted)],
+        outcomes: &[
+            Err(CrewEnd::Deserted),
+            Err(CrewEnd::Left),
+            Err(CrewEnd::Deserted),
+        ],
     },
     // One ends, and the others go on: each waits for what the other brings.
     Ending {
@@ -265,7 +269,7 @@ const ENDINGS: [Ending; 7] = [
                 address: 0,
             },
         ],
-        outcomes: &[Ok(()), Ok(()), Err(Ended::Left)],
+        outcomes: &[Ok(()), Ok(()), Err(CrewEnd::Left)],
     },
     // One ends late, when the others sleep already.
     Ending {
@@ -275,12 +279,19 @@ const ENDINGS: [Ending; 7] = [
             Task::Leave { processor: 0 },
             Task::Meet,
         ],
-        outcomes: &[Err(Ended::Left), Err(Ended::Deserted), Err(Ended::Deserted)],
+        outcomes: &[
+            Err(CrewEnd::Left),
+            Err(CrewEnd::Deserted),
+            Err(CrewEnd::Deserted),
+        ],
     },
 ];
 
 /// Whether the processors end so.
-fn ends_so<R: Threads + Wait + Sync + AllocGlobal>(rt: &R, ending: &Ending) -> Result<bool, Ended> {
+fn ends_so<R: Threads + Wait + Sync + AllocGlobal>(
+    rt: &R,
+    ending: &Ending,
+) -> Result<bool, CrewEnd> {
     let crew = Crew::<BookLock>::new(rt.alloc(), ending.sizes)?;
     let (_crew, outcomes) = run_each(rt, rt.alloc(), crew, ending.tasks)?;
     Ok(outcomes.as_slice() == ending.outcomes)

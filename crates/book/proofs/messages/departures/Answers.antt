@@ -4,7 +4,7 @@ use Rattle.interval.specs.SentIntervals.{ClosedInterval, SentRecord}
 use Rattle.interval.specs.Closings.{KeepsClosingsBetween, pushed, closings_between}
 use Rattle.transit.specs.Letters.{Letter, letter}
 use Rattle.book.specs.Transitions.{departure_to}
-use Rattle.transit.specs.Letters.Kind.{departure}
+use Rattle.transit.specs.Letters.LetterKind.{departure}
 use Rattle.book.proofs.Calling.Arriving.{IsTimeAfterArriving, read_after_arriving, IsDeparting, departing_step}
 use Rattle.book.proofs.messages.departures.Goals.{After-time_after-old}
 use Rattle.book.proofs.messages.departures.Goals as goal

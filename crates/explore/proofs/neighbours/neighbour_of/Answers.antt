@@ -5,7 +5,7 @@ use Rattle.std.proofs.lemmas.List.{get_or_past}
 use Rattle.std.proofs.lemmas.Option.{none-some, same_Some}
 use Rattle.journal.specs.DidEvent.{event}
 use Rattle.journal.specs.Races.{Conflict}
-use Rattle.explore.specs.Nexts.{IsConflict}
+use Rattle.explore.specs.Nexts.{AreNextInConflict}
 use Rattle.explore.proofs.neighbours.neighbour_of.Goals.{in-Some+else-other-processor, else-other-processor-via-then-other-processor+else-conflicts, else-other-processor-via-else-other-processor, in_default}
 use Rattle.explore.proofs.neighbours.neighbour_of.Goals as goal
 
@@ -17,7 +17,7 @@ loop-other-preserved c q b lt conflict =
     elim (cases_eq q n) [
       | inr isnt ↦ c.loop-other.invariant q b (omega arith) conflict
       | inl is ↦
-          (let here = subst (λ m. IsConflict xs p m c.args.kind b) is conflict in
+          (let here = subst (λ m. AreNextInConflict xs p m c.args.kind b) is conflict in
           elim c.match-nexts-other.branch [
             | in-Some+else-other-processor w ↦ elim w.else-other-processor.branch [
               | else-other-processor-via-then-other-processor+else-conflicts v ↦

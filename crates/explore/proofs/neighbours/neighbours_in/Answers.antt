@@ -3,7 +3,7 @@ use Rattle.std.specs.Prelude.{None}
 use Rattle.std.proofs.lemmas.Bool.{cases_eq, cases_lt}
 use Rattle.std.proofs.lemmas.List.{get_or_past}
 use Rattle.std.proofs.lemmas.Option.{none-some, same_Some}
-use Rattle.explore.specs.Nexts.{IsConflict}
+use Rattle.explore.specs.Nexts.{AreNextInConflict}
 use Rattle.explore.proofs.neighbours.neighbours_in.Goals.{in-Some+in_default-neighbour_of, in_default}
 use Rattle.explore.proofs.neighbours.neighbours_in.Goals as goal
 
@@ -14,12 +14,12 @@ loop-processor-preserved c p q a b lt conflict =
     elim (cases_eq p n) [
       | inr isnt ↦ c.loop-processor.invariant p q a b (omega arith) conflict
       | inl is ↦
-          (let here = subst (λ m. IsConflict xs m q a b) is conflict in
+          (let here = subst (λ m. AreNextInConflict xs m q a b) is conflict in
           elim c.match-nexts-processor.branch [
             | in-Some+in_default-neighbour_of w ↦
                 (let same = same_Some a w.in-Some.kind (sym here.first ∙ w.in-Some.is) in
                 let h = w.in_default-neighbour_of.ensures in
-                h q b (subst (λ k. IsConflict xs n q k b) same here))
+                h q b (subst (λ k. AreNextInConflict xs n q k b) same here))
             | in_default w ↦ w.in_default.not-Some a here.first
           ])
     ]

@@ -1,7 +1,7 @@
 use Rattle.std.proofs.Common.{◌++◌, ◌∷◌, [], subst, sym, arith}
 use Rattle.lrc_sample.specs.Order.{TallyStarted}
 use Rattle.lrc_sample.specs.Samples.{Shows}
-use Rattle.lrc_sample.specs.Tally.{AreShown}
+use Rattle.lrc_sample.specs.Tally.{AreLinesShown}
 use Rattle.lrc_sample.proofs.Tallies.{again_at, few_at, new_at, shown_again, shown_new}
 use Rattle.lrc_sample.proofs.tally.note.Goals as goal
 
@@ -26,7 +26,7 @@ returns-in-Some-clause-tally c = λ outcomes is place.
 
 pub returns-in_ok-push-in-None-clause-shown : goal.returns-in_ok-push-in-None-clause-shown
 returns-in_ok-push-in-None-clause-shown c = λ s shown new.
-    subst (AreShown (Shows s)) (sym c.in_ok-push-in-None.ensures.items)
+    subst (AreLinesShown (Shows s)) (sym c.in_ok-push-in-None.ensures.items)
     (shown_new (Shows s) c.args.lines.now.items c.args.outcome c.args.seed c.args.schedule shown new)
 
 pub returns-in_ok-push-in-None-clause-tally : goal.returns-in_ok-push-in-None-clause-tally

@@ -6,7 +6,7 @@ use Rattle.lrc_script.specs.Plan.{Plan, plan_of}
 use Rattle.explore.specs.declared.neighbours.Neighbours.{Neighbours}
 use Rattle.explore.specs.declared.prefixes.script_call.ScriptCall.{ScriptCall}
 use Rattle.explore.specs.declared.search.Search.{Search}
-use Rattle.explore.specs.Explored.{AreAllOutcomes, AreOutcomes, is_settled, replies_of}
+use Rattle.explore.specs.Explored.{AreAllOutcomes, AreOutcomes, is_settled, outcome_replies}
 use Rattle.explore.specs.Found.{states_of}
 use Rattle.explore.specs.Guarded.{AreGuarded}
 use Rattle.explore.specs.Machines.{AreLawfulSteps}
@@ -110,9 +110,9 @@ returns g c =
           omega (arith, found, count, most));
       verdict = c.in_ok-verdict.ensures.verdict;
       hanging = c.in_ok-hanging.ensures.hanging;
-      outcomes = subst (λ os. AreOutcomes s (map replies_of os)) keys (some_outcomes s x steps through.some.0 through.some.1);
+      outcomes = subst (λ os. AreOutcomes s (map outcome_replies os)) keys (some_outcomes s x steps through.some.0 through.some.1);
       all = λ yes.
-          subst (λ os. AreAllOutcomes s (map replies_of os)) keys (all_outcomes s x steps c.requires.steps (all.all yes));
+          subst (λ os. AreAllOutcomes s (map outcome_replies os)) keys (all_outcomes s x steps c.requires.steps (all.all yes));
       given_up = λ opens.
           let both = open_only c.in_ok-neighbours.neighbours (c.is_through-through.result || c.are_all.result)
           c.is_through-through.result c.in_ok-verdict.verdict c.in_ok-hanging.hanging c.in_ok-verdict.ensures.opens

@@ -2,7 +2,7 @@ use Rattle.std.proofs.Common.{◌≡◌, ◌↔◌, ℕ, ◌<◌, List, Option, 
 use Rattle.std.specs.Prelude.{None}
 use Rattle.std.proofs.lemmas.Option.{none-some, same_Some}
 use Rattle.judge.specs.declared.sources.stored.Stored.{Stored}
-use Rattle.judge.specs.Sources.Last.{IsFollowed, IsUnfollowed}
+use Rattle.judge.specs.Sources.Last.{IsStoreFollowed, IsUnfollowed}
 use Rattle.judge.proofs.sources.Reading.{option_at}
 use Rattle.judge.proofs.sources.readable.unfollowed.Goals as goal
 
@@ -32,7 +32,7 @@ returns-then-store-joined c = λ times counted.
     let within : c.args.by < length last = omega arith in
     let at = option_at last c.args.by (Some store) within c.in_ok-store.was in
     no_answer times last c.args.by None refl
-    (λ i u. u.free (subst (IsFollowed times last c.args.by) (one_store times last c.args.by i store at u)
+    (λ i u. u.free (subst (IsStoreFollowed times last c.args.by) (one_store times last c.args.by i store at u)
     ((counted store).0 c.if-store-joined.true)))
 
 pub returns-else-store-joined : goal.returns-else-store-joined

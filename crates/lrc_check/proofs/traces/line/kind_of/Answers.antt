@@ -2,13 +2,13 @@ use Rattle.std.proofs.Common.{◌≡◌, ℕ, List, [], Option, Some, None, Ok, 
 use Rattle.std.specs.Prelude.{IfSome}
 use Rattle.journal.specs.declared.event.Kind.{Kind}
 use Rattle.lrc_script.specs.LineReading.{numbers_read_after}
-use Rattle.lrc_check.specs.declared.traces.names.Name.{Name}
+use Rattle.lrc_check.specs.declared.traces.names.EventName.{EventName}
 use Rattle.lrc_check.specs.Traces.Names.{kind_from}
 use Rattle.lrc_check.specs.Traces.Lines.{GivesKind}
 use Rattle.lrc_check.proofs.traces.line.kind_of.Goals as goal
 
 -- the kind that the numbers of these words give
-given : (name : Name) (words : List (List ℕ)) (ns : List ℕ) (r : Option Kind) → numbers_read_after [] words ≡ Ok ns
+given : (name : EventName) (words : List (List ℕ)) (ns : List ℕ) (r : Option Kind) → numbers_read_after [] words ≡ Ok ns
     → r ≡ kind_from name ns → IfSome r (GivesKind name words)
 given name words ns None read is = tt
 given name words ns (Some k) read is = record { numbers = ns; read = read; kind = sym is }

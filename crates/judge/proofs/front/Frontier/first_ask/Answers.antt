@@ -2,15 +2,15 @@ use Rattle.std.proofs.Common.{◌≡◌, ℕ, ◌+◌, ◌≤◌, List, Option, 
 use Rattle.std.specs.Prelude.{None}
 use Rattle.std.proofs.lemmas.Option.{none-some}
 use Rattle.journal.specs.declared.event.Event.{Event}
-use Rattle.judge.specs.declared.front.Front.{Front}
+use Rattle.judge.specs.declared.front.Frontier.{Frontier}
 use Rattle.judge.specs.declared.front.LastEvent.{LastEvent}
 use Rattle.judge.specs.Tells.{IsFirstAsk, NobodyAsks, IsFrontOf}
 use Rattle.judge.proofs.Asking.{AreFrom, AsksAt, IsFound, first_found, from_lower, from_same, none_found}
-use Rattle.judge.proofs.front.Front.first_ask.Goals as goal
-use Rattle.judge.proofs.front.Front.first_ask.Goals.{in-Some+then-place-limit, in-Some+else-place-limit, in_default}
+use Rattle.judge.proofs.front.Frontier.first_ask.Goals as goal
+use Rattle.judge.proofs.front.Frontier.first_ask.Goals.{in-Some+then-place-limit, in-Some+else-place-limit, in_default}
 
 -- what is found by the end is the first ask
-answer : (j : List Event) (x : Front) (l limit : ℕ) (found : Option (ℕ × ℕ)) → IsFrontOf j x
+answer : (j : List Event) (x : Frontier) (l limit : ℕ) (found : Option (ℕ × ℕ)) → IsFrontOf j x
     → IsFound x.last x.place l found limit → AreFrom x.last l limit 16
     → MatchOption found (NobodyAsks j l) (λ (a : ℕ × ℕ). IsFirstAsk j l a.0 a.1)
 answer j x l limit None tells is from = none_found j x.last l limit tells.lasts from tells.long (is ∙ tells.place)

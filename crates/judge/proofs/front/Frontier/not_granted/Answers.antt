@@ -5,17 +5,17 @@ use Rattle.journal.specs.declared.event.Event.{Event}
 use Rattle.journal.specs.declared.event.Kind.TheVariants.{Acquire}
 use Rattle.journal.specs.DidEvent.{event}
 use Rattle.journal.specs.WellFormed.{Holds}
-use Rattle.judge.specs.declared.front.Front.{Front}
+use Rattle.judge.specs.declared.front.Frontier.{Frontier}
 use Rattle.judge.specs.declared.why.Why.TheVariants.{AskedEarlier}
 use Rattle.judge.specs.Lax.{MayFollowIn}
 use Rattle.judge.specs.Sizes.{sizes_of}
 use Rattle.judge.specs.Tells.{IsFirstAsk, IsFrontOf}
 use Rattle.judge.specs.Why.{IsFirstWhy}
 use Rattle.judge.proofs.Verdicts.{behind, granted, granted_lax, held_by, some_ask}
-use Rattle.judge.proofs.front.Front.not_granted.Goals as goal
+use Rattle.judge.proofs.front.Frontier.not_granted.Goals as goal
 
 -- nobody holds a lock of which no holder is kept
-nobody : (j : List Event) (x : Front) (l : ℕ) → IsFrontOf j x → slice_index_or x.holders l None ≡ None
+nobody : (j : List Event) (x : Frontier) (l : ℕ) → IsFrontOf j x → slice_index_or x.holders l None ≡ None
     → (q : ℕ) → ¬ Holds j q l
 nobody j x l tells none q holds = none-some q (sym none ∙ (tells.holders l q).1 holds)
 

@@ -1,5 +1,5 @@
 use Rattle.judge.proofs.Asking.{IsFound, AreFrom}
-use Rattle.judge.proofs.front.Front.first_ask.Given as goal
+use Rattle.judge.proofs.front.Frontier.first_ask.Given as goal
 
 abbrev pub invariant-loop-processor : goal.invariant-loop-processor
 invariant-loop-processor l = record {

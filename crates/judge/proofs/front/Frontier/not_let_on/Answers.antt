@@ -6,7 +6,7 @@ use Rattle.judge.specs.declared.why.Why.TheVariants.{NotSet}
 use Rattle.judge.specs.Sizes.{sizes_of}
 use Rattle.judge.specs.Why.{WaitsFor}
 use Rattle.judge.proofs.Verdicts.{awaits_set, by_kind, not_set, quiet_kind, waits_takes}
-use Rattle.judge.proofs.front.Front.not_let_on.Goals as goal
+use Rattle.judge.proofs.front.Frontier.not_let_on.Goals as goal
 
 pub returns-then-self-flag : goal.returns-then-self-flag
 returns-then-self-flag c = λ j tells turn waits.

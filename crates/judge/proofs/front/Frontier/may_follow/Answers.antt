@@ -4,7 +4,7 @@ use Rattle.std.proofs.lemmas.Option.{none-some}
 use Rattle.judge.specs.Sizes.{sizes_of}
 use Rattle.judge.specs.Why.{WaitsFor}
 use Rattle.judge.proofs.Verdicts.{no_processor, out_of_range, turn_for, turn_idle, waits_for_other}
-use Rattle.judge.proofs.front.Front.may_follow.Goals as goal
+use Rattle.judge.proofs.front.Frontier.may_follow.Goals as goal
 
 pub returns-then-event-self : goal.returns-then-event-self
 returns-then-event-self c = λ j tells.

@@ -1,7 +1,7 @@
 use Rattle.std.proofs.Common.{Some, sym, ap, ◌∙◌}
 use Rattle.std.proofs.lemmas.Bool.{eq-eqb, eqb-true, false≢true}
 use Rattle.std.proofs.lemmas.Option.{none-some, same_Some}
-use Rattle.judge.proofs.front.Front.holds.Goals as goal
+use Rattle.judge.proofs.front.Frontier.holds.Goals as goal
 
 pub returns-in-Some : goal.returns-in-Some
 returns-in-Some c = λ j tells.

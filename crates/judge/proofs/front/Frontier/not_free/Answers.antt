@@ -5,7 +5,7 @@ use Rattle.journal.specs.declared.event.Kind.TheVariants.{Ask, Release}
 use Rattle.judge.specs.declared.why.Why.TheVariants.{AsksWhatItHolds, NotHeld}
 use Rattle.judge.specs.Sizes.{sizes_of}
 use Rattle.judge.proofs.Verdicts.{asks_free, asks_held, by_kind, calls, quiet_kind, releases_free, releases_held}
-use Rattle.judge.proofs.front.Front.not_free.Goals as goal
+use Rattle.judge.proofs.front.Frontier.not_free.Goals as goal
 
 pub returns-then-holds : goal.returns-then-holds
 returns-then-holds c = λ j tells turn idle lax.

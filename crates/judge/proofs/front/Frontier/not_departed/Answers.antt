@@ -1,7 +1,7 @@
 use Rattle.std.proofs.Common.{arith}
 use Rattle.judge.specs.Sizes.{sizes_of}
 use Rattle.judge.proofs.Verdicts.{departs, not_arrived}
-use Rattle.judge.proofs.front.Front.not_departed.Goals as goal
+use Rattle.judge.proofs.front.Frontier.not_departed.Goals as goal
 
 pub returns-then-self-other : goal.returns-then-self-other
 returns-then-self-other c = λ j tells turn waits lax.

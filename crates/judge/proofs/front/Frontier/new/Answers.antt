@@ -5,7 +5,7 @@ use Rattle.std.proofs.lemmas.Option.{none-some}
 use Rattle.journal.specs.WellFormed.{Holds}
 use Rattle.base.proofs.SliceSets.{index-zeros}
 use Rattle.judge.specs.Tells.{IsLastOf, IsSet}
-use Rattle.judge.proofs.front.Front.new.Goals as goal
+use Rattle.judge.proofs.front.Frontier.new.Goals as goal
 
 -- a list of one item over and over, with that past its end
 always : {A : Type 0} (n p : ℕ) (d : A) → slice_index_or (replicate n d) p d ≡ d

@@ -5,20 +5,20 @@ use Rattle.base.specs.Limits.{most_held}
 use Rattle.journal.specs.declared.event.Event.{Event}
 use Rattle.journal.specs.Events.{is_arrive, is_depart}
 use Rattle.journal.specs.WellFormed.{Holds}
-use Rattle.judge.specs.declared.front.Front.{Front}
+use Rattle.judge.specs.declared.front.Frontier.{Frontier}
 use Rattle.judge.specs.Lax.{MayFollowLax}
 use Rattle.judge.specs.Sizes.{sizes_of}
 use Rattle.judge.specs.Tells.{IsSet, IsFrontOf}
 use Rattle.judge.proofs.Noting.{count_small, counts_next, holders_next, lasts_next, sets_next}
-use Rattle.judge.proofs.front.Front.note.Goals as goal
+use Rattle.judge.proofs.front.Frontier.note.Goals as goal
 
 -- its processor is one of sixteen
-processor_small : (j : List Event) (x : Front) (e : Event) → IsFrontOf j x → MayFollowLax (sizes_of x.sizes) j e
+processor_small : (j : List Event) (x : Frontier) (e : Event) → IsFrontOf j x → MayFollowLax (sizes_of x.sizes) j e
     → e.processor < 16
 processor_small j x e tells may = let few = tells.sizes.processors in let lt = may.processor in omega arith
 
 -- counts are below the number of events
-arrivals_small : (j : List Event) (x : Front) (q : ℕ) → IsFrontOf j x → x.place < most_held
+arrivals_small : (j : List Event) (x : Frontier) (q : ℕ) → IsFrontOf j x → x.place < most_held
     → slice_index x.arrivals q < 2 ^ 22
 arrivals_small j x q tells few =
     let is = tells.arrivals q in
@@ -26,7 +26,7 @@ arrivals_small j x q tells few =
     let long = tells.place in
     omega arith
 
-departures_small : (j : List Event) (x : Front) (q : ℕ) → IsFrontOf j x → x.place < most_held
+departures_small : (j : List Event) (x : Frontier) (q : ℕ) → IsFrontOf j x → x.place < most_held
     → slice_index x.departures q < 2 ^ 22
 departures_small j x q tells few =
     let is = tells.departures q in
