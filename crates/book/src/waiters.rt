@@ -1,14 +1,11 @@
 //! Sets of processors.
 ghost use Rattle.std.specs.Prelude.{◌≡◌, ℕ, ◌<◌, ◌⊎◌, ◌↔◌, IsTrue, []};
-ghost use Rattle.std.specs.List.{position_from};
-ghost use Rattle.std.specs.Iterator.{YieldsFirst, item_count};
 ghost use Rattle.base.specs.Prelude.{most_processors, Has};
 
 use base::MOST_PROCESSORS;
 use std::marker::Model;
 
-/// Processors that wait, each of them once: an iterator over their numbers, from the least on. Contracts see the list
-/// of the numbers.
+/// Processors that wait. Contracts see the list of their numbers, each of them once, from the least on.
 #[derive(Drop)]
 pub struct Waiters {
     marks: [bool; MOST_PROCESSORS],
@@ -33,6 +30,13 @@ impl Waiters {
         }
     }
 
+    /// Whether the processor is one of them.
+    pub fn has(&self, processor: usize) -> bool
+        ensures { IsTrue result ↔ Has self.now processor }
+    {
+        processor < MOST_PROCESSORS && self.marks[processor]
+    }
+
     /// Adds a processor, if its number is below `MOST_PROCESSORS`.
     pub(crate) fn add(&mut self, processor: usize)
         ensures { (q : ℕ) → Has self.new q ↔ (((q ≡ processor) × (q < most_processors)) ⊎ Has self.old q) }
@@ -41,27 +45,4 @@ impl Waiters {
             self.marks[processor] = true;
         }
     }
-}
-
-impl Iterator for Waiters {
-    type Item = usize;
-
-    ghost next_gives = { YieldsFirst (λ rest. rest) };
-
-    ghost remaining = { item_count (λ rest. rest) };
-
-    fn next(&mut self) -> Option<usize> {
-        let Some(first) = first_mark(&self.marks) else {
-            return None;
-        };
-        self.marks[first] = false;
-        Some(first)
-    }
-}
-
-/// The place of the first mark, if there is one.
-fn first_mark(marks: &[bool]) -> Option<usize>
-    ensures { result ≡ position_from (λ b. b) 0 marks.now }
-{
-    marks.iter().position(|mark| *mark)
 }

@@ -129,18 +129,18 @@ impl Bells {
     }
 
     /// These are ready: they wait in vain no more. Called inside the book, by the processor that let them go on.
-    pub(crate) fn ready(&self, waiters: Waiters) {
-        for p in waiters {
-            if let Some(bell) = self.bells.get(p) {
+    pub(crate) fn ready(&self, waiters: &Waiters) {
+        for (p, bell) in self.bells.iter().enumerate() {
+            if waiters.has(p) {
                 bell.waits.store(false, SeqCst);
             }
         }
     }
 
     /// Tells these. Called after leaving the book, by the processor that let them go on.
-    pub(crate) fn tell(&self, waiters: Waiters) {
-        for p in waiters {
-            if let Some(bell) = self.bells.get(p) {
+    pub(crate) fn tell(&self, waiters: &Waiters) {
+        for (p, bell) in self.bells.iter().enumerate() {
+            if waiters.has(p) {
                 bell.tell();
             }
         }

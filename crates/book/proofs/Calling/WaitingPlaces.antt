@@ -138,6 +138,16 @@ place_has n (false ∷ marks) (suc k) at =
     let e : n + 1 + k ≡ n + suc k = omega arith in
     subst (λ (m : ℕ). Has (waiters_from (n + 1) marks) m) e (place_has (n + 1) marks k at)
 
+-- a number is found exactly if its place is marked
+pub place_marked : (marks : List Bool) (q : ℕ) → Has (waiters_from 0 marks) q ↔ (slice_get marks q ≡ Some true)
+place_marked marks q = (
+  (λ has. (let w = has_place 0 marks q has in
+      let is : w.0 ≡ q = omega (arith, w.2) in
+      subst (λ (k : ℕ). slice_get marks k ≡ Some true) is w.1)),
+  (λ at. (let e : 0 + q ≡ q = omega arith in
+      subst (λ (m : ℕ). Has (waiters_from 0 marks) m) e (place_has 0 marks q at))),
+)
+
 -- a mark is set
 pub place_added : (marks : List Bool) (p : ℕ) → p < length marks → (q : ℕ)
     → Has (waiters_from 0 (slice_set marks p true)) q ↔ (((q ≡ p) × (q < length marks)) ⊎ Has (waiters_from 0 marks) q)

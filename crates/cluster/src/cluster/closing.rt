@@ -64,7 +64,7 @@ impl<T: BookTurn> Cluster<T> {
             records,
         );
         self.give_book(&mut processor.chair, held, book);
-        self.bells.tell(closed?);
+        self.bells.tell(&closed?);
         processor.block.clear();
         clean(&mut processor.replicas, &mut processor.stored);
         processor.time.tick(processor.number);
@@ -94,6 +94,7 @@ fn close_in(
 {
     let kind = closing.kind();
     book.close(p, closing, block, records)?;
-    bells.ready(book.let_on(p, kind));
-    Ok(book.let_on(p, kind))
+    let waiters = book.let_on(p, kind);
+    bells.ready(&waiters);
+    Ok(waiters)
 }
