@@ -1,5 +1,5 @@
 -- What the words show, and the two boards.
-use Rattle.std.specs.Prelude.{◌≡◌, ℕ, ◌+◌, ◌%◌, ◌^◌, ◌<◌, ◌≤◌, List, length, slice_index, slice_set}
+use Rattle.std.specs.Prelude.{◌≡◌, ℕ, ◌+◌, ◌*◌, ◌%◌, ◌^◌, ◌<◌, ◌≤◌, List, length, slice_index, slice_set}
 
 -- A board: `shows words k` says that the words let the number k in, the chair with the number m looks at the word
 -- `at m`,
@@ -17,11 +17,19 @@ pub record IsBoard (width : ℕ) (shows : List ℕ → ℕ → Type 0) (at : ℕ
   pub passes : (words : List ℕ) (m : ℕ) → shows words m → m + 1 < 2 ^ 64
       → shows (slice_set words (at (m + 1)) (passed m (slice_index words (at (m + 1))))) (m + 1)
 
+-- how many words apart those words lie at which threads look, so that each has a cache line of its own
+abbrev pub line_words : ℕ
+line_words = 8
+
 -- one word for all: it is the number that is let in
 abbrev pub Counts : List ℕ → ℕ → Type 0
-Counts words k = (length words ≡ 2) × (slice_index words 1 ≡ k)
+Counts words k = (length words ≡ line_words + 1) × (slice_index words line_words ≡ k)
 
--- one word for each of n chairs, from word 1 on: that of k is k, and none is above it
+-- the own word of number m, of n chairs
+abbrev pub own_word : ℕ → ℕ → ℕ
+own_word n m = (m % n + 1) * line_words
+
+-- one word for each of n chairs: that of k is k, and none is above it
 abbrev pub Points : ℕ → List ℕ → ℕ → Type 0
-Points n words k = (length words ≡ n + 1) × (slice_index words (k % n + 1) ≡ k)
-    × ((j : ℕ) → j < n → slice_index words (j + 1) ≤ k)
+Points n words k = (length words ≡ (n + 1) * line_words) × (slice_index words (own_word n k) ≡ k)
+    × ((j : ℕ) → j < n → slice_index words ((j + 1) * line_words) ≤ k)

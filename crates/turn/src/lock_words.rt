@@ -1,7 +1,7 @@
 //! The boards on which the locks show whose turn it is.
-ghost use Rattle.std.specs.Prelude.{◌≡◌, ℕ, List, ◌+◌, ◌%◌, ◌^◌, ◌<◌, ◌≤◌, length, slice_index, IfOk};
+ghost use Rattle.std.specs.Prelude.{◌≡◌, ℕ, List, ◌+◌, ◌*◌, ◌%◌, ◌^◌, ◌<◌, ◌≤◌, length, slice_index, IfOk};
 ghost use Rattle.atomic_table.specs.Table.{Me, Allows};
-ghost use Rattle.turn.specs.Boards.{IsBoard, Counts, Points};
+ghost use Rattle.turn.specs.Boards.{IsBoard, Counts, Points, line_words, own_word};
 
 use atomic_table::{Play, Seat, Shared, TableRule};
 use std::alloc::{AllocError, Global};
@@ -44,7 +44,8 @@ pub trait Board {
 
     /// The word at which the chair with a number looks.
     fn at(seats: usize, number: u64) -> usize
-        requires { 1 ≤ seats }
+        requires some { 1 ≤ seats }
+        requires fits { width seats < 2 ^ 64 }
         ensures { result ≡ at seats number };
 
     /// The one step with which the chair that leaves with a number lets the next one in.
@@ -57,6 +58,7 @@ pub trait Board {
         requires own { seat.old.table_id ≡ shared.now.table_id }
         requires some { 1 ≤ seats }
         requires width { shared.now.table_id.words ≡ width seats }
+        requires fits { width seats < 2 ^ 64 }
         requires small { number + 1 < 2 ^ 64 }
         requires rule { Allows (P.holds shared.now.key) shared.now.table_id.slots seat.old.id seat.old.me
             (at seats (number + 1)) (passed number) (λ _ after. M.then seat.old.me after) }
@@ -78,6 +80,7 @@ pub struct BoardLayout<W: Board> {
     board: PhantomData<W>,
     ghost some: { 1 ≤ seats },
     ghost wide: { words ≡ W.width seats },
+    ghost fits: { W.width seats < 2 ^ 64 },
     ghost more: { 1 ≤ words },
 }
 
@@ -97,22 +100,26 @@ impl<W: Board> BoardLayout<W> {
     }
 }
 
+/// How many words apart those words lie at which threads look. So each has a cache line of its own, and a step at one
+/// doesn't disturb who looks at another.
+pub(crate) const LINE: usize = 8;
+
 /// The board of the ticket lock: one word for all chairs, the number that is served.
 pub struct TicketBoard;
 
-const SERVING: usize = 1;
+const SERVING: usize = LINE;
 
 impl Board for TicketBoard {
-    ghost width = { λ _. 2 };
+    ghost width = { λ _. line_words + 1 };
 
-    ghost at = { λ _ _. 1 };
+    ghost at = { λ _ _. line_words };
 
     ghost passed = { λ _ found. (found + 1) % 2 ^ 64 };
 
     ghost shows = { λ _. Counts };
 
     fn words(alloc: Global, _seats: usize) -> Result<Vec<u64>, AllocError> {
-        Vec::from_slice(alloc, &[0, 0])
+        vec![in alloc; 0; LINE + 1]
     }
 
     fn at(_seats: usize, _number: u64) -> usize {
@@ -135,22 +142,26 @@ impl Board for TicketBoard {
 pub struct ArrayBoard;
 
 impl Board for ArrayBoard {
-    ghost width = { λ n. n + 1 };
+    ghost width = { λ n. (n + 1) * line_words };
 
-    ghost at = { λ n m. m % n + 1 };
+    ghost at = { own_word };
 
     ghost passed = { λ m _. m + 1 };
 
     ghost shows = { Points };
 
     fn words(alloc: Global, seats: usize) -> Result<Vec<u64>, AllocError> {
-        let mut words = vec![in alloc; 0; seats]?;
-        words.push(0)?;
-        Ok(words)
+        let Some(words) = seats
+            .checked_add(1)
+            .and_then(|lines| lines.checked_mul(LINE))
+        else {
+            return Err(AllocError);
+        };
+        vec![in alloc; 0; words]
     }
 
     fn at(seats: usize, number: u64) -> usize {
-        (number % seats as u64) as usize + 1
+        ((number % seats as u64) as usize + 1) * LINE
     }
 
     fn pass<S, V, X, P: TableRule<S, V, X>, M: Change<S, V>>(

@@ -4,7 +4,7 @@ ghost use Rattle.turn.specs.Prelude.{entries, lock, lock_id, IsOutside, IsSameCh
 use super::{ArrayLock, TicketLock, TurnLock};
 use crate::chair::{Chair, Spent};
 use crate::contract::{Keeper, Outcome, Turn};
-use crate::lock_words::{ArrayBoard, Board, TicketBoard};
+use crate::lock_words::{ArrayBoard, Board, LINE, TicketBoard};
 use std::alloc::{AllocError, Global};
 use std::process::Abort;
 use std::sync::{Arc, Wait};
@@ -48,18 +48,18 @@ fn pass_through<B, T: Turn<B, Anything>, R: Wait>(
     Ok(())
 }
 
-// The words after the next number.
+// The words at which the first two chairs look.
 fn shown<B, K: Keeper<B>, W: Board, const ENTRIES: u64>(
     lock: &TurnLock<B, K, W, ENTRIES>,
 ) -> [u64; 2] {
     let words = lock.layout.words;
-    let first = if 1 < words {
-        lock.table.shared.peek(1)
+    let first = if LINE < words {
+        lock.table.shared.peek(LINE)
     } else {
         0
     };
-    let second = if 2 < words {
-        lock.table.shared.peek(2)
+    let second = if 2 * LINE < words {
+        lock.table.shared.peek(2 * LINE)
     } else {
         0
     };
