@@ -6,13 +6,12 @@ use Rattle.journal.specs.declared.event.Kind.TheVariants.{Acquire, Depart}
 use Rattle.journal.specs.Sizes.{Sizes}
 use Rattle.journal.specs.WellFormed.{Allowed}
 use Rattle.journal.specs.Brings.{Brings}
-use Rattle.transit.specs.Letters.{Letter}
+use Rattle.transit.specs.Letters.{Letter, LetterKind}
 use Rattle.transit.specs.Letters.LetterKind.{grant, departure}
-use Rattle.transit.specs.Letters
 use Rattle.book.specs.Stamps.{IsStamp}
 
 -- a message lets its receiver do this: a grant an Acquire, and a departure a Depart
-abbrev pub MailLets : Letters.Kind → Kind → Type 0
+abbrev pub MailLets : LetterKind → Kind → Type 0
 MailLets grant (Acquire l) = Unit {0}
 MailLets departure Depart = Unit {0}
 MailLets _ _ = ⊥

@@ -16,15 +16,14 @@ use Rattle.base.proofs.SlicesAndCounts.{push_cases}
 use Rattle.journal.proofs.Order.CountedAndNumbered.{at_within, does_same}
 use Rattle.journal.proofs.Times.KeptArrives.{kind_kept, arrivals_others}
 use Rattle.journal.proofs.Journals.WellFormedLast.{last_cases, holds_cases, holds_now}
-use Rattle.transit.specs.Letters
-use Rattle.transit.specs.Letters.{Letter}
+use Rattle.transit.specs.Letters.{Letter, LetterKind}
 use Rattle.transit.specs.Letters.LetterKind.{grant, departure, signal}
 use Rattle.journal.specs.DidEvent.{event, did}
 use Rattle.book.specs.Stamps.{IsStamp}
 use Rattle.book.specs.Mail.{MailCarries, MailLets, ComesByMail, IsMail}
 use Rattle.book.proofs.Parts.LastAndCounts.{last_on, last_none, holds_last_on, count_others, count_more, count_kept}
 
-pub mail_lets_posted : (m : Letters.Kind) (k : Kind) → MailLets m k → ComesByMail k
+pub mail_lets_posted : (m : LetterKind) (k : Kind) → MailLets m k → ComesByMail k
 mail_lets_posted grant (Acquire l) h = tt
 mail_lets_posted departure Depart h = tt
 mail_lets_posted _ _ h = absurd h
