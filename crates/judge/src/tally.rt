@@ -67,11 +67,11 @@ impl Tally {
     /// Adds the number to the row, unless it was added for the mark. The only error is running out of memory.
     pub(crate) fn add(&mut self, row: usize, mark: usize, number: u32) -> Result<(), AllocError>
         requires row { row < vec_len self.old.rows }
-        requires mark { tally_mark < vec_len self.old.marks }
+        requires mark { mark < vec_len self.old.marks }
         requires room { number < 2 ^ 22 }
         ensures rows { vec_len self.new.rows ≡ vec_len self.old.rows }
         ensures marks { vec_len self.new.marks ≡ vec_len self.old.marks }
-        ensures adds { OnOk result (Adds self.old self.new row tally_mark number) }
+        ensures adds { OnOk result (Adds self.old self.new row mark number) }
     {
         if self.marks[mark] <= number {
             self.rows[row].push(number)?;
