@@ -1,12 +1,13 @@
 -- Counts of pages, built up by a loop over what has the pages.
-use Rattle.std.proofs.Common.{◌≡◌, ℕ, ◌+◌, ◌-◌, ◌<◌, ◌≤◌, ◌==◌, ◌^◌, Bool, cond, inl, inr, List, [], ◌∷◌, ◌++◌, map, take, drop, get_or, set, length, count_by, slice_index, refl, sym, ap, subst, arith, ◌∙◌}
+use Rattle.std.proofs.Common.{◌≡◌, ℕ, ◌+◌, ◌-◌, ◌<◌, ◌≤◌, ◌==◌, ◌^◌, Bool, cond, inl, inr, List, [], ◌∷◌, ◌++◌, take, drop, set, length, count_by, slice_index, refl, sym, ap, subst, arith, ◌∙◌}
 use Rattle.std.specs.List.{flat_map}
 use Rattle.std.proofs.lemmas.Bool.{cases_eq, eq-eqb, ne_eqb}
-use Rattle.std.proofs.lemmas.List.{take_more, append-nil, take-append-drop, length-set, get_or-set_same, get_or-set_other, length-map, get_or-map}
+use Rattle.std.proofs.lemmas.List.{take-append-drop, length-set, get_or-set_same, get_or-set_other}
 use Rattle.std.proofs.lemmas.List.Sums.{sum_by-cons}
 use Rattle.std.proofs.lemmas.Grind.{flat_map-append}
 use Rattle.base.proofs.SlicesAndCounts.{count_by-append}
 use Rattle.interval.specs.PageCounts.{CountsGrew, CountsHaveRoom}
+use Rattle.interval.proofs.Records.ReadItems.{ReadsItem, taken_flat_map}
 
 -- the test for page base + i
 abbrev is_page : ℕ → ℕ → ℕ → ℕ
@@ -75,39 +76,22 @@ room_one base page counts from inside room =
     ap (λ (b : Bool). cond {A = ℕ} b 1 0) (eq-eqb page (base + (page - base)) (omega arith)) in
     omega arith
 
--- an item of a list is one of its list under a function
-pub mapped_at : {X Y : Type 0} (f : X → Y) (xs : List X) (k : ℕ) (x : X) → k < length xs → x ≡ get_or xs k x
-    → (k < length (map f xs)) × (f x ≡ get_or (map f xs) k (f x))
-mapped_at f xs k x inside is =
-    let long = length-map xs f in
-    (omega arith, ap f is ∙ sym (get_or-map f xs k x (f x) inside))
-
--- the items up to an item, with it
-flat_map_more : {X : Type 0} (f : X → List ℕ) (xs : List X) (k : ℕ) (x : X) → k < length xs → x ≡ get_or xs k x
-    → flat_map f (take (k + 1) xs) ≡ flat_map f (take k xs) ++ f x
-flat_map_more f xs k x inside is =
-    let step = take_more xs k x inside in
-    let one : take (k + 1) xs ≡ take k xs ++ x ∷ [] = rw (← is) at step in
-    ap (flat_map f) one ∙ flat_map-append f (take k xs) (x ∷ [])
-    ∙ ap (λ (ps : List ℕ). flat_map f (take k xs) ++ ps) (append-nil (f x))
-
 -- the items so far, and one more
-pub counted_more : {X : Type 0} (base : ℕ) (f : X → List ℕ) (xs : List X) (k : ℕ) (x : X)
-    (before between after : List ℕ)
-    → k < length xs → x ≡ get_or xs k x
+pub counted_more : {X : Type 0} {base : ℕ} {xs : List X} {k : ℕ} {x : X} {before between after : List ℕ}
+    → (f : X → List ℕ) → ReadsItem xs k x
     → CountsGrew base (flat_map f (take k xs)) before between → CountsGrew base (f x) between after
     → CountsGrew base (flat_map f (take (k + 1) xs)) before after
-counted_more base f xs k x before between after inside is so_far one =
+counted_more {X} {base} {xs} {k} {x} {before} {between} {after} f reads so_far one =
     let P : List ℕ → Type 0 = λ ps. CountsGrew base ps before after in
-    subst P (sym (flat_map_more f xs k x inside is))
+    subst P (sym (taken_flat_map f reads))
     (counted-append base (flat_map f (take k xs)) (f x) before between after so_far one)
 
 -- where there is room for all, there is room for the next
-pub room_more : {X : Type 0} (base : ℕ) (f : X → List ℕ) (xs : List X) (k : ℕ) (x : X) (before between : List ℕ)
-    → k < length xs → x ≡ get_or xs k x
+pub room_more : {X : Type 0} {base : ℕ} {xs : List X} {k : ℕ} {x : X} {before between : List ℕ}
+    → (f : X → List ℕ) → ReadsItem xs k x
     → CountsHaveRoom base (flat_map f xs) before → CountsGrew base (flat_map f (take k xs)) before between
     → CountsHaveRoom base (f x) between
-room_more base f xs k x before between inside is room so_far i within =
+room_more {X} {base} {xs} {k} {x} {before} {between} f reads room so_far i within =
     let test : ℕ → Bool = λ p. p == base + i in
     let long = so_far.long in
     let all = room i (omega arith) in
@@ -117,6 +101,6 @@ room_more base f xs k x before between inside is room so_far i within =
     ∙ ap (flat_map f) (take-append-drop (k + 1) xs))
     in
     let ends = count_by-append test (flat_map f (take (k + 1) xs)) (flat_map f (drop (k + 1) xs)) in
-    let more = ap (count_by test) (flat_map_more f xs k x inside is) in
+    let more = ap (count_by test) (taken_flat_map f reads) in
     let one = count_by-append test (flat_map f (take k xs)) (f x) in
     omega arith

@@ -11,9 +11,9 @@ use Rattle.page.specs.RisingChanges.{Changes}
 use Rattle.interval.specs.declared.kept_interval.KeptInterval.{KeptInterval}
 use Rattle.interval.specs.SentIntervals.{SentRecord, HasRisingPages}
 use Rattle.interval.specs.Closings.{Closings, is_news, sent_record, sent_interval, closings_between, is_of_page}
-use Rattle.interval.specs.Queues.{Queue, merged_queues, queue_closings, AreQueues}
+use Rattle.interval.specs.Queues.{Queue, merged_queues}
 use Rattle.interval.proofs.Order.RisingByPlace.{Rises, rises_first, rises_rest}
-use Rattle.interval.proofs.Queues.Merged.{merged_lies, queued, rises-merged}
+use Rattle.interval.proofs.Queues.Merged.{QueuesHold, merged_lies, queued, rises-merged}
 
 counted_more : (page : ℕ) (k : KeptInterval) (r : Changes) (rs : List Changes) (same : Bool) → (r.page == page) ≡ same
     → count_by (is_of_page page) (map (sent_record k) (r ∷ rs))
@@ -76,10 +76,11 @@ few_places m n (k ∷ ks) rises from below le =
     omega arith
 
 -- so the count fits where the number of closed intervals does
-pub count_fits : (queues : List Queue) (count : ℕ) (value : Closings) (page : ℕ) (old new : List ℕ)
-    → queue_closings queues count ≡ value → AreQueues queues count
+pub count_fits : {queues : List Queue} {count : ℕ} {value : Closings} → QueuesHold queues count value → (page : ℕ)
+    (old new : List ℕ)
     → count_by (is_of_page page) (closings_between value old new) ≤ count
-count_fits queues count value page old new is are =
+count_fits {queues} {count} {value} hold page old new =
+    let are = hold.are in
     let news : List KeptInterval = filter (is_news old new) (merged_queues queues) in
     let places =
     few_places 0 count (merged_queues queues) (rises-merged queues) (λ k h. omega arith)
@@ -90,5 +91,5 @@ count_fits queues count value page old new is are =
     count_of_intervals page news (λ k h. (queued queues count are k
     (merged_lies queues k ((has-filter (is_news old new) (merged_queues queues) k).0 h).0)).pages)
     in
-    let same = ap (λ (c : Closings). count_by (is_of_page page) (closings_between c old new)) is in
+    let same = ap (λ (c : Closings). count_by (is_of_page page) (closings_between c old new)) hold.seen in
     omega arith

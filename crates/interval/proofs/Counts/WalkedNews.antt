@@ -3,7 +3,7 @@ use Rattle.std.proofs.Common.{◌≡◌, ◌≢◌, ℕ, zero, suc, ◌+◌, ◌
 use Rattle.std.specs.List.{flat_map, sum_by}
 use Rattle.std.proofs.lemmas.Bool.{cases_Bool, cases_lt, cond_both, cond-true, cond-false, and_from, and_left, and_right, ltb-false, lt-ltb, le-ltb, le-leb, lt-leb}
 use Rattle.std.proofs.lemmas.List.{get_or-drop, get_or-take}
-use Rattle.std.proofs.lemmas.Option.{get_or_from_slice_get, slice_get_read}
+use Rattle.std.proofs.lemmas.Option.{get_or_from_slice_get}
 use Rattle.std.proofs.lemmas.List.Sums.{sum_by-cons, sum_by-append}
 use Rattle.base.specs.InOrderOnce.{Has, InOrder}
 use Rattle.base.proofs.SlicesAndCounts.{count_by-append}
@@ -13,8 +13,10 @@ use Rattle.interval.specs.declared.kept_interval.KeptInterval.{KeptInterval}
 use Rattle.interval.specs.SentIntervals.{SentRecord}
 use Rattle.interval.specs.Closings.{Closings, is_news, sent_record, sent_interval, is_of_page, closings_between}
 use Rattle.interval.specs.PageCounts.{pages_of_records, pages_of, CountsHaveRoom}
-use Rattle.interval.specs.Queues.{Queue, placed, by_place, merged_queues, queue_closings, queue_within, IsQueue, AreQueues}
+use Rattle.interval.specs.Queues.{Queue, placed, by_place, merged_queues, queue_within, IsQueue, AreQueues}
 use Rattle.interval.proofs.Order.RisingByPlace.{has-by_place}
+use Rattle.interval.proofs.Records.ReadItems.{ReadsItem, got_item}
+use Rattle.interval.proofs.Queues.Merged.{QueuesHold}
 use Rattle.interval.proofs.Counts.Most.{count_fits}
 
 -- of intervals that are numbered from `first` on, the news are those from one number up to another
@@ -82,24 +84,24 @@ queue_news owner count queue old new is =
     numbered_news queue.kept queue.first owner old new (λ i k at. let q = is.each i k at in (q.owner_is, q.number_is))
 
 -- an interval of a queue that is numbered within from..to, counted from the first such one
-pub within_at : (held queue : Queue) (from to i : ℕ) (k : KeptInterval) → held ≡ queue → from - held.first ≤ i
+pub within_at : {held queue : Queue} {k : KeptInterval} → (from to i : ℕ) → held ≡ queue → from - held.first ≤ i
     → i < min (to - held.first) (length held.kept) → k ≡ get_or held.kept i k
-    → (i - (from - held.first) < length (queue_within queue from to))
-    × (k ≡ get_or (queue_within queue from to) (i - (from - held.first)) k)
-within_at held queue from to i k same after before is =
+    → ReadsItem (queue_within queue from to) (i - (from - held.first)) k
+within_at {held} {queue} {k} from to i same after before is =
     let ks = held.kept in
     let start : ℕ = from - held.first in
     let long = length-drop start (take (to - held.first) ks) in
     let front = length-take (to - held.first) ks in
     let place : start + (i - start) ≡ i = omega arith in
-    let P : Queue → Type 0 =
-    λ q. (i - start < length (queue_within q from to)) × (k ≡ get_or (queue_within q from to) (i - start) k) in
-    subst P same (
-      omega arith,
-      is ∙ sym (get_or-take (to - held.first) ks i k (omega arith))
+    let P : Queue → Type 0 = λ q. ReadsItem (queue_within q from to) (i - start) k in
+    let reads : P held = record {
+      inside = omega arith;
+      is =
+          is ∙ sym (get_or-take (to - held.first) ks i k (omega arith))
           ∙ ap (λ (n : ℕ). get_or (take (to - held.first) ks) n k) (sym place)
-          ∙ sym (get_or-drop start (take (to - held.first) ks) (i - start) k),
-    )
+          ∙ sym (get_or-drop start (take (to - held.first) ks) (i - start) k);
+    } in
+    subst P same reads
 
 -- the pages of the news of a queue
 abbrev pub news_pages : List ℕ → List ℕ → Queue → List ℕ
@@ -212,37 +214,37 @@ walked queues count old new n are =
     ∙ sym (count_news old new n (merged_queues queues))
     ∙ sym (count_notices n (filter (is_news old new) (merged_queues queues)))
 
--- the pages of the news of an owner, between the entries of two timestamps
-pub news_read : (queues items : List Queue) (count : ℕ) (old new : List ℕ) (owner from to : ℕ) (queue : Queue)
-    → items ≡ queues → AreQueues queues count
-    → owner < length items → queue ≡ get_or items owner queue → slice_get old owner ≡ Some from
-    → slice_get new owner ≡ Some to → news_pages old new queue ≡ pages_of (queue_within queue from to)
-news_read queues items count old new owner from to queue same are inside read old_at new_at =
-    let owned : slice_get queues owner ≡ Some queue =
-    ap (λ (qs : List Queue). slice_get qs owner) (sym same)
-    ∙ slice_get_read items (length items) owner queue refl inside read in
-    ap pages_of (queue_news owner count queue old new (are.each owner queue owned)
-    ∙ ap₂ (λ (a b : ℕ). queue_within queue a b) (get_or_from_slice_get old owner from 0 old_at)
-    (get_or_from_slice_get new owner to 0 new_at))
+-- a loop reads an owner's queue, and the entries for it of two timestamps
+pub record ReadsQueue (queues : List Queue) (old new : List ℕ) (owner from to : ℕ) (queue : Queue) : Type 0 where
+  pub reads : ReadsItem queues owner queue
+  pub old_at : slice_get old owner ≡ Some from
+  pub new_at : slice_get new owner ≡ Some to
+
+-- its news are those between the entries
+pub news_read : {queues : List Queue} {count : ℕ} {old new : List ℕ} {owner from to : ℕ} {queue : Queue}
+    → AreQueues queues count → ReadsQueue queues old new owner from to queue
+    → filter (is_news old new) queue.kept ≡ queue_within queue from to
+news_read {queues} {count} {old} {new} {owner} {from} {to} {queue} are r =
+    queue_news owner count queue old new (are.each owner queue (got_item r.reads))
+    ∙ ap₂ (λ (a b : ℕ). queue_within queue a b) (get_or_from_slice_get old owner from 0 r.old_at)
+    (get_or_from_slice_get new owner to 0 r.new_at)
 
 -- all of it is what `between` has of a page
-pub news_total : (queues items : List Queue) (count : ℕ) (value : Closings) (old new : List ℕ) (n : ℕ)
-    → items ≡ queues → queue_closings queues count ≡ value → AreQueues queues count
-    → count_by (λ (p : ℕ). p == n) (flat_map (news_pages old new) items)
+pub news_total : {queues : List Queue} {count : ℕ} {value : Closings} → QueuesHold queues count value → (old new : List ℕ)
+    (n : ℕ)
+    → count_by (λ (p : ℕ). p == n) (flat_map (news_pages old new) queues)
     ≡ count_by (is_of_page n) (closings_between value old new)
-news_total queues items count value old new n same is are =
-    ap (λ (qs : List Queue). count_by (λ (p : ℕ). p == n) (flat_map (news_pages old new) qs)) same
-    ∙ walked queues count old new n are
-    ∙ ap (λ (v : Closings). count_by (is_of_page n) (closings_between v old new)) is
+news_total {queues} {count} hold old new n =
+    walked queues count old new n hold.are
+    ∙ ap (λ (v : Closings). count_by (is_of_page n) (closings_between v old new)) hold.seen
 
 -- the counts have room for all of it
-pub news_room : (queues items : List Queue) (count : ℕ) (value : Closings) (base : ℕ) (old new counts : List ℕ)
-    → items ≡ queues → queue_closings queues count ≡ value → AreQueues queues count
-    → ((i : ℕ) → i < length counts → slice_index counts i ≡ 0)
-    → CountsHaveRoom base (flat_map (news_pages old new) items) counts
-news_room queues items count value base old new counts same is are zeros i inside =
-    let few = are.few in
+pub news_room : {queues : List Queue} {count : ℕ} {value : Closings} → QueuesHold queues count value → (base : ℕ)
+    (old new counts : List ℕ) → ((i : ℕ) → i < length counts → slice_index counts i ≡ 0)
+    → CountsHaveRoom base (flat_map (news_pages old new) queues) counts
+news_room hold base old new counts zeros i inside =
+    let few = hold.are.few in
     let none = zeros i inside in
-    let all = news_total queues items count value old new (base + i) same is are in
-    let most = count_fits queues count value (base + i) old new is are in
+    let all = news_total hold old new (base + i) in
+    let most = count_fits hold (base + i) old new in
     omega arith

@@ -1,28 +1,27 @@
 -- The news of all queues, owner by owner.
 use Rattle.std.proofs.Common.{◌≡◌, ◌≢◌, ◌↔◌, ℕ, ◌<◌, ◌≤◌, ◌+◌, ◌-◌, Some, List, [], ◌∷◌, ◌++◌, filter, map, take, get_or, slice_get, length, length-drop, length-take, min, refl, sym, ap, ap₂, subst, arith, ◌∙◌}
 use Rattle.std.specs.List.{flat_map}
-use Rattle.std.proofs.lemmas.List.{append-nil, append_assoc, length-map, map-append, take_all, take_more}
+use Rattle.std.proofs.lemmas.List.{append-nil, append_assoc, length-map, map-append, take_all}
 use Rattle.std.proofs.lemmas.Grind.{flat_map-append}
-use Rattle.std.proofs.lemmas.Option.{slice_get_read, get_or_from_slice_get}
+use Rattle.std.proofs.lemmas.Option.{slice_get_read}
 use Rattle.base.specs.InOrderOnce.{Has, InOrder}
 use Rattle.base.proofs.Joined.{has-flat_map, in_order-flat_map, in_order_weaker}
 use Rattle.base.proofs.FilteredInOrder.{has-filter, in_order-filter}
 use Rattle.interval.specs.declared.kept_interval.KeptInterval.{KeptInterval}
 use Rattle.interval.specs.SentIntervals.{SentRecord}
 use Rattle.interval.specs.Closings.{Closings, is_news, sent_interval}
-use Rattle.interval.specs.Queues.{Queue, merged_queues, queue_closings, queue_within, SameIntervals, AreQueues}
-use Rattle.interval.proofs.Counts.WalkedNews.{queue_news}
+use Rattle.interval.specs.Queues.{Queue, merged_queues, queue_within, SameIntervals, AreQueues}
+use Rattle.interval.proofs.Records.ReadItems.{ReadsItem, taken_item, taken_flat_map}
+use Rattle.interval.proofs.Counts.WalkedNews.{news_read, ReadsQueue}
 use Rattle.interval.proofs.Order.RisingByPlace.{IsBefore, Rises}
-use Rattle.interval.proofs.Queues.Merged.{Lies, merged_lies, lies_merged, rises-merged}
+use Rattle.interval.proofs.Queues.Merged.{QueuesHold, Lies, merged_lies, lies_merged, rises-merged}
 
 -- a list that has grown by the first items of another, and grows by the next
-pub grown_more : {X : Type 0} (start now xs : List X) (k : ℕ) (x : X) → k < length xs → x ≡ get_or xs k x
+pub grown_more : {X : Type 0} {now xs : List X} {k : ℕ} {x : X} → (start : List X) → ReadsItem xs k x
     → now ≡ start ++ take k xs → now ++ x ∷ [] ≡ start ++ take (k + 1) xs
-grown_more {X} start now xs k x inside is so_far =
-    let step = take_more xs k x inside in
-    let one : take (k + 1) xs ≡ take k xs ++ x ∷ [] = rw (← is) at step in
+grown_more {X} {now} {xs} {k} {x} start reads so_far =
     ap (λ (ys : List X). ys ++ x ∷ []) so_far ∙ append_assoc start (take k xs) (x ∷ [])
-    ∙ ap (λ (ys : List X). start ++ ys) (sym one)
+    ∙ ap (λ (ys : List X). start ++ ys) (sym (taken_item reads))
 
 -- how many intervals of a queue are numbered within from..to
 pub within_few : (held queue : Queue) (from to : ℕ) → held ≡ queue
@@ -75,72 +74,56 @@ gathered_apart queues count old new are =
     let one = are.apart x y a b j k at_x at_y at_j at_k same in absurd (omega arith))
 
 -- the owner's queue, as it is read
-pub owned_queue : (queues : List Queue) (count : ℕ) (value : Closings) (owner : ℕ) (queue : Queue)
-    → queue_closings queues count ≡ value → owner < length value.first
+pub owned_queue : {queues : List Queue} {count : ℕ} {value : Closings} {queue : Queue} → (owner : ℕ)
+    → QueuesHold queues count value → owner < length value.first
     → queue ≡ get_or queues owner queue → slice_get queues owner ≡ Some queue
-owned_queue queues count value owner queue is in_range read =
-    let firsts : map (λ (q : Queue). q.first) queues ≡ value.first = ap (λ (c : Closings). c.first) is in
+owned_queue {queues} {count} {value} {queue} owner hold in_range read =
+    let firsts : map (λ (q : Queue). q.first) queues ≡ value.first = ap (λ (c : Closings). c.first) hold.seen in
     let long = length-map queues (λ (q : Queue). q.first) in
     let longs = ap length firsts in
     slice_get_read queues (length queues) owner queue refl (omega arith) read
 
 -- the news of the queues so far, and those of one more
-pub gathered_more : (queues items : List Queue) (count : ℕ) (old new : List ℕ) (owner from to : ℕ) (queue : Queue)
-    (before now : List KeptInterval)
-    → items ≡ queues → AreQueues queues count
-    → owner < length items → queue ≡ get_or items owner queue → slice_get old owner ≡ Some from
-    → slice_get new owner ≡ Some to → before ≡ flat_map (own_news old new) (take owner items)
-    → now ≡ before ++ queue_within queue from to → now ≡ flat_map (own_news old new) (take (owner + 1) items)
-gathered_more queues items count old new owner from to queue before now same are inside read old_at new_at so_far is =
-    let owned : slice_get queues owner ≡ Some queue =
-    ap (λ (qs : List Queue). slice_get qs owner) (sym same)
-    ∙ slice_get_read items (length items) owner queue refl inside read in
-    let own : own_news old new queue ≡ queue_within queue from to =
-    queue_news owner count queue old new (are.each owner queue owned)
-    ∙ ap₂ (λ (a b : ℕ). queue_within queue a b) (get_or_from_slice_get old owner from 0 old_at)
-    (get_or_from_slice_get new owner to 0 new_at) in
-    let step = take_more items owner queue inside in
-    let one : take (owner + 1) items ≡ take owner items ++ queue ∷ [] = rw (← read) at step in
-    is ∙ ap₂ (λ (xs ys : List KeptInterval). xs ++ ys) so_far (sym own)
-    ∙ ap (λ (ys : List KeptInterval). flat_map (own_news old new) (take owner items) ++ ys)
-    (sym (append-nil (own_news old new queue)))
-    ∙ sym (flat_map-append (own_news old new) (take owner items) (queue ∷ []))
-    ∙ sym (ap (flat_map (own_news old new)) one)
+pub gathered_more : {queues : List Queue} {count : ℕ} {old new : List ℕ} {owner from to : ℕ} {queue : Queue}
+    {before now : List KeptInterval}
+    → AreQueues queues count → ReadsQueue queues old new owner from to queue
+    → before ≡ flat_map (own_news old new) (take owner queues) → now ≡ before ++ queue_within queue from to
+    → now ≡ flat_map (own_news old new) (take (owner + 1) queues)
+gathered_more {old = old} {new = new} are r so_far is =
+    is ∙ ap₂ (λ (xs ys : List KeptInterval). xs ++ ys) so_far (sym (news_read are r))
+    ∙ sym (taken_flat_map (own_news old new) r.reads)
 
 -- once all queues were gone through
-pub gathered_all : (queues items : List Queue) (count : ℕ) (value : Closings) (old new : List ℕ) (n : ℕ)
-    (news : List KeptInterval)
-    → items ≡ queues → queue_closings queues count ≡ value → AreQueues queues count
-    → length items ≤ n → news ≡ flat_map (own_news old new) (take n items)
+pub gathered_all : {queues : List Queue} {count : ℕ} {value : Closings} {news : List KeptInterval}
+    → QueuesHold queues count value → (old new : List ℕ) (n : ℕ)
+    → length queues ≤ n → news ≡ flat_map (own_news old new) (take n queues)
     → SameIntervals (filter (is_news old new) value.kept) news
-gathered_all queues items count value old new n news same is are end so_far =
+gathered_all {queues} {count} {value} {news} hold old new n end so_far =
     let all : news ≡ flat_map (own_news old new) queues =
-    so_far ∙ ap (flat_map (own_news old new)) (take_all n items end ∙ same) in
+    so_far ∙ ap (flat_map (own_news old new)) (take_all n queues end) in
     let found : SameIntervals (filter (is_news old new) (merged_queues queues)) (flat_map (own_news old new) queues) = record {
-      same = gathered_same queues count old new are;
-      apart = gathered_apart queues count old new are;
+      same = gathered_same queues count old new hold.are;
+      apart = gathered_apart queues count old new hold.are;
     } in
     let P : List KeptInterval → Type 0 = λ ks. SameIntervals (filter (is_news old new) (merged_queues queues)) ks in
     let Q : Closings → Type 0 = λ c. SameIntervals (filter (is_news old new) c.kept) news in
-    subst Q is (subst P (sym all) found)
+    subst Q hold.seen (subst P (sym all) found)
 
 -- the records of the intervals so far, and those of one more
-pub sent_more : {X : Type 0} (kept : X → KeptInterval) (items : List X) (n : ℕ) (x : X) (before now : List SentRecord)
-    → n < length items → x ≡ get_or items n x → before ≡ flat_map sent_interval (map kept (take n items))
+pub sent_more : {X : Type 0} {items : List X} {n : ℕ} {x : X} {before now : List SentRecord} → (kept : X → KeptInterval)
+    → ReadsItem items n x → before ≡ flat_map sent_interval (map kept (take n items))
     → now ≡ before ++ sent_interval (kept x) → now ≡ flat_map sent_interval (map kept (take (n + 1) items))
-sent_more {X} kept items n x before now inside read so_far is =
-    let step = take_more items n x inside in
-    let one : take (n + 1) items ≡ take n items ++ x ∷ [] = rw (← read) at step in
+sent_more {X} {items} {n} {x} kept reads so_far is =
     let last : flat_map sent_interval (map kept (x ∷ [])) ≡ sent_interval (kept x) =
     append-nil (sent_interval (kept x)) in
     is ∙ ap₂ (λ (xs ys : List SentRecord). xs ++ ys) so_far (sym last)
     ∙ sym (flat_map-append sent_interval (map kept (take n items)) (map kept (x ∷ [])))
     ∙ ap (flat_map sent_interval) (sym (map-append kept (take n items) (x ∷ [])))
-    ∙ ap (λ (xs : List X). flat_map sent_interval (map kept xs)) (sym one)
+    ∙ ap (λ (xs : List X). flat_map sent_interval (map kept xs)) (sym (taken_item reads))
 
 -- the news that contracts see come in closing order
-pub rises-news : (queues : List Queue) (count : ℕ) (value : Closings) (old new : List ℕ)
-    → queue_closings queues count ≡ value → Rises (filter (is_news old new) value.kept)
-rises-news queues count value old new is =
+pub rises-news : {queues : List Queue} {count : ℕ} {value : Closings} → QueuesHold queues count value → (old new : List ℕ)
+    → Rises (filter (is_news old new) value.kept)
+rises-news {queues} hold old new =
     let P : Closings → Type 0 = λ c. Rises (filter (is_news old new) c.kept) in
-    subst P is (in_order-filter IsBefore (is_news old new) (merged_queues queues) (rises-merged queues))
+    subst P hold.seen (in_order-filter IsBefore (is_news old new) (merged_queues queues) (rises-merged queues))

@@ -8,9 +8,9 @@ use Rattle.page.specs.RisingChanges.{Changes}
 use Rattle.interval.specs.declared.kept_interval.KeptInterval.{KeptInterval}
 use Rattle.interval.specs.SentIntervals.{ClosedInterval, SentRecord, HasRisingPages, ComesBefore, IsInClosingOrder}
 use Rattle.interval.specs.Closings.{Closings, is_news, sent_record, sent_interval, closings_between}
-use Rattle.interval.specs.Queues.{Queue, merged_queues, queue_closings, AreQueues}
+use Rattle.interval.specs.Queues.{Queue, merged_queues, AreQueues}
 use Rattle.interval.proofs.Order.RisingByPlace.{IsBefore, Rises}
-use Rattle.interval.proofs.Queues.Merged.{merged_lies, rises-merged, queued}
+use Rattle.interval.proofs.Queues.Merged.{QueuesHold, merged_lies, rises-merged, queued}
 
 -- the records of one interval, by rising page
 sent_rises : (k : KeptInterval) → HasRisingPages k.interval.records → IsInClosingOrder (sent_interval k)
@@ -42,28 +42,26 @@ news_pages_rise : (queues : List Queue) (count : ℕ) (old new : List ℕ) → A
 news_pages_rise queues count old new are k has =
     (queued queues count are k (merged_lies queues k ((has-filter (is_news old new) (merged_queues queues) k).0 has).0)).pages
 
-pub between_in_order : (queues : List Queue) (count : ℕ) (value : Closings) (old new : List ℕ)
-    (sent : List SentRecord)
-    → queue_closings queues count ≡ value → AreQueues queues count
-    → sent ≡ closings_between value old new → IsInClosingOrder sent
-between_in_order queues count value old new sent is are sent_is =
+pub between_in_order : {queues : List Queue} {count : ℕ} {value : Closings} {sent : List SentRecord}
+    → QueuesHold queues count value → (old new : List ℕ) → sent ≡ closings_between value old new → IsInClosingOrder sent
+between_in_order {queues} {count} {value} {sent} hold old new sent_is =
     let rises = in_order-filter IsBefore (is_news old new) (merged_queues queues) (rises-merged queues) in
     let ordered =
-    sent_in_order (filter (is_news old new) (merged_queues queues)) rises (news_pages_rise queues count old new are) in
+    sent_in_order (filter (is_news old new) (merged_queues queues)) rises (news_pages_rise queues count old new hold.are) in
     let P : List SentRecord → Type 0 = λ s. IsInClosingOrder s in
-    subst P (sym (sent_is ∙ ap (λ (c : Closings). closings_between c old new) (sym is))) ordered
+    subst P (sym (sent_is ∙ ap (λ (c : Closings). closings_between c old new) (sym hold.seen))) ordered
 
 -- and so it stays with one more interval, closed after all others
-pub after_in_order : (queues : List Queue) (count : ℕ) (value : Closings) (i : ClosedInterval) (old new : List ℕ)
-    (before now : List SentRecord)
-    → queue_closings queues count ≡ value → AreQueues queues count
+pub after_in_order : {queues : List Queue} {count : ℕ} {value : Closings} {before now : List SentRecord}
+    → QueuesHold queues count value → (i : ClosedInterval) (old new : List ℕ)
     → HasRisingPages i.records → before ≡ closings_between value old new
     → now ≡ before ++ sent_interval (record { place = count; interval = i }) → IsInClosingOrder now
-after_in_order queues count value i old new before now is are pages before_is now_is =
+after_in_order {queues} {count} {value} {before} {now} hold i old new pages before_is now_is =
+    let are = hold.are in
     let k : KeptInterval = record { place = count; interval = i } in
     let news : before ≡ flat_map sent_interval (filter (is_news old new) (merged_queues queues)) =
-    before_is ∙ ap (λ (c : Closings). closings_between c old new) (sym is) in
-    let front = between_in_order queues count value old new before is are before_is in
+    before_is ∙ ap (λ (c : Closings). closings_between c old new) (sym hold.seen) in
+    let front = between_in_order hold old new before_is in
     let across : (a b : SentRecord) → Has before a → Has (sent_interval k) b → ComesBefore a b = λ a b h g.
     let P : List SentRecord → Type 0 = λ s. Has s a in
     let from = (has-flat_map sent_interval (filter (is_news old new) (merged_queues queues)) a).0 (subst P news h) in

@@ -7,11 +7,11 @@ use Rattle.page.specs.RisingChanges.{Changes}
 use Rattle.interval.specs.declared.notice.Notice.{Notice}
 use Rattle.interval.specs.declared.kept_interval.KeptInterval.{KeptInterval}
 use Rattle.interval.specs.Closings.{Closings, is_noticed, record_of}
-use Rattle.interval.specs.Queues.{Queue, merged_queues, queue_closings, AreQueues}
+use Rattle.interval.specs.Queues.{Queue, merged_queues, AreQueues}
 use Rattle.base.specs.InOrderOnce.{Has}
 use Rattle.base.proofs.Filters.{find_none}
 use Rattle.interval.proofs.Order.Least.{find_least}
-use Rattle.interval.proofs.Queues.Merged.{Lies, merged_lies, lies_merged, rises-merged, queued}
+use Rattle.interval.proofs.Queues.Merged.{QueuesHold, Lies, merged_lies, lies_merged, rises-merged, queued}
 
 -- an owner's interval lies in the owner's queue
 pub in_own_queue : (queues : List Queue) (count : ℕ) → AreQueues queues count → (k : KeptInterval) → Lies queues k
@@ -60,13 +60,14 @@ first_of queues count owner queue are owned =
     go (slice_get queue.kept 0) refl
 
 -- what `first` answers is the number of that interval, or the owner's next number
-pub first_number : (queues : List Queue) (count : ℕ) (value : Closings) (owner : ℕ) (queue : Queue) (n : ℕ)
-    → queue_closings queues count ≡ value → AreQueues queues count → slice_get queues owner ≡ Some queue → n ≡ queue.first
+pub first_number : {queues : List Queue} {count : ℕ} {value : Closings} {queue : Queue} {n : ℕ} → (owner : ℕ)
+    → QueuesHold queues count value → slice_get queues owner ≡ Some queue → n ≡ queue.first
     → MatchOption (find (λ (k : KeptInterval). k.interval.owner == owner) value.kept) (slice_get value.next owner ≡ Some n)
     (λ k. k.interval.number ≡ n)
-first_number queues count value owner queue n is are owned n_is =
-    let kepts : merged_queues queues ≡ value.kept = ap (λ (c : Closings). c.kept) is in
-    let nexts : map (λ (q : Queue). q.first + length q.kept) queues ≡ value.next = ap (λ (c : Closings). c.next) is in
+first_number {queues} {count} {value} {queue} {n} owner hold owned n_is =
+    let are = hold.are in
+    let kepts : merged_queues queues ≡ value.kept = ap (λ (c : Closings). c.kept) hold.seen in
+    let nexts : map (λ (q : Queue). q.first + length q.kept) queues ≡ value.next = ap (λ (c : Closings). c.next) hold.seen in
     let go : (o : Option KeptInterval) → slice_get queue.kept 0 ≡ o
     → MatchOption o (slice_get value.next owner ≡ Some n) (λ k. k.interval.number ≡ n) = λ o. elim o as (λ
     (o : Option KeptInterval). slice_get queue.kept 0
@@ -160,12 +161,12 @@ none_found_below queues count n queue are owned below =
     ])
 
 -- of the interval that is found, the record for the page
-pub record_found : (queues : List Queue) (count : ℕ) (value : Closings) (n : Notice) (o : Option KeptInterval)
-    → queue_closings queues count ≡ value → find (is_noticed n) (merged_queues queues) ≡ o
+pub record_found : {queues : List Queue} {count : ℕ} {value : Closings} {o : Option KeptInterval}
+    → QueuesHold queues count value → (n : Notice) → find (is_noticed n) (merged_queues queues) ≡ o
     → record_of value n
     ≡ option_and_then (λ (k : KeptInterval). find (λ (r : Changes). r.page == n.page) k.interval.records) o
-record_found queues count value n o is found =
-    let kepts : value.kept ≡ merged_queues queues = ap (λ (c : Closings). c.kept) (sym is) in
+record_found {queues} {value = value} hold n found =
+    let kepts : value.kept ≡ merged_queues queues = ap (λ (c : Closings). c.kept) (sym hold.seen) in
     ap (λ (ks : List KeptInterval). option_and_then
     (λ (k : KeptInterval). find (λ (r : Changes). r.page == n.page) k.interval.records) (find (is_noticed n) ks))
     kepts

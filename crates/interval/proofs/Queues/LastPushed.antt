@@ -12,7 +12,7 @@ use Rattle.interval.specs.SentIntervals.{HasRisingPages, ClosedInterval}
 use Rattle.interval.specs.Closings.{Closings, pushed}
 use Rattle.interval.specs.Queues.{Queue, merged_queues, queue_closings, IsQueue, IsQueued, AreQueues}
 use Rattle.interval.proofs.Order.RisingByPlace.{rises-push, same_rising}
-use Rattle.interval.proofs.Queues.Merged.{Lies, merged_lies, lies_merged, rises-merged, queued}
+use Rattle.interval.proofs.Queues.Merged.{QueuesHold, Lies, merged_lies, lies_merged, rises-merged, queued}
 
 -- the interval k comes last in the queue of its owner, and is closed last
 pub record Comes (queues : List Queue) (count owner : ℕ) (queue : Queue) (k : KeptInterval) : Type 0 where
@@ -250,42 +250,50 @@ entry_of f [] owner queue at = absurd (cc at)
 entry_of f (q ∷ qs) zero queue at = ap f (cc at)
 entry_of f (q ∷ qs) (suc owner) queue at = entry_of f qs owner queue at
 
--- what `push` requires makes the interval the next one of its queue
-pub pushed_next : (queues : List Queue) (count : ℕ) (value : Closings) (i : ClosedInterval) (owner : ℕ) (queue : Queue)
-    → queue_closings queues count ≡ value → owner ≡ i.owner → i.owner < length value.next
-    → i.number ≡ slice_index value.next i.owner → HasRisingPages i.records → value.pushed < 2 ^ 64 - 1
-    → queue ≡ get_or queues owner queue → Comes queues count owner queue (record { place = count; interval = i })
-pushed_next queues count value i owner queue is same in_range next pages few read =
-    let nexts : map (λ (q : Queue). q.first + length q.kept) queues ≡ value.next = ap (λ (c : Closings). c.next) is in
+-- it is what `push` requires: the owner's next one, and not one too many
+pub record IsNextInterval (value : Closings) (i : ClosedInterval) : Type 0 where
+  pub owner : i.owner < length value.next
+  pub number : i.number ≡ slice_index value.next i.owner
+  pub pages : HasRisingPages i.records
+  pub fits : value.pushed < 2 ^ 64 - 1
+
+-- so it is the next one of its queue
+pub pushed_next : {queues : List Queue} {count : ℕ} {value : Closings} {i : ClosedInterval} {owner : ℕ} {queue : Queue}
+    → QueuesHold queues count value → IsNextInterval value i → owner ≡ i.owner → queue ≡ get_or queues owner queue
+    → Comes queues count owner queue (record { place = count; interval = i })
+pushed_next {queues} {count} {value} {i} {owner} {queue} hold next same read =
+    let nexts : map (λ (q : Queue). q.first + length q.kept) queues ≡ value.next = ap (λ (c : Closings). c.next) hold.seen in
     let long = length-map queues (λ (q : Queue). q.first + length q.kept) in
     let longs = ap length nexts in
+    let in_range = next.owner in
     let inside : owner < length queues = omega arith in
     let owned : slice_get queues owner ≡ Some queue =
     slice_get_read queues (length queues) owner queue refl inside read in
     let entry = entry_of (λ (q : Queue). q.first + length q.kept) queues owner queue owned in
     let number : i.number ≡ queue.first + length queue.kept =
-    next ∙ ap (slice_index value.next) (sym same) ∙ ap (λ (ns : List ℕ). slice_index ns owner) (sym nexts) ∙ entry in
-    let pushed_is = ap (λ (c : Closings). c.pushed) is in
+    next.number ∙ ap (slice_index value.next) (sym same) ∙ ap (λ (ns : List ℕ). slice_index ns owner) (sym nexts)
+    ∙ entry in
+    let pushed_is = ap (λ (c : Closings). c.pushed) hold.seen in
+    let few = next.fits in
     record {
       owned = owned;
       owner_is = sym same;
       number_is = number;
       place_is = refl;
       fits = omega arith;
-      pages = pages;
+      pages = next.pages;
     }
 
 -- and `push` then does what it says
-pub closings_pushed : (queues : List Queue) (count : ℕ) (value : Closings) (i : ClosedInterval) (owner : ℕ)
-    (queue : Queue)
-    → queue_closings queues count ≡ value → owner ≡ i.owner → AreQueues queues count
+pub closings_pushed : {queues : List Queue} {count : ℕ} {value : Closings} {owner : ℕ} {queue : Queue}
+    → QueuesHold queues count value → (i : ClosedInterval)
     → Comes queues count owner queue (record { place = count; interval = i })
     → queue_closings (with_queue queues owner queue (record { place = count; interval = i })) (count + 1) ≡ pushed value i
-closings_pushed queues count value i owner queue is same are comes =
+closings_pushed {queues} {count} {value} {owner} {queue} hold i comes =
     let k : KeptInterval = record { place = count; interval = i } in
-    let kepts = merged_pushed queues count owner queue k are comes in
-    let firsts = first_pushed queues count owner queue k are comes in
-    let nexts = next_pushed queues count owner queue k are comes in
+    let kepts = merged_pushed queues count owner queue k hold.are comes in
+    let firsts = first_pushed queues count owner queue k hold.are comes in
+    let nexts = next_pushed queues count owner queue k hold.are comes in
     let now : queue_closings (with_queue queues owner queue k) (count + 1) ≡ pushed (queue_closings queues count) i =
-    rw (kepts, firsts, nexts, ← same) refl in
-    now ∙ ap (λ (c : Closings). pushed c i) is
+    rw (kepts, firsts, nexts, comes.owner_is) refl in
+    now ∙ ap (λ (c : Closings). pushed c i) hold.seen

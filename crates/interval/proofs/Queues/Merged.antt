@@ -1,12 +1,24 @@
 -- The queues of all owners as one list.
-use Rattle.std.proofs.Common.{◌≡◌, ℕ, inl, inr, Some, List, slice_get, sym, ap, arith, ◌∙◌}
+use Rattle.std.proofs.Common.{◌≡◌, ℕ, inl, inr, Some, List, slice_get, sym, ap, subst, arith, ◌∙◌}
 use Rattle.std.specs.List.{flat_map}
 use Rattle.std.proofs.lemmas.Bool.{cases_order}
 use Rattle.base.specs.InOrderOnce.{Has}
 use Rattle.base.proofs.Joined.{has-flat_map}
 use Rattle.interval.specs.declared.kept_interval.KeptInterval.{KeptInterval}
-use Rattle.interval.specs.Queues.{Queue, merged_queues, IsQueue, IsQueued, AreQueues}
+use Rattle.interval.specs.Closings.{Closings}
+use Rattle.interval.specs.Queues.{Queue, merged_queues, queue_closings, IsQueue, IsQueued, AreQueues}
 use Rattle.interval.proofs.Order.RisingByPlace.{Rises, IsApart, has-by_place, has-by_place_from, rises-by_place}
+
+-- the queues of so many closed intervals hold what contracts see
+pub record QueuesHold (queues : List Queue) (count : ℕ) (value : Closings) : Type 0 where
+  pub seen : queue_closings queues count ≡ value
+  pub are : AreQueues queues count
+
+-- a slice of the queues holds it too
+pub sliced_queues : {queues items : List Queue} {count : ℕ} {value : Closings} → items ≡ queues
+    → QueuesHold queues count value → QueuesHold items count value
+sliced_queues {queues} {items} {count} {value} same hold =
+    let P : List Queue → Type 0 = λ qs. QueuesHold qs count value in subst P (sym same) hold
 
 -- where an interval lies
 pub record Lies (queues : List Queue) (k : KeptInterval) : Type 0 where
@@ -28,9 +40,9 @@ pub lies_in : (queues : List Queue) (k : KeptInterval) → Lies queues k → Has
 lies_in queues k l = (has-flat_map queue_items queues k).1 (l.queue, (l.owner, l.owned), (l.index, l.at))
 
 -- in a queue a closing number stands for one interval
-one_place_merged : (owner count : ℕ) (queue : Queue) → IsQueue owner count queue → (i m : ℕ) (j k : KeptInterval)
+one_place_merged : {owner count : ℕ} {queue : Queue} {j k : KeptInterval} → IsQueue owner count queue → (i m : ℕ)
     → slice_get queue.kept i ≡ Some j → slice_get queue.kept m ≡ Some k → j.place ≡ k.place → j ≡ k
-one_place_merged owner count queue is i m j k at_i at_m same = elim (cases_order i m) [
+one_place_merged {owner} {count} {queue} {j} {k} is i m at_i at_m same = elim (cases_order i m) [
   | inl e ↦ let swap : slice_get queue.kept i ≡ Some k = ap (slice_get queue.kept) e ∙ at_m in cc
   | inr other ↦ elim other [
     | inl before ↦ let lt = is.rising i m j k before at_i at_m in absurd (omega arith)
@@ -47,7 +59,7 @@ one_queued_interval queues count are j k a b same =
     let swap : slice_get queues a.owner ≡ Some b.queue = ap (slice_get queues) owner ∙ b.owned in cc in
     let at : slice_get a.queue.kept b.index ≡ Some k =
     ap (λ (q : Queue). slice_get q.kept b.index) (sym queue) ∙ b.at in
-    one_place_merged a.owner count a.queue (are.each a.owner a.queue a.owned) a.index b.index j k a.at at same
+    one_place_merged (are.each a.owner a.queue a.owned) a.index b.index a.at at same
 
 apart_merged : (queues : List Queue) (count : ℕ) → AreQueues queues count → IsApart (flat_map queue_items queues)
 apart_merged queues count are j k h g same = one_queued_interval queues count are j k (lies queues j h) (lies queues k g) same
@@ -68,23 +80,3 @@ rises-merged queues = rises-by_place (flat_map queue_items queues)
 pub queued : (queues : List Queue) (count : ℕ) → AreQueues queues count → (k : KeptInterval) (l : Lies queues k)
     → IsQueued l.owner count l.queue l.index k
 queued queues count are k l = (are.each l.owner l.queue l.owned).each l.index k l.at
-
--- an owner's intervals are known by their numbers
-pub one_queued_number : (queues : List Queue) (count : ℕ) → AreQueues queues count → (j k : KeptInterval) → Lies queues j
-    → Lies queues k
-    → j.interval.owner ≡ k.interval.owner → j.interval.number ≡ k.interval.number → j ≡ k
-one_queued_number queues count are j k a b owners numbers =
-    let ja = queued queues count are j a in
-    let kb = queued queues count are k b in
-    let owner : a.owner ≡ b.owner = sym ja.owner_is ∙ owners ∙ kb.owner_is in
-    let queue : b.queue ≡ a.queue =
-    let swap : slice_get queues a.owner ≡ Some b.queue = ap (slice_get queues) owner ∙ b.owned in cc in
-    let firsts : b.queue.first ≡ a.queue.first = ap (λ (q : Queue). q.first) queue in
-    let ja_number = ja.number_is in
-    let kb_number = kb.number_is in
-    let index : a.index ≡ b.index = omega arith in
-    let at : slice_get a.queue.kept a.index ≡ Some k =
-    ap (λ (i : ℕ). slice_get a.queue.kept i) index ∙ ap (λ (q : Queue). slice_get q.kept b.index) (sym queue)
-    ∙ b.at in
-    let at_a = a.at in
-    cc

@@ -9,7 +9,7 @@ use Rattle.interval.specs.Closings.{Closings, is_trimmed, trimmed}
 use Rattle.interval.specs.Queues.{Queue, merged_queues, queue_closings, queue_dropped_below, IsQueue, AreQueues}
 use Rattle.base.proofs.FilteredInOrder.{has-filter, in_order-filter}
 use Rattle.interval.proofs.Order.RisingByPlace.{IsBefore, same_rising}
-use Rattle.interval.proofs.Queues.Merged.{Lies, merged_lies, lies_merged, rises-merged}
+use Rattle.interval.proofs.Queues.Merged.{QueuesHold, Lies, merged_lies, lies_merged, rises-merged}
 use Rattle.base.proofs.SlicesAndCounts.{slice_get-drop}
 use Rattle.base.proofs.SliceSets.{slice_get-set_same, slice_get-set_other}
 use Rattle.interval.proofs.Queues.LastPushed.{entry_of}
@@ -176,13 +176,13 @@ module _ (queues : List Queue) (count owner : ℕ) (queue : Queue) (to : ℕ) (a
       ∙ sym (map-set f queues owner queue) ∙ ap (map f) old
 
 -- `trim` does what it says
-pub closings_trimmed : (queues : List Queue) (count : ℕ) (value : Closings) (owner : ℕ) (queue : Queue) (to : ℕ)
-    → queue_closings queues count ≡ value → AreQueues queues count → slice_get queues owner ≡ Some queue
+pub closings_trimmed : {queues : List Queue} {count : ℕ} {value : Closings} {queue : Queue}
+    → QueuesHold queues count value → (owner to : ℕ) → slice_get queues owner ≡ Some queue
     → queue_closings (set queues owner (queue_dropped_below queue to)) count ≡ trimmed value owner to
-closings_trimmed queues count value owner queue to is are owned =
-    let kepts = merged_trimmed queues count owner queue to are owned in
-    let firsts = first_trimmed queues count owner queue to are owned in
-    let nexts = next_trimmed queues count owner queue to are owned in
+closings_trimmed {queues} {count} {value} {queue} hold owner to owned =
+    let kepts = merged_trimmed queues count owner queue to hold.are owned in
+    let firsts = first_trimmed queues count owner queue to hold.are owned in
+    let nexts = next_trimmed queues count owner queue to hold.are owned in
     let now : queue_closings (set queues owner (queue_dropped_below queue to)) count ≡ trimmed (queue_closings queues count) owner to =
     rw (kepts, firsts, nexts) refl in
-    now ∙ ap (λ (c : Closings). trimmed c owner to) is
+    now ∙ ap (λ (c : Closings). trimmed c owner to) hold.seen

@@ -61,8 +61,8 @@ last_answer : (s : Sizes) (j es : List Event) (p a v : ℕ) (base : ℕ → List
 last_answer s j es p a v base is x =
     let here = at_last es (event p (Load a v)) in
     let word = rw (take-append_seam es (event p (Load a v) ∷ [])) at (x.answers (length es) a v here) in
-    load_answers s (j ++ es) p (a / s.words) (block_done s (a / s.words) (base (a / s.words)) es) a v
-    (lawful_block s j es p (a / s.words) (base (a / s.words)) is (x.lawful (length es) a v here)) refl word
+    load_answers (lawful_block s j es p (a / s.words) (base (a / s.words)) is (x.lawful (length es) a v here)) a v refl
+    word
 
 -- a block whose loads answer so is explained behind an explained journal
 pub explained_block : (s : Sizes) (j block : List Event) (p : ℕ) (base : ℕ → List ℕ) → IsBlock p block

@@ -9,7 +9,7 @@ use Rattle.journal.specs.Events.{At}
 use Rattle.journal.specs.HappensBeforeEdges.{HappensBefore}
 use Rattle.journal.specs.Pasts.{InPast}
 use Rattle.journal.specs.PageImages.{StoresToPage, InGap}
-use Rattle.journal.specs.BroughtCopy.{Brought, IsCopy, NoGap}
+use Rattle.journal.specs.BroughtCopy.{Brought, IsCopy, NoGap, Complete}
 use Rattle.base.proofs.SlicesAndCounts.{push_cases}
 use Rattle.base.proofs.Joined.{has-nil, in_order-nil, has_or_not}
 use Rattle.journal.proofs.Order.CountedAndNumbered.{at_longer, at_last}
@@ -57,8 +57,8 @@ gap_is s j p n i = (
 )
 
 -- a copy that lacks nothing has each store of the past
-pub gapless : (s : Sizes) (j : List Event) (p n : ℕ) (page : List ℕ) → NoGap s j p n → IsCopy s j p n page → (i : ℕ)
-    → StoresToPage s j n i → InPast j p i → Brought j p n i
+pub gapless : (s : Sizes) (j : List Event) (p n : ℕ) (page : List ℕ) → NoGap s j p n → IsCopy s j p n page
+    → Complete s j p n
 gapless s j p n page none copy i x past = elim (has_or_not copy.image.order i) [
   | inl h ↦ ((copy.image.each i).0 h).0
   | inr away ↦ absurd (none i ((gap_is s j p n i).1 (past, x, λ b. away ((copy.image.each i).1 (b, x)))))
@@ -84,9 +84,8 @@ pub copy_kept : (s : Sizes) (j : List Event) (e : Event) (p n : ℕ) (page : Lis
     → IsCopy s j p n page → IsCopy s (j ++ e ∷ []) p n page
 copy_kept s j e p n page no_store no_fetch copy = record {
   image =
-      image_kept s j (e ∷ []) (Brought j p n) (Brought (j ++ e ∷ []) p n) n page
-      (λ i x. brought_longer j (e ∷ []) p n i)
-      (λ i x b. (old i x b, past_within j p i (brought_past j p n i (old i x b)))) copy.image;
+      image_kept copy.image (e ∷ []) (Brought (j ++ e ∷ []) p n) (λ i x. brought_longer j (e ∷ []) p n i)
+      (λ i x b. (old i x b, past_within j p i (brought_past j p n i (old i x b))));
   closed = λ i k x y b before.
       let o = old i x b in
       let within = past_within j p i (brought_past j p n i o) in

@@ -9,7 +9,7 @@ use Rattle.journal.specs.Events.{At}
 use Rattle.journal.specs.HappensBeforeEdges.{HappensBefore}
 use Rattle.journal.specs.Pasts.{InPast}
 use Rattle.journal.specs.WellFormed.{Does}
-use Rattle.journal.specs.PageImages.{StoresToPage, page_write, Mine, InGap, Lawful}
+use Rattle.journal.specs.PageImages.{StoresToPage, page_write, FetchesPage, Mine, InGap, Lawful}
 use Rattle.journal.specs.BroughtCopy.{Brought, IsCopy, NoGap, Complete}
 use Rattle.journal.specs.Blocks.{IsBlock}
 use Rattle.base.specs.InOrderOnce.{Has, InOrder, IsOnce}
@@ -21,8 +21,7 @@ use Rattle.journal.proofs.Order.HappensBefore.{before_shorter}
 use Rattle.journal.proofs.Order.EdgesIntoPast.{past_back, past_within, past_others}
 use Rattle.journal.proofs.Order.BlockPasts.{block_past, block_reaches}
 use Rattle.journal.proofs.CopyOfPage.Stores.{stores_longer, stores_shorter}
-use Rattle.journal.proofs.CopyOfPage.LawfulImages.{image_among}
-use Rattle.journal.proofs.Missing.Applying.{fetched}
+use Rattle.journal.proofs.CopyOfPage.LawfulImages.{FillsImage, image_among, image_more}
 use Rattle.journal.proofs.CopyOfPage.Brought.{brought_longer, brought_past, gap_is}
 
 -- a lawful copy is one that lacks nothing
@@ -70,21 +69,21 @@ complete_block s j block p n is complete i x past = elim ((block_past j block p 
 ]
 
 -- a block that fetches the page leaves nothing out
-pub complete_fetched : (s : Sizes) (j block : List Event) (p n k w r d : ℕ) → IsBlock p block
-    → Does block k p (Fetch w n r d) → Complete s (j ++ block) p n
-complete_fetched s j block p n k w r d is fetch i x past = elim ((block_past j block p i is).0 past) [
+pub complete_fetched : (s : Sizes) (j block : List Event) (p n k : ℕ) → IsBlock p block → FetchesPage block k p n
+    → Complete s (j ++ block) p n
+complete_fetched s j block p n k is fetch i x past = elim ((block_past j block p i is).0 past) [
   | inl old ↦ inr (
     length j
         + k,
-    (w, r, d, at_behind j block k e fetch),
-    (block_reaches j block p i k is (at_within block k e fetch)).1
+    (fetch.0, fetch.1, fetch.2, at_behind j block k e fetch.3),
+    (block_reaches j block p i k is (at_within block k e fetch.3)).1
         (inl old),
   )
   | inr b ↦ inl (block_mine s j block p n i is x b.0)
 ]
   where
     e : Event
-    e = event p (Fetch w n r d)
+    e = event p (Fetch fetch.0 n fetch.1 fetch.2)
 
 -- the gap under a block that doesn't fetch the page is the gap before it
 pub gap_block : (s : Sizes) (j block : List Event) (p n i : ℕ) → IsBlock p block
@@ -116,15 +115,26 @@ gap_block s j block p n i is none = (there, back)
         (gap_is s (j ++ block) p n i).1
         ((block_past j block p i is).1 (inl g.past), stores_longer s j block n i g.store, old g)
 
+-- these places are the gap, each once, in an order that extends happens-before
+pub record FillsGap (s : Sizes) (j : List Event) (p n : ℕ) (places : List ℕ) : Type 0 where
+  pub each : (i : ℕ) → Has places i ↔ InGap s j p n i
+  pub once : IsOnce places
+  pub extends : InOrder (λ i k. ¬ HappensBefore j k i) places
+
 -- the missing records, applied to a copy, make it lawful
-pub fetched_gap : (s : Sizes) (j : List Event) (p n : ℕ) (page : List ℕ) (groups : List (List ℕ))
-    (records : List (List (ℕ × ℕ)))
-    → AreRecordsOf (λ (i : ℕ). page_write s (slice_get j i)) groups records
-    → ((i : ℕ) → Has (concat groups) i ↔ InGap s j p n i) → IsOnce (concat groups)
-    → InOrder (λ i k. ¬ HappensBefore j k i) (concat groups) → IsCopy s j p n page
-    → Lawful s j p n (records_applied page records)
-fetched_gap s j p n page groups records are each once extends copy =
-    subst (Lawful s j p n) (sym (records_same (λ (i : ℕ). page_write s (slice_get j i)) page are)) (fetched s j p
-    (Brought j p n) n page (concat groups) (λ i x. brought_past j p n i) copy.closed
-    (λ i. (λ h. (gap_is s j p n i).0 ((each i).0 h), λ x. (each i).1 ((gap_is s j p n i).1 x))) once extends
-    copy.image)
+pub fetched_gap : {s : Sizes} {j : List Event} {p n : ℕ} {page : List ℕ} {groups : List (List ℕ)}
+    {records : List (List (ℕ × ℕ))}
+    → IsCopy s j p n page → AreRecordsOf (λ (i : ℕ). page_write s (slice_get j i)) groups records
+    → FillsGap s j p n (concat groups) → Lawful s j p n (records_applied page records)
+fetched_gap {s} {j} {p} {n} {page} {groups} {records} copy are gap =
+    let now = image_more copy.image fills in
+    subst (Lawful s j p n) (sym (records_same (λ (i : ℕ). page_write s (slice_get j i)) page are)) now
+  where
+    fills : FillsImage s j (Brought j p n) (InPast j p) n (concat groups)
+    fills = record {
+      on = λ i x. brought_past j p n i;
+      closed = copy.closed;
+      each = λ i. (λ h. (gap_is s j p n i).0 ((gap.each i).0 h), λ x. (gap.each i).1 ((gap_is s j p n i).1 x));
+      once = gap.once;
+      extends = gap.extends;
+    }

@@ -21,11 +21,11 @@ use Rattle.journal.proofs.Order.EdgesIntoPast.{past_back, past_within, past_long
 use Rattle.journal.proofs.CopyOfPage.Stores.{stores_longer, stores_shorter, stores_within, stores_to, stores_at, page_after_longer}
 
 -- an image stays one, of any places that have the same stores to the page
-pub image_kept : (s : Sizes) (j es : List Event) (among among' : ℕ → Type 0) (n : ℕ) (page : List ℕ)
-    → ((i : ℕ) → StoresToPage s j n i → among i → among' i)
-    → ((i : ℕ) → StoresToPage s (j ++ es) n i → among' i → among i × (i < length j)) → IsImage s j among n page
+pub image_kept : {s : Sizes} {j : List Event} {among : ℕ → Type 0} {n : ℕ} {page : List ℕ} → IsImage s j among n page
+    → (es : List Event) (among' : ℕ → Type 0) → ((i : ℕ) → StoresToPage s j n i → among i → among' i)
+    → ((i : ℕ) → StoresToPage s (j ++ es) n i → among' i → among i × (i < length j))
     → IsImage s (j ++ es) among' n page
-image_kept s j es among among' n page on back image = record {
+image_kept {s} {j} {among} {n} {page} image es among' on back = record {
   order = image.order;
   each = λ i. (
     λ h. let x = (image.each i).0 h in (on i x.1 x.0, stores_longer s j es n i x.1),
@@ -39,14 +39,18 @@ image_kept s j es among among' n page on back image = record {
     within : (i : ℕ) → Has image.order i → i < length j
     within i h = stores_within s j n i ((image.each i).0 h).1
 
--- an image of some places, of which none comes after others, becomes one of more by the stores at the new ones
-pub image_more : (s : Sizes) (j : List Event) (among among' : ℕ → Type 0) (n : ℕ) (page new : List ℕ)
-    → ((i : ℕ) → StoresToPage s j n i → among i → among' i)
-    → ((i k : ℕ) → StoresToPage s j n i → StoresToPage s j n k → among i → HappensBefore j k i → among k)
-    → ((i : ℕ) → Has new i ↔ (among' i × StoresToPage s j n i × (among i → ⊥))) → IsOnce new
-    → InOrder (λ i k. ¬ HappensBefore j k i) new → IsImage s j among n page
-    → IsImage s j among' n (page_after s j page new)
-image_more s j among among' n page new on closed each once extends image = record {
+-- the places that an image of some places lacks to be one of more, none of which comes before those
+pub record FillsImage (s : Sizes) (j : List Event) (among among' : ℕ → Type 0) (n : ℕ) (new : List ℕ) : Type 0 where
+  pub on : (i : ℕ) → StoresToPage s j n i → among i → among' i
+  pub closed : (i k : ℕ) → StoresToPage s j n i → StoresToPage s j n k → among i → HappensBefore j k i → among k
+  pub each : (i : ℕ) → Has new i ↔ (among' i × StoresToPage s j n i × (among i → ⊥))
+  pub once : IsOnce new
+  pub extends : InOrder (λ i k. ¬ HappensBefore j k i) new
+
+-- the stores at these places make it one
+pub image_more : {s : Sizes} {j : List Event} {among among' : ℕ → Type 0} {n : ℕ} {page new : List ℕ}
+    → IsImage s j among n page → FillsImage s j among among' n new → IsImage s j among' n (page_after s j page new)
+image_more {s} {j} {among} {among'} {n} {page} {new} image fills = record {
   order = image.order ++ new;
   each =
       λ i. (
@@ -54,31 +58,31 @@ image_more s j among among' n page new on closed each once extends image = recor
         λ x. (has-append image.order new i).1
             (back i x.0 x.1 (has_or_not image.order i)),
       );
-  once = once-append image.order new image.once once (λ i h m. ((each i).0 m).2 ((image.each i).0 h).0);
+  once = once-append image.order new image.once fills.once (λ i h m. ((fills.each i).0 m).2 ((image.each i).0 h).0);
   extends =
-      in_order-append (λ i k. ¬ HappensBefore j k i) image.order new image.extends extends (λ i k h m before. let x =
-      (image.each i).0 h in
-      let y = (each k).0 m in y.2 (closed i k x.1 y.1 x.0 before));
+      in_order-append (λ i k. ¬ HappensBefore j k i) image.order new image.extends fills.extends
+      (λ i k h m before. let x = (image.each i).0 h in
+      let y = (fills.each k).0 m in y.2 (fills.closed i k x.1 y.1 x.0 before));
   gives =
       ap (λ (ws : List ℕ). page_after s j ws new) image.gives
       ∙ sym (written-append (λ (i : ℕ). page_write s (slice_get j i)) (replicate s.words 0) image.order new);
 }
   where
     there : (i : ℕ) → Has image.order i ⊎ Has new i → among' i × StoresToPage s j n i
-    there i (inl h) = let x = (image.each i).0 h in (on i x.1 x.0, x.1)
-    there i (inr h) = let x = (each i).0 h in (x.0, x.1)
+    there i (inl h) = let x = (image.each i).0 h in (fills.on i x.1 x.0, x.1)
+    there i (inr h) = let x = (fills.each i).0 h in (x.0, x.1)
 
     back : (i : ℕ) → among' i → StoresToPage s j n i → Has image.order i ⊎ (Has image.order i → ⊥)
         → Has image.order i ⊎ Has new i
     back i x y (inl h) = inl h
-    back i x y (inr none) = inr ((each i).1 (x, y, λ z. none ((image.each i).1 (z, y))))
+    back i x y (inr none) = inr ((fills.each i).1 (x, y, λ z. none ((image.each i).1 (z, y))))
 
 -- a copy stays lawful where the events bring its processor no store to the page
 pub lawful_on : (s : Sizes) (j es : List Event) (p n : ℕ) (page : List ℕ)
     → ((i : ℕ) → StoresToPage s (j ++ es) n i → InPast (j ++ es) p i → InPast j p i) → Lawful s j p n page
     → Lawful s (j ++ es) p n page
-lawful_on s j es p n page nothing =
-    image_kept s j es (InPast j p) (InPast (j ++ es) p) n page (λ i x. past_longer j es p i)
+lawful_on s j es p n page nothing lawful =
+    image_kept lawful es (InPast (j ++ es) p) (λ i x. past_longer j es p i)
     (λ i x past. (nothing i x past, past_within j p i (nothing i x past)))
 
 -- others' events keep it
@@ -130,22 +134,25 @@ pub lawful_store : (s : Sizes) (j : List Event) (p n : ℕ) (page : List ℕ) (a
 lawful_store s j p n page a v in_page lawful =
     let P : Option Event → Type 0 =
     λ x. IsImage s (j ++ e ∷ []) (InPast (j ++ e ∷ []) p) n (wrote page (page_write s x)) in
-    subst P (at_last j e) (image_more s (j ++ e ∷ []) (InPast j p) (InPast (j ++ e ∷ []) p) n page (length j ∷ [])
-    (λ i x. past_longer j (e ∷ []) p i) closed (store_is_new s j p n a v in_page)
-    (in_order_single (λ (x y : ℕ). x ≢ y) (length j))
-    (in_order_single (λ i k. ¬ HappensBefore (j ++ e ∷ []) k i) (length j)) old)
+    let now = image_more old fills in
+    subst P (at_last j e) now
   where
     e : Event
     e = event p (Store a v)
 
-    closed : (i k : ℕ) → StoresToPage s (j ++ e ∷ []) n i → StoresToPage s (j ++ e ∷ []) n k → InPast j p i
-        → HappensBefore (j ++ e ∷ []) k i → InPast j p k
-    closed i k x y past before = past_back j p k i (before_shorter j (e ∷ []) (past_within j p i past) before) past
+    fills : FillsImage s (j ++ e ∷ []) (InPast j p) (InPast (j ++ e ∷ []) p) n (length j ∷ [])
+    fills = record {
+      on = λ i x. past_longer j (e ∷ []) p i;
+      closed =
+          λ i k x y past before. past_back j p k i (before_shorter j (e ∷ []) (past_within j p i past) before) past;
+      each = store_is_new s j p n a v in_page;
+      once = in_order_single (λ (x y : ℕ). x ≢ y) (length j);
+      extends = in_order_single (λ i k. ¬ HappensBefore (j ++ e ∷ []) k i) (length j);
+    }
 
     old : IsImage s (j ++ e ∷ []) (InPast j p) n page
     old =
-        image_kept s j (e ∷ []) (InPast j p) (InPast j p) n page (λ i x past. past)
-        (λ i x past. (past, past_within j p i past)) lawful
+        image_kept lawful (e ∷ []) (InPast j p) (λ i x past. past) (λ i x past. (past, past_within j p i past))
 
 -- an image of places that have the same stores to the page
 pub image_among : (s : Sizes) (j : List Event) (among among' : ℕ → Type 0) (n : ℕ) (page : List ℕ)

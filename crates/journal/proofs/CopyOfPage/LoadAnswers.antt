@@ -30,10 +30,10 @@ pub record LatestAmong (j : List Event) (among : ℕ → Type 0) (a v : ℕ) : T
   pub latest : (i q w : ℕ) → Does j i q (Store a w) → among i → ¬ HappensBefore j place i
 
 -- a word of an image is 0 where nothing is stored, or a latest store
-pub image_word : (s : Sizes) (j : List Event) (among : ℕ → Type 0) (n : ℕ) (page : List ℕ) (a v : ℕ)
-    → IsImage s j among n page → a / s.words ≡ n → slice_get page (a % s.words) ≡ Some v
+pub image_word : {s : Sizes} {j : List Event} {among : ℕ → Type 0} {n : ℕ} {page : List ℕ} → IsImage s j among n page
+    → (a v : ℕ) → a / s.words ≡ n → slice_get page (a % s.words) ≡ Some v
     → ((v ≡ 0) × ((i q w : ℕ) → Does j i q (Store a w) → ¬ among i)) ⊎ LatestAmong j among a v
-image_word s j among n page a v image in_page h =
+image_word {s} {j} {among} {n} {page} image a v in_page h =
     go (word_written f (replicate s.words 0) image.order (a % s.words) v
     (ap (λ (ws : List ℕ). slice_get ws (a % s.words)) (sym image.gives) ∙ h))
   where
@@ -72,9 +72,9 @@ image_word s j among n page a v image in_page h =
         )
 
 -- a load of a lawful copy answers what it may
-pub load_answers : (s : Sizes) (j : List Event) (p n : ℕ) (page : List ℕ) (a v : ℕ) → Lawful s j p n page
+pub load_answers : {s : Sizes} {j : List Event} {p n : ℕ} {page : List ℕ} → Lawful s j p n page → (a v : ℕ)
     → a / s.words ≡ n → slice_get page (a % s.words) ≡ Some v → IsAnswer (j ++ event p (Load a v) ∷ []) (length j) a v
-load_answers s j p n page a v lawful in_page h = go (image_word s j (InPast j p) n page a v lawful in_page h)
+load_answers {s} {j} {p} {n} {page} lawful a v in_page h = go (image_word lawful a v in_page h)
   where
     e : Event
     e = event p (Load a v)

@@ -54,7 +54,7 @@ pub valid_complete : (s : Sizes) (j block : List Event) (p n : ℕ) (base page :
 valid_complete s j block p n base page is valid =
     elim valid.full [
       | inl c ↦ complete_block s j block p n is c
-      | inr f ↦ complete_fetched s j block p n f.0 f.1.0 f.1.1 f.1.2 is f.1.3
+      | inr f ↦ complete_fetched s j block p n f.0 is f.1
     ]
 
 -- so it lacks nothing
@@ -278,7 +278,7 @@ pub stale_taken : (s : Sizes) (j : List Event) (p n : ℕ) (page : List ℕ) (k 
     → IsStaleCopy s j [] p n page missing → IsStaleCopy s (j ++ event p k ∷ []) [] p n page (missing ++ new)
 stale_taken s j p n page k t t' missing new takes time after news stale = record {
   copy = copy_untouched s j (e ∷ []) p n page taking stale.copy;
-  lacks = missing_taken s j p n k t t' missing new takes time after news stale.lacks;
+  lacks = missing_taken (record { takes = takes; time = time; after = after }) news stale.lacks;
   untouched = λ m f at. absurd (none-some f at);
 }
   where
@@ -313,7 +313,7 @@ valid_taken s j p n base page k t t' takes time after no_news valid = record {
 
     nothing : (i : ℕ) → StoresToPage s (j ++ e ∷ []) n i → InPast (j ++ e ∷ []) p i → InPast j p i
     nothing =
-        nothing_taken s j p n k t t' takes time after (λ q i a v apart does page le less. let x =
+        nothing_taken (record { takes = takes; time = time; after = after }) s n (λ q i a v apart does page le less. let x =
         (no_news.each q (interval_at j q i)).1 (i, (a, v, does, page, refl), apart, le, less) in
         has-nil x.0 x.1)
 

@@ -24,11 +24,15 @@ use Rattle.journal.proofs.Flat.StoresUnordered.{flat_store, store_conflicts, not
 use Rattle.journal.proofs.FromBase.Order.{goes_forward_from}
 use Rattle.journal.proofs.FromBase.Uncut.{uncut_race, uncut_explained}
 
+-- j is explained, and no race ends before place k
+record IsExplainedUpTo (b : Base) (j : List Event) (k : ℕ) : Type 0 where
+  pub explained : ExplainedFrom b j
+  pub free : (m n : ℕ) → n < k → ¬ RaceFrom b j m n
+
 -- what the last store before a load wrote is what the load answered
-pub answers_last : (b : Base) (j : List Event) (k i p a v w : ℕ) → ExplainedFrom b j
-    → ((m n : ℕ) → n < k → ¬ RaceFrom b j m n) → i < k → Does j i p (Load a v)
-    → LastWrite (λ (e : Event). flat_write e.kind) (take i j) a w → w ≡ v
-answers_last b j k i p a v w explained free less loads l = go (explained i p a v loads)
+answers_last : {b : Base} {j : List Event} {k p v w : ℕ} → IsExplainedUpTo b j k → (i a : ℕ) → i < k
+    → Does j i p (Load a v) → LastWrite (λ (e : Event). flat_write e.kind) (take i j) a w → w ≡ v
+answers_last {b} {j} {k} {p} {v} {w} x i a less loads l = go (x.explained i p a v loads)
   where
     before : l.place < i
     before = slice_get-take_within j i l.place l.item l.at
@@ -39,11 +43,10 @@ answers_last b j k i p a v w explained free less loads l = go (explained i p a v
     stores : Does j l.place l.item.processor (Store a w)
     stores = does_kind j l.place l.item (Store a w) (slice_get-from_take j i l.place l.item l.at) is
 
-    ordered : (m q u n x : ℕ) (f : Kind) → m < n → n < k → address_of f ≡ Some a → Does j m q (Store a u)
-        → Does j n x f → ¬ (¬ HappensBeforeFrom b j m n)
-    ordered m q u n x f h g at d to =
-        not_unordered_from b j m n (event q (Store a u)) (event x f) h d to (store_conflicts q x a u f at)
-        (free m n g)
+    ordered : (m q u n y : ℕ) (f : Kind) → m < n → n < k → address_of f ≡ Some a → Does j m q (Store a u)
+        → Does j n y f → ¬ (¬ HappensBeforeFrom b j m n)
+    ordered m q u n y f h g at d to =
+        not_unordered_from h d to (store_conflicts q y a u f at) (x.free m n g)
 
     latest : (s : LatestStoreFrom b j i a v) → (l.place ≡ s.place) ⊎ ((l.place < s.place) ⊎ (s.place < l.place))
         → w ≡ v
@@ -55,9 +58,9 @@ answers_last b j k i p a v w explained free less loads l = go (explained i p a v
         absurd (l.last s.place (event s.by (Store a v)) v h
         (slice_get-take j i s.place (goes_forward_from b j s.before) ∙ s.stores) refl)
     latest s (inr (inr h)) =
-        absurd (ordered l.place l.item.processor w i p (Load a v) before less refl stores loads (λ x. ordered s.place
+        absurd (ordered l.place l.item.processor w i p (Load a v) before less refl stores loads (λ y. ordered s.place
         s.by v l.place l.item.processor (Store a w) h (omega (arith, before, less)) refl s.stores stores
-        (s.latest l.place l.item.processor w stores x)))
+        (s.latest l.place l.item.processor w stores y)))
 
     go : IsAnswerFrom b j i a v → w ≡ v
     go (inl n) =
@@ -100,7 +103,7 @@ flat_up_to_from b j k ranges explained free i p a v loads =
         (slice_get-take j i x.place (goes_forward_from b j x.before) ∙ x.stores) refl)
 
     go : LastWrite f (take i j) a word ⊎ ((slice_get b.memory a ≡ Some word) × Unwritten f (take i j) a) → word ≡ v
-    go (inl l) = answers_last b j k i p a v word explained free less does l
+    go (inl l) = answers_last (record { explained = explained; free = free }) i a less does l
     go (inr n) = untouched n (explained i p a v does)
 
 -- up to the second event of its first race it replays

@@ -28,9 +28,9 @@ pub store_conflicts : (p q a v : ℕ) (k : Kind) → address_of k ≡ Some a →
 store_conflicts p q a v k h = record { address = a; first = refl; second = h; stores = inl refl }
 
 -- two accesses that conflict, of which the second ends no race, are not unordered
-pub not_unordered : (j : List Event) (m n : ℕ) (e f : Event) → m < n → At j m e → At j n f → Conflict e f
+pub not_unordered : {j : List Event} {m n : ℕ} {e f : Event} → m < n → At j m e → At j n f → Conflict e f
     → ¬ Race j m n → ¬ (¬ HappensBefore j m n)
-not_unordered j m n e f less at to conflict none un = go (cases_eq e.processor f.processor)
+not_unordered {e = e} {f = f} less at to conflict none un = go (cases_eq e.processor f.processor)
   where
     go : (e.processor ≡ f.processor) ⊎ (e.processor ≢ f.processor) → ⊥
     go (inl mine) = un (edge (record { before = less; from = e; to = f; from_at = at; to_at = to; link = same mine }))
@@ -47,9 +47,9 @@ not_unordered j m n e f less at to conflict none un = go (cases_eq e.processor f
         })
 
 -- the same from a base
-pub not_unordered_from : (b : Base) (j : List Event) (m n : ℕ) (e f : Event) → m < n → At j m e → At j n f
+pub not_unordered_from : {b : Base} {j : List Event} {m n : ℕ} {e f : Event} → m < n → At j m e → At j n f
     → Conflict e f → ¬ RaceFrom b j m n → ¬ (¬ HappensBeforeFrom b j m n)
-not_unordered_from b j m n e f less at to conflict none un = go (cases_eq e.processor f.processor)
+not_unordered_from {e = e} {f = f} less at to conflict none un = go (cases_eq e.processor f.processor)
   where
     go : (e.processor ≡ f.processor) ⊎ (e.processor ≢ f.processor) → ⊥
     go (inl mine) =

@@ -114,8 +114,7 @@ module _ (s : Sizes) (c j : List Event) (b : Base) (n : ℕ) (well : WellFormed 
           sym (store_same c l.1.place p l.1.item.processor a a v l.0 (subst (λ i. Does c i p (Store a v)) same does)
           stores).2
       is (inr (inl lt)) =
-          absurd (not_unordered c m l.1.place (event p (Store a v)) (event l.1.item.processor (Store a l.0)) lt does
-          stores (record { address = a; first = refl; second = refl; stores = inl refl })
+          absurd (not_unordered lt does stores (record { address = a; first = refl; second = refl; stores = inl refl })
           (base.race_free m l.1.place) (latest l.1.place l.1.item.processor l.0 stores))
       is (inr (inr gt)) = absurd (l.1.last m (event p (Store a v)) v gt does refl)
 

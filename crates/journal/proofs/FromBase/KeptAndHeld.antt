@@ -182,10 +182,10 @@ kept_long start events n now x =
     ap (λ (ws : List ℕ). length ws) x.after.memory
     ∙ length-written (λ (e : Event). flat_write e.kind) start.memory.items (take n events)
 
-pub kept_next : (start : Kept) (events : List Event) (n : ℕ) (old new : Kept) (e : Event) → At events n e
+pub kept_next : {start : Kept} {events : List Event} {n : ℕ} {old new : Kept} {e : Event} → At events n e
     → IsKeptSoFar start events n old → IsKeptAfter old e new → AreCosts new.cut new.spent
     → IsKeptSoFar start events (n + 1) new
-kept_next start events n old new e at so after spent = record {
+kept_next {start} {events} {n} {old} {new} {e} at so after spent = record {
   after =
       subst (λ (xs : List Event). IsBaseAfter (base_of start) xs (base_of new)) (sym (front_next events n e at))
       (base_append (base_of start) (base_of old) (base_of new) (take n events) (e ∷ []) so.after

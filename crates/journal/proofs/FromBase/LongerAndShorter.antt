@@ -134,9 +134,3 @@ part_race processors b j n i k cut r =
     subst (λ (xs : List Event). IsFirstRaceFrom b xs i k)
     (ap (λ (xs : List Event). xs ++ more) (sym (take-take r.count n j le)) ∙ take-append-drop r.count (take n j))
     (first_race_longer b (take r.count j) more i k r.first)
-
--- the first race of the part that a cut takes is one of a part
-pub race_part : (processors : ℕ) (b : Base) (j : List Event) (n i k : ℕ) → IsEpisodeCut processors j n
-    → IsFirstRaceFrom b (take n j) i k → IsRaceOfEpisodes processors b j i k
-race_part processors b j n i k cut first =
-    record { count = n; within = cut.within; ends = cut.ends; first = first }

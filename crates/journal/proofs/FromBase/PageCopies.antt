@@ -90,8 +90,7 @@ module _ (s : Sizes) (c : List Event) (n : ℕ) (low : List ℕ) (free : RaceFre
                 let e = same_Some l.item k (sym l.at ∙ ap (slice_get low) same ∙ has.1) in omega (arith, lt)
             is (inr (inl after)) = l.last has.0 k u after has.1 (page_writes_at k y.processor u does)
             is (inr (inr before)) =
-                not_unordered c l.item k (event x.by (Store page_address v)) (event y.processor (Store page_address u)) lt
-                stores does (record { address = page_address; first = refl; second = refl; stores = inl refl })
+                not_unordered lt stores does (record { address = page_address; first = refl; second = refl; stores = inl refl })
                 (free l.item k) (extends has.0 l.place k l.item before has.1 l.at)
 
     last_page : (v : ℕ) → LastWrite flat c page_address v → LastWrite in_page low o v

@@ -69,9 +69,12 @@ dirty_closing s j e p n page marks mine closes dirty =
       marks_are = rw same;
     }
 
--- another page in place of one that nothing was stored in since
-dirty_fetched : (s : Sizes) (j : List Event) (p n : ℕ) (page : List ℕ) → length page ≡ s.words
-    → ((k : ℕ) (e : Event) → At (since j p) k e → block_write s n e.kind ≡ None)
+-- p's open interval stored nothing in the page
+abbrev StoresNothing : Sizes → List Event → ℕ → ℕ → Type 0
+StoresNothing s j p n = (k : ℕ) (e : Event) → At (since j p) k e → block_write s n e.kind ≡ None
+
+-- so another page may stand in its place
+dirty_fetched : (s : Sizes) (j : List Event) (p n : ℕ) (page : List ℕ) → length page ≡ s.words → StoresNothing s j p n
     → IsDirty s j p n page (replicate s.words false)
 dirty_fetched s j p n page long nothing = record {
   clean = page;
@@ -90,9 +93,8 @@ dirty_write_within s n (Store a w) o v some h = go (a / s.words == n) h
 dirty_write_within s n _ o v some h = absurd (none-some (o, v) h)
 
 -- a page without a dirty word had no store since
-pub dirty_nothing_since : (s : Sizes) (j : List Event) (p n : ℕ) (page : List ℕ) → 0 < s.words
-    → IsDirty s j p n page (replicate s.words false) → (k : ℕ) (e : Event) → At (since j p) k e
-    → block_write s n e.kind ≡ None
+dirty_nothing_since : (s : Sizes) (j : List Event) (p n : ℕ) (page : List ℕ) → 0 < s.words
+    → IsDirty s j p n page (replicate s.words false) → StoresNothing s j p n
 dirty_nothing_since s j p n page some dirty k e at = go (block_write s n e.kind) refl
   where
     f : Event → Option (ℕ × ℕ)

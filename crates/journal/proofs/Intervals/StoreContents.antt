@@ -2,7 +2,7 @@
 use Rattle.std.proofs.Common.{ℕ, ◌≡◌, ◌<◌, ◌≤◌, ◌/◌, ◌%◌, ◌==◌, List, [], ◌∷◌, ◌++◌, Bool, true, false, cond, Option, Some, None, is_some, filter, slice_get, length, arith, refl, sym, ap, subst, ◌∙◌, eqb-true, eq-eqb, mod-lt, inl, inr, true≢false}
 use Rattle.std.proofs.lemmas.Bool.{cases_lt}
 use Rattle.std.proofs.Math.Seq.{take-append_seam}
-use Rattle.std.proofs.lemmas.Option.{some_pair_parts}
+use Rattle.std.proofs.lemmas.Option.{same_Some}
 use Rattle.journal.specs.declared.event.Event.{Event}
 use Rattle.journal.specs.declared.event.Kind.{Kind}
 use Rattle.journal.specs.declared.event.Kind.TheVariants.{Store}
@@ -206,27 +206,25 @@ pub content_none : (s : Sizes) (j : List Event) (q k n i : ℕ) → IsContent s 
 content_none s j q k n i content x = let h = content_has s j q k n i [] content x in has-nil (x.0 % s.words, h.0) h.1
 
 -- each word that it comes to has a store
-pub content_word : (s : Sizes) (j : List Event) (q k n o v : ℕ) (words : List (ℕ × ℕ)) → IsContent s j q k n words
-    → Has words (o, v)
-    → (i : ℕ) × (a : ℕ) × Does j i q (Store a v) × (a / s.words ≡ n) × (a % s.words ≡ o) × (interval_at j q i ≡ k)
-content_word s j q k n o v words content h =
-    let l = (content.sums.each o v).0 h in
+pub content_word : {s : Sizes} {j : List Event} {q k n : ℕ} {words : List (ℕ × ℕ)} → IsContent s j q k n words
+    → (w : ℕ × ℕ) → Has words w
+    → (i : ℕ) × (x : StoresInInterval s j q k n i) × (◌≡◌ {A = ℕ × ℕ} (x.0 % s.words, x.1) w)
+content_word {s} {j} {q} {k} {n} content w h =
+    let l = (content.sums.each w.0 w.1).0 h in
     let x = (content.each l.item).0 (l.place, l.at) in
-    let e = some_pair_parts (x.0 % s.words) o x.1 v (sym (store_writes s j l.item q x.0 x.1 x.2) ∙ l.writes) in
-    let P : ℕ → Type 0 = λ w. Does j l.item q (Store x.0 w) in
-    (l.item, x.0, subst P e.1 x.2, x.3, e.0, x.4)
+    (l.item, x, same_Some (x.0 % s.words, x.1) w (sym (store_writes s j l.item q x.0 x.1 x.2) ∙ l.writes))
 
 -- and lies within the page
 pub content_within : (s : Sizes) (j : List Event) (q k n o v : ℕ) (words : List (ℕ × ℕ)) → 0 < s.words
     → IsContent s j q k n words → Has words (o, v) → o < s.words
 content_within s j q k n o v words some content h =
-    let x = content_word s j q k n o v words content h in
-    let below = mod-lt x.1 some in
-    let same = x.4 in
+    let x = content_word content (o, v) h in
+    let below = mod-lt x.1.0 some in
+    let same = ap (λ (w : ℕ × ℕ). w.0) x.2 in
     omega arith
 
 -- and an interval that comes to some word stores in the page
 pub content_some : (s : Sizes) (j : List Event) (q k n : ℕ) (w : ℕ × ℕ) (words : List (ℕ × ℕ))
     → IsContent s j q k n (w ∷ words) → (i : ℕ) × StoresInInterval s j q k n i
 content_some s j q k n w words content =
-    let x = content_word s j q k n w.0 w.1 (w ∷ words) content (0, refl) in (x.0, (x.1, w.1, x.2, x.3, x.5))
+    let x = content_word content w (0, refl) in (x.0, x.1)

@@ -129,8 +129,3 @@ balanced s j p =
               (own_balance s xs e.processor e.kind both.1) (ih both.0))
           | inr isnt ↦ others_balance xs e p isnt (ih both.0)
         ]
-
--- while it waits at the barrier, a processor has arrived once more than it has departed
-pub arrived_once_more : (s : Sizes) (j : List Event) (p i : ℕ) → WellFormed s j → LastIs j p i Arrive
-    → count_of is_arrive j p ≡ count_of is_depart j p + 1
-arrived_once_more s j p i well last = (balanced s j p well).waiting i last

@@ -42,9 +42,9 @@ holds_alone s j well p q l a b = elim (cases_order a.place b.place) [
 ]
 
 -- two releases of a lock are ordered
-pub releases_ordered : (s : Sizes) (j : List Event) → WellFormed s j → (m k p q l : ℕ) → m < k
+pub releases_ordered : {p q l : ℕ} → (s : Sizes) (j : List Event) → WellFormed s j → (m k : ℕ) → m < k
     → Does j m p (Release l) → Does j k q (Release l) → HappensBefore j m k
-releases_ordered s j well m k p q l lt first second = elim (cases_order m h.place) [
+releases_ordered {p} {q} {l} s j well m k lt first second = elim (cases_order m h.place) [
   | inl is ↦ absurd
       (cc ((does_same j h.place p q (Release l) (Acquire l) (subst (λ x. Does j x p (Release l)) is first) taken).1))
   | inr apart ↦ elim apart [ inl before ↦ between before | inr after ↦ absurd (held after) ]
@@ -110,7 +110,7 @@ release_time s j e l t is well time =
 
     last : (k : ℕ) → SomeDoes (j ++ e ∷ []) (Release l) k → UpTo (j ++ e ∷ []) (length j) k
     last k h = elim (push_cases j e k (event h.0 (Release l)) h.1) [
-      | inl old ↦ inr (releases_ordered s (j ++ e ∷ []) well k (length j) h.0 e.processor l old.0 h.1 releases)
+      | inl old ↦ inr (releases_ordered s (j ++ e ∷ []) well k (length j) old.0 h.1 releases)
       | inr new ↦ inl new.0
     ]
 

@@ -1,7 +1,7 @@
 -- What a journal's memory holds, as the journal goes on and as it is cut.
 use Rattle.std.proofs.Common.{◌≡◌, ◌≢◌, ℕ, ◌+◌, ◌-◌, ◌<◌, ◌≤◌, ◌⊎◌, inl, inr, List, [], ◌∷◌, ◌++◌, length, take, take_all, drop, length-append, length-drop, subst, sym, ap, ◌∙◌, arith}
-use Rattle.std.proofs.Math.Seq.{take-append_seam, take-length, drop-append_seam}
-use Rattle.std.proofs.lemmas.List.{take-append-le, length-take, drop-drop}
+use Rattle.std.proofs.Math.Seq.{take-append_seam, take-length}
+use Rattle.std.proofs.lemmas.List.{take-append-le, length-take}
 use Rattle.journal.specs.declared.event.Event.{Event}
 use Rattle.journal.specs.declared.event.Kind.TheVariants.{Arrive}
 use Rattle.journal.specs.DidEvent.{event}
@@ -107,11 +107,6 @@ module _ (n count : ℕ) (xs : List Event) where
   opening_cut x =
       subst (IsOpening n)
       (sym (ap (λ m. take m rest) (sym x.long) ∙ take-append_seam (take n xs) (drop (n + count) xs))) x
-
-  pub events_cut : IsOpening n (take n xs) → drop n rest ≡ drop count (drop n xs)
-  events_cut x =
-      ap (λ m. drop m rest) (sym x.long) ∙ drop-append_seam (take n xs) (drop (n + count) xs)
-      ∙ sym (drop-drop count n xs)
 
 -- of what a journal holds
 module _ (j : Inside) (held : JournalInvariant j) where

@@ -1,5 +1,5 @@
 -- When a waiting processor may go on, and what else keeps a journal well formed.
-use Rattle.std.proofs.Common.{◌≡◌, ℕ, ◌<◌, ◌↔◌, List, [], ◌∷◌, ◌++◌, length, false, IsTrue, Some, None, subst, sym, refl, ap, append_assoc, append-nil}
+use Rattle.std.proofs.Common.{◌≡◌, ℕ, ◌<◌, List, [], ◌∷◌, ◌++◌, length, false, IsTrue, Some, None, subst, sym, refl, ap, append_assoc, append-nil}
 use Rattle.std.proofs.lemmas.Option.{same_Some}
 use Rattle.journal.specs.declared.event.Event.{Event}
 use Rattle.journal.specs.declared.event.Kind.{Kind}
@@ -7,7 +7,7 @@ use Rattle.journal.specs.declared.event.Kind.TheVariants.{Load, Store, Fetch, As
 use Rattle.journal.specs.DidEvent.{event}
 use Rattle.journal.specs.Sizes.{Sizes}
 use Rattle.journal.specs.Events.{At, is_taking, is_closing}
-use Rattle.journal.specs.WellFormed.{KindInRange, LastIs, AnswersCall, Allowed, MayFollow, WellFormed, Ready}
+use Rattle.journal.specs.WellFormed.{KindInRange, LastIs, AnswersCall, Allowed, MayFollow, WellFormed}
 use Rattle.journal.specs.Waits.{awaited, IsIdle}
 use Rattle.base.proofs.SlicesAndCounts.{push_induction}
 use Rattle.journal.proofs.Order.CountedAndNumbered.{at_longer, at_last}
@@ -57,14 +57,6 @@ taking_follows s j p k well taking allowed =
           (awaited_answers w.call k w.awaits);
       allowed = allowed;
     }
-
--- a processor is ready exactly where a well formed journal may go on with an Acquire, a Depart or an Await of it
-pub ready_exact : (s : Sizes) (j : List Event) (p : ℕ) → WellFormed s j
-    → Ready s j p ↔ ((k : Kind) × IsTrue (is_taking k) × WellFormed s (j ++ event p k ∷ []))
-ready_exact s j p well = (
-  (λ r. (r.0, r.1, (each_push s j (event p r.0)).1 (well, taking_follows s j p r.0 well r.1 r.2))),
-  (λ x. (x.0, x.1, ((each_push s j (event p x.0)).0 x.2).1.allowed)),
-)
 
 -- of an idle processor what is in range and allowed may follow
 pub idle_follows : (s : Sizes) (j : List Event) (p : ℕ) (k : Kind) → p < s.processors → IsIdle j p → KindInRange s k

@@ -30,10 +30,9 @@ count_of_same values others n same c =
     }
 
 -- events that leave the gap leave its counts
-pub counts_on : (s : Sizes) (j es : List Event) (p n w r d : ℕ)
-    → ((i : ℕ) → InGap s (j ++ es) p n i ↔ InGap s j p n i) → GapCounts s j p n w r d
-    → GapCounts s (j ++ es) p n w r d
-counts_on s j es p n w r d same c = record {
+pub counts_on : {s : Sizes} {j : List Event} {p n w r d : ℕ} → GapCounts s j p n w r d → (es : List Event)
+    → ((i : ℕ) → InGap s (j ++ es) p n i ↔ InGap s j p n i) → GapCounts s (j ++ es) p n w r d
+counts_on {s} {j} {p} {n} {w} {r} {d} c es same = record {
   writers_are =
       count_of_same (λ (q : ℕ). (k : ℕ) × (a : ℕ) × StoredInGap s j p n (q, k, a))
       (λ (q : ℕ). (k : ℕ) × (a : ℕ) × StoredInGap s (j ++ es) p n (q, k, a)) w
@@ -50,9 +49,9 @@ counts_on s j es p n w r d same c = record {
     on = stored_on s j es p n same
 
 -- so others' events
-pub counts_others : (s : Sizes) (j es : List Event) (p n w r d : ℕ)
-    → ((k : ℕ) (e : Event) → At es k e → e.processor ≢ p) → GapCounts s j p n w r d → GapCounts s (j ++ es) p n w r d
-counts_others s j es p n w r d away = counts_on s j es p n w r d (λ i. gaps_of_others s j es p n i away)
+pub counts_others : {s : Sizes} {j : List Event} {p n w r d : ℕ} → GapCounts s j p n w r d → (es : List Event)
+    → ((k : ℕ) (e : Event) → At es k e → e.processor ≢ p) → GapCounts s (j ++ es) p n w r d
+counts_others {s} {j} {p} {n} c es away = counts_on c es (λ i. gaps_of_others s j es p n i away)
 
 -- a journal without events has no fetch
 pub counted_start : (s : Sizes) → AreCounted s []
@@ -79,7 +78,7 @@ block_counts_start s j p =
 pub block_counts_others : (s : Sizes) (j es block : List Event) (p : ℕ)
     → ((k : ℕ) (e : Event) → At es k e → e.processor ≢ p) → BlockCounts s j block p → BlockCounts s (j ++ es) block p
 block_counts_others s j es block p away c =
-    record { counts = λ k n w r d f. counts_others s j es p n w r d away (c.counts k n w r d f); first = c.first }
+    record { counts = λ k n w r d f. counts_others (c.counts k n w r d f) es away; first = c.first }
 
 -- a further event of the block: if it is a fetch, it counts the gap before the block, and is the first of its page
 pub block_counts_push : (s : Sizes) (j block : List Event) (e : Event) (p : ℕ)
@@ -127,11 +126,11 @@ counted_block s j block p is c old =
         let fetch : ℕ → Event = λ m. event m (Fetch w n r d) in
         let own : Does (es ++ e ∷ []) (length es) p (Fetch w n r d) = at_last es e ∙ ap Some (i ∙ ap fetch mine) in
         let P : ℕ → Type 0 = λ m. GapCounts s (j ++ es) m n w r d in
-        subst P (sym mine) (counts_on s j es p n w r d (λ k. gap_block s j es p n k (block_front p es (e ∷ []) more)
+        subst P (sym mine) (counts_on (x.counts (length es) n w r d own) es
+        (λ k. gap_block s j es p n k (block_front p es (e ∷ []) more)
         (λ m w' r' d' g. x.first m (length es) n w r d w' r' d'
         (at_within es m (event p (Fetch w' n r' d')) g) own
-        (at_longer es (e ∷ []) m (event p (Fetch w' n r' d')) g)))
-        (x.counts (length es) n w r d own))
+        (at_longer es (e ∷ []) m (event p (Fetch w' n r' d')) g))))
 
     step : (es : List Event) (e : Event) → (IsBlock p es → BlockCounts s j es p → AreCounted s (j ++ es))
         → IsBlock p (es ++ e ∷ []) → BlockCounts s j (es ++ e ∷ []) p → AreCounted s (j ++ (es ++ e ∷ []))

@@ -25,8 +25,8 @@ pub missing_fetched : (s : Sizes) (j : List Event) (p n : ℕ) (page : List ℕ)
 missing_fetched s j p n page missing are order copy =
     let g = groups_of s j n missing are.contents in
     let e = groups_extend s j n missing g.0 are.placed order g.1 in
-    fetched_gap s j p n page g.0 (map (λ (x : Missing). x.words) missing) g.1.records_of
-    (groups_gap s j p n missing g.0 are g.1) e.0 e.1 copy
+    fetched_gap copy g.1.records_of
+    (record { each = groups_gap s j p n missing g.0 are g.1; once = e.0; extends = e.1 })
 
 -- an interval's owner and number
 abbrev pub label : Missing → ℕ × ℕ
@@ -101,12 +101,13 @@ stored_in_gap s j p n missing z are = (there, back)
     there h =
         let x = h.0 in
         let w = (has-map (λ (w : ℕ × ℕ). (x.owner, x.number, n * s.words + w.0)) x.words z).0 h.2 in
-        let y = content_word s j x.owner x.number n w.0.0 w.0.1 x.words (are.contents x h.1) w.1 in
+        let y = content_word (are.contents x h.1) w.0 w.1 in
         let g = (are.each x.owner x.number).0 (x, h.1, refl, refl) in
-        let whole = gaps_whole s j p n x.owner g.1.0 y.0 g.0 y.1 g.1.1 w.0.1 g.1.3 g.1.2 y.2 y.3 (y.5 ∙ sym g.1.4) in
-        let address : y.1 ≡ n * s.words + w.0.0 =
-        sym (div-add-mod' y.1 s.words) ∙ ap₂ (λ (a b : ℕ). a * s.words + b) y.3 y.4 in
-        let here : StoredInGap s j p n (x.owner, x.number, y.1) = (y.0, w.0.1, y.2, whole, y.5) in
+        let whole = gaps_whole s j p n (x.owner, x.number, g.0) y.0 g.1 y.1 in
+        let address : y.1.0 ≡ n * s.words + w.0.0 =
+        sym (div-add-mod' y.1.0 s.words)
+        ∙ ap₂ (λ (a b : ℕ). a * s.words + b) y.1.3 (ap (λ (v : ℕ × ℕ). v.0) y.2) in
+        let here : StoredInGap s j p n (x.owner, x.number, y.1.0) = (y.0, y.1.1, y.1.2, whole, y.1.4) in
         let P : ℕ → Type 0 = λ a. StoredInGap s j p n (x.owner, x.number, a) in
         subst (StoredInGap s j p n) w.2 (subst P address here)
 

@@ -13,6 +13,7 @@ use Rattle.journal.specs.Pasts.{UpTo, InPast}
 use Rattle.journal.specs.Times.{ClosesAt, IsTimeOf}
 use Rattle.journal.specs.ClosedIntervals.{ClosedAt}
 use Rattle.journal.specs.PageImages.{StoresToPage, FetchesPage, Mine, InGap, StoredInGap}
+use Rattle.journal.specs.ContentsSince.{StoresInInterval}
 use Rattle.journal.specs.BroughtCopy.{Brought}
 use Rattle.base.proofs.SlicesAndCounts.{append_cases, push_cases}
 use Rattle.journal.proofs.Order.CountedAndNumbered.{at_within, at_longer, at_shorter, at_same, does_same, count_of-front}
@@ -119,13 +120,18 @@ gap_taken s j p n q i a v k t t' takes time after does page apart = (there, back
               (brought_past j p n i (brought_old b)) in let le = x.0 in omega arith,
         )
 
+-- an event by which p gets to know of others', with p's timestamps before and after it
+pub record Learns (j : List Event) (p : ℕ) (k : Kind) (t t' : ℕ → ℕ) : Type 0 where
+  pub takes : is_taking k ≡ true
+  pub time : IsTimeOf j p t
+  pub after : IsTimeOf (j ++ event p k ∷ []) p t'
+
 -- no store to the page between the timestamps: nothing comes to the past
-pub nothing_taken : (s : Sizes) (j : List Event) (p n : ℕ) (k : Kind) (t t' : ℕ → ℕ) → is_taking k ≡ true
-    → IsTimeOf j p t → IsTimeOf (j ++ event p k ∷ []) p t'
+pub nothing_taken : {j : List Event} {p : ℕ} {k : Kind} {t t' : ℕ → ℕ} → Learns j p k t t' → (s : Sizes) (n : ℕ)
     → ((q i a v : ℕ) → q ≢ p → Does j i q (Store a v) → a / s.words ≡ n → t q ≤ interval_at j q i
     → interval_at j q i < t' q → ⊥)
     → (i : ℕ) → StoresToPage s (j ++ event p k ∷ []) n i → InPast (j ++ event p k ∷ []) p i → InPast j p i
-nothing_taken s j p n k t t' takes time after none i x past =
+nothing_taken {j} {p} {k} {t} {t'} l s n none i x past =
     elim (cases_lt i (length j)) [ inl within ↦ old within (cases_eq x.by p) | inr from ↦ absurd (last from) ]
   where
     e : Event
@@ -138,7 +144,7 @@ nothing_taken s j p n k t t' takes time after none i x past =
     last from =
         elim (push_cases j e i f x.does) [
           | inl h ↦ (let less = h.0 in omega arith)
-          | inr h ↦ true≢false (sym takes ∙ ap (λ (g : Event). is_taking g.kind) h.1)
+          | inr h ↦ true≢false (sym l.takes ∙ ap (λ (g : Event). is_taking g.kind) h.1)
         ]
 
     old : i < length j → (x.by ≡ p) ⊎ (x.by ≢ p) → InPast j p i
@@ -147,47 +153,56 @@ nothing_taken s j p n k t t' takes time after none i x past =
         let does : Does j i x.by (Store x.address x.value) = at_shorter j (e ∷ []) i f within x.does in
         let number : interval_at (j ++ e ∷ []) x.by i ≡ interval_at j x.by i =
         count_of-front is_closing j (e ∷ []) i x.by (le_of_lt within) in
-        let less = (covered (j ++ e ∷ []) p x.by i (Store x.address x.value) t' after x.does apart).0 past in
+        let less = (covered (j ++ e ∷ []) p x.by i (Store x.address x.value) t' l.after x.does apart).0 past in
         elim (cases_lt (interval_at j x.by i) (t x.by)) [
-          | inl known ↦ (covered j p x.by i (Store x.address x.value) t time does apart).1 known
+          | inl known ↦ (covered j p x.by i (Store x.address x.value) t l.time does apart).1 known
           | inr le ↦ absurd (none x.by i x.address x.value apart does x.in_page le (omega (arith, less, number)))
         ]
 
 -- with one store of an interval the gap has all of them
-pub gaps_whole : (s : Sizes) (j : List Event) (p n q i m a b v w : ℕ) → InGap s j p n i → Does j i q (Store a v)
-    → Does j m q (Store b w) → b / s.words ≡ n → interval_at j q m ≡ interval_at j q i → InGap s j p n m
-gaps_whole s j p n q i m a b v w g does other page same = record {
-  store = stores_to s j n m q b w other page;
-  others = not_mine j p q m (Store b w) other apart;
+pub gaps_whole : (s : Sizes) (j : List Event) (p n : ℕ) (z : ℕ × ℕ × ℕ) (m : ℕ) → StoredInGap s j p n z
+    → StoresInInterval s j z.0 z.1 n m → InGap s j p n m
+gaps_whole s j p n z m stored x = record {
+  store = stores_to s j n m z.0 x.0 x.1 x.2 x.3;
+  others = not_mine j p z.0 m (Store x.0 x.1) x.2 apart;
   past =
-      (closed_past j p q m c.0 (Store b w) second other apart).1
-      ((closed_past j p q i c.0 (Store a v) first does apart).0 g.past);
-  new =
-      λ f fetch h. g.new f fetch (before f fetch
-      (leaving_at j f p q m (Store b w) (Fetch fetch.0 n fetch.1 fetch.2) other fetch.3 apart (inr h)));
+      (closed_past j p z.0 m c.0 (Store x.0 x.1) second x.2 apart).1
+      ((closed_past j p z.0 i c.0 (Store z.2 stored.1) first does apart).0 g.past);
+  new = λ f fetch h. g.new f fetch (before f fetch (leaving_at j f m x.2 fetch.3 apart (inr h)));
 }
   where
-    apart : q ≢ p
-    apart = gaps_apart s j p n q i a v g does
+    i : ℕ
+    i = stored.0
 
-    c : (c : ℕ) × ClosesAt j q c × (interval_at j q c ≡ interval_at j q i)
-    c = number_closed j p q i (Store a v) does apart g.past
+    does : Does j i z.0 (Store z.2 stored.1)
+    does = stored.2
+
+    g : InGap s j p n i
+    g = stored.3
+
+    apart : z.0 ≢ p
+    apart = gaps_apart s j p n z.0 i z.2 stored.1 g does
+
+    c : (c : ℕ) × ClosesAt j z.0 c × (interval_at j z.0 c ≡ interval_at j z.0 i)
+    c = number_closed j p z.0 i (Store z.2 stored.1) does apart g.past
 
     first : ClosedAt j i c.0
-    first = closes_interval j q i c.0 (Store a v) does (λ h. true≢false (sym h)) c.1 (sym c.2)
+    first = closes_interval j z.0 i c.0 (Store z.2 stored.1) does (λ h. true≢false (sym h)) c.1 (sym c.2)
 
     second : ClosedAt j m c.0
-    second = closes_interval j q m c.0 (Store b w) other (λ h. true≢false (sym h)) c.1 (same ∙ sym c.2)
+    second =
+        closes_interval j z.0 m c.0 (Store x.0 x.1) x.2 (λ h. true≢false (sym h)) c.1
+        (x.4 ∙ sym stored.4 ∙ sym c.2)
 
-    before : (f : ℕ) → FetchesPage j f p n → LeavesAt j q m (UpTo j f) → HappensBefore j i f
+    before : (f : ℕ) → FetchesPage j f p n → LeavesAt j z.0 m (UpTo j f) → HappensBefore j i f
     before f fetch l =
-        let least = closes_first j q m c.0 l.close (Store b w) second other l.from l.closes in
+        let least = closes_first second x.2 l.from l.closes in
         let less = first.before in
         elim (up_to_back j i l.close f
-        (own_order j q i l.close (Store a v) l.closes.kind does l.closes.does (omega arith)) l.inside) [
+        (own_order j z.0 i l.close (Store z.2 stored.1) l.closes.kind does l.closes.does (omega arith)) l.inside) [
           | inl is ↦ (let P : ℕ
-              → Type 0 = λ x. Does j x q (Store a v) in absurd (apart (does_same j f q p (Store a v)
-              (Fetch fetch.0 n fetch.1 fetch.2) (subst P is does) fetch.3).0))
+              → Type 0 = λ y. Does j y z.0 (Store z.2 stored.1) in absurd (apart (does_same j f z.0 p
+              (Store z.2 stored.1) (Fetch fetch.0 n fetch.1 fetch.2) (subst P is does) fetch.3).0))
           | inr h ↦ h
         ]
 

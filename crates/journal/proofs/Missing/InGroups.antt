@@ -76,8 +76,7 @@ groups_gap s j p n missing groups are of i = (λ h. there ((has_concat groups i)
         let r = of.of h.1.0 h.0 h.1.1 in
         let x = (r.2 i).0 h.2 in
         let stored = (are.each r.0.owner r.0.number).0 (r.0, (h.1.0, r.1), refl, refl) in
-        gaps_whole s j p n r.0.owner stored.1.0 i stored.0 x.0 stored.1.1 x.1 stored.1.3 stored.1.2 x.2 x.3
-        (x.4 ∙ sym stored.1.4)
+        gaps_whole s j p n (r.0.owner, r.0.number, stored.0) i stored.1 x
 
     back : InGap s j p n i → Has (concat groups) i
     back g =

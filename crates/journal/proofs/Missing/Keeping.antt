@@ -1,5 +1,5 @@
 -- What each kind of event does to the missing intervals.
-use Rattle.std.proofs.Common.{ℕ, ◌≡◌, ◌≢◌, ◌<◌, ◌≤◌, ◌⊎◌, ◌↔◌, ◌/◌, inl, inr, List, [], ◌∷◌, ◌++◌, true, arith, refl, sym, ap, ◌∙◌, le_of_lt, true≢false}
+use Rattle.std.proofs.Common.{ℕ, ◌≡◌, ◌≢◌, ◌<◌, ◌≤◌, ◌⊎◌, ◌↔◌, ◌/◌, inl, inr, List, [], ◌∷◌, ◌++◌, arith, refl, sym, ap, ◌∙◌, le_of_lt, true≢false}
 use Rattle.base.proofs.SlicesAndCounts.{push_cases}
 use Rattle.journal.specs.declared.event.Event.{Event}
 use Rattle.journal.specs.declared.event.Kind.{Kind}
@@ -8,7 +8,6 @@ use Rattle.journal.specs.DidEvent.{event}
 use Rattle.journal.specs.Sizes.{Sizes}
 use Rattle.journal.specs.Events.{At, is_closing, is_taking, interval_at}
 use Rattle.journal.specs.WellFormed.{Does}
-use Rattle.journal.specs.Times.{IsTimeOf}
 use Rattle.journal.specs.PageImages.{InGap, StoredInGap}
 use Rattle.journal.specs.BroughtCopy.{NoGap}
 use Rattle.journal.specs.Blocks.{IsBlock}
@@ -20,7 +19,7 @@ use Rattle.journal.proofs.Order.CountedAndNumbered.{at_within, at_longer, count_
 use Rattle.journal.proofs.CopyOfPage.Stores.{store_same}
 use Rattle.journal.proofs.CopyOfPage.CompleteBlocks.{gap_block}
 use Rattle.journal.proofs.Missing.Placed.{placed_longer}
-use Rattle.journal.proofs.Missing.GapsTaken.{gaps_apart, gaps_of_others, gap_taken, stored_on}
+use Rattle.journal.proofs.Missing.GapsTaken.{Learns, gaps_apart, gaps_of_others, gap_taken, stored_on}
 use Rattle.journal.proofs.Intervals.StoreContents.{content_on, content_closed}
 
 -- nothing is missing where there is no gap
@@ -91,10 +90,10 @@ missing_block s j block p n missing is none =
     missing_on s j block p n missing (λ i. gap_block s j block p n i is none)
 
 -- an event by which p gets to know of others' adds the intervals between its timestamps that store in the page
-pub missing_taken : (s : Sizes) (j : List Event) (p n : ℕ) (k : Kind) (t t' : ℕ → ℕ) (missing new : List Missing)
-    → is_taking k ≡ true → IsTimeOf j p t → IsTimeOf (j ++ event p k ∷ []) p t' → AreMissingNotices s j p n t t' new
-    → AreMissing s j p n missing → AreMissing s (j ++ event p k ∷ []) p n (missing ++ new)
-missing_taken s j p n k t t' missing new takes time after news are =
+pub missing_taken : {s : Sizes} {j : List Event} {p n : ℕ} {k : Kind} {t t' : ℕ → ℕ} {missing new : List Missing}
+    → Learns j p k t t' → AreMissingNotices s j p n t t' new → AreMissing s j p n missing
+    → AreMissing s (j ++ event p k ∷ []) p n (missing ++ new)
+missing_taken {s} {j} {p} {n} {k} {t} {t'} {missing} {new} l news are =
     record {
       each = λ q m. (λ x. there q m x.0 x.2 x.3 ((has-append missing new x.0).0 x.1), back q m);
       placed = λ x h. placed_longer j (e ∷ []) x.owner x.number x.place
@@ -116,7 +115,7 @@ missing_taken s j p n k t t' missing new takes time after news are =
     old : (q i a v : ℕ) → Does (j ++ e ∷ []) i q (Store a v) → Does j i q (Store a v)
     old q i a v does =
         elim (push_cases j e i (event q (Store a v)) does)
-        [ inl h ↦ h.1 | inr h ↦ absurd (true≢false (sym takes ∙ ap (λ (f : Event). is_taking f.kind) h.1)) ]
+        [ inl h ↦ h.1 | inr h ↦ absurd (true≢false (sym l.takes ∙ ap (λ (f : Event). is_taking f.kind) h.1)) ]
 
     now_on : (x : Missing) → Has new x → IsContent s (j ++ e ∷ []) x.owner x.number n x.words
     now_on x h =
@@ -137,7 +136,7 @@ missing_taken s j p n k t t' missing new takes time after news are =
             g.0,
             g.1,
             at_e q g.0 x.0 g.1 g.2,
-            (gap_taken s j p n q g.0 x.0 g.1 k t t' takes time after g.2 page apart).1 (inl g.3),
+            (gap_taken s j p n q g.0 x.0 g.1 k t t' l.takes l.time l.after g.2 page apart).1 (inl g.3),
             number q
                 g.0 x.0 g.1 g.2
                 ∙ g.4,
@@ -156,7 +155,7 @@ missing_taken s j p n k t t' missing new takes time after news are =
             x.0,
             w.1,
             at_e q x.0 w.0 w.1 w.2,
-            (gap_taken s j p n q x.0 w.0 w.1 k t t' takes time after w.2 w.3 x.2).1
+            (gap_taken s j p n q x.0 w.0 w.1 k t t' l.takes l.time l.after w.2 w.3 x.2).1
                 (inr (omega arith, omega arith)),
             number q x.0 w.0 w.1 w.2
                 ∙ w.4,
@@ -187,7 +186,7 @@ missing_taken s j p n k t t' missing new takes time after news are =
         (sym (store_same (j ++ e ∷ []) g.0 w.by q w.address x.0 w.value g.1 w.does g.2).1)
         ∙ w.in_page in
         let same : interval_at j q g.0 ≡ m = sym (number q g.0 x.0 g.1 does) ∙ g.4 in
-        elim ((gap_taken s j p n q g.0 x.0 g.1 k t t' takes time after does page apart).0 g.3) [
+        elim ((gap_taken s j p n q g.0 x.0 g.1 k t t' l.takes l.time l.after does page apart).0 g.3) [
           | inl h ↦ add q m (inl ((are.each q m).1 (x.0, (g.0, g.1, does, h, same))))
           | inr h ↦ (let le = h.0 in let less = h.1 in
               add q m

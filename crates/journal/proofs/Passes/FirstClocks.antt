@@ -16,19 +16,27 @@ time_first among t zeros = record {
   within = λ q. (let zero = zeros q in omega arith);
 }
 
--- timestamps and counts that are all 0 are those before the first event
-pub clocks_first : (c : Clocks) → vec_len c.processors ≡ 16 → c.present ≤ most_processors → c.gone ≡ 0
-    → ((p q : ℕ) → entry c.processors.items p q ≡ 0) → ((l q : ℕ) → numbered_entry c.locks l q ≡ 0)
-    → ((f q : ℕ) → numbered_entry c.flags f q ≡ 0) → ((n q : ℕ) → entry c.episodes.items n q ≡ 0)
-    → ((p : ℕ) → slice_index c.arrivals p ≡ 0) → ((p : ℕ) → slice_index c.departures p ≡ 0) → AreClocks [] c
-clocks_first c long few gone processors locks flags episodes arrivals departures = record {
+-- all timestamps and counts are 0
+pub record ClocksAreZero (c : Clocks) : Type 0 where
+  pub gone : c.gone ≡ 0
+  pub processors : (p q : ℕ) → entry c.processors.items p q ≡ 0
+  pub locks : (l q : ℕ) → numbered_entry c.locks l q ≡ 0
+  pub flags : (f q : ℕ) → numbered_entry c.flags f q ≡ 0
+  pub episodes : (n q : ℕ) → entry c.episodes.items n q ≡ 0
+  pub arrivals : (p : ℕ) → slice_index c.arrivals p ≡ 0
+  pub departures : (p : ℕ) → slice_index c.departures p ≡ 0
+
+-- such are those before the first event
+pub clocks_first : {c : Clocks} → vec_len c.processors ≡ 16 → c.present ≤ most_processors → ClocksAreZero c
+    → AreClocks [] c
+clocks_first {c} long few zero = record {
   long = long;
   few = few;
-  times = λ p h. time_first _ (entry c.processors.items p) (processors p);
-  locks = λ l. time_first _ (numbered_entry c.locks l) (locks l);
-  flags = λ f. time_first _ (numbered_entry c.flags f) (flags f);
-  episodes = λ n le. time_first _ (entry c.episodes.items (n - c.gone)) (episodes (n - c.gone));
-  left = λ p h. omega arith;
-  arrivals = λ p h. arrivals p;
-  departures = λ p h. departures p;
+  times = λ p h. time_first _ (entry c.processors.items p) (zero.processors p);
+  locks = λ l. time_first _ (numbered_entry c.locks l) (zero.locks l);
+  flags = λ f. time_first _ (numbered_entry c.flags f) (zero.flags f);
+  episodes = λ n le. time_first _ (entry c.episodes.items (n - c.gone)) (zero.episodes (n - c.gone));
+  left = λ p h. (let none = zero.gone in omega arith);
+  arrivals = λ p h. zero.arrivals p;
+  departures = λ p h. zero.departures p;
 }

@@ -2,7 +2,6 @@
 use Rattle.std.proofs.Common.{◌≡◌, ◌≢◌, ℕ, ◌+◌, ◌<◌, ◌≤◌, ◌-◌, ◌^◌, max, List, [], ◌∷◌, ◌++◌, length, take, inl, inr, Bool, true, false, cond, ◌==◌, ◌&&◌, slice_index, vec_len, subst, sym, refl, ap, ◌∙◌, add-one, arith}
 use Rattle.std.proofs.lemmas.Bool.{cases_eq, cases_lt}
 use Rattle.std.proofs.lemmas.List.Sums.{count_by-le-length}
-use Rattle.std.specs.Global.{Vec}
 use Rattle.journal.specs.declared.event.Event.{Event}
 use Rattle.journal.specs.declared.event.Kind.{Kind}
 use Rattle.journal.specs.declared.event.Kind.TheVariants.{Acquire, Release, Arrive, Depart, Set, Await}
@@ -86,10 +85,10 @@ kept_same j e k xs ys isnt same a n =
     subst (λ zs. IsTimeIn (j ++ e ∷ []) (UpToSome (j ++ e ∷ []) (SomeDoes (j ++ e ∷ []) (k n))) (zs n)) (sym same)
     (kind_kept j (e ∷ []) (k n) (xs n) (λ m f at. one_event e f (k n) m at (isnt n)) (a n))
 
-kept_joined : (j : List Event) (p : ℕ) (k : ℕ → Kind) (m : ℕ) (xs ys : ℕ → ℕ → ℕ) (own : ℕ → ℕ)
+kept_joined : {m : ℕ} {xs ys : ℕ → ℕ → ℕ} {own : ℕ → ℕ} → (j : List Event) (p : ℕ) (k : ℕ → Kind)
     → ((n : ℕ) → n ≢ m → k m ≢ k n) → IsTimeOf (j ++ event p (k m) ∷ []) p own → EntryJoinedAt xs ys m own
     → AreKeptClocks j k xs → AreKeptClocks (j ++ event p (k m) ∷ []) k ys
-kept_joined j p k m xs ys own apart time joined a n = elim (cases_eq n m) [
+kept_joined {m} {xs} {ys} {own} j p k apart time joined a n = elim (cases_eq n m) [
   | inl is ↦ subst (λ x. IsTimeIn now (UpToSome now (SomeDoes now (k x))) (ys x)) (sym is) (time_equal now
       (UpToSome now (SomeDoes now (k m))) (λ q. max (xs m q) (own q)) (ys m) (λ q. sym (joined.joined q))
       (kind_joins j e (xs m) own (a m) time))
@@ -110,40 +109,14 @@ gathered_same j e xs ys gone isnt same a n le =
     (sym same)
     (arrivals_kept j (e ∷ []) n (entry xs (n - gone)) (λ m f at. one_event e f Arrive m at isnt) (a n le))
 
-gathered_joined : (j : List Event) (p m : ℕ) (xs ys : List (List ℕ)) (gone : ℕ) (own : ℕ → ℕ)
-    → m ≡ count_of is_arrive j p → IsTimeOf (j ++ event p Arrive ∷ []) p own
-    → (gone ≤ m → EntryJoinedAt (entry xs) (entry ys) (m - gone) own) → (m < gone → ys ≡ xs) → AreGatheredClocks j xs gone
-    → AreGatheredClocks (j ++ event p Arrive ∷ []) ys gone
-gathered_joined j p m xs ys gone own number time joined same a n le = elim (cases_eq n m) [
-  | inl is ↦
-      (let here = joined (omega arith) in
-      let place : n - gone ≡ m - gone = omega arith in
-      let entries : (q : ℕ) → max (entry xs (n - gone) q) (own q) ≡ entry ys (n - gone) q =
-      λ q. sym (subst (λ x. entry ys x q ≡ max (entry xs x q) (own q)) (sym place) (here.joined q)) in
-      let old = subst (λ x. IsTimeIn j (UpToSome j (SomeArrives j x)) (entry xs (n - gone))) (is ∙ number) (a n le) in
-      subst (λ x. IsTimeIn now (UpToSome now (SomeArrives now x)) (entry ys (n - gone))) (sym (is ∙ number))
-      (time_equal now (UpToSome now (SomeArrives now (count_of is_arrive j p)))
-      (λ q. max (entry xs (n - gone) q) (own q)) (entry ys (n - gone)) entries
-      (arrival_joins j e (entry xs (n - gone)) own refl old time)))
-  | inr isnt ↦ time_equal now (UpToSome now (SomeArrives now n)) (entry xs (n - gone)) (entry ys (n - gone))
-      (others isnt) (arrivals_others j e n (entry xs (n - gone)) (λ eq. isnt (sym (number ∙ eq))) (a n le))
-]
-  where
-    e : Event
-    e = event p Arrive
-
-    now : List Event
-    now = j ++ event p Arrive ∷ []
-
-    others : n ≢ m → (q : ℕ) → entry xs (n - gone) q ≡ entry ys (n - gone) q
-    others isnt q = elim (cases_lt m gone) [
-      | inl below ↦ ap (λ zs. entry zs (n - gone) q) (sym (same below))
-      | inr above ↦ (let apart : n - gone ≢ m - gone = omega arith in sym ((joined above).same (n - gone) q apart))
-    ]
+-- p is one of the processors, the timestamps c are those of the journal j, and d has as many
+pub record StepsClocks (j : List Event) (c d : Clocks) (p : ℕ) : Type 0 where
+  pub present : p < c.present
+  pub so_far : AreClocks j c
+  pub long : vec_len d.processors ≡ vec_len c.processors
 
 -- what the timestamps become by an event of p of kind k
 record AreNext (c d : Clocks) (p : ℕ) (k : Kind) : Type 0 where
-  pub long : vec_len d.processors ≡ 16
   pub present : d.present ≡ c.present
   pub gone : d.gone ≡ c.gone
   pub own : (q : ℕ)
@@ -155,24 +128,74 @@ record AreNext (c d : Clocks) (p : ℕ) (k : Kind) : Type 0 where
   pub departures : (q : ℕ)
       → slice_index d.departures q ≡ slice_index c.departures q + cond ((p == q) && is_depart k) 1 0
 
-own_time : (j : List Event) (c d : Clocks) (p : ℕ) (k : Kind) → p < c.present → AreClocks j c → AreNext c d p k
+steps_within : {j : List Event} {c d : Clocks} {p : ℕ} → StepsClocks j c d p → p < 16
+steps_within s = (let few = s.so_far.few in let h = s.present in omega arith)
+
+own_time : {j : List Event} {c d : Clocks} {p : ℕ} {k : Kind} → StepsClocks j c d p → AreNext c d p k
     → IsTimeOf (j ++ event p k ∷ []) p (entry d.processors.items p)
-own_time j c d p k h a n =
+own_time {j} {c} {d} {p} {k} s n =
     time_equal (j ++ event p k ∷ []) (InPast (j ++ event p k ∷ []) p)
     (λ q. max (entry c.processors.items p q) (brought_entry c p k q) + count_of is_closing (event p k ∷ []) q)
     (entry d.processors.items p) (λ q. omega (arith, n.own q)) (time_push j (event p k) (entry c.processors.items p)
-    (brought_entry c p k) (a.times p (let few = a.few in omega arith)) (brought_time j c p k a h))
+    (brought_entry c p k) (s.so_far.times p (steps_within s)) (brought_time j c p k s.so_far s.present))
 
-times_next : (j : List Event) (c d : Clocks) (p : ℕ) (k : Kind) → p < c.present → AreClocks j c → AreNext c d p k
-    → (m : ℕ) → m < 16 → IsTimeOf (j ++ event p k ∷ []) m (entry d.processors.items m)
-times_next j c d p k h a n m within = elim (cases_eq m p) [
-  | inl is ↦ subst (λ x. IsTimeOf (j ++ event p k ∷ []) x (entry d.processors.items x)) (sym is)
-      (own_time j c d p k h a n)
+times_next : {j : List Event} {c d : Clocks} {p : ℕ} {k : Kind} → StepsClocks j c d p → AreNext c d p k → (m : ℕ)
+    → m < 16 → IsTimeOf (j ++ event p k ∷ []) m (entry d.processors.items m)
+times_next {j} {c} {d} {p} {k} s n m within = elim (cases_eq m p) [
+  | inl is ↦ subst (λ x. IsTimeOf (j ++ event p k ∷ []) x (entry d.processors.items x)) (sym is) (own_time s n)
   | inr isnt ↦ time_equal (j ++ event p k ∷ []) (InPast (j ++ event p k ∷ []) m) (entry c.processors.items m)
       (entry d.processors.items m) (λ q. sym (n.others m q isnt)) (others_keep_time j (event p k ∷ []) m
       (entry c.processors.items m) (λ i f at. one_other (event p k) f m i at (λ same. isnt (sym same)))
-      (a.times m within))
+      (s.so_far.times m within))
 ]
+
+-- an arrival joins its timestamp into what its episode keeps
+gathered_joined : {j : List Event} {c d : Clocks} {p : ℕ} → StepsClocks j c d p → AreNext c d p Arrive
+    → AreGatheredClocks (j ++ event p Arrive ∷ []) d.episodes.items c.gone
+gathered_joined {j} {c} {d} {p} s next n le = elim (cases_eq n m) [
+  | inl is ↦
+      (let here = next.keeps.2 (omega arith) in
+      let place : n - c.gone ≡ m - c.gone = omega arith in
+      let entries : (q : ℕ) → max (entry xs (n - c.gone) q) (own q) ≡ entry ys (n - c.gone) q =
+      λ q. sym (subst (λ x. entry ys x q ≡ max (entry xs x q) (own q)) (sym place) (here.joined q)) in
+      let old =
+      subst (λ x. IsTimeIn j (UpToSome j (SomeArrives j x)) (entry xs (n - c.gone))) (is ∙ number)
+      (s.so_far.episodes n le) in
+      subst (λ x. IsTimeIn now (UpToSome now (SomeArrives now x)) (entry ys (n - c.gone))) (sym (is ∙ number))
+      (time_equal now (UpToSome now (SomeArrives now (count_of is_arrive j p)))
+      (λ q. max (entry xs (n - c.gone) q) (own q)) (entry ys (n - c.gone)) entries
+      (arrival_joins j e (entry xs (n - c.gone)) own refl old (own_time s next))))
+  | inr isnt ↦ time_equal now (UpToSome now (SomeArrives now n)) (entry xs (n - c.gone)) (entry ys (n - c.gone))
+      (others isnt)
+      (arrivals_others j e n (entry xs (n - c.gone)) (λ eq. isnt (sym (number ∙ eq))) (s.so_far.episodes n le))
+]
+  where
+    e : Event
+    e = event p Arrive
+
+    now : List Event
+    now = j ++ event p Arrive ∷ []
+
+    m : ℕ
+    m = slice_index c.arrivals p
+
+    xs : List (List ℕ)
+    xs = c.episodes.items
+
+    ys : List (List ℕ)
+    ys = d.episodes.items
+
+    own : ℕ → ℕ
+    own = entry d.processors.items p
+
+    number : m ≡ count_of is_arrive j p
+    number = s.so_far.arrivals p (steps_within s)
+
+    others : n ≢ m → (q : ℕ) → entry xs (n - c.gone) q ≡ entry ys (n - c.gone) q
+    others isnt q = elim (cases_lt m c.gone) [
+      | inl below ↦ ap (λ zs. entry zs (n - c.gone) q) (sym (next.keeps.3 below))
+      | inr above ↦ (let apart : n - c.gone ≢ m - c.gone = omega arith in sym ((next.keeps.2 above).same (n - c.gone) q apart))
+    ]
 
 counts_next : (is : Kind → Bool) (j : List Event) (p q : ℕ) (k : Kind) (x y : ℕ) → y ≡ x + cond ((p == q) && is k) 1 0
     → x ≡ count_of is j q → y ≡ count_of is (j ++ event p k ∷ []) q
@@ -186,69 +209,62 @@ record AreKeptNext (j : List Event) (d : Clocks) : Type 0 where
   pub flags : AreKeptClocks j (λ f. Set f) (numbered_entry d.flags)
   pub episodes : AreGatheredClocks j d.episodes.items d.gone
 
-kept_next : (j : List Event) (c d : Clocks) (p : ℕ) (k : Kind) (own : ℕ → ℕ)
-    → slice_index c.arrivals p ≡ count_of is_arrive j p → IsTimeOf (j ++ event p k ∷ []) p own → d.gone ≡ c.gone
-    → AreClocks j c → KeepsClocks c d.locks d.flags d.episodes.items p own k → AreKeptNext (j ++ event p k ∷ []) d
-kept_next j c d p (Release l) own number time gone a n = record {
-  locks =
-      kept_joined j p (λ m. Release m) l (numbered_entry c.locks) (numbered_entry d.locks) own (λ m isnt same. isnt cc) time
-      n.0 a.locks;
+kept_clocks_next : {j : List Event} {c d : Clocks} {p : ℕ} → (k : Kind) → StepsClocks j c d p → AreNext c d p k
+    → AreKeptNext (j ++ event p k ∷ []) d
+kept_clocks_next {j} {c} {d} {p} (Release l) s n = record {
+  locks = kept_joined j p (λ m. Release m) (λ m isnt same. isnt cc) (own_time s n) n.keeps.0 s.so_far.locks;
   flags =
       kept_same j (event p (Release l)) (λ f. Set f) (numbered_entry c.flags) (numbered_entry d.flags) (λ m same. absurd cc)
-      (ap numbered_entry n.1) a.flags;
+      (ap numbered_entry n.keeps.1) s.so_far.flags;
   episodes =
-      subst (λ x. AreGatheredClocks (j ++ event p (Release l) ∷ []) d.episodes.items x) (sym gone) (gathered_same j
-      (event p (Release l)) c.episodes.items d.episodes.items c.gone (λ same. absurd cc) n.2 a.episodes);
+      subst (λ x. AreGatheredClocks (j ++ event p (Release l) ∷ []) d.episodes.items x) (sym n.gone) (gathered_same j
+      (event p (Release l)) c.episodes.items d.episodes.items c.gone (λ same. absurd cc) n.keeps.2 s.so_far.episodes);
 }
-kept_next j c d p (Set f) own number time gone a n = record {
+kept_clocks_next {j} {c} {d} {p} (Set f) s n = record {
   locks =
       kept_same j (event p (Set f)) (λ m. Release m) (numbered_entry c.locks) (numbered_entry d.locks) (λ m same. absurd cc)
-      (ap numbered_entry n.0) a.locks;
-  flags =
-      kept_joined j p (λ m. Set m) f (numbered_entry c.flags) (numbered_entry d.flags) own (λ m isnt same. isnt cc) time n.1
-      a.flags;
+      (ap numbered_entry n.keeps.0) s.so_far.locks;
+  flags = kept_joined j p (λ m. Set m) (λ m isnt same. isnt cc) (own_time s n) n.keeps.1 s.so_far.flags;
   episodes =
-      subst (λ x. AreGatheredClocks (j ++ event p (Set f) ∷ []) d.episodes.items x) (sym gone) (gathered_same j
-      (event p (Set f)) c.episodes.items d.episodes.items c.gone (λ same. absurd cc) n.2 a.episodes);
+      subst (λ x. AreGatheredClocks (j ++ event p (Set f) ∷ []) d.episodes.items x) (sym n.gone) (gathered_same j
+      (event p (Set f)) c.episodes.items d.episodes.items c.gone (λ same. absurd cc) n.keeps.2 s.so_far.episodes);
 }
-kept_next j c d p Arrive own number time gone a n = record {
+kept_clocks_next {j} {c} {d} {p} Arrive s n = record {
   locks =
       kept_same j (event p Arrive) (λ m. Release m) (numbered_entry c.locks) (numbered_entry d.locks) (λ m same. absurd cc)
-      (ap numbered_entry n.0) a.locks;
+      (ap numbered_entry n.keeps.0) s.so_far.locks;
   flags =
       kept_same j (event p Arrive) (λ f. Set f) (numbered_entry c.flags) (numbered_entry d.flags) (λ m same. absurd cc)
-      (ap numbered_entry n.1) a.flags;
+      (ap numbered_entry n.keeps.1) s.so_far.flags;
   episodes =
-      subst (λ x. AreGatheredClocks (j ++ event p Arrive ∷ []) d.episodes.items x) (sym gone) (gathered_joined j p
-      (slice_index c.arrivals p) c.episodes.items d.episodes.items c.gone own number time n.2 n.3 a.episodes);
+      subst (λ x. AreGatheredClocks (j ++ event p Arrive ∷ []) d.episodes.items x) (sym n.gone) (gathered_joined s n);
 }
-kept_next j c d p k own number time gone a n = record {
+kept_clocks_next {j} {c} {d} {p} k s n = record {
   locks =
       kept_same j (event p k) (λ m. Release m) (numbered_entry c.locks) (numbered_entry d.locks) (λ m same. absurd cc)
-      (ap numbered_entry n.0) a.locks;
+      (ap numbered_entry n.keeps.0) s.so_far.locks;
   flags =
       kept_same j (event p k) (λ f. Set f) (numbered_entry c.flags) (numbered_entry d.flags) (λ m same. absurd cc)
-      (ap numbered_entry n.1) a.flags;
+      (ap numbered_entry n.keeps.1) s.so_far.flags;
   episodes =
-      subst (λ x. AreGatheredClocks (j ++ event p k ∷ []) d.episodes.items x) (sym gone)
-      (gathered_same j (event p k) c.episodes.items d.episodes.items c.gone (λ same. absurd cc) n.2 a.episodes);
+      subst (λ x. AreGatheredClocks (j ++ event p k ∷ []) d.episodes.items x) (sym n.gone)
+      (gathered_same j (event p k) c.episodes.items d.episodes.items c.gone (λ same. absurd cc) n.keeps.2 s.so_far.episodes);
 }
 
 -- after the event the timestamps are those of the journal with it
-clocks_next : (j : List Event) (c d : Clocks) (p : ℕ) (k : Kind) → p < c.present → AreClocks j c → AreNext c d p k
+clocks_next : {j : List Event} {c d : Clocks} {p : ℕ} {k : Kind} → StepsClocks j c d p → AreNext c d p k
     → AreClocks (j ++ event p k ∷ []) d
-clocks_next j c d p k h a n =
+clocks_next {j} {c} {d} {p} {k} s n =
+    let a = s.so_far in
     let few = a.few in
-    let kept =
-    kept_next j c d p k (entry d.processors.items p) (a.arrivals p (omega arith)) (own_time j c d p k h a n) n.gone a
-    n.keeps in
+    let kept = kept_clocks_next k s n in
     record {
-      long = n.long;
+      long = s.long ∙ a.long;
       few = (let same = n.present in omega arith);
       left =
           λ q within. (let old = a.left q (let same = n.present in omega arith) in let rise = n.departures q in
           let gone = n.gone in omega arith);
-      times = times_next j c d p k h a n;
+      times = times_next s n;
       locks = kept.locks;
       flags = kept.flags;
       episodes = kept.episodes;
@@ -267,6 +283,17 @@ quiet_no_arrive _ h = refl
 quiet_no_depart : (k : Kind) → is_taking k ≡ false → is_depart k ≡ false
 quiet_no_depart Depart h = absurd cc
 quiet_no_depart _ h = refl
+
+-- what closes takes nothing
+closing_brings_nothing : (c : Clocks) (p : ℕ) (k : Kind) → is_closing k ≡ true → (q : ℕ) → brought_entry c p k q ≡ 0
+closing_brings_nothing c p (Acquire l) h q = absurd cc
+closing_brings_nothing c p (Await f) h q = absurd cc
+closing_brings_nothing c p Depart h q = absurd cc
+closing_brings_nothing c p _ h q = refl
+
+closing_no_depart : (k : Kind) → is_closing k ≡ true → is_depart k ≡ false
+closing_no_depart Depart h = absurd cc
+closing_no_depart _ h = refl
 
 -- after an event that neither takes nor closes they are as before
 pub clocks_plain : (j : List Event) (e : Event) (c : Clocks) → is_taking e.kind ≡ false → is_closing e.kind ≡ false
@@ -318,54 +345,59 @@ own_room j c p h few a =
     omega arith
 
 -- the timestamps after an event that closes p's interval, without meeting anybody
-pub closed_next : (j : List Event) (c : Clocks) (times : Vec (List ℕ)) (locks flags : Numbered) (p : ℕ) (k : Kind)
-    → is_closing k ≡ true → ((q : ℕ) → brought_entry c p k q ≡ 0) → is_arrive k ≡ false → is_depart k ≡ false
-    → p < c.present → AreClocks j c → vec_len times ≡ vec_len c.processors
-    → EntryClosedAt (entry c.processors.items) (entry times.items) p
-    → KeepsClocks c locks flags c.episodes.items p (entry times.items p) k
-    → AreClocks (j ++ event p k ∷ []) (record c { processors = times; locks = locks; flags = flags })
-closed_next j c times locks flags p k closes nothing stays goes h a long closed keeps =
-    clocks_next j c (record c { processors = times; locks = locks; flags = flags }) p k h a
-    (record {
-      long = long ∙ a.long;
-      present = refl;
-      gone = refl;
+pub closed_next : {j : List Event} {c d : Clocks} {p : ℕ} → (k : Kind) → is_closing k ≡ true → is_arrive k ≡ false
+    → StepsClocks j c d p → d ≡ record c { processors = d.processors; locks = d.locks; flags = d.flags }
+    → EntryClosedAt (entry c.processors.items) (entry d.processors.items) p
+    → KeepsClocks c d.locks d.flags c.episodes.items p (entry d.processors.items p) k
+    → AreClocks (j ++ event p k ∷ []) d
+closed_next {j} {c} {d} {p} k closes stays s rest closed keeps =
+    clocks_next s (record {
+      present = ap (λ x. x.present) rest;
+      gone = ap (λ x. x.gone) rest;
       own =
-          λ q. (let one_more = closed.own q in let none = nothing q in let one = cond-and_true (p == q) (is_closing k) closes
-          in omega arith);
+          λ q. (let one_more = closed.own q in let none = closing_brings_nothing c p k closes q in
+          let one = cond-and_true (p == q) (is_closing k) closes in omega arith);
       others = closed.same;
-      keeps = keeps;
-      arrivals = λ q. (let none = cond-and_false (p == q) (is_arrive k) stays in omega arith);
-      departures = λ q. (let none = cond-and_false (p == q) (is_depart k) goes in omega arith);
+      keeps =
+          subst (λ es. KeepsClocks c d.locks d.flags es p (entry d.processors.items p) k)
+          (sym (ap (λ x. x.episodes.items) rest)) keeps;
+      arrivals =
+          λ q. (let none = cond-and_false (p == q) (is_arrive k) stays in
+          let same = ap (λ x. slice_index x.arrivals q) rest in omega arith);
+      departures =
+          λ q. (let none = cond-and_false (p == q) (is_depart k) (closing_no_depart k closes) in
+          let same = ap (λ x. slice_index x.departures q) rest in omega arith);
     })
 
 -- after an event that takes what a lock or a flag keeps
-pub taken_next : (j : List Event) (c : Clocks) (times : Vec (List ℕ)) (p : ℕ) (k : Kind) → is_closing k ≡ false
-    → is_arrive k ≡ false → is_depart k ≡ false → p < c.present → AreClocks j c → vec_len times ≡ vec_len c.processors
-    → EntryJoinedAt (entry c.processors.items) (entry times.items) p (brought_entry c p k)
-    → KeepsClocks c c.locks c.flags c.episodes.items p (entry times.items p) k
-    → AreClocks (j ++ event p k ∷ []) (record c { processors = times })
-taken_next j c times p k closes stays goes h a long joined keeps =
-    clocks_next j c (record c { processors = times }) p k h a (record {
-      long = long ∙ a.long;
-      present = refl;
-      gone = refl;
+pub taken_next : {j : List Event} {c d : Clocks} {p : ℕ} → (k : Kind) → is_closing k ≡ false → is_depart k ≡ false
+    → StepsClocks j c d p → d ≡ record c { processors = d.processors }
+    → EntryJoinedAt (entry c.processors.items) (entry d.processors.items) p (brought_entry c p k)
+    → KeepsClocks c d.locks d.flags d.episodes.items p (entry d.processors.items p) k
+    → AreClocks (j ++ event p k ∷ []) d
+taken_next {j} {c} {d} {p} k closes goes s rest joined keeps =
+    clocks_next s (record {
+      present = ap (λ x. x.present) rest;
+      gone = ap (λ x. x.gone) rest;
       own =
           λ q. (let most = joined.joined q in let none = cond-and_false (p == q) (is_closing k) closes in omega arith);
       others = joined.same;
       keeps = keeps;
-      arrivals = λ q. (let none = cond-and_false (p == q) (is_arrive k) stays in omega arith);
-      departures = λ q. (let none = cond-and_false (p == q) (is_depart k) goes in omega arith);
+      arrivals =
+          λ q. (let none = cond-and_false (p == q) (is_arrive k) (quiet_no_arrive k closes) in
+          let same = ap (λ x. slice_index x.arrivals q) rest in omega arith);
+      departures =
+          λ q. (let none = cond-and_false (p == q) (is_depart k) goes in
+          let same = ap (λ x. slice_index x.departures q) rest in omega arith);
     })
 
 -- after an arrival
-pub arrived_next : (j : List Event) (c d : Clocks) (p : ℕ) → p < c.present → AreClocks j c
+pub arrived_next : {j : List Event} {c d : Clocks} {p : ℕ} → StepsClocks j c d p
     → d ≡ record c { processors = d.processors; episodes = d.episodes; arrivals = d.arrivals }
-    → vec_len d.processors ≡ vec_len c.processors → EntryClosedAt (entry c.processors.items) (entry d.processors.items) p
+    → EntryClosedAt (entry c.processors.items) (entry d.processors.items) p
     → ClocksArrived c d p → AreClocks (j ++ event p Arrive ∷ []) d
-arrived_next j c d p h a rest long closed arrived =
-    clocks_next j c d p Arrive h a (record {
-      long = long ∙ a.long;
+arrived_next {j} {c} {d} {p} s rest closed arrived =
+    clocks_next s (record {
       present = ap (λ x. x.present) rest;
       gone = ap (λ x. x.gone) rest;
       own = λ q. (let one_more = closed.own q in let one = cond-and_true (p == q) true refl in omega arith);
@@ -378,15 +410,13 @@ arrived_next j c d p h a rest long closed arrived =
     })
 
 -- after a departure
-pub departed_next : (j : List Event) (c d : Clocks) (p : ℕ) → p < c.present → AreClocks j c
+pub departed_next : {j : List Event} {c d : Clocks} {p : ℕ} → StepsClocks j c d p
     → d ≡ record c { processors = d.processors; departures = d.departures }
-    → vec_len d.processors ≡ vec_len c.processors
     → EntryJoinedAt (entry c.processors.items) (entry d.processors.items) p (brought_entry c p Depart)
     → ((q : ℕ) → slice_index d.departures q ≡ slice_index c.departures q + cond (p == q) 1 0)
     → AreClocks (j ++ event p Depart ∷ []) d
-departed_next j c d p h a rest long joined counted =
-    clocks_next j c d p Depart h a (record {
-      long = long ∙ a.long;
+departed_next {j} {c} {d} {p} s rest joined counted =
+    clocks_next s (record {
       present = ap (λ x. x.present) rest;
       gone = ap (λ x. x.gone) rest;
       own = λ q. (let most = joined.joined q in let none = cond-and_false (p == q) false refl in omega arith);
@@ -398,24 +428,31 @@ departed_next j c d p h a rest long joined counted =
       departures = λ q. (let one = cond-and_true (p == q) true refl in let count = counted q in omega arith);
     })
 
--- letting go of an episode that every processor has departed from keeps them
-pub clocks_let_go : (j : List Event) (c d : Clocks) → AreClocks j c → d.processors ≡ c.processors → d.locks ≡ c.locks
-    → d.flags ≡ c.flags → d.arrivals ≡ c.arrivals → d.departures ≡ c.departures → d.present ≡ c.present
-    → ((p : ℕ) → p < c.present → c.gone ≤ slice_index c.departures p → d.gone ≤ slice_index c.departures p)
-    → ((n q : ℕ) → d.gone ≤ n
-    → (c.gone ≤ n) × (entry d.episodes.items (n - d.gone) q ≡ entry c.episodes.items (n - c.gone) q))
-    → AreClocks j d
-clocks_let_go j c d a processors locks flags arrivals departures present left episodes = record {
-  long = ap (λ v. vec_len v) processors ∙ a.long;
-  few = (let few = a.few in omega arith);
-  times = λ p h. subst (λ v. IsTimeOf j p (entry v.items p)) (sym processors) (a.times p h);
-  locks = λ l. subst (λ v. IsTimeIn j (UpToSome j (SomeDoes j (Release l))) (numbered_entry v l)) (sym locks) (a.locks l);
-  flags = λ f. subst (λ v. IsTimeIn j (UpToSome j (SomeDoes j (Set f))) (numbered_entry v f)) (sym flags) (a.flags f);
+-- d is c without some of the episodes that every processor has departed from
+pub record LetsGo (c d : Clocks) : Type 0 where
+  pub processors : d.processors ≡ c.processors
+  pub locks : d.locks ≡ c.locks
+  pub flags : d.flags ≡ c.flags
+  pub arrivals : d.arrivals ≡ c.arrivals
+  pub departures : d.departures ≡ c.departures
+  pub present : d.present ≡ c.present
+  pub left : (p : ℕ) → p < c.present → c.gone ≤ slice_index c.departures p → d.gone ≤ slice_index c.departures p
+  pub episodes : (n q : ℕ) → d.gone ≤ n
+      → (c.gone ≤ n) × (entry d.episodes.items (n - d.gone) q ≡ entry c.episodes.items (n - c.gone) q)
+
+pub clocks_let_go : {j : List Event} {c d : Clocks} → AreClocks j c → LetsGo c d → AreClocks j d
+clocks_let_go {j} {c} {d} a go = record {
+  long = ap (λ v. vec_len v) go.processors ∙ a.long;
+  few = (let few = a.few in let present = go.present in omega arith);
+  times = λ p h. subst (λ v. IsTimeOf j p (entry v.items p)) (sym go.processors) (a.times p h);
+  locks = λ l. subst (λ v. IsTimeIn j (UpToSome j (SomeDoes j (Release l))) (numbered_entry v l)) (sym go.locks) (a.locks l);
+  flags = λ f. subst (λ v. IsTimeIn j (UpToSome j (SomeDoes j (Set f))) (numbered_entry v f)) (sym go.flags) (a.flags f);
   episodes =
       λ n le. time_equal j (UpToSome j (SomeArrives j n)) (entry c.episodes.items (n - c.gone))
-      (entry d.episodes.items (n - d.gone)) (λ q. sym (episodes n q le).1) (a.episodes n (episodes n 0 le).0);
+      (entry d.episodes.items (n - d.gone)) (λ q. sym (go.episodes n q le).1) (a.episodes n (go.episodes n 0 le).0);
   left =
-      λ p h. subst (λ xs. d.gone ≤ slice_index xs p) (sym departures) (left p (omega arith) (a.left p (omega arith)));
-  arrivals = λ p h. ap (λ xs. slice_index xs p) arrivals ∙ a.arrivals p h;
-  departures = λ p h. ap (λ xs. slice_index xs p) departures ∙ a.departures p h;
+      λ p h. (let present = go.present in subst (λ xs. d.gone ≤ slice_index xs p) (sym go.departures)
+      (go.left p (omega arith) (a.left p (omega arith))));
+  arrivals = λ p h. ap (λ xs. slice_index xs p) go.arrivals ∙ a.arrivals p h;
+  departures = λ p h. ap (λ xs. slice_index xs p) go.departures ∙ a.departures p h;
 }

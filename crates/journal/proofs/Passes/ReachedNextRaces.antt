@@ -125,11 +125,15 @@ up_to_before : (j : List Event) (e : Event) (i m k : ℕ) → UpTo j m i → Hap
 up_to_before j e i m k (inl is) h = subst (λ x. HappensBefore (j ++ e ∷ []) x k) (sym is) h
 up_to_before j e i m k (inr before) h = before_transitive (j ++ e ∷ []) (before_longer j (e ∷ []) before) h
 
+-- e comes after j and takes nothing, and t is its processor's timestamp
+record ComesAt (j : List Event) (e : Event) (t : ℕ → ℕ) : Type 0 where
+  pub time : IsTimeOf j e.processor t
+  pub quiet : is_taking e.kind ≡ false
+
 -- what is done before the last event is before it: by its own processor, or where its timestamp counts the interval
-before_last : (j : List Event) (e : Event) (t : ℕ → ℕ) (q i : ℕ) (k : Kind) → is_taking e.kind ≡ false
-    → IsTimeOf j e.processor t → Does j i q k → (q ≢ e.processor → interval_at j q i < t q)
-    → HappensBefore (j ++ e ∷ []) i (length j)
-before_last j e t q i k quiet time does counted =
+does_before_last : {j : List Event} {e : Event} {t : ℕ → ℕ} → ComesAt j e t → (q i : ℕ) (k : Kind) → Does j i q k
+    → (q ≢ e.processor → interval_at j q i < t q) → HappensBefore (j ++ e ∷ []) i (length j)
+does_before_last {j} {e} {t} comes q i k does counted =
     elim (cases_eq q e.processor) [ inl is ↦ mine is | inr isnt ↦ others isnt ]
   where
     lt : i < length j
@@ -152,19 +156,18 @@ before_last j e t q i k quiet time does counted =
     others : q ≢ e.processor → HappensBefore (j ++ e ∷ []) i (length j)
     others isnt =
         let front = take-append_seam j (e ∷ []) in
-        let time_now = subst (λ xs. IsTimeOf xs e.processor t) (sym front) time in
+        let time_now = subst (λ xs. IsTimeOf xs e.processor t) (sym front) comes.time in
         let number = count_of-front is_closing j (e ∷ []) i q (omega (arith, lt)) in
         let below = counted isnt in
-        (ordered_before (j ++ e ∷ []) (length j) e.processor q i k e.kind t time_now does_now (at_last j e) quiet isnt
-        lt).1
+        (ordered_before (j ++ e ∷ []) (length j) e.processor q i k e.kind t time_now does_now (at_last j e) comes.quiet
+        isnt lt).1
         (omega arith)
 
 -- what numbers within its timestamp reach is before the last event
-reached_last : (j : List Event) (e : Event) (t n : ℕ → ℕ) (i : ℕ) → is_taking e.kind ≡ false
-    → IsTimeOf j e.processor t → AreWithin n t e.processor → IsReached j n i
-    → HappensBefore (j ++ e ∷ []) i (length j)
-reached_last j e t n i quiet time within r =
-    up_to_before j e i r.last (length j) r.reaches (before_last j e t r.by r.last r.kind quiet time r.does
+reached_last : {j : List Event} {e : Event} {t n : ℕ → ℕ} {i : ℕ} → ComesAt j e t → AreWithin n t e.processor
+    → IsReached j n i → HappensBefore (j ++ e ∷ []) i (length j)
+reached_last {j} {e} {t} {n} {i} comes within r =
+    up_to_before j e i r.last (length j) r.reaches (does_before_last comes r.by r.last r.kind r.does
     (λ apart. (let le = within r.by apart in let below = r.number in omega arith)))
 
 -- the last event is reached by a number above its interval, and so is what is up to it
@@ -209,9 +212,9 @@ reached_same : (j : List Event) (e : Event) (m n : ℕ → ℕ) (i : ℕ) → ((
 reached_same j e m n i is r = reached_longer j e m n i r (let eq = is r.by in omega arith)
 
 -- what the loads' numbers reach is reached by those after a load
-reached_next : (j : List Event) (e : Event) (t m n : ℕ → ℕ) (i : ℕ) → is_taking e.kind ≡ false
-    → IsTimeOf j e.processor t → AreLoadsAfter m n t e.processor → IsReached j m i → IsReached (j ++ e ∷ []) n i
-reached_next j e t m n i quiet time after r = elim (cases_eq r.by e.processor) [
+reached_next : {j : List Event} {e : Event} {t m n : ℕ → ℕ} {i : ℕ} → ComesAt j e t → AreLoadsAfter m n t e.processor
+    → IsReached j m i → IsReached (j ++ e ∷ []) n i
+reached_next {j} {e} {t} {m} {n} {i} comes after r = elim (cases_eq r.by e.processor) [
   | inl is ↦ through (λ apart. absurd (apart is))
   | inr isnt ↦ elim (after.others r.by isnt) [
     | inl counted ↦ through (λ apart. (let below = r.number in omega arith))
@@ -221,15 +224,24 @@ reached_next j e t m n i quiet time after r = elim (cases_eq r.by e.processor) [
   where
     through : (r.by ≢ e.processor → interval_at j r.by r.last < t r.by) → IsReached (j ++ e ∷ []) n i
     through counted =
-        reached_by_last j e t n i time after.own
+        reached_by_last j e t n i comes.time after.own
         (inr (up_to_before j e i r.last (length j) r.reaches
-        (before_last j e t r.by r.last r.kind quiet time r.does counted)))
+        (does_before_last comes r.by r.last r.kind r.does counted)))
+
+-- e's processor has the timestamp t after j, and x is what is kept of the addresses
+pub record MeetsAccesses (j : List Event) (e : Event) (t : ℕ → ℕ) (addresses : ℕ) (x : Accesses) : Type 0 where
+  pub time : IsTimeOf j e.processor t
+  pub kept : AreAccessEntries j addresses x
+
+-- each event that conflicts with e happens before it, when it comes last
+abbrev ConflictsAreBefore : List Event → Event → Type 0
+ConflictsAreBefore j e =
+    (i q : ℕ) (f : Kind) → Does j i q f → Conflict (event q f) e → HappensBefore (j ++ e ∷ []) i (length j)
 
 -- an event doesn't end a race where its timestamp counts the last accesses by others that conflict with it
-no_race_last : (j : List Event) (e : Event) (t : ℕ → ℕ) (addresses : ℕ) (x : Accesses) → IsTimeOf j e.processor t
-    → AreAccessEntries j addresses x → (k : Kind) → e.kind ≡ k → ConflictsAreCounted x e.processor t k → (i q : ℕ)
-    → (f : Kind) → Does j i q f → Conflict (event q f) e → HappensBefore (j ++ e ∷ []) i (length j)
-no_race_last j e t addresses x time kept (Load a v) is counted i q f does c =
+no_race_last : {j : List Event} {e : Event} {t : ℕ → ℕ} {addresses : ℕ} {x : Accesses} → MeetsAccesses j e t addresses x
+    → (k : Kind) → e.kind ≡ k → ConflictsAreCounted x e.processor t k → ConflictsAreBefore j e
+no_race_last {j} {e} {t} {addresses} {x} m (Load a v) is counted i q f does c =
     elim (access_cases f c.address c.first) [
       | inl load ↦ elim c.stores [
         | inl first ↦ absurd (cc (first, ap (λ k. is_store k) load.1))
@@ -237,36 +249,37 @@ no_race_last j e t addresses x time kept (Load a v) is counted i q f does c =
       ]
       | inr store ↦ (let at = same_Some a c.address (sym (ap (λ k. address_of k) is) ∙ c.second) in
           let does_store = subst (λ k. Does j i q k) store.1 does in
-          reached_last j e t (store_entry x a) i (access_quiet e.kind c.address c.second) time counted
-          (subst (λ b. IsReached j (store_entry x b) i) (sym at) (kept.stores c.address q i store.0 does_store)))
+          let comes : ComesAt j e t = record { time = m.time; quiet = access_quiet e.kind c.address c.second } in
+          reached_last {n = store_entry x a} comes counted
+          (subst (λ b. IsReached j (store_entry x b) i) (sym at) (m.kept.stores c.address q i store.0 does_store)))
     ]
-no_race_last j e t addresses x time kept (Store a v) is counted i q f does c =
+no_race_last {j} {e} {t} {addresses} {x} m (Store a v) is counted i q f does c =
     elim (access_cases f c.address c.first) [
       | inl load ↦ (let does_load = subst (λ k. Does j i q k) load.1 does in
-          elim (kept.loads c.address q i load.0 does_load)
+          elim (m.kept.loads c.address q i load.0 does_load)
           [ inl r ↦ by_store r | inr r ↦ by_loads r ])
-      | inr store ↦ by_store (kept.stores c.address q i store.0 (subst (λ k. Does j i q k) store.1 does))
+      | inr store ↦ by_store (m.kept.stores c.address q i store.0 (subst (λ k. Does j i q k) store.1 does))
     ]
   where
+    comes : ComesAt j e t
+    comes = record { time = m.time; quiet = access_quiet e.kind c.address c.second }
+
     at : a ≡ c.address
     at = same_Some a c.address (sym (ap (λ k. address_of k) is) ∙ c.second)
 
     by_store : IsReached j (store_entry x c.address) i → HappensBefore (j ++ e ∷ []) i (length j)
     by_store r =
-        reached_last j e t (store_entry x a) i (access_quiet e.kind c.address c.second) time counted.0
-        (subst (λ b. IsReached j (store_entry x b) i) (sym at) r)
+        reached_last {n = store_entry x a} comes counted.0 (subst (λ b. IsReached j (store_entry x b) i) (sym at) r)
 
     by_loads : IsReached j (load_entry x c.address) i → HappensBefore (j ++ e ∷ []) i (length j)
     by_loads r =
-        reached_last j e t (load_entry x a) i (access_quiet e.kind c.address c.second) time counted.1
-        (subst (λ b. IsReached j (load_entry x b) i) (sym at) r)
-no_race_last j e t addresses x time kept _ is counted i q f does c =
-    absurd (cc (ap (λ k. address_of k) is, c.second))
+        reached_last {n = load_entry x a} comes counted.1 (subst (λ b. IsReached j (load_entry x b) i) (sym at) r)
+no_race_last m _ is counted i q f does c = absurd (cc (ap (λ k. address_of k) is, c.second))
 
-pub no_race : (events : List Event) (place addresses : ℕ) (e : Event) (t : ℕ → ℕ) (x : Accesses) → At events place e
-    → IsTimeOf (take place events) e.processor t → AreAccessEntries (take place events) addresses x
-    → ConflictsAreCounted x e.processor t e.kind → (i : ℕ) → ¬ Race events i place
-no_race events place addresses e t x at time kept counted i r = r.unordered before
+pub no_race : {t : ℕ → ℕ} {addresses : ℕ} {x : Accesses} → (events : List Event) (place : ℕ) (e : Event)
+    → At events place e → MeetsAccesses (take place events) e t addresses x → ConflictsAreCounted x e.processor t e.kind → (i : ℕ)
+    → ¬ Race events i place
+no_race events place e at m counted i r = r.unordered before
   where
     both : (r.first.processor ≢ e.processor) × Conflict r.first e
     both = race_events events place i e r.first at r.first_at r
@@ -284,18 +297,20 @@ no_race events place addresses e t x at time kept counted i r = r.unordered befo
 
     before : HappensBefore events i place
     before =
-        let h =
-        no_race_last (take place events) e t addresses x time kept e.kind refl counted i r.first.processor
-        r.first.kind does both.1 in
+        let h = no_race_last m e.kind refl counted i r.first.processor r.first.kind does both.1 in
         subst (λ xs. HappensBefore xs i place) split
         (before_longer (take place events ++ e ∷ []) (drop (suc place) events)
         (subst (λ m. HappensBefore (take place events ++ e ∷ []) i m) long h))
 
--- an event that ends no race counts all accesses by others that conflict with it
+-- the timestamp t counts each access by another processor that conflicts with e
+abbrev pub ConflictsAreOrdered : List Event → Event → (ℕ → ℕ) → Type 0
+ConflictsAreOrdered j e t =
+    (i q : ℕ) (k : Kind) → Does j i q k → Conflict (event q k) e → q ≢ e.processor → interval_at j q i < t q
+
+-- so does that of an event that ends no race
 pub ordered_here : (events : List Event) (place : ℕ) (e : Event) (t : ℕ → ℕ) → At events place e
-    → IsTimeOf (take place events) e.processor t → ((i : ℕ) → ¬ Race events i place) → (i q : ℕ) (k : Kind)
-    → Does (take place events) i q k → Conflict (event q k) e → q ≢ e.processor
-    → interval_at (take place events) q i < t q
+    → IsTimeOf (take place events) e.processor t → ((i : ℕ) → ¬ Race events i place)
+    → ConflictsAreOrdered (take place events) e t
 ordered_here events place e t at time none i q k does conflict apart =
     let lt = slice_get-take_within events place i (event q k) does in
     let does_here : Does events i q k = sym (slice_get-take events place i lt) ∙ does in
@@ -306,63 +321,72 @@ ordered_here events place e t at time none i q k does conflict apart =
           (none i ((race_by_time events place i e (event q k) t at does_here lt apart conflict time).1 le))
     ]
 
+-- e ends no race with what came before, and y, which is as long as x, is to be what is kept with it
+pub record NotesAccess (j : List Event) (e : Event) (t : ℕ → ℕ) (addresses : ℕ) (x y : Accesses) : Type 0 where
+  pub time : IsTimeOf j e.processor t
+  pub kept : AreAccessEntries j addresses x
+  pub ordered : ConflictsAreOrdered j e t
+  pub last_long : vec_len y.last ≡ vec_len x.last
+  pub loads_long : vec_len y.loads ≡ vec_len x.loads
+
 -- what is kept of the addresses, after a load
-next_load : (j : List Event) (e : Event) (t : ℕ → ℕ) (addresses a v : ℕ) (x y : Accesses) → e.kind ≡ Load a v
-    → IsTimeOf j e.processor t → AreAccessEntries j addresses x → vec_len y.last ≡ vec_len x.last
-    → vec_len y.loads ≡ vec_len x.loads → LoadAccessNoted x y a e.processor t → AreAccessEntries (j ++ e ∷ []) addresses y
-next_load j e t addresses a v x y is time kept last_long loads_long noted = record {
-  last_long = last_long ∙ kept.last_long;
-  loads_long = loads_long ∙ kept.loads_long;
+next_load : {j : List Event} {e : Event} {t : ℕ → ℕ} {addresses : ℕ} {x y : Accesses} → NotesAccess j e t addresses x y
+    → (a v : ℕ) → e.kind ≡ Load a v → LoadAccessNoted x y a e.processor t → AreAccessEntries (j ++ e ∷ []) addresses y
+next_load {j} {e} {t} {addresses} {x} {y} n a v is noted = record {
+  last_long = n.last_long ∙ n.kept.last_long;
+  loads_long = n.loads_long ∙ n.kept.loads_long;
   stores = stores;
   loads = loads;
 }
   where
+    comes : ComesAt j e t
+    comes = record { time = n.time; quiet = ap (λ k. is_taking k) is }
+
     old_store : (b i : ℕ) → IsReached j (store_entry x b) i → IsReached (j ++ e ∷ []) (store_entry y b) i
     old_store b i r = reached_same j e (store_entry x b) (store_entry y b) i (λ q. noted.same_stores b q) r
 
     old_load : (b i : ℕ) → IsReached j (load_entry x b) i → IsReached (j ++ e ∷ []) (load_entry y b) i
     old_load b i r = elim (cases_eq b a) [
       | inl eq ↦ subst (λ c. IsReached j (load_entry x c) i → IsReached (j ++ e ∷ []) (load_entry y c) i) (sym eq)
-          (λ s. reached_next j e t (load_entry x a) (load_entry y a) i (ap (λ k. is_taking k) is) time noted.loads s)
-          r
+          (λ s. reached_next {m = load_entry x a} {n = load_entry y a} comes noted.loads s) r
       | inr isnt ↦
           reached_same j e (load_entry x b) (load_entry y b) i (λ q. noted.same_loads b q isnt) r
     ]
 
     stores : (b q i w : ℕ) → Does (j ++ e ∷ []) i q (Store b w) → IsReached (j ++ e ∷ []) (store_entry y b) i
     stores b q i w does = elim (push_cases j e i (event q (Store b w)) does) [
-      | inl before ↦ old_store b i (kept.stores b q i w before.1)
+      | inl before ↦ old_store b i (n.kept.stores b q i w before.1)
       | inr last ↦ absurd (cc (is, ap (λ f. f.kind) last.1))
     ]
 
     newest : (b i : ℕ) → i ≡ length j → a ≡ b → IsReached (j ++ e ∷ []) (load_entry y b) i
     newest b i at eq =
-        reached_by_last j e t (load_entry y b) i time
+        reached_by_last j e t (load_entry y b) i n.time
         (subst (λ c. t e.processor < load_entry y c e.processor) eq noted.loads.own) (inl at)
 
     loads : (b q i w : ℕ) → Does (j ++ e ∷ []) i q (Load b w)
         → IsReached (j ++ e ∷ []) (store_entry y b) i ⊎ IsReached (j ++ e ∷ []) (load_entry y b) i
     loads b q i w does = elim (push_cases j e i (event q (Load b w)) does) [
-      | inl before ↦ elim (kept.loads b q i w before.1)
+      | inl before ↦ elim (n.kept.loads b q i w before.1)
           [ inl r ↦ inl (old_store b i r) | inr r ↦ inr (old_load b i r) ]
       | inr last ↦
           inr (newest b i last.0
           (same_Some a b (sym (ap (λ k. address_of k) is) ∙ ap (λ f. address_of f.kind) last.1)))
     ]
 
--- after a store, before which all conflicting accesses are counted
-next_store : (j : List Event) (e : Event) (t : ℕ → ℕ) (addresses a v : ℕ) (x y : Accesses) → e.kind ≡ Store a v
-    → IsTimeOf j e.processor t → AreAccessEntries j addresses x
-    → ((i q : ℕ) (k : Kind) → Does j i q k → Conflict (event q k) e → q ≢ e.processor → interval_at j q i < t q)
-    → vec_len y.last ≡ vec_len x.last → vec_len y.loads ≡ vec_len x.loads → StoreAccessNoted x y a e.processor t
-    → AreAccessEntries (j ++ e ∷ []) addresses y
-next_store j e t addresses a v x y is time kept ordered last_long loads_long noted = record {
-  last_long = last_long ∙ kept.last_long;
-  loads_long = loads_long ∙ kept.loads_long;
+-- after a store
+next_store : {j : List Event} {e : Event} {t : ℕ → ℕ} {addresses : ℕ} {x y : Accesses} → NotesAccess j e t addresses x y
+    → (a v : ℕ) → e.kind ≡ Store a v → StoreAccessNoted x y a e.processor t → AreAccessEntries (j ++ e ∷ []) addresses y
+next_store {j} {e} {t} {addresses} {x} {y} n a v is noted = record {
+  last_long = n.last_long ∙ n.kept.last_long;
+  loads_long = n.loads_long ∙ n.kept.loads_long;
   stores = stores;
   loads = loads;
 }
   where
+    comes : ComesAt j e t
+    comes = record { time = n.time; quiet = ap (λ k. is_taking k) is }
+
     conflict : (q : ℕ) (k : Kind) → address_of k ≡ Some a → Conflict (event q k) e
     conflict q k at = record {
       address = a;
@@ -375,14 +399,14 @@ next_store j e t addresses a v x y is time kept ordered last_long loads_long not
     through : (b i q : ℕ) (k : Kind) → Does j i q k → address_of k ≡ Some b → b ≡ a
         → IsReached (j ++ e ∷ []) (store_entry y b) i
     through b i q k does at eq =
-        reached_by_last j e t (store_entry y b) i time
+        reached_by_last j e t (store_entry y b) i n.time
         (subst (λ c. t e.processor < store_entry y c e.processor) (sym eq) noted.own)
-        (inr (before_last j e t q i k (ap (λ k. is_taking k) is) time does
-        (ordered i q k does (conflict q k (at ∙ ap (λ c. Some c) eq)))))
+        (inr (does_before_last comes q i k does
+        (n.ordered i q k does (conflict q k (at ∙ ap (λ c. Some c) eq)))))
 
     newest : (b i : ℕ) → i ≡ length j → a ≡ b → IsReached (j ++ e ∷ []) (store_entry y b) i
     newest b i at eq =
-        reached_by_last j e t (store_entry y b) i time
+        reached_by_last j e t (store_entry y b) i n.time
         (subst (λ c. t e.processor < store_entry y c e.processor) eq noted.own) (inl at)
 
     stores : (b q i w : ℕ) → Does (j ++ e ∷ []) i q (Store b w) → IsReached (j ++ e ∷ []) (store_entry y b) i
@@ -391,7 +415,7 @@ next_store j e t addresses a v x y is time kept ordered last_long loads_long not
         | inl eq ↦ through b i q (Store b w) before.1 refl eq
         | inr isnt ↦
             reached_same j e (store_entry x b) (store_entry y b) i (λ p. noted.same_stores b p isnt)
-            (kept.stores b q i w before.1)
+            (n.kept.stores b q i w before.1)
       ]
       | inr last ↦ newest b i last.0
           (same_Some a b (sym (ap (λ k. address_of k) is) ∙ ap (λ f. address_of f.kind) last.1))
@@ -402,7 +426,7 @@ next_store j e t addresses a v x y is time kept ordered last_long loads_long not
     loads b q i w does = elim (push_cases j e i (event q (Load b w)) does) [
       | inl before ↦ elim (cases_eq b a) [
         | inl eq ↦ inl (through b i q (Load b w) before.1 refl eq)
-        | inr isnt ↦ elim (kept.loads b q i w before.1) [
+        | inr isnt ↦ elim (n.kept.loads b q i w before.1) [
           | inl r ↦ inl
               (reached_same j e (store_entry x b) (store_entry y b) i (λ p. noted.same_stores b p isnt) r)
           | inr r ↦ inr
@@ -435,15 +459,11 @@ next_other j e addresses x is kept = record {
 }
 
 -- what is kept of the addresses, one event on that ends no race
-pub accesses_next : (j : List Event) (e : Event) (t : ℕ → ℕ) (addresses : ℕ) (x y : Accesses)
-    → IsTimeOf j e.processor t → AreAccessEntries j addresses x
-    → ((i q : ℕ) (k : Kind) → Does j i q k → Conflict (event q k) e → q ≢ e.processor → interval_at j q i < t q)
-    → vec_len y.last ≡ vec_len x.last → vec_len y.loads ≡ vec_len x.loads → (k : Kind) → e.kind ≡ k
-    → AccessNoted x y e.processor t k → AreAccessEntries (j ++ e ∷ []) addresses y
-accesses_next j e t addresses x y time kept ordered last_long loads_long (Load a v) is noted =
-    next_load j e t addresses a v x y is time kept last_long loads_long noted
-accesses_next j e t addresses x y time kept ordered last_long loads_long (Store a v) is noted =
-    next_store j e t addresses a v x y is time kept ordered last_long loads_long noted
-accesses_next j e t addresses x y time kept ordered last_long loads_long _ is noted =
+pub accesses_next : {j : List Event} {e : Event} {t : ℕ → ℕ} {addresses : ℕ} {x y : Accesses}
+    → NotesAccess j e t addresses x y → (k : Kind) → e.kind ≡ k → AccessNoted x y e.processor t k
+    → AreAccessEntries (j ++ e ∷ []) addresses y
+accesses_next n (Load a v) is noted = next_load n a v is noted
+accesses_next n (Store a v) is noted = next_store n a v is noted
+accesses_next {j} {e} {t} {addresses} {x} {y} n _ is noted =
     subst (λ z. AreAccessEntries (j ++ e ∷ []) addresses z) (sym noted)
-    (next_other j e addresses x (ap (λ k. address_of k) is) kept)
+    (next_other j e addresses x (ap (λ k. address_of k) is) n.kept)

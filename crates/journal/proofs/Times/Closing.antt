@@ -91,9 +91,9 @@ pub closed_of : (j : List Event) (q i c : ℕ) (a : Kind) (x : ClosedAt j i c) �
 closed_of j q i c a x does = ap (λ (e : Event). e.processor) (at_same j i x.event (event q a) x.at does)
 
 -- the closing event is the processor's first from the event on
-pub closes_first : (j : List Event) (q i c m : ℕ) (a : Kind) → ClosedAt j i c → Does j i q a → i ≤ m → ClosesAt j q m
+pub closes_first : {j : List Event} {q i c m : ℕ} {a : Kind} → ClosedAt j i c → Does j i q a → i ≤ m → ClosesAt j q m
     → c ≤ m
-closes_first j q i c m a x does from closes =
+closes_first {j} {q} {i} {c} {m} {a} x does from closes =
     let P : ℕ
     → Type 0 = λ r. ClosesAt j r m in closer_least j i c m x from
     (subst P (sym (closed_of j q i c a x does)) closes)

@@ -30,11 +30,11 @@ kept_others j es some others t inside is a =
     back i h = let old = (is h.0).1 h.1 in (h.0, old, up_to_shorter j es h.0 i (inside h.0 old) h.2)
 
 -- with the event that is pushed among them, they join its timestamp
-pub kept_now : (j : List Event) (e : Event) (some others : ℕ → Type 0) (t u : ℕ → ℕ)
+pub kept_now : {j : List Event} {t u : ℕ → ℕ} → (e : Event) (some others : ℕ → Type 0)
     → ((i : ℕ) → some i → i < length j) → ((i : ℕ) → others i ↔ (some i ⊎ (i ≡ length j)))
     → IsTimeIn j (UpToSome j some) t → IsTimeOf (j ++ e ∷ []) e.processor u
     → IsTimeIn (j ++ e ∷ []) (UpToSome (j ++ e ∷ []) others) (λ q. max (t q) (u q))
-kept_now j e some others t u inside is a b =
+kept_now {j} {t} {u} e some others inside is a b =
     time_same (j ++ e ∷ []) (λ i. UpToSome (j ++ e ∷ []) some i ⊎ UpTo (j ++ e ∷ []) (length j) i)
     (UpToSome (j ++ e ∷ []) others) (λ q. max (t q) (u q)) (λ i. (there i, back i))
     (time_joined (j ++ e ∷ []) (UpToSome (j ++ e ∷ []) some) (UpTo (j ++ e ∷ []) (length j)) t u
@@ -93,8 +93,7 @@ pub kind_joins : (j : List Event) (e : Event) (t u : ℕ → ℕ) → IsTimeIn j
     → IsTimeOf (j ++ e ∷ []) e.processor u
     → IsTimeIn (j ++ e ∷ []) (UpToSome (j ++ e ∷ []) (SomeDoes (j ++ e ∷ []) e.kind)) (λ q. max (t q) (u q))
 kind_joins j e t u a b =
-    kept_now j e (SomeDoes j e.kind) (SomeDoes (j ++ e ∷ []) e.kind) t u (some_within j e.kind) (λ i. does_now j e i)
-    a b
+    kept_now e (SomeDoes j e.kind) (SomeDoes (j ++ e ∷ []) e.kind) (some_within j e.kind) (λ i. does_now j e i) a b
 
 arrives_longer : (j es : List Event) (n i : ℕ) → SomeArrives j n i → SomeArrives (j ++ es) n i
 arrives_longer j es n i h =
@@ -192,6 +191,6 @@ pub arrival_joins : (j : List Event) (e : Event) (t u : ℕ → ℕ) → e.kind 
     → IsTimeIn (j ++ e ∷ []) (UpToSome (j ++ e ∷ []) (SomeArrives (j ++ e ∷ []) (count_of is_arrive j e.processor)))
     (λ q. max (t q) (u q))
 arrival_joins j e t u arrive a b =
-    kept_now j e (SomeArrives j (count_of is_arrive j e.processor))
-    (SomeArrives (j ++ e ∷ []) (count_of is_arrive j e.processor)) t u
+    kept_now e (SomeArrives j (count_of is_arrive j e.processor))
+    (SomeArrives (j ++ e ∷ []) (count_of is_arrive j e.processor))
     (arrives_within j (count_of is_arrive j e.processor)) (λ i. arrives_now j e i arrive) a b

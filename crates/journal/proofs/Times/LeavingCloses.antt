@@ -86,12 +86,12 @@ leaving j p q i a does apart x = go x.reaches
         }
 
 -- the same of an event's past
-pub leaving_at : (j : List Event) (k p q i : ℕ) (a b : Kind) → Does j i q a → Does j k p b → q ≢ p → UpTo j k i
+pub leaving_at : {p q : ℕ} {a b : Kind} → (j : List Event) (k i : ℕ) → Does j i q a → Does j k p b → q ≢ p → UpTo j k i
     → LeavesAt j q i (UpTo j k)
-leaving_at j k p q i a b does at apart (inl is) =
+leaving_at {p} {q} {a} {b} j k i does at apart (inl is) =
     let here = at_same j k (event p b) (event q a) at (subst (λ m. At j m (event q a)) is does) in
     absurd (apart (sym (ap (λ y. y.processor) here)))
-leaving_at j k p q i a b does at apart (inr h) =
+leaving_at {p} {q} {a} {b} j k i does at apart (inr h) =
     let c = path_leaves j q h (event q a) (event p b) does at refl (λ s. apart (sym s)) in
     record { close = c.close; from = c.from; closes = c.closes; inside = inr c.inside }
 
@@ -100,10 +100,12 @@ pub own_order : (j : List Event) (q i c : ℕ) (a b : Kind) → Does j i q a →
 own_order j q i c a b does to lt =
     edge (record { before = lt; from = event q a; to = event q b; from_at = does; to_at = to; link = same refl })
 
--- a set of places that is closed backwards has, with a processor's event, its events before
-pub back_own : (j : List Event) (among : ℕ → Type 0) (q i c : ℕ) (a b : Kind)
-    → ((m n : ℕ) → HappensBefore j m n → among n → among m) → Does j i q a → Does j c q b → i ≤ c → among c → among i
-back_own j among q i c a b back does to le inside = elim (cases_eq i c) [
-  | inl is ↦ subst among (sym is) inside
-  | inr isnt ↦ back i c (own_order j q i c a b does to (omega arith)) inside
+-- a set of places that is closed backwards has, with a closing event of a processor, its events before
+pub back_own : {j : List Event} {among : ℕ → Type 0} {q i : ℕ} {a : Kind}
+    → ((m n : ℕ) → HappensBefore j m n → among n → among m) → Does j i q a → LeavesAt j q i among → among i
+back_own {j} {among} {q} {i} {a} back does l = elim (cases_eq i l.close) [
+  | inl is ↦ subst among (sym is) l.inside
+  | inr isnt ↦
+      let from = l.from in
+      back i l.close (own_order j q i l.close a l.closes.kind does l.closes.does (omega arith)) l.inside
 ]

@@ -146,10 +146,10 @@ time_at_last j e t a = record { covers = covers; within = a.within }
 
 -- of any past that a processor's event leaves at closing events only, the time tells of each event of the processor
 -- whether it is in it
-pub covered_in : (j : List Event) (among : ℕ → Type 0) (t : ℕ → ℕ) (q i : ℕ) (a : Kind) → IsTimeIn j among t
+pub covered_in : {j : List Event} {among : ℕ → Type 0} {t : ℕ → ℕ} {q i : ℕ} {a : Kind} → IsTimeIn j among t
     → ((m n : ℕ) → HappensBefore j m n → among n → among m) → Does j i q a → (among i → LeavesAt j q i among)
     → among i ↔ (interval_at j q i < t q)
-covered_in j among t q i a time back does leaves = (there, here)
+covered_in {j} {among} {t} {q} {i} {a} time back does leaves = (there, here)
   where
     there : among i → interval_at j q i < t q
     there h =
@@ -168,11 +168,11 @@ covered_in j among t q i a time back does leaves = (there, here)
         let from : n.place < i → ⊥ =
         λ before. (let up = count_of-past is_closing j n.place i q n.kind n.does n.counts before in omega arith)
         in
-        back_own j among q i n.place a n.kind back does n.does (omega arith) inside
+        back_own back does (record { close = n.place; from = omega arith; closes = closes; inside = inside })
 
 -- another's event is in a processor's past exactly where the timestamp counts its interval
 pub covered : (j : List Event) (p q i : ℕ) (a : Kind) (t : ℕ → ℕ) → IsTimeOf j p t → Does j i q a → q ≢ p
     → InPast j p i ↔ (interval_at j q i < t q)
 covered j p q i a t time does apart =
-    covered_in j (InPast j p) t q i a time (λ m n h x. past_back j p m n h x) does
+    covered_in time (λ m n h x. past_back j p m n h x) does
     (λ x. leaving j p q i a does apart x)

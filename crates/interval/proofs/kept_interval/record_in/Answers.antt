@@ -3,14 +3,15 @@ use Rattle.std.specs.Arc.{arc_value}
 use Rattle.std.proofs.lemmas.Bool.{cond-true, cond-false, eq-eqb, ne_eqb}
 use Rattle.std.proofs.lemmas.List.{drop_all}
 use Rattle.page.specs.RisingChanges.{Changes}
+use Rattle.interval.proofs.Records.ReadItems.{ReadsItem}
 use Rattle.interval.proofs.Records.FindAndPush.{find_more}
 use Rattle.interval.proofs.kept_interval.record_in.Goals as goal
 
 pub returns-then-page : goal.returns-then-page
 returns-then-page c =
-    let step =
-    find_more arc_value (λ (r : Changes). r.page == c.args.page) c.args.records.now
-    c.loop-record.record-index c.record-item.result c.loop-record-test.true c.record-item.is in
+    let read : ReadsItem c.args.records.now c.loop-record.record-index c.record-item.result =
+    record { inside = c.loop-record-test.true; is = c.record-item.is } in
+    let step = find_more arc_value (λ (r : Changes). r.page == c.args.page) read in
     let same = c.deref-record.ensures in
     let page : (arc_value c.record-item.result).page ≡ c.args.page =
     ap (λ (r : Changes). r.page) (sym same) ∙ sym c.page.ensures ∙ c.if-page.true in
@@ -18,9 +19,9 @@ returns-then-page c =
 
 pub loop-record-preserved : goal.loop-record-preserved
 loop-record-preserved c =
-    let step =
-    find_more arc_value (λ (r : Changes). r.page == c.args.page) c.args.records.now
-    c.loop-record.record-index c.record-item.result c.loop-record-test.true c.record-item.is in
+    let read : ReadsItem c.args.records.now c.loop-record.record-index c.record-item.result =
+    record { inside = c.loop-record-test.true; is = c.record-item.is } in
+    let step = find_more arc_value (λ (r : Changes). r.page == c.args.page) read in
     let same = c.deref-record.ensures in
     let other : (arc_value c.record-item.result).page ≡ c.args.page → ⊥ =
     λ e. c.if-page.false (c.page.ensures ∙ ap (λ (r : Changes). r.page) same ∙ e) in

@@ -14,7 +14,7 @@ use Rattle.journal.specs.Clocks.{AreClocks}
 use Rattle.journal.specs.AccessEntry.{AreAccessEntries}
 use Rattle.journal.proofs.Times.Times.{time_equal}
 use Rattle.journal.proofs.Passes.NextClocks.{time_small, front_next, clocks_plain}
-use Rattle.journal.proofs.Passes.ReachedNextRaces.{access_plain, no_access, no_race_other, next_other, accesses_next, ordered_here}
+use Rattle.journal.proofs.Passes.ReachedNextRaces.{access_plain, no_access, no_race_other, next_other, NotesAccess, accesses_next, ordered_here}
 use Rattle.journal.proofs.race.first_race_of.Goals as goal
 use Rattle.journal.proofs.race.first_race_of.Goals.{then-is_access+in_default, else-is_access+in_ok-note}
 
@@ -129,10 +129,14 @@ loop-place-preserved c =
           time_equal front (InPast front e.processor) (entry c.loop-place.clocks.processors.items e.processor) t
           (λ q. sym (w.of-time.ensures q)) (c.loop-place.invariant.0.times e.processor lt) in
           let here_none : (i : ℕ) → Race events i place → ⊥ = w.in_default.ensures in
-          let accesses =
-          accesses_next front e t c.args.addresses c.loop-place.accesses w.note.new.self time
-          c.loop-place.invariant.1 (ordered_here events place e t at time here_none) w.note.ensures.last_long
-          w.note.ensures.loads_long e.kind refl w.note.ensures.noted in (
+          let notes : NotesAccess front e t c.args.addresses c.loop-place.accesses w.note.new.self = record {
+            time = time;
+            kept = c.loop-place.invariant.1;
+            ordered = ordered_here events place e t at time here_none;
+            last_long = w.note.ensures.last_long;
+            loads_long = w.note.ensures.loads_long;
+          } in
+          let accesses = accesses_next notes e.kind refl w.note.ensures.noted in (
             subst (λ x. AreClocks (take (place + 1) events) x) (sym w.clocks-is)
                 (subst (λ xs. AreClocks xs c.loop-place.clocks) (sym next) clocks),
             subst (λ x. AreAccessEntries (take (place + 1) events) c.args.addresses x) (sym w.accesses-is)

@@ -4,6 +4,8 @@ use Rattle.std.proofs.lemmas.List.{take_all}
 use Rattle.std.proofs.lemmas.List.Sorted.{IsNonDecreasingBy-from_sort_by_key}
 use Rattle.interval.specs.declared.kept_interval.KeptInterval.{KeptInterval}
 use Rattle.interval.specs.Closings.{sent_interval}
+use Rattle.interval.proofs.Records.ReadItems.{ReadsItem}
+use Rattle.interval.proofs.Queues.Merged.{QueuesHold}
 use Rattle.interval.proofs.News.Gathered.{sent_more, rises-news}
 use Rattle.interval.proofs.News.InClosingOrder.{between_in_order}
 use Rattle.interval.proofs.Order.SortedPlaces.{sorted_all}
@@ -17,18 +19,19 @@ loop-kept-init c = c.new-sent.ensures.items
 
 pub loop-kept-preserved : goal.loop-kept-preserved
 loop-kept-preserved c =
-    sent_more kept c.deref-kept-items.result.now c.loop-kept.kept-index c.kept-item.result c.loop-kept.sent.items
-    c.send.new.sent.items c.loop-kept-test.true c.kept-item.is c.loop-kept.invariant c.in_ok-send.ensures
+    let read : ReadsItem c.deref-kept-items.result.now c.loop-kept.kept-index c.kept-item.result =
+    record { inside = c.loop-kept-test.true; is = c.kept-item.is } in
+    sent_more kept read c.loop-kept.invariant c.in_ok-send.ensures
 
 pub returns-clause-value : goal.returns-clause-value
 returns-clause-value c =
     let sorted = IsNonDecreasingBy-from_sort_by_key (λ (k : Bor KeptInterval). k.now.place) _
     c.sort_unstable_by_key.ensures.sorted (λ a r q k. search rules) in
+    let hold : QueuesHold c.self.inside.queues.items c.self.inside.pushed c.args.self.now =
+    record { seen = c.self.view_is; are = c.self.invariant } in
     let all =
     sorted_all kept _ c.in_ok-news.news.items c.sort_unstable_by_key.new.self.items
-    (rises-news c.self.inside.queues.items c.self.inside.pushed c.args.self.now c.args.old.now c.args.new.now
-    c.self.view_is)
-    c.in_ok-news.ensures c.sort_unstable_by_key.ensures.permutation sorted in
+    (rises-news hold c.args.old.now c.args.new.now) c.in_ok-news.ensures c.sort_unstable_by_key.ensures.permutation sorted in
     c.loop-kept.invariant
     ∙ ap (λ (ks : List (Bor KeptInterval)). flat_map sent_interval (map kept ks))
     (take_all c.loop-kept.kept-index c.deref-kept-items.result.now (omega arith) ∙ c.deref-kept-items.ensures.value)
@@ -36,5 +39,6 @@ returns-clause-value c =
 
 pub returns-clause-in_order : goal.returns-clause-in_order
 returns-clause-in_order c =
-    between_in_order c.self.inside.queues.items c.self.inside.pushed c.args.self.now c.args.old.now c.args.new.now
-    c.loop-kept.sent.items c.self.view_is c.self.invariant (returns-clause-value c)
+    let hold : QueuesHold c.self.inside.queues.items c.self.inside.pushed c.args.self.now =
+    record { seen = c.self.view_is; are = c.self.invariant } in
+    between_in_order hold c.args.old.now c.args.new.now (returns-clause-value c)

@@ -1,11 +1,10 @@
+use Rattle.interval.proofs.Queues.Merged.{QueuesHold}
 use Rattle.interval.proofs.News.Gathered.{owned_queue}
 use Rattle.interval.proofs.Queues.FirstFound.{first_number}
 use Rattle.interval.proofs.closed.Closed.first.Goals as goal
 
 pub returns-clause-earliest : goal.returns-clause-earliest
 returns-clause-earliest c =
-    let owned =
-    owned_queue c.self.inside.queues.items c.self.inside.pushed c.args.self.now c.args.owner c.index.result.now
-    c.self.view_is c.requires c.index.ensures in
-    first_number c.self.inside.queues.items c.self.inside.pushed c.args.self.now c.args.owner c.index.result.now
-    c.first.result c.self.view_is c.self.invariant owned c.first.ensures
+    let hold : QueuesHold c.self.inside.queues.items c.self.inside.pushed c.args.self.now =
+    record { seen = c.self.view_is; are = c.self.invariant } in
+    first_number c.args.owner hold (owned_queue c.args.owner hold c.requires c.index.ensures) c.first.ensures

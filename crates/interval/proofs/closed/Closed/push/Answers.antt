@@ -2,17 +2,24 @@ use Rattle.std.proofs.Common.{ap, ◌∙◌}
 use Rattle.interval.specs.SentIntervals.{ClosedInterval}
 use Rattle.interval.specs.Closings.{Closings, closings_between}
 use Rattle.interval.proofs.News.BetweenUnchanged.{closings_between-pushed}
-use Rattle.interval.proofs.Queues.LastPushed.{Comes, pushed_next, are_pushed, closings_pushed}
+use Rattle.interval.proofs.Queues.Merged.{QueuesHold}
+use Rattle.interval.proofs.Queues.LastPushed.{Comes, IsNextInterval, pushed_next, are_pushed, closings_pushed}
 use Rattle.interval.proofs.closed.Closed.push.Goals as goal
+
+hold : (c : goal.After-self-2-1) → QueuesHold c.self.inside.queues.items c.self.inside.pushed c.args.self.now
+hold c = record { seen = c.self.view_is; are = c.self.invariant }
 
 comes : (c : goal.After-self-2-1)
     → Comes c.self.inside.queues.items c.self.inside.pushed c.interval.inside.owner c.index_mut.result.now
     (record { place = c.self.inside.pushed; interval = c.args.interval })
 comes c =
-    pushed_next c.self.inside.queues.items c.self.inside.pushed c.args.self.now c.args.interval c.interval.inside.owner
-    c.index_mut.result.now
-    c.self.view_is (ap (λ (i : ClosedInterval). i.owner) c.interval.view_is) c.requires.owner c.requires.number
-    c.requires.pages c.requires.fits c.index_mut.ensures.value
+    let next : IsNextInterval c.args.self.now c.args.interval = record {
+      owner = c.requires.owner;
+      number = c.requires.number;
+      pages = c.requires.pages;
+      fits = c.requires.fits;
+    } in
+    pushed_next (hold c) next (ap (λ (i : ClosedInterval). i.owner) c.interval.view_is) c.index_mut.ensures.value
 
 pub invariant_of-self-2 : goal.invariant_of-self-2
 invariant_of-self-2 c =
@@ -23,10 +30,7 @@ invariant_of-self-2 c =
 
 pub returns-clause-ok : goal.returns-clause-ok
 returns-clause-ok c =
-    let done = closings_pushed c.self.inside.queues.items c.self.inside.pushed c.args.self.now c.args.interval
-    c.interval.inside.owner c.index_mut.result.now
-    c.self.view_is (ap (λ (i : ClosedInterval). i.owner) c.interval.view_is) c.self.invariant (comes c) in
-    rw c.in_ok-push.ensures.ok done
+    rw c.in_ok-push.ensures.ok (closings_pushed (hold c) c.args.interval (comes c))
 
 pub returns-clause-same_news : goal.returns-clause-same_news
 returns-clause-same_news c = λ old new uncovered.

@@ -1,21 +1,25 @@
-use Rattle.std.proofs.Common.{◌<◌, ◌≤◌, Some, None, List, length, ap, sym, ◌∙◌, arith}
+use Rattle.std.proofs.Common.{◌<◌, ◌≤◌, List, length, ap, sym, ◌∙◌, arith}
 use Rattle.std.specs.Option.{option_copied}
 use Rattle.interval.specs.Queues.{Queue}
+use Rattle.interval.proofs.Queues.Merged.{QueuesHold}
 use Rattle.interval.proofs.Queues.FirstFound.{none_found, none_found_below, noticed_at, queue_read, record_found}
 use Rattle.interval.proofs.closed.Closed.record_of.Goals as goal
 
 pub returns-in_err-queue : goal.returns-in_err-queue
 returns-in_err-queue c =
+    let hold : QueuesHold c.self.inside.queues.items c.self.inside.pushed c.args.self.now =
+    record { seen = c.self.view_is; are = c.self.invariant } in
     let long = ap (λ (qs : List Queue). length qs) c.deref.ensures.value in
     let look = c.in_err-queue.ensures.lookup.3 in
     let past : length c.self.inside.queues.items ≤ c.args.notice.now.owner = omega arith in
     let none = none_found c.self.inside.queues.items c.self.inside.pushed c.args.notice.now c.self.invariant past in
     ap option_copied c.from_residual.ensures
-    ∙ sym (record_found c.self.inside.queues.items c.self.inside.pushed c.args.self.now c.args.notice.now None
-    c.self.view_is none)
+    ∙ sym (record_found hold c.args.notice.now none)
 
 pub returns-then-notice-first : goal.returns-then-notice-first
 returns-then-notice-first c =
+    let hold : QueuesHold c.self.inside.queues.items c.self.inside.pushed c.args.self.now =
+    record { seen = c.self.view_is; are = c.self.invariant } in
     let look = c.in_ok-queue.ensures.lookup in
     let owned =
     queue_read c.self.inside.queues.items c.deref.result.now c.args.notice.now.owner c.in_ok-queue.queue.now
@@ -26,11 +30,12 @@ returns-then-notice-first c =
     let none =
     none_found_below c.self.inside.queues.items c.self.inside.pushed c.args.notice.now c.in_ok-queue.queue.now
     c.self.invariant owned below in
-    sym (record_found c.self.inside.queues.items c.self.inside.pushed c.args.self.now c.args.notice.now None
-    c.self.view_is none)
+    sym (record_found hold c.args.notice.now none)
 
 pub returns-in_err-numbered : goal.returns-in_err-numbered
 returns-in_err-numbered c =
+    let hold : QueuesHold c.self.inside.queues.items c.self.inside.pushed c.args.self.now =
+    record { seen = c.self.view_is; are = c.self.invariant } in
     let look = c.in_ok-queue.ensures.lookup in
     let owned =
     queue_read c.self.inside.queues.items c.deref.result.now c.args.notice.now.owner c.in_ok-queue.queue.now
@@ -43,11 +48,12 @@ returns-in_err-numbered c =
     c.self.invariant owned from
     ∙ sym c.in_err-numbered.ensures in
     ap option_copied c.from_residual-in_err-numbered.ensures
-    ∙ sym (record_found c.self.inside.queues.items c.self.inside.pushed c.args.self.now c.args.notice.now None
-    c.self.view_is none)
+    ∙ sym (record_found hold c.args.notice.now none)
 
 pub returns : goal.returns
 returns c =
+    let hold : QueuesHold c.self.inside.queues.items c.self.inside.pushed c.args.self.now =
+    record { seen = c.self.view_is; are = c.self.invariant } in
     let look = c.in_ok-queue.ensures.lookup in
     let owned =
     queue_read c.self.inside.queues.items c.deref.result.now c.args.notice.now.owner c.in_ok-queue.queue.now
@@ -60,5 +66,4 @@ returns c =
     c.self.invariant owned from
     ∙ sym c.in_ok-numbered.ensures in
     c.record.ensures
-    ∙ sym (record_found c.self.inside.queues.items c.self.inside.pushed c.args.self.now c.args.notice.now
-    (Some c.in_ok-numbered.field-0.now) c.self.view_is found)
+    ∙ sym (record_found hold c.args.notice.now found)

@@ -5,7 +5,8 @@ use Rattle.std.proofs.lemmas.List.{take_all, length-map}
 use Rattle.std.proofs.lemmas.List.Concat.{flat_map_single}
 use Rattle.page.specs.RisingChanges.{Changes}
 use Rattle.interval.specs.PageCounts.{CountsGrew, CountsHaveRoom}
-use Rattle.interval.proofs.Counts.CountedRoom.{counted-nil, counted-one, counted-out, counted_more, room_one, room_more, mapped_at}
+use Rattle.interval.proofs.Counts.CountedRoom.{counted-nil, counted-one, counted-out, counted_more, room_one, room_more}
+use Rattle.interval.proofs.Records.ReadItems.{ReadsItem, mapped_item}
 use Rattle.interval.proofs.kept_interval.Interval.count_pages.Goals as goal
 use Rattle.interval.proofs.kept_interval.Interval.count_pages.Goals.{then-base-page+then-page-base, else-base-page, else-base-page-via-then-base-page+else-page-base, else-base-page-via-else-base-page}
 
@@ -17,10 +18,9 @@ loop-record-init c = counted-nil _ _
 
 pub overflow_add-counts : goal.overflow_add-counts
 overflow_add-counts c =
-    let at =
-    mapped_at arc_value c.shared_records-record-items.result.now c.loop-record.record-index c.record-item.result
-    c.loop-record-test.true c.record-item.is in
     let items = map arc_value c.shared_records-record-items.result.now in
+    let read : ReadsItem c.shared_records-record-items.result.now c.loop-record.record-index c.record-item.result =
+    record { inside = c.loop-record-test.true; is = c.record-item.is } in
     let page : (arc_value c.record-item.result).page ≡ c.page-page.result =
     ap (λ (r : Changes). r.page) (sym c.deref.ensures) ∙ sym c.page-page.ensures in
     let Room : List ℕ → Type 0 = λ ps. CountsHaveRoom c.args.base ps c.args.counts.now in
@@ -28,9 +28,7 @@ overflow_add-counts c =
     subst Room (sym (flat_map_single (λ (r : Changes). r.page) items
     ∙ ap (map (λ (r : Changes). r.page)) c.shared_records-record-items.ensures))
     c.requires in
-    let room =
-    room_more c.args.base own items c.loop-record.record-index (arc_value c.record-item.result) c.args.counts.now
-    c.loop-record.counts at.0 at.1 whole c.loop-record.invariant in
+    let room = room_more own (mapped_item arc_value read) whole c.loop-record.invariant in
     let Next : ℕ → Type 0 = λ p. CountsHaveRoom c.args.base (p ∷ []) c.loop-record.counts in
     let fits =
     room_one c.args.base c.page-page.result c.loop-record.counts c.if-base-page.true c.if-page-base.true
@@ -39,10 +37,8 @@ overflow_add-counts c =
 
 pub loop-record-preserved : goal.loop-record-preserved
 loop-record-preserved c =
-    let at =
-    mapped_at arc_value c.shared_records-record-items.result.now c.loop-record.record-index c.record-item.result
-    c.loop-record-test.true c.record-item.is in
-    let items = map arc_value c.shared_records-record-items.result.now in
+    let read : ReadsItem c.shared_records-record-items.result.now c.loop-record.record-index c.record-item.result =
+    record { inside = c.loop-record-test.true; is = c.record-item.is } in
     let page : c.page-page.result ≡ (arc_value c.record-item.result).page =
     c.page-page.ensures ∙ ap (λ (r : Changes). r.page) c.deref.ensures in
     let Now : List ℕ → Type 0 =
@@ -60,9 +56,7 @@ loop-record-preserved c =
           subst Now (sym w.counts-is) (counted-out c.args.base c.page-page.result c.loop-record.counts out)
     ] in
     let Next : ℕ → Type 0 = λ p. CountsGrew c.args.base (p ∷ []) c.loop-record.counts c.if-base-page.counts in
-    counted_more c.args.base own items c.loop-record.record-index (arc_value c.record-item.result) c.args.counts.now
-    c.loop-record.counts c.if-base-page.counts at.0 at.1
-    c.loop-record.invariant (subst Next page one)
+    counted_more own (mapped_item arc_value read) c.loop-record.invariant (subst Next page one)
 
 pub returns : goal.returns
 returns c =

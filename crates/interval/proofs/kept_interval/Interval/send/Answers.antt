@@ -2,6 +2,7 @@ use Rattle.std.proofs.Common.{◌++◌, map, ap, sym, ◌∙◌}
 use Rattle.std.specs.Arc.{arc_value}
 use Rattle.std.proofs.lemmas.List.{take_all, append-nil}
 use Rattle.interval.specs.Closings.{sent_record}
+use Rattle.interval.proofs.Records.ReadItems.{ReadsItem}
 use Rattle.interval.proofs.Records.FindAndPush.{pushed_more}
 use Rattle.interval.proofs.kept_interval.Interval.send.Goals as goal
 
@@ -10,11 +11,11 @@ loop-record-init c = sym (append-nil c.args.sent.now.items)
 
 pub loop-record-preserved : goal.loop-record-preserved
 loop-record-preserved c =
+    let read : ReadsItem c.shared_records-record-items.result.now c.loop-record.record-index c.record-item.result =
+    record { inside = c.loop-record-test.true; is = c.record-item.is } in
     let more =
     pushed_more arc_value (sent_record (record { place = c.args.place; interval = c.args.self.now }))
-    c.shared_records-record-items.result.now c.loop-record.record-index c.record-item.result
-    c.args.sent.now.items c.loop-record.sent.items c.loop-record-test.true c.record-item.is
-    c.loop-record.invariant in
+    c.args.sent.now.items read c.loop-record.invariant in
     cc (more, c.in_ok-push.ensures.items, c.in_ok-announced.ensures)
 
 pub returns : goal.returns

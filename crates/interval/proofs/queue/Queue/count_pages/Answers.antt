@@ -12,25 +12,18 @@ own k = pages_of_records k.interval.records
 pub count_pages-requires : goal.count_pages-requires
 count_pages-requires c =
     let len = c.len.ensures in
-    let at =
-    within_at _ c.args.self.now c.args.from c.args.to c.loop-index.index c.index.result.now c.self.view_is
-    c.loop-index.auto.index (omega arith) c.index.ensures in
-    room_more c.args.base own (queue_within c.args.self.now c.args.from c.args.to)
-    (c.loop-index.index - (c.args.from - c.self.inside.first)) c.index.result.now c.args.counts.now
-    c.loop-index.counts
-    at.0 at.1 c.requires.room c.loop-index.invariant
+    let read =
+    within_at c.args.from c.args.to c.loop-index.index c.self.view_is c.loop-index.auto.index (omega arith)
+    c.index.ensures in
+    room_more own read c.requires.room c.loop-index.invariant
 
 pub loop-index-preserved : goal.loop-index-preserved
 loop-index-preserved c =
     let start = c.args.from - c.self.inside.first in
     let len = c.len.ensures in
     let after = c.loop-index.auto.index in
-    let at =
-    within_at _ c.args.self.now c.args.from c.args.to c.loop-index.index c.index.result.now c.self.view_is after
-    (omega arith) c.index.ensures in
-    let more = counted_more c.args.base own (queue_within c.args.self.now c.args.from c.args.to)
-    (c.loop-index.index - start) c.index.result.now c.args.counts.now c.loop-index.counts c.count_pages.new.counts
-    at.0 at.1 c.loop-index.invariant c.count_pages.ensures in
+    let read = within_at c.args.from c.args.to c.loop-index.index c.self.view_is after (omega arith) c.index.ensures in
+    let more = counted_more own read c.loop-index.invariant c.count_pages.ensures in
     let next : c.loop-index.index - start + 1 ≡ c.loop-index.index + 1 - start = omega arith in
     let Next : ℕ → Type 0 =
     λ n. CountsGrew c.args.base (pages_of (take n (queue_within c.args.self.now c.args.from c.args.to)))

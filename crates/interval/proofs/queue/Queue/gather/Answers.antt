@@ -22,14 +22,11 @@ loop-index-preserved c =
     let len = c.len.ensures in
     let after = c.loop-index.auto.index in
     let news = queue_within c.args.self.now c.args.from c.args.to in
-    let at =
-    within_at _ c.args.self.now c.args.from c.args.to c.loop-index.index c.index.result.now c.self.view_is after
-    (omega arith) c.index.ensures in
+    let read = within_at c.args.from c.args.to c.loop-index.index c.self.view_is after (omega arith) c.index.ensures in
     let next : c.loop-index.index - start + 1 ≡ c.loop-index.index + 1 - start = omega arith in
     ap now c.in_ok-push.ensures.items
     ∙ map-append (λ (k : Bor KeptInterval). k.now) c.loop-index.news.items (c.index.result ∷ [])
-    ∙ grown_more (now c.args.news.now.items) (now c.loop-index.news.items) news (c.loop-index.index - start)
-    c.index.result.now at.0 at.1 c.loop-index.invariant
+    ∙ grown_more (now c.args.news.now.items) read c.loop-index.invariant
     ∙ ap (λ (n : ℕ). now c.args.news.now.items ++ take n news) next
 
 pub returns : goal.returns

@@ -22,9 +22,7 @@ pub loop-event-preserved : goal.loop-event-preserved
 loop-event-preserved c =
     let at =
     slice_get-get_or c.args.events.now c.loop-event.event-index (event 0 (Load 0 0)) c.loop-event-test.true in
-    kept_next c.args.self.now c.args.events.now c.loop-event.event-index c.loop-event.kept c.note.new.self
-    (slice_index_or c.args.events.now c.loop-event.event-index (event 0 (Load 0 0))) at c.loop-event.invariant
-    c.in_ok-note.ensures.after c.in_ok-note.ensures.spent
+    kept_next at c.loop-event.invariant c.in_ok-note.ensures.after c.in_ok-note.ensures.spent
 
 pub returns-clause-kept : goal.returns-clause-kept
 returns-clause-kept c =

@@ -6,5 +6,12 @@ use Rattle.journal.proofs.clocks.Clocks.new.Goals as goal
 
 pub returns-clause-clocks : goal.returns-clause-clocks
 returns-clause-clocks c =
-    clocks_first _ c.in_ok-zeros.ensures.long c.requires refl c.in_ok-zeros.ensures.zeros c.new.ensures
-    c.new-2.ensures (λ n q. ap (λ xs. entry xs n q) c.new-3.ensures.items) (zeros_at 16) (zeros_at 16)
+    clocks_first c.in_ok-zeros.ensures.long c.requires (record {
+      gone = refl;
+      processors = c.in_ok-zeros.ensures.zeros;
+      locks = c.new.ensures;
+      flags = c.new-2.ensures;
+      episodes = λ n q. ap (λ xs. entry xs n q) c.new-3.ensures.items;
+      arrivals = zeros_at 16;
+      departures = zeros_at 16;
+    })

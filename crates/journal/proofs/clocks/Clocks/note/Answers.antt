@@ -1,4 +1,4 @@
-use Rattle.std.proofs.Common.{◌≡◌, ℕ, inl, inr, false, ◌+◌, ◌<◌, ◌≤◌, ◌^◌, length, take, List, [], ◌∷◌, ◌++◌, slice_index_or, subst, sym, refl, ap, ◌∙◌, arith}
+use Rattle.std.proofs.Common.{◌≡◌, ℕ, inl, inr, false, ◌+◌, ◌<◌, ◌≤◌, ◌^◌, length, take, List, [], ◌∷◌, ◌++◌, slice_index_or, vec_len, subst, sym, refl, ap, ◌∙◌, arith}
 use Rattle.std.proofs.lemmas.Option.{slice_get-get_or}
 use Rattle.std.proofs.lemmas.List.{length-take-le}
 use Rattle.std.proofs.lemmas.Result.{on_ok_weaker}
@@ -12,7 +12,7 @@ use Rattle.journal.specs.InRange.{ProcessorsInRange}
 use Rattle.journal.specs.Events.{is_taking, is_closing}
 use Rattle.journal.specs.ClockEntry.{entry}
 use Rattle.journal.specs.Clocks.{AreClocks}
-use Rattle.journal.proofs.Passes.NextClocks.{clocks_plain, closed_next, taken_next, arrived_next, departed_next, front_next, own_room, clocks_let_go}
+use Rattle.journal.proofs.Passes.NextClocks.{StepsClocks, LetsGo, clocks_plain, closed_next, taken_next, arrived_next, departed_next, front_next, own_room, clocks_let_go}
 use Rattle.journal.proofs.clocks.Clocks.note.Goals as goal
 
 -- the event at this place
@@ -39,6 +39,13 @@ room events place c lt few range a =
     let long = length-take-le place events (omega arith) in
     let short : length (take place events) < 2 ^ 22 = omega arith in
     own_room (take place events) c (here events place).processor (present events place c.present lt range) short a
+
+-- the event's processor is present, and these have as many timestamps
+steps : (events : List Event) (place : ℕ) (c d : Clocks) → place < length events → ProcessorsInRange c.present events
+    → AreClocks (take place events) c → vec_len d.processors ≡ vec_len c.processors
+    → StepsClocks (take place events) c d (here events place).processor
+steps events place c d lt range a long =
+    record { present = present events place c.present lt range; so_far = a; long = long }
 
 -- the timestamps after the event are those of the front with it
 next : (events : List Event) (place : ℕ) (k : Kind) (d : Clocks) → place < length events
@@ -124,15 +131,13 @@ returns-in-Ask-clause-clocks c =
     let events = c.args.events.now in
     let place = c.args.place in
     let self = c.args.self.now in
-    let p = (here events place).processor in
-    let lt = present events place self.present c.requires.place c.requires.processors in
+    let d : Clocks = record self { processors = c.close.new.processors } in
+    let s = steps events place self d c.requires.place c.requires.processors c.requires.so_far c.close.ensures.long in
     elim c.in-Ask.is [
-      | inl ask ↦ next events place (Ask ask.0) _ c.requires.place ask.1
-          (closed_next (take place events) self c.close.new.processors self.locks self.flags p (Ask ask.0) refl
-          (λ q. refl) refl refl lt c.requires.so_far c.close.ensures.long c.close.ensures.closed (refl, refl, refl))
-      | inr watch ↦ next events place (Watch watch.0) _ c.requires.place watch.1
-          (closed_next (take place events) self c.close.new.processors self.locks self.flags p (Watch watch.0) refl
-          (λ q. refl) refl refl lt c.requires.so_far c.close.ensures.long c.close.ensures.closed (refl, refl, refl))
+      | inl ask ↦ next events place (Ask ask.0) d c.requires.place ask.1
+          (closed_next (Ask ask.0) refl refl s refl c.close.ensures.closed (refl, refl, refl))
+      | inr watch ↦ next events place (Watch watch.0) d c.requires.place watch.1
+          (closed_next (Watch watch.0) refl refl s refl c.close.ensures.closed (refl, refl, refl))
     ]
 
 pub returns-in-Acquire-clause-clocks : goal.returns-in-Acquire-clause-clocks
@@ -140,79 +145,81 @@ returns-in-Acquire-clause-clocks c =
     let events = c.args.events.now in
     let place = c.args.place in
     let self = c.args.self.now in
-    let p = (here events place).processor in
-    let lt = present events place self.present c.requires.place c.requires.processors in
-    next events place (Acquire c.in-Acquire.lock) _ c.requires.place c.in-Acquire.is
-    (taken_next (take place events) self c.take.new.processors p (Acquire c.in-Acquire.lock) refl refl refl lt
-    c.requires.so_far c.take.ensures.long c.take.ensures.joined (refl, refl, refl))
+    let d : Clocks = record self { processors = c.take.new.processors } in
+    let s = steps events place self d c.requires.place c.requires.processors c.requires.so_far c.take.ensures.long in
+    next events place (Acquire c.in-Acquire.lock) d c.requires.place c.in-Acquire.is
+    (taken_next (Acquire c.in-Acquire.lock) refl refl s refl c.take.ensures.joined (refl, refl, refl))
 
 pub returns-in-Await-clause-clocks : goal.returns-in-Await-clause-clocks
 returns-in-Await-clause-clocks c =
     let events = c.args.events.now in
     let place = c.args.place in
     let self = c.args.self.now in
-    let p = (here events place).processor in
-    let lt = present events place self.present c.requires.place c.requires.processors in
-    next events place (Await c.in-Await.flag) _ c.requires.place c.in-Await.is
-    (taken_next (take place events) self c.take-in-Await.new.processors p (Await c.in-Await.flag) refl refl refl lt
-    c.requires.so_far c.take-in-Await.ensures.long c.take-in-Await.ensures.joined (refl, refl, refl))
+    let call = c.take-in-Await in
+    let d : Clocks = record self { processors = call.new.processors } in
+    let s = steps events place self d c.requires.place c.requires.processors c.requires.so_far call.ensures.long in
+    next events place (Await c.in-Await.flag) d c.requires.place c.in-Await.is
+    (taken_next (Await c.in-Await.flag) refl refl s refl call.ensures.joined (refl, refl, refl))
 
 pub returns-in-Release-clause-clocks : goal.returns-in-Release-clause-clocks
 returns-in-Release-clause-clocks c =
     let events = c.args.events.now in
     let place = c.args.place in
     let self = c.args.self.now in
-    let p = (here events place).processor in
     let k = Release c.in-Release.lock in
-    let lt = present events place self.present c.requires.place c.requires.processors in
-    on_ok_weaker c.hand_over.result
-    (λ joined. next events place k _ c.requires.place c.in-Release.is
-    (closed_next (take place events) self c.hand_over.new.processors c.hand_over.new.kept self.flags p k refl
-    (λ q. refl) refl refl lt c.requires.so_far c.hand_over.ensures.long c.hand_over.ensures.closed
-    (joined, refl, refl)))
-    c.hand_over.ensures.joined
+    let call = c.hand_over in
+    let d : Clocks = record self { processors = call.new.processors; locks = call.new.kept } in
+    let s = steps events place self d c.requires.place c.requires.processors c.requires.so_far call.ensures.long in
+    on_ok_weaker call.result
+    (λ joined. next events place k d c.requires.place c.in-Release.is
+    (closed_next k refl refl s refl call.ensures.closed (joined, refl, refl)))
+    call.ensures.joined
 
 pub returns-in-Set-clause-clocks : goal.returns-in-Set-clause-clocks
 returns-in-Set-clause-clocks c =
     let events = c.args.events.now in
     let place = c.args.place in
     let self = c.args.self.now in
-    let p = (here events place).processor in
     let k = Set c.in-Set.flag in
     let call = c.hand_over-in-Set in
-    let lt = present events place self.present c.requires.place c.requires.processors in
+    let d : Clocks = record self { processors = call.new.processors; flags = call.new.kept } in
+    let s = steps events place self d c.requires.place c.requires.processors c.requires.so_far call.ensures.long in
     on_ok_weaker call.result
-    (λ joined. next events place k _ c.requires.place c.in-Set.is
-    (closed_next (take place events) self call.new.processors self.locks call.new.kept p k refl (λ q. refl) refl refl
-    lt c.requires.so_far call.ensures.long call.ensures.closed (refl, joined, refl)))
+    (λ joined. next events place k d c.requires.place c.in-Set.is
+    (closed_next k refl refl s refl call.ensures.closed (refl, joined, refl)))
     call.ensures.joined
 
 pub returns-in-Arrive-clause-clocks : goal.returns-in-Arrive-clause-clocks
 returns-in-Arrive-clause-clocks c =
     let events = c.args.events.now in
     let place = c.args.place in
-    let self = c.args.self.now in
-    let p = (here events place).processor in
-    let lt = present events place self.present c.requires.place c.requires.processors in
+    let d = c.arrive.new.self in
     let after = c.arrive.ensures in
+    let s =
+    steps events place c.args.self.now d c.requires.place c.requires.processors c.requires.so_far after.long in
     on_ok_weaker c.arrive.result
-    (λ arrived. next events place Arrive c.arrive.new.self c.requires.place c.in-Arrive.is
-    (arrived_next (take place events) self c.arrive.new.self p lt c.requires.so_far after.rest after.long after.closed
-    arrived))
+    (λ arrived. next events place Arrive d c.requires.place c.in-Arrive.is
+    (arrived_next s after.rest after.closed arrived))
     after.arrived
 
 pub returns-in-Depart-clause-clocks : goal.returns-in-Depart-clause-clocks
 returns-in-Depart-clause-clocks c =
     let events = c.args.events.now in
     let place = c.args.place in
-    let self = c.args.self.now in
-    let p = (here events place).processor in
-    let lt = present events place self.present c.requires.place c.requires.processors in
     let after = c.depart.ensures in
-    let now =
-    departed_next (take place events) self c.depart.new.self p lt c.requires.so_far after.rest after.long after.joined
-    after.departures in
+    let s =
+    steps events place c.args.self.now c.depart.new.self c.requires.place c.requires.processors c.requires.so_far
+    after.long in
     let f = c.let_go.ensures in
+    let go : LetsGo c.depart.new.self c.let_go.new.self = record {
+      processors = f.processors;
+      locks = f.locks;
+      flags = f.flags;
+      arrivals = f.arrivals;
+      departures = f.departures;
+      present = f.present;
+      left = f.left;
+      episodes = f.episodes;
+    } in
     next events place Depart c.let_go.new.self c.requires.place c.in-Depart.is
-    (clocks_let_go (take place events ++ event p Depart ∷ []) c.depart.new.self c.let_go.new.self now f.processors
-    f.locks f.flags f.arrivals f.departures f.present f.left f.episodes)
+    (clocks_let_go (departed_next s after.rest after.joined after.departures) go)
