@@ -1,7 +1,7 @@
 -- What a filter and a function make of a list's items and their order.
 use Rattle.std.proofs.Common.{suc, ◌≡◌, ◌↔◌, inl, inr, List, [], ◌∷◌, Bool, true, false, cond, filter, map, Some, arith, refl, sym, ap, ap₂, ◌∙◌, true≢false}
 use Rattle.base.specs.InOrderOnce.{Has, InOrder}
-use Rattle.base.proofs.Joined.{has-nil, has-cons, in_order-nil, in_order-cons, in_order_tail}
+use Rattle.base.proofs.Joined.{has-nil, has-cons, in_order-nil, in_order-cons, joined_in_order_tail}
 
 -- a filter keeps the items that it picks
 pub has-filter : {A : Type 0} (pick : A → Bool) (xs : List A) (x : A)
@@ -32,7 +32,7 @@ has-filter {A} pick (y ∷ xs) x = go (pick y) refl (has-filter pick xs x)
 pub in_order-filter : {A : Type 0} (R : A → A → Type 0) (pick : A → Bool) (xs : List A) → InOrder R xs
     → InOrder R (filter pick xs)
 in_order-filter R pick [] h = in_order-nil R
-in_order-filter {A} R pick (y ∷ xs) h = go (pick y) (in_order-filter R pick xs (in_order_tail R y xs h))
+in_order-filter {A} R pick (y ∷ xs) h = go (pick y) (in_order-filter R pick xs (joined_in_order_tail R y xs h))
   where
     first : (b : A) → Has (filter pick xs) b → R y b
     first b m = let r = (has-filter pick xs b).0 m in h 0 (suc r.0.0) y b (omega arith) refl r.0.1
@@ -42,6 +42,6 @@ in_order-filter {A} R pick (y ∷ xs) h = go (pick y) (in_order-filter R pick xs
     go false ih = ih
 
 -- functions that agree on a list's items
-pub map_same : {A B : Type 0} (f g : A → B) (xs : List A) → ((x : A) → Has xs x → f x ≡ g x) → map f xs ≡ map g xs
-map_same f g [] h = refl
-map_same f g (x ∷ xs) h = ap₂ (λ y ys. y ∷ ys) (h x (0, refl)) (map_same f g xs (λ y m. h y (suc m.0, m.1)))
+pub in_order_map_same : {A B : Type 0} (f g : A → B) (xs : List A) → ((x : A) → Has xs x → f x ≡ g x) → map f xs ≡ map g xs
+in_order_map_same f g [] h = refl
+in_order_map_same f g (x ∷ xs) h = ap₂ (λ y ys. y ∷ ys) (h x (0, refl)) (in_order_map_same f g xs (λ y m. h y (suc m.0, m.1)))

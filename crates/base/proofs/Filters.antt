@@ -37,7 +37,7 @@ filter_passed {A} pick passes (x ∷ xs) all =
     ]
 
 -- a test that no item passes finds nothing
-pub find_none : {A : Type 0} (p : A → Bool) (xs : List A) → ((x : A) → Has xs x → p x ≡ false) → find p xs ≡ None
-find_none p [] none = refl
-find_none p (x ∷ xs) none =
-    cond-false (p x) (Some x) (find p xs) (none x (0, refl)) ∙ find_none p xs (λ y h. none y (suc h.0, h.1))
+pub filter_find_none : {A : Type 0} (p : A → Bool) (xs : List A) → ((x : A) → Has xs x → p x ≡ false) → find p xs ≡ None
+filter_find_none p [] none = refl
+filter_find_none p (x ∷ xs) none =
+    cond-false (p x) (Some x) (find p xs) (none x (0, refl)) ∙ filter_find_none p xs (λ y h. none y (suc h.0, h.1))

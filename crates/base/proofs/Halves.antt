@@ -11,12 +11,12 @@ pub record Halves (n : ℕ) (xs : List ℕ) : Type 0 where
   pub are : xs ≡ low ++ map (λ m. n + m) high
   pub below : (i : ℕ) → Has low i → i < n
 
-past : (n : ℕ) (xs : List ℕ) → ((i : ℕ) → Has xs i → n ≤ i) → xs ≡ map (λ m. n + m) (map (λ i. i - n) xs)
-past n [] h = refl
-past n (x ∷ xs) h =
+halves_past : (n : ℕ) (xs : List ℕ) → ((i : ℕ) → Has xs i → n ≤ i) → xs ≡ map (λ m. n + m) (map (λ i. i - n) xs)
+halves_past n [] h = refl
+halves_past n (x ∷ xs) h =
     let le = h x (0, refl) in
     let is : x ≡ n + (x - n) = omega arith in
-    ap₂ (λ (y : ℕ) (ys : List ℕ). y ∷ ys) is (past n xs (λ i a. h i (suc a.0, a.1)))
+    ap₂ (λ (y : ℕ) (ys : List ℕ). y ∷ ys) is (halves_past n xs (λ i a. h i (suc a.0, a.1)))
 
 -- where each number from n on is followed by such numbers alone, the list has two halves
 pub halves : (n : ℕ) (xs : List ℕ) → InOrder (λ x y. n ≤ x → n ≤ y) xs → Halves n xs
@@ -28,7 +28,7 @@ halves n (x ∷ xs) h =
       | inr le ↦ record {
         low = [];
         high = map (λ i. i - n) (x ∷ xs);
-        are = past n (x ∷ xs) (all le);
+        are = halves_past n (x ∷ xs) (all le);
         below = λ i a. absurd (none-some i a.1);
       }
     ]

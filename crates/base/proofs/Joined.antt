@@ -4,7 +4,7 @@ use Rattle.std.proofs.lemmas.Bool.{cases_eq}
 use Rattle.std.proofs.lemmas.Option.{slice_get-map, slice_get_within, same_Some, none-some}
 use Rattle.std.specs.List.{concat}
 use Rattle.base.specs.InOrderOnce.{Has, InOrder}
-use Rattle.base.proofs.SlicesAndCounts.{slice_get-append_left, slice_get-append_right, append_cases}
+use Rattle.base.proofs.SlicesAndCounts.{slice_get-append_left, slice_get-append_right, slice_append_cases}
 
 -- nothing stands in the empty list
 pub has-nil : {A : Type 0} (x : A) → ¬ Has {A = A} [] x
@@ -25,19 +25,19 @@ has-cons {A} y xs x = (λ h. there h.0 h.1, back)
 -- an item of two lists is one of the first or one of the second
 pub has-append : {A : Type 0} (xs ys : List A) (x : A) → Has (xs ++ ys) x ↔ (Has xs x ⊎ Has ys x)
 has-append {A} xs ys x =
-    (λ h. elim (append_cases xs ys h.0 x h.1) [ inl a ↦ inl (h.0, a.1) | inr b ↦ inr (b.0, b.2) ], back)
+    (λ h. elim (slice_append_cases xs ys h.0 x h.1) [ inl a ↦ inl (h.0, a.1) | inr b ↦ inr (b.0, b.2) ], back)
   where
     back : Has xs x ⊎ Has ys x → Has (xs ++ ys) x
     back (inl h) = (h.0, slice_get-append_left xs ys h.0 (slice_get_within xs h.0 x h.1) ∙ h.1)
     back (inr h) = (length xs + h.0, slice_get-append_right xs ys h.0 ∙ h.1)
 
 -- what joined lists have is what one of them has
-pub has_concat : (gs : List (List ℕ)) (a : ℕ) → Has (concat gs) a ↔ ((g : List ℕ) × Has gs g × Has g a)
-has_concat [] a = (λ h. absurd (has-nil a h), λ h. absurd (has-nil h.0 h.1))
-has_concat (g ∷ gs) a = (
-  λ h. there (has_concat gs a).0 ((has-append g (concat gs) a).0 h),
+pub joined_has : (gs : List (List ℕ)) (a : ℕ) → Has (concat gs) a ↔ ((g : List ℕ) × Has gs g × Has g a)
+joined_has [] a = (λ h. absurd (has-nil a h), λ h. absurd (has-nil h.0 h.1))
+joined_has (g ∷ gs) a = (
+  λ h. there (joined_has gs a).0 ((has-append g (concat gs) a).0 h),
   λ h. (has-append g (concat gs) a).1
-      (back (has_concat gs a).1 h.0 h.2 ((has-cons g gs h.0).0 h.1)),
+      (back (joined_has gs a).1 h.0 h.2 ((has-cons g gs h.0).0 h.1)),
 )
   where
     there : (Has (concat gs) a → (f : List ℕ) × Has gs f × Has f a) → Has g a ⊎ Has (concat gs) a
@@ -54,7 +54,7 @@ has_concat (g ∷ gs) a = (
 pub in_order-append : {A : Type 0} (R : A → A → Type 0) (xs ys : List A) → InOrder R xs → InOrder R ys
     → ((a b : A) → Has xs a → Has ys b → R a b) → InOrder R (xs ++ ys)
 in_order-append {A} R xs ys first second across x y a b less at_a at_b =
-    go (append_cases xs ys x a at_a) (append_cases xs ys y b at_b)
+    go (slice_append_cases xs ys x a at_a) (slice_append_cases xs ys y b at_b)
   where
     go : ((x < length xs) × (slice_get xs x ≡ Some a)) ⊎ ((m : ℕ) × (x ≡ length xs + m) × (slice_get ys m ≡ Some a))
         → ((y < length xs) × (slice_get xs y ≡ Some b)) ⊎ ((m : ℕ) × (y ≡ length xs + m) × (slice_get ys m ≡ Some b))
@@ -67,8 +67,8 @@ in_order-append {A} R xs ys first second across x y a b less at_a at_b =
         second p.0 q.0 a b (omega arith) p.2 q.2
 
 -- a list in order is so without its first item
-pub in_order_tail : {A : Type 0} (R : A → A → Type 0) (x : A) (xs : List A) → InOrder R (x ∷ xs) → InOrder R xs
-in_order_tail R x xs h i k a b less at_a at_b = h (suc i) (suc k) a b (omega arith) at_a at_b
+pub joined_in_order_tail : {A : Type 0} (R : A → A → Type 0) (x : A) (xs : List A) → InOrder R (x ∷ xs) → InOrder R xs
+joined_in_order_tail R x xs h i k a b less at_a at_b = h (suc i) (suc k) a b (omega arith) at_a at_b
 
 -- an item before all of a list in order
 pub in_order-cons : {A : Type 0} (R : A → A → Type 0) (x : A) (xs : List A) → ((b : A) → Has xs b → R x b)
@@ -83,19 +83,19 @@ pub in_order-nil : {A : Type 0} (R : A → A → Type 0) → InOrder R []
 in_order-nil R i k a b less at_a at_b = absurd (none-some a at_a)
 
 -- joined lists are in order where each is, and each item of one stands before each of a later one
-pub in_order_concat : (R : ℕ → ℕ → Type 0) (gs : List (List ℕ)) → ((g : List ℕ) → Has gs g → InOrder R g)
+pub joined_in_order : (R : ℕ → ℕ → Type 0) (gs : List (List ℕ)) → ((g : List ℕ) → Has gs g → InOrder R g)
     → InOrder (λ (g h : List ℕ). (a b : ℕ) → Has g a → Has h b → R a b) gs → InOrder R (concat gs)
-in_order_concat R [] each across = in_order-nil R
-in_order_concat R (g ∷ gs) each across =
-    in_order-append R g (concat gs) (each g (0, refl)) (in_order_concat R gs (λ f h. each f (suc h.0, h.1))
-    (in_order_tail (λ (f h : List ℕ). (a b : ℕ) → Has f a → Has h b → R a b) g gs across))
-    (λ a b here later. let r = (has_concat gs b).0 later in
+joined_in_order R [] each across = in_order-nil R
+joined_in_order R (g ∷ gs) each across =
+    in_order-append R g (concat gs) (each g (0, refl)) (joined_in_order R gs (λ f h. each f (suc h.0, h.1))
+    (joined_in_order_tail (λ (f h : List ℕ). (a b : ℕ) → Has f a → Has h b → R a b) g gs across))
+    (λ a b here later. let r = (joined_has gs b).0 later in
     across 0 (suc r.1.0) g r.0 (omega arith) refl r.1.1 a b here r.2)
 
 -- a weaker order
-pub in_order_weaker : {A : Type 0} (R S : A → A → Type 0) (xs : List A)
+pub joined_in_weaker_order : {A : Type 0} (R S : A → A → Type 0) (xs : List A)
     → ((a b : A) → Has xs a → Has xs b → R a b → S a b) → InOrder R xs → InOrder S xs
-in_order_weaker R S xs weaker h i k a b less at_a at_b = weaker a b (i, at_a) (k, at_b) (h i k a b less at_a at_b)
+joined_in_weaker_order R S xs weaker h i k a b less at_a at_b = weaker a b (i, at_a) (k, at_b) (h i k a b less at_a at_b)
 
 -- what a list has after a function on its items
 pub has-map : {A B : Type 0} (f : A → B) (xs : List A) (y : B) → Has (map f xs) y ↔ ((x : A) × Has xs x × (f x ≡ y))
@@ -112,7 +112,7 @@ pub in_order-map : {A B : Type 0} (R : B → B → Type 0) (f : A → B) (xs : L
     → InOrder (λ (a b : A). R (f a) (f b)) xs → InOrder R (map f xs)
 in_order-map R f [] h = in_order-nil R
 in_order-map {A} {B} R f (x ∷ xs) h =
-    in_order-cons R (f x) (map f xs) first (in_order-map R f xs (in_order_tail (λ (a b : A). R (f a) (f b)) x xs h))
+    in_order-cons R (f x) (map f xs) first (in_order-map R f xs (joined_in_order_tail (λ (a b : A). R (f a) (f b)) x xs h))
   where
     first : (b : B) → Has (map f xs) b → R (f x) b
     first b m =
@@ -120,13 +120,13 @@ in_order-map {A} {B} R f (x ∷ xs) h =
         subst P r.2 (h 0 (suc r.1.0) x r.0 (omega arith) refl r.1.1)
 
 -- a list of one item is in order
-pub in_order_single : {A : Type 0} (R : A → A → Type 0) (x : A) → InOrder R (x ∷ [])
-in_order_single R x = in_order-cons R x [] (λ b h. absurd (has-nil b h)) (in_order-nil R)
+pub joined_in_order_single : {A : Type 0} (R : A → A → Type 0) (x : A) → InOrder R (x ∷ [])
+joined_in_order_single R x = in_order-cons R x [] (λ b h. absurd (has-nil b h)) (in_order-nil R)
 
 -- a number stands in a list or not
-pub has_or_not : (xs : List ℕ) (x : ℕ) → Has xs x ⊎ (Has xs x → ⊥)
-has_or_not [] x = inr (λ h. has-nil x h)
-has_or_not (y ∷ xs) x = go (cases_eq y x) (has_or_not xs x)
+pub joined_has_or_not : (xs : List ℕ) (x : ℕ) → Has xs x ⊎ (Has xs x → ⊥)
+joined_has_or_not [] x = inr (λ h. has-nil x h)
+joined_has_or_not (y ∷ xs) x = go (cases_eq y x) (joined_has_or_not xs x)
   where
     go : (y ≡ x) ⊎ (y ≢ x) → Has xs x ⊎ (Has xs x → ⊥) → Has (y ∷ xs) x ⊎ (Has (y ∷ xs) x → ⊥)
     go (inl e) later = inl (0, ap Some e)
@@ -161,6 +161,6 @@ in_order-flat_map R f [] each across = in_order-nil R
 in_order-flat_map {A} {B} R f (x ∷ xs) each across =
     in_order-append R (f x) (flat_map f xs) (each x (0, refl)) (in_order-flat_map R f xs
     (λ z h. each z (suc h.0, h.1))
-    (in_order_tail (λ (y z : A). (a b : B) → Has (f y) a → Has (f z) b → R a b) x xs across))
+    (joined_in_order_tail (λ (y z : A). (a b : B) → Has (f y) a → Has (f z) b → R a b) x xs across))
     (λ a b here later. let r = (has-flat_map f xs b).0 later in
     across 0 (suc r.1.0) x r.0 (omega arith) refl r.1.1 a b here r.2)

@@ -3,8 +3,8 @@ use Rattle.std.proofs.Common.{ℕ, zero, suc, ◌≡◌, ◌≢◌, ◌<◌, ◌
 use Rattle.std.proofs.lemmas.List.{length-replicate}
 use Rattle.std.proofs.lemmas.Bool.{cases_eq, cases_order}
 use Rattle.std.proofs.lemmas.Option.{slice_get-get_or, slice_get_within, same_Some, none-some, some_pair_parts}
-use Rattle.base.specs.LastWritten.{wrote, written, Unwritten, LastWrite}
-use Rattle.base.proofs.SliceSets.{slice_get-set_found, slice_get-set_other, slice_get-replicate_found, same_places}
+use Rattle.base.specs.LastWritten.{wrote, written, IsUnwritten, LastWrite}
+use Rattle.base.proofs.SliceSets.{slice_get-set_found, slice_get-set_other, slice_get-replicate_found, slice_sets_same}
 
 -- the last write of a list without its first item is the last write of the whole
 pub last_later : {A : Type 0} (f : A → Option (ℕ × ℕ)) (x : A) (xs : List A) (o v : ℕ) → LastWrite f xs o v
@@ -18,7 +18,7 @@ last_later {A} f x xs o v l =
 
 -- a first item's write is the last where no later item writes there
 pub last_first : {A : Type 0} (f : A → Option (ℕ × ℕ)) (x : A) (xs : List A) (o v : ℕ) → f x ≡ Some (o, v)
-    → Unwritten f xs o → LastWrite f (x ∷ xs) o v
+    → IsUnwritten f xs o → LastWrite f (x ∷ xs) o v
 last_first {A} f x xs o v e n = record { place = 0; item = x; at = refl; writes = e; last = later }
   where
     later : (k : ℕ) (y : A) (u : ℕ) → 0 < k → slice_get (x ∷ xs) k ≡ Some y → f y ≢ Some (o, u)
@@ -26,10 +26,10 @@ last_first {A} f x xs o v e n = record { place = 0; item = x; at = refl; writes 
     later (suc k) y u h g = n k y u g
 
 -- no item writes there, where neither the first nor a later one does
-pub unwritten-cons : {A : Type 0} (f : A → Option (ℕ × ℕ)) (x : A) (xs : List A) (o : ℕ)
-    → ((u : ℕ) → f x ≢ Some (o, u)) → Unwritten f xs o → Unwritten f (x ∷ xs) o
-unwritten-cons f x xs o here n zero y u e g = here u (ap f (same_Some x y e) ∙ g)
-unwritten-cons f x xs o here n (suc k) y u e g = n k y u e g
+pub not_last_written-cons : {A : Type 0} (f : A → Option (ℕ × ℕ)) (x : A) (xs : List A) (o : ℕ)
+    → ((u : ℕ) → f x ≢ Some (o, u)) → IsUnwritten f xs o → IsUnwritten f (x ∷ xs) o
+not_last_written-cons f x xs o here n zero y u e g = here u (ap f (same_Some x y e) ∙ g)
+not_last_written-cons f x xs o here n (suc k) y u e g = n k y u e g
 
 -- the last write is the only last one
 pub last_alone : {A : Type 0} (f : A → Option (ℕ × ℕ)) (xs : List A) (o v w : ℕ) → LastWrite f xs o v
@@ -56,14 +56,14 @@ length-written f words (x ∷ xs) = length-written f (wrote words (f x)) xs ∙ 
 -- a word after the writes was written last at its place, or stood there and was never written
 pub word_written : {A : Type 0} (f : A → Option (ℕ × ℕ)) (words : List ℕ) (xs : List A) (o w : ℕ)
     → slice_get (written f words xs) o ≡ Some w
-    → LastWrite f xs o w ⊎ ((slice_get words o ≡ Some w) × Unwritten f xs o)
+    → LastWrite f xs o w ⊎ ((slice_get words o ≡ Some w) × IsUnwritten f xs o)
 word_written f words [] o w h = inr (h, λ k y u e _. none-some y e)
 word_written {A} f words (x ∷ xs) o w h = go (f x) refl (word_written f (wrote words (f x)) xs o w h)
   where
     Result : Type 0
-    Result = LastWrite f (x ∷ xs) o w ⊎ ((slice_get words o ≡ Some w) × Unwritten f (x ∷ xs) o)
+    Result = LastWrite f (x ∷ xs) o w ⊎ ((slice_get words o ≡ Some w) × IsUnwritten f (x ∷ xs) o)
 
-    at : (p : ℕ × ℕ) → f x ≡ Some p → slice_get (slice_set words p.0 p.1) o ≡ Some w → Unwritten f xs o
+    at : (p : ℕ × ℕ) → f x ≡ Some p → slice_get (slice_set words p.0 p.1) o ≡ Some w → IsUnwritten f xs o
         → (o ≡ p.0) ⊎ (o ≢ p.0) → Result
     at p e g n (inl d) =
         let same : p.1 ≡ w =
@@ -73,13 +73,13 @@ word_written {A} f words (x ∷ xs) o w h = go (f x) refl (word_written f (wrote
         inr (
           sym (slice_get-set_other words p.0 o p.1 d)
               ∙ g,
-          unwritten-cons f x xs o (λ u k. d (some_pair_parts o p.0 u p.1 (sym k ∙ e)).0) n,
+          not_last_written-cons f x xs o (λ u k. d (some_pair_parts o p.0 u p.1 (sym k ∙ e)).0) n,
         )
 
     go : (p : Option (ℕ × ℕ)) → f x ≡ p
-        → LastWrite f xs o w ⊎ ((slice_get (wrote words p) o ≡ Some w) × Unwritten f xs o) → Result
+        → LastWrite f xs o w ⊎ ((slice_get (wrote words p) o ≡ Some w) × IsUnwritten f xs o) → Result
     go p e (inl l) = inl (last_later f x xs o w l)
-    go None e (inr h) = inr (h.0, unwritten-cons f x xs o (λ u g. none-some (o, u) (sym e ∙ g)) h.1)
+    go None e (inr h) = inr (h.0, not_last_written-cons f x xs o (λ u g. none-some (o, u) (sym e ∙ g)) h.1)
     go (Some p) e (inr h) = at p e h.0 h.1 (cases_eq o p.0)
 
 -- the last write at a place is found there
@@ -104,7 +104,7 @@ half_written f g words xs ys same o w e = go (word_written f words xs o w e)
     there : slice_get (written g words ys) o ≡ Some (get_or (written g words ys) o 0)
     there = slice_get-get_or (written g words ys) o 0 (rw length-written within)
 
-    go : LastWrite f xs o w ⊎ ((slice_get words o ≡ Some w) × Unwritten f xs o)
+    go : LastWrite f xs o w ⊎ ((slice_get words o ≡ Some w) × IsUnwritten f xs o)
         → slice_get (written g words ys) o ≡ Some w
     go (inl l) = last_word g words ys o w within ((same o w).0 l)
     go (inr h) = elim (word_written g words ys o (get_or (written g words ys) o 0) there) [
@@ -119,7 +119,7 @@ pub same_written : {A B : Type 0} (f : A → Option (ℕ × ℕ)) (g : B → Opt
     (ys : List B)
     → ((o v : ℕ) → LastWrite f xs o v ↔ LastWrite g ys o v) → written f words xs ≡ written g words ys
 same_written f g words xs ys same =
-    same_places (written f words xs) (written g words ys)
+    slice_sets_same (written f words xs) (written g words ys)
     (λ o. go o (slice_get (written f words xs) o) (slice_get (written g words ys) o) refl refl)
   where
     go : (o : ℕ) (a b : Option ℕ) → slice_get (written f words xs) o ≡ a → slice_get (written g words ys) o ≡ b
@@ -196,6 +196,6 @@ last_exists f xs k o u x at writes = go (word_written f words xs o word found)
     found : slice_get (written f words xs) o ≡ Some word
     found = slice_get-get_or (written f words xs) o 0 (rw (length-written, length-replicate) (omega arith))
 
-    go : LastWrite f xs o word ⊎ ((slice_get words o ≡ Some word) × Unwritten f xs o) → (v : ℕ) × LastWrite f xs o v
+    go : LastWrite f xs o word ⊎ ((slice_get words o ≡ Some word) × IsUnwritten f xs o) → (v : ℕ) × LastWrite f xs o v
     go (inl l) = (word, l)
     go (inr n) = absurd (n.1 k x u at writes)

@@ -2,7 +2,7 @@
 use Rattle.std.proofs.Common.{ℕ, zero, suc, ◌≡◌, ◌≢◌, ◌≤◌, List, [], ◌∷◌, ◌++◌, Some, slice_get, length, arith, refl, sym, ap, ◌∙◌, subst}
 use Rattle.std.proofs.lemmas.Option.{same_Some, none-some}
 use Rattle.base.specs.InOrderOnce.{Has, IsOnce}
-use Rattle.base.proofs.Joined.{in_order_tail, in_order-append}
+use Rattle.base.proofs.Joined.{joined_in_order_tail, in_order-append}
 
 -- the list without what stands at place k
 without : {A : Type 0} → List A → ℕ → List A
@@ -33,7 +33,7 @@ once_le {A} (x ∷ xs) ys once all =
     let here : Has ys x = all x (0, refl) in
     let shorter = length-without ys here.0 x here.1 in
     let rest =
-    once_le xs (without ys here.0) (in_order_tail (λ (a b : A). a ≢ b) x xs once) (λ y h. has-without ys here.0
+    once_le xs (without ys here.0) (joined_in_order_tail (λ (a b : A). a ≢ b) x xs once) (λ y h. has-without ys here.0
     (all y (suc h.0, h.1)).0 x y here.1 (all y (suc h.0, h.1)).1
     (λ e. once 0 (suc h.0) x y (omega arith) refl h.1 (sym e)))
     in

@@ -26,13 +26,13 @@ slice_get-set_other (x ∷ xs) (suc i) zero v h = refl
 slice_get-set_other (x ∷ xs) (suc i) (suc k) v h = slice_get-set_other xs i k v (λ e. h (ap suc e))
 
 -- lists that agree at every place are the same
-pub same_places : {A : Type 0} (xs ys : List A) → ((k : ℕ) → slice_get xs k ≡ slice_get ys k) → xs ≡ ys
-same_places [] [] h = refl
-same_places [] (y ∷ ys) h = absurd (none-some y (h 0))
-same_places (x ∷ xs) [] h = absurd (none-some x (sym (h 0)))
-same_places (x ∷ xs) (y ∷ ys) h =
+pub slice_sets_same : {A : Type 0} (xs ys : List A) → ((k : ℕ) → slice_get xs k ≡ slice_get ys k) → xs ≡ ys
+slice_sets_same [] [] h = refl
+slice_sets_same [] (y ∷ ys) h = absurd (none-some y (h 0))
+slice_sets_same (x ∷ xs) [] h = absurd (none-some x (sym (h 0)))
+slice_sets_same (x ∷ xs) (y ∷ ys) h =
     let e : x ≡ y = same_Some x y (h 0) in
-    let f : xs ≡ ys = same_places xs ys (λ k. h (suc k)) in
+    let f : xs ≡ ys = slice_sets_same xs ys (λ k. h (suc k)) in
     cc
 
 -- what is found in a list of one item over and over is that item

@@ -52,27 +52,27 @@ slice_get-drop (x ∷ xs) (suc n) k =
     let e : suc (n + k) ≡ suc n + k = omega arith in slice_get-drop xs n k ∙ ap (slice_get (x ∷ xs)) e
 
 -- an item of two lists is one of the first or one of the second
-pub append_cases : {A : Type 0} (xs ys : List A) (k : ℕ) (x : A) → slice_get (xs ++ ys) k ≡ Some x
+pub slice_append_cases : {A : Type 0} (xs ys : List A) (k : ℕ) (x : A) → slice_get (xs ++ ys) k ≡ Some x
     → ((k < length xs) × (slice_get xs k ≡ Some x)) ⊎ ((m : ℕ) × (k ≡ length xs + m) × (slice_get ys m ≡ Some x))
-append_cases [] ys k x h = inr (k, omega arith, h)
-append_cases (y ∷ xs) ys zero x h = inl (omega arith, h)
-append_cases {A} (y ∷ xs) ys (suc k) x h =
-    elim (append_cases xs ys k x h)
+slice_append_cases [] ys k x h = inr (k, omega arith, h)
+slice_append_cases (y ∷ xs) ys zero x h = inl (omega arith, h)
+slice_append_cases {A} (y ∷ xs) ys (suc k) x h =
+    elim (slice_append_cases xs ys k x h)
     [ inl a ↦ inl (omega (arith, a.0), a.1) | inr b ↦ inr (b.0, omega (arith, b.1), b.2) ]
 
 -- an item of a list with one more is one of the list, or the last
-pub push_cases : {A : Type 0} (xs : List A) (y : A) (k : ℕ) (x : A) → slice_get (xs ++ y ∷ []) k ≡ Some x
+pub slice_push_cases : {A : Type 0} (xs : List A) (y : A) (k : ℕ) (x : A) → slice_get (xs ++ y ∷ []) k ≡ Some x
     → ((k < length xs) × (slice_get xs k ≡ Some x)) ⊎ ((k ≡ length xs) × (y ≡ x))
-push_cases [] y zero x h = inr (refl, same_Some y x h)
-push_cases [] y (suc k) x h = absurd (none-some x h)
-push_cases (z ∷ xs) y zero x h = inl (omega arith, h)
-push_cases (z ∷ xs) y (suc k) x h =
-    elim (push_cases xs y k x h) [ inl a ↦ inl (omega (arith, a.0), a.1) | inr b ↦ inr (omega (arith, b.0), b.1) ]
+slice_push_cases [] y zero x h = inr (refl, same_Some y x h)
+slice_push_cases [] y (suc k) x h = absurd (none-some x h)
+slice_push_cases (z ∷ xs) y zero x h = inl (omega arith, h)
+slice_push_cases (z ∷ xs) y (suc k) x h =
+    elim (slice_push_cases xs y k x h) [ inl a ↦ inl (omega (arith, a.0), a.1) | inr b ↦ inr (omega (arith, b.0), b.1) ]
 
 -- what holds of the empty list, and with each list of it with one more item, holds of every list
-pub push_induction : {A : Type 0} (P : List A → Type 0) → P [] → ((xs : List A) (x : A) → P xs → P (xs ++ x ∷ []))
+pub slice_push_induction : {A : Type 0} (P : List A → Type 0) → P [] → ((xs : List A) (x : A) → P xs → P (xs ++ x ∷ []))
     → (xs : List A) → P xs
-push_induction {A} P start step xs = go [] xs start
+slice_push_induction {A} P start step xs = go [] xs start
   where
     go : (front rest : List A) → P front → P (front ++ rest)
     go front [] h = rw append-nil h
@@ -133,7 +133,7 @@ pub record CountedAt {A : Type 0} (p : A → Bool) (xs : List A) (n : ℕ) : Typ
 
 -- of each number below the count there is a counted item
 pub counted : {A : Type 0} (p : A → Bool) (xs : List A) (n : ℕ) → n < count_by p xs → CountedAt p xs n
-counted {A} p xs n = push_induction (λ ys. n < count_by p ys → CountedAt p ys n) (λ h. absurd (omega arith)) step xs
+counted {A} p xs n = slice_push_induction (λ ys. n < count_by p ys → CountedAt p ys n) (λ h. absurd (omega arith)) step xs
   where
     longer : (ys : List A) (y : A) → CountedAt p ys n → CountedAt p (ys ++ y ∷ []) n
     longer ys y c =

@@ -8,7 +8,7 @@ use Rattle.journal.specs.Brings.{SomeArrives}
 use Rattle.barrier.specs.Episodes.{Episodes}
 use Rattle.barrier.specs.declared.barrier.Stage.{Stage}
 use Rattle.barrier.specs.declared.barrier.Stage.TheVariants.{Away, Here, Free}
-use Rattle.book.specs.Stamps.{EachAt, IsStamp}
+use Rattle.book.specs.Stamps.{EachStampedAt, IsStamp}
 
 -- how often p has arrived and departed when n episodes are complete
 abbrev pub IsAtBarrierStage : List Event → ℕ → ℕ → Stage → Type 0
@@ -19,6 +19,6 @@ IsAtBarrierStage h n p Free = (count_of is_arrive h p ≡ n) × (count_of is_dep
 -- that many episodes are complete, and the open one has the time of its arrivals so far
 pub record IsBarrier (s : Sizes) (h : List Event) (b : Episodes) : Type 0 where
   pub complete : ℕ
-  pub stages : EachAt s.processors (IsAtBarrierStage h complete) b.stages
+  pub stages : EachStampedAt s.processors (IsAtBarrierStage h complete) b.stages
   pub lacks : (q : ℕ) × (q < s.processors) × (count_of is_arrive h q ≡ complete)
   pub gathered : IsStamp s.processors h (UpToSome h (SomeArrives h complete)) b.gathered

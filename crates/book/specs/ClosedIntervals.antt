@@ -6,10 +6,10 @@ use Rattle.journal.specs.Sizes.{Sizes}
 use Rattle.journal.specs.Events.{count_of, interval_at, is_closing}
 use Rattle.journal.specs.Times.{ClosesAt}
 use Rattle.journal.specs.ContentsSince.{StoresInInterval, IsContent}
-use Rattle.journal.specs.MissingWords.{closed_count, IsPlaced}
+use Rattle.journal.specs.MissingWords.{missing_closed_count, IsMissingPlaced}
 use Rattle.page.specs.RisingChanges.{Changes}
 use Rattle.interval.specs.declared.kept_interval.KeptInterval.{KeptInterval}
-use Rattle.interval.specs.SentIntervals.{HasRisingPages}
+use Rattle.interval.specs.SentIntervals.{SentPagesRise}
 use Rattle.interval.specs.Closings.{Closings}
 
 -- the records are what the owner's stores of the interval come to: one for each page that they go to, by rising page
@@ -17,7 +17,7 @@ pub record AreIntervalContents (s : Sizes) (h : List Event) (owner number : ℕ)
   pub each : (r : Changes) → Has records r → IsContent s h owner number r.page r.words
   pub some : (r : Changes) → Has records r → r.words ≢ []
   pub all : (n i : ℕ) → StoresInInterval s h owner number n i → (r : Changes) × Has records r × (r.page ≡ n)
-  pub rising : HasRisingPages records
+  pub rising : SentPagesRise records
 
 -- no kept interval has a number below its owner's first
 abbrev pub AreClosedFromFirst : Closings → Type 0
@@ -25,12 +25,12 @@ AreClosedFromFirst c = (k : KeptInterval) → Has c.kept k → slice_index c.fir
 
 -- the intervals closed so far, except for each owner's first ones, are kept in closing order
 pub record AreClosed (s : Sizes) (h : List Event) (c : Closings) : Type 0 where
-  pub count : c.pushed ≡ closed_count h
+  pub count : c.pushed ≡ missing_closed_count h
   pub next_long : length c.next ≡ s.processors
   pub next : (q : ℕ) → q < s.processors → slice_index c.next q ≡ count_of is_closing h q
   pub first_long : length c.first ≡ s.processors
   pub from : AreClosedFromFirst c
-  pub each : (k : KeptInterval) → Has c.kept k → IsPlaced h k.interval.owner k.interval.number k.place
+  pub each : (k : KeptInterval) → Has c.kept k → IsMissingPlaced h k.interval.owner k.interval.number k.place
   pub all : (q i : ℕ) → ClosesAt h q i → slice_index c.first q ≤ interval_at h q i
       → (k : KeptInterval) × Has c.kept k × (k.interval.owner ≡ q) × (k.interval.number ≡ interval_at h q i)
   pub contents : (k : KeptInterval) → Has c.kept k → AreIntervalContents s h k.interval.owner k.interval.number k.interval.records

@@ -3,7 +3,7 @@ use Rattle.std.specs.Prelude.{ℕ, ◌≡◌, ◌+◌, List, length, Result, OnO
 use Rattle.journal.specs.declared.event.Event.{Event}
 use Rattle.book.specs.declared.refused.Refused.{Refused}
 use Rattle.book.specs.State.{State}
-use Rattle.book.specs.Transitions.{book_handed_in}
+use Rattle.book.specs.Transitions.{transition_handed_in}
 use Rattle.book.specs.Refusals.{IsFullRefusal, IsRoomRefusal}
 
 -- the call makes the book `after` of the old one, with this many events in its journal; or it is refused, if the
@@ -16,9 +16,9 @@ pub record EndsIn {A : Type 0} (events : ℕ) (after old new : State) (result : 
 
 -- the call hands the block in
 abbrev pub EndsHandedIn : {A : Type 0} → List Event → State → State → Result A Refused → Type 0
-EndsHandedIn block old new result = EndsIn (length old.journal.events + length block) (book_handed_in old block) old new result
+EndsHandedIn block old new result = EndsIn (length old.journal.events + length block) (transition_handed_in old block) old new result
 
 -- the call hands the block in, and closes the interval by an event, which makes this of the book
 abbrev pub EndsClosed : {A : Type 0} → List Event → (State → State) → State → State → Result A Refused → Type 0
 EndsClosed block f old new result =
-    EndsIn (length old.journal.events + length block + 1) (f (book_handed_in old block)) old new result
+    EndsIn (length old.journal.events + length block + 1) (f (transition_handed_in old block)) old new result

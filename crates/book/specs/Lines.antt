@@ -18,7 +18,7 @@ pub record IsLine (h : List Event) (l : ℕ) (xs : List ℕ) : Type 0 where
       → LastIs h r k (Ask l) → i < k
 
 -- the lock has this line, and keeps the time of its releases
-pub record IsLock (n : ℕ) (h : List Event) (l : ℕ) (k : Lock) : Type 0 where
+pub record HasLineOfLock (n : ℕ) (h : List Event) (l : ℕ) (k : Lock) : Type 0 where
   pub line_is : IsLine h l (lock_line k)
   pub held : k.holder ≡ None → k.queue ≡ []
   pub time : IsStamp n h (UpToSome h (SomeDoes h (Release l))) k.time

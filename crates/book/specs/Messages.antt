@@ -7,7 +7,7 @@ use Rattle.interval.specs.SentIntervals.{SentRecord}
 use Rattle.interval.specs.Closings.{Closings, closings_between}
 use Rattle.transit.specs.Letters.{Letter}
 use Rattle.transit.specs.Letters.LetterKind.{signal}
-use Rattle.book.specs.State.{State, time_of}
+use Rattle.book.specs.State.{State, state_time_of}
 
 -- the signal of a flag with this time, to one with that timestamp
 abbrev pub signal_message : Closings → List ℕ → List ℕ → Letter
@@ -22,7 +22,7 @@ message_among c flags mail own p _ = slice_index_or mail p None
 
 -- p's message if it waits for this
 abbrev pub message_for : State → ℕ → Kind → Option Letter
-message_for b p k = message_among b.closed b.flags b.transit (time_of b p) p k
+message_for b p k = message_among b.closed b.flags b.transit (state_time_of b p) p k
 
 -- whether it has come
 abbrev pub message_has_come : List (Option (List ℕ)) → List (Option Letter) → ℕ → Kind → Bool
@@ -35,5 +35,5 @@ sent_with_message None = []
 sent_with_message (Some m) = m.notices
 
 -- what a take by p would bring: nothing if p waits for nothing, or if that hasn't come
-abbrev pub brought : State → ℕ → List SentRecord
-brought b p = sent_with_message (option_and_then (message_for b p) (slice_index_or b.awaits p None))
+abbrev pub brought_by_message : State → ℕ → List SentRecord
+brought_by_message b p = sent_with_message (option_and_then (message_for b p) (slice_index_or b.awaits p None))

@@ -2,7 +2,7 @@
 use Rattle.std.specs.Prelude.{ℕ, List, map, filter}
 use Rattle.journal.specs.MissingWords.{Missing}
 use Rattle.interval.specs.SentIntervals.{SentRecord}
-use Rattle.interval.specs.Closings.{is_of_page}
+use Rattle.interval.specs.Closings.{is_closing_of_page}
 
 -- the interval of a notice, with what it comes to in the notice's page
 abbrev pub news_of_notice : SentRecord → Missing
@@ -10,4 +10,4 @@ news_of_notice x = record { owner = x.notice.owner; number = x.notice.number; pl
 
 -- the intervals of the notices of page n
 abbrev pub news_of_page : ℕ → List SentRecord → List Missing
-news_of_page n sent = map news_of_notice (filter (is_of_page n) sent)
+news_of_page n sent = map news_of_notice (filter (is_closing_of_page n) sent)

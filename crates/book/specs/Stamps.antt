@@ -7,7 +7,7 @@ use Rattle.journal.specs.WellFormed.{LastIs}
 use Rattle.journal.specs.Waits.{awaited}
 
 -- the list has n items, and each is what it has to be at its place
-pub record EachAt {A : Type 0} (n : ℕ) (R : ℕ → A → Type 0) (xs : List A) : Type 0 where
+pub record EachStampedAt {A : Type 0} (n : ℕ) (R : ℕ → A → Type 0) (xs : List A) : Type 0 where
   pub long : length xs ≡ n
   pub each : (i : ℕ) (x : A) → slice_get xs i ≡ Some x → R i x
 
@@ -17,6 +17,6 @@ pub record IsStamp (n : ℕ) (h : List Event) (among : ℕ → Type 0) (t : List
   pub is : IsTimeIn h among (slice_index t)
 
 -- what p waits for, if it does
-pub record IsAwaited (h : List Event) (p : ℕ) (w : Option Kind) : Type 0 where
+pub record IsAwaitedByStamps (h : List Event) (p : ℕ) (w : Option Kind) : Type 0 where
   pub last : (i : ℕ) (a : Kind) → LastIs h p i a → w ≡ awaited a
   pub some : (k : Kind) → w ≡ Some k → (i : ℕ) × (a : Kind) × LastIs h p i a

@@ -21,5 +21,5 @@ pub record State : Type 0 where
   pub transit : List (Option Letter)
 
 -- the timestamp of processor p
-abbrev pub time_of : State → ℕ → List ℕ
-time_of b p = slice_index_or b.times p []
+abbrev pub state_time_of : State → ℕ → List ℕ
+state_time_of b p = slice_index_or b.times p []

@@ -6,8 +6,8 @@ use Rattle.journal.specs.WellFormed.{WellFormed}
 use Rattle.journal.specs.Pasts.{InPast}
 use Rattle.interval.specs.Closings.{closings_between}
 use Rattle.transit.specs.Letters.{Letter}
-use Rattle.book.specs.Stamps.{EachAt, IsStamp, IsAwaited}
-use Rattle.book.specs.Lines.{IsLock}
+use Rattle.book.specs.Stamps.{EachStampedAt, IsStamp, IsAwaitedByStamps}
+use Rattle.book.specs.Lines.{HasLineOfLock}
 use Rattle.book.specs.Mail.{IsMail}
 use Rattle.book.specs.BarrierStages.{IsBarrier}
 use Rattle.book.specs.Flags.{IsFlag}
@@ -33,12 +33,12 @@ pub record Represents (s : Sizes) (h : List Event) (b : State) : Type 0 where
   pub sizes : HasSizes s b
   pub holds : HoldsSome b.journal h
   pub closed : AreClosed s h b.closed
-  pub times : EachAt s.processors (λ p t. IsStamp s.processors h (InPast h p) t) b.times
-  pub locks : EachAt s.locks (IsLock s.processors h) b.locks.locks
+  pub times : EachStampedAt s.processors (λ p t. IsStamp s.processors h (InPast h p) t) b.times
+  pub locks : EachStampedAt s.locks (HasLineOfLock s.processors h) b.locks.locks
   pub barrier : IsBarrier s h b.barrier
-  pub flags : EachAt s.flags (IsFlag s.processors h) b.flags
-  pub awaits : EachAt s.processors (IsAwaited h) b.awaits
-  pub transit : EachAt s.processors (IsMail s h) b.transit
+  pub flags : EachStampedAt s.flags (IsFlag s.processors h) b.flags
+  pub awaits : EachStampedAt s.processors (IsAwaitedByStamps h) b.awaits
+  pub transit : EachStampedAt s.processors (IsMail s h) b.transit
   pub notices : (p : ℕ) (m : Letter) (t : List ℕ) → slice_get b.transit p ≡ Some (Some m)
       → slice_get b.times p ≡ Some t → m.notices ≡ closings_between b.closed t m.time
   pub within : DropsOnlyCoveredIntervals b.closed.first b.times

@@ -25,7 +25,7 @@ pub record WaitsInVain (b : State) (p : ℕ) : Type 0 where
   pub come : message_has_come b.flags b.transit p kind ≡ false
 
 -- the book represents some history that ends with this closing event of p
-pub record HasClosed (b : State) (p : ℕ) (k : Kind) : Type 0 where
+pub record HasClosedBeforeWaiting (b : State) (p : ℕ) (k : Kind) : Type 0 where
   pub sizes : Sizes
   pub history : List Event
   pub told : Represents sizes (did history p k) b
@@ -33,11 +33,11 @@ pub record HasClosed (b : State) (p : ℕ) (k : Kind) : Type 0 where
 
 -- after this event of p the book names q: who holds the released lock next, who waits for the departure if p may
 -- depart, and who waits for the flag that was set
-abbrev pub IsNamed : State → ℕ → Kind → ℕ → Type 0
-IsNamed b p (Release l) q = ((lock_at b.locks l).holder ≡ Some q) × (q < most_processors) × IsDoneWaiting b (Acquire l) q
-IsNamed b p Arrive q = (message_has_come b.flags b.transit p Depart ≡ true) × (q < most_processors) × IsDoneWaiting b Depart q
-IsNamed b p (Set f) q = (q < most_processors) × IsDoneWaiting b (Await f) q
-IsNamed b p _ q = ⊥
+abbrev pub IsNamedWaiting : State → ℕ → Kind → ℕ → Type 0
+IsNamedWaiting b p (Release l) q = ((lock_at b.locks l).holder ≡ Some q) × (q < most_processors) × IsDoneWaiting b (Acquire l) q
+IsNamedWaiting b p Arrive q = (message_has_come b.flags b.transit p Depart ≡ true) × (q < most_processors) × IsDoneWaiting b Depart q
+IsNamedWaiting b p (Set f) q = (q < most_processors) × IsDoneWaiting b (Await f) q
+IsNamedWaiting b p _ q = ⊥
 
 -- p's block and the event after it let q go on, another processor, who couldn't before
 pub record LetsWaitingOn (s : Sizes) (h block : List Event) (p : ℕ) (k : Kind) (q : ℕ) : Type 0 where

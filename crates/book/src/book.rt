@@ -5,12 +5,12 @@ ghost use Rattle.std.specs.Arc.{arc_value};
 ghost use Rattle.base.specs.Prelude.{most_events, most_in_block, most_processors, Has, most_locks};
 ghost use Rattle.journal.specs.Prelude.{Sizes, Ready, IsCutFault, IsDeadlock, closing_kind, did};
 ghost use Rattle.journal.specs.declared.event.Event.{Event as AnEvent};
-ghost use Rattle.interval.specs.Prelude.{HasRisingPages, is_of_page};
+ghost use Rattle.interval.specs.Prelude.{SentPagesRise, is_closing_of_page};
 ghost use Rattle.transit.specs.Prelude.{letter};
-ghost use Rattle.book.specs.Prelude.{brought, WasBookCut, AllowsFlush, AllowsClosing, AllowsAsk, AllowsRelease, AllowsSomeTake};
-ghost use Rattle.book.specs.Prelude.{IsProcessor, new_book, book_handed_in, book_handed_last, book_watched, book_set, book_asked};
-ghost use Rattle.book.specs.Prelude.{book_released, book_arrived, EndsClosed, EndsHandedIn, IsFullRefusal, Represents, IsRoomRefusal};
-ghost use Rattle.book.specs.Prelude.{HasClosed, IsBlockOf, MayClose, book_closed, IsToldBySome, LetsWaitingOn, BookTakes};
+ghost use Rattle.book.specs.Prelude.{brought_by_message, WasBookCut, AllowsFlush, AllowsClosing, AllowsAskCall, AllowsReleaseCall, AllowsSomeTakeCall};
+ghost use Rattle.book.specs.Prelude.{IsProcessorOfCall, transition_new_book, transition_handed_in, transition_handed_last, transition_watched, transition_set, transition_asked};
+ghost use Rattle.book.specs.Prelude.{transition_released, transition_arrived, EndsClosed, EndsHandedIn, IsFullRefusal, Represents, IsRoomRefusal};
+ghost use Rattle.book.specs.Prelude.{HasClosedBeforeWaiting, IsBlockOfCalls, MayCallToClose, transition_closed, IsToldBySome, LetsWaitingOn, TransitionTakes};
 
 use crate::empty::{empty_history, empty_locks, empty_timestamps};
 use crate::messages::{grant_to, has_come, post_all, receive};
@@ -65,7 +65,7 @@ impl Book {
         requires most { processors ≤ most_processors }
         requires locks { locks ≤ most_locks }
         requires addresses { pages * words < 2 ^ 64 }
-        ensures { IfOk result (λ b. b ≡ new_book (record {
+        ensures { IfOk result (λ b. b ≡ transition_new_book (record {
           processors = processors;
           pages = pages;
           words = words;
@@ -132,10 +132,10 @@ impl Book {
         block: &[Event],
         records: Vec<Arc<Record>>,
     ) -> Result<(), Refused>
-        requires call { MayClose (closing_kind closing) self.old processor block.now }
+        requires call { MayCallToClose (closing_kind closing) self.old processor block.now }
         requires short { length block.now ≤ most_in_block }
-        requires rising { HasRisingPages (map arc_value records.items) }
-        ensures { EndsClosed block.now (λ b. book_closed (closing_kind closing) b processor (map arc_value records.items))
+        requires rising { SentPagesRise (map arc_value records.items) }
+        ensures { EndsClosed block.now (λ b. transition_closed (closing_kind closing) b processor (map arc_value records.items))
             self.old self.new result }
     {
         match closing {
@@ -158,8 +158,8 @@ impl Book {
     ) -> Result<(), Refused>
         requires call { AllowsClosing self.old processor block.now }
         requires short { length block.now ≤ most_in_block }
-        requires rising { HasRisingPages (map arc_value records.items) }
-        ensures { EndsClosed block.now (λ b. book_watched b processor flag (map arc_value records.items))
+        requires rising { SentPagesRise (map arc_value records.items) }
+        ensures { EndsClosed block.now (λ b. transition_watched b processor flag (map arc_value records.items))
             self.old self.new result }
     {
         let parts = &mut *self.parts;
@@ -179,8 +179,8 @@ impl Book {
         requires call { AllowsClosing self.old processor block.now }
         requires flag { flag < length self.old.flags }
         requires short { length block.now ≤ most_in_block }
-        requires rising { HasRisingPages (map arc_value records.items) }
-        ensures { EndsClosed block.now (λ b. book_set b processor flag (map arc_value records.items))
+        requires rising { SentPagesRise (map arc_value records.items) }
+        ensures { EndsClosed block.now (λ b. transition_set b processor flag (map arc_value records.items))
             self.old self.new result }
     {
         let parts = &mut *self.parts;
@@ -201,10 +201,10 @@ impl Book {
         block: &[Event],
         records: Vec<Arc<Record>>,
     ) -> Result<(), Refused>
-        requires call { AllowsAsk self.old processor lock block.now }
+        requires call { AllowsAskCall self.old processor lock block.now }
         requires short { length block.now ≤ most_in_block }
-        requires rising { HasRisingPages (map arc_value records.items) }
-        ensures { EndsClosed block.now (λ b. book_asked b processor lock (map arc_value records.items))
+        requires rising { SentPagesRise (map arc_value records.items) }
+        ensures { EndsClosed block.now (λ b. transition_asked b processor lock (map arc_value records.items))
             self.old self.new result }
     {
         let parts = &mut *self.parts;
@@ -228,10 +228,10 @@ impl Book {
         block: &[Event],
         records: Vec<Arc<Record>>,
     ) -> Result<(), Refused>
-        requires call { AllowsRelease self.old processor lock block.now }
+        requires call { AllowsReleaseCall self.old processor lock block.now }
         requires short { length block.now ≤ most_in_block }
-        requires rising { HasRisingPages (map arc_value records.items) }
-        ensures { EndsClosed block.now (λ b. book_released b processor lock (map arc_value records.items))
+        requires rising { SentPagesRise (map arc_value records.items) }
+        ensures { EndsClosed block.now (λ b. transition_released b processor lock (map arc_value records.items))
             self.old self.new result }
     {
         let parts = &mut *self.parts;
@@ -265,8 +265,8 @@ impl Book {
     ) -> Result<(), Refused>
         requires call { AllowsClosing self.old processor block.now }
         requires short { length block.now ≤ most_in_block }
-        requires rising { HasRisingPages (map arc_value records.items) }
-        ensures { EndsClosed block.now (λ b. book_arrived b processor (map arc_value records.items))
+        requires rising { SentPagesRise (map arc_value records.items) }
+        ensures { EndsClosed block.now (λ b. transition_arrived b processor (map arc_value records.items))
             self.old self.new result }
     {
         let parts = &mut *self.parts;
@@ -287,9 +287,9 @@ impl Book {
     /// that the book represents. Else JournalFull exactly if the journal would have more than 2^20 events.
     /// Intervals that everyone has performed are dropped then; a refused call drops none.
     pub fn take(&mut self, processor: usize) -> Result<Message, Refused>
-        requires call { AllowsSomeTake self.old processor }
-        ensures ok { IfOk result (λ m. BookTakes self.old processor (letter m) self.new) }
-        ensures brings { IfOk result (λ m. (letter m).notices ≡ brought self.old processor) }
+        requires call { AllowsSomeTakeCall self.old processor }
+        ensures ok { IfOk result (λ m. TransitionTakes self.old processor (letter m) self.new) }
+        ensures brings { IfOk result (λ m. (letter m).notices ≡ brought_by_message self.old processor) }
         ensures err { OnErr result (self.new ≡ self.old) }
         ensures absent { (s : Sizes) (h : List AnEvent) → Represents s h self.old
             → result ≡ Err Refused.NotYet ↔ (¬ Ready s h processor) }
@@ -328,7 +328,7 @@ impl Book {
     pub fn last(&mut self, processor: usize, block: &[Event])
         requires call { AllowsFlush self.old processor block.now }
         requires room { length block.now ≤ self.old.journal.room }
-        ensures { self.new ≡ book_handed_last self.old block.now }
+        ensures { self.new ≡ transition_handed_last self.old block.now }
     {
         let parts = &mut *self.parts;
         append_all(&mut parts.journal, block);
@@ -358,7 +358,7 @@ impl Book {
     /// Whether `processor` is ready: what it waits for has come, so that a take isn't answered NotYet. It takes no
     /// memory, and costs the same however much has come.
     pub fn is_ready(&self, processor: usize) -> bool
-        requires call { AllowsSomeTake self.now processor }
+        requires call { AllowsSomeTakeCall self.now processor }
         ensures { (s : Sizes) (h : List AnEvent) → Represents s h self.now → IsTrue result ↔ Ready s h processor }
     {
         let parts = &*self.parts;
@@ -384,10 +384,10 @@ impl Book {
     /// after an ask, a watch, and an arrival that completes nothing, and the same however many processors there are
     /// after a release.
     pub fn let_on(&self, processor: usize, kind: Kind) -> Waiters
-        requires closed { HasClosed self.now processor kind }
+        requires closed { HasClosedBeforeWaiting self.now processor kind }
         ensures ready { (s : Sizes) (h : List AnEvent) (q : ℕ) → Represents s h self.now → Has result q → Ready s h q }
         ensures all { (s : Sizes) (h block : List AnEvent) (q : ℕ) → Represents s (did (h ++ block) processor kind) self.now
-            → IsBlockOf s processor block → LetsWaitingOn s h block processor kind q → Has result q }
+            → IsBlockOfCalls s processor block → LetsWaitingOn s h block processor kind q → Has result q }
         ensures within { (q : ℕ) → Has result q → q < length self.now.awaits }
     {
         let parts = &*self.parts;
@@ -413,8 +413,8 @@ impl Book {
     /// How many notices of the page a take by `processor` would bring now: none if `processor` waits for nothing, or
     /// if what it waits for isn't there. It takes no memory.
     pub fn due(&self, processor: usize, page: usize) -> usize
-        requires call { IsProcessor self.now processor }
-        ensures { result ≡ count_by (is_of_page page) (brought self.now processor) }
+        requires call { IsProcessorOfCall self.now processor }
+        ensures { result ≡ count_by (is_closing_of_page page) (brought_by_message self.now processor) }
     {
         let parts = &*self.parts;
         match parts.awaits[processor] {
@@ -430,9 +430,9 @@ impl Book {
     /// there, becomes the number for page n, as `due` answers it. Pages past the slice's end are not counted.
     /// It takes no memory, and costs in the order of the slice and of what a take would bring.
     pub fn count_due(&self, processor: usize, counts: &mut [usize])
-        requires call { IsProcessor self.now processor }
+        requires call { IsProcessorOfCall self.now processor }
         ensures each { EachIndex counts.new (λ n. slice_index counts.new n
-            ≡ count_by (is_of_page n) (brought self.now processor)) }
+            ≡ count_by (is_closing_of_page n) (brought_by_message self.now processor)) }
         ensures same_length { length counts.new ≡ length counts.old }
     {
         let parts = &*self.parts;

@@ -5,7 +5,7 @@ ghost use Rattle.base.specs.Prelude.{most_processors};
 ghost use Rattle.journal.specs.Prelude.{new_log, awaited_kind};
 ghost use Rattle.interval.specs.Prelude.{Closings};
 ghost use Rattle.lockq.specs.LockQueues.{unheld_lock};
-ghost use Rattle.book.specs.Prelude.{no_closings};
+ghost use Rattle.book.specs.Prelude.{transition_no_closings};
 
 use interval::Closed;
 use journal::{Awaited, Journal};
@@ -23,7 +23,7 @@ pub(crate) fn empty_history(
 ) -> Result<(Journal, Closed), AllocError>
     requires { processors ≤ most_processors }
     ensures journal { IfOk result (λ it. it.0 ≡ record (new_log processors addresses) { room = owing }) }
-    ensures closed { IfOk result (λ it. it.1 ≡ no_closings processors) }
+    ensures closed { IfOk result (λ it. it.1 ≡ transition_no_closings processors) }
 {
     let mut journal = Journal::new(alloc, processors, addresses)?;
     journal.reserve(owing)?;

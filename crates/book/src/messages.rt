@@ -3,10 +3,10 @@ ghost use Rattle.std.specs.Prelude.{◌≡◌, ◌≢◌, ℕ, ◌<◌, ◌≤�
 ghost use Rattle.std.specs.Prelude.{length, map, replicate, slice_index, slice_set};
 ghost use Rattle.std.specs.Option.{option_map};
 ghost use Rattle.journal.specs.Prelude.{awaited_kind};
-ghost use Rattle.interval.specs.Prelude.{HasRisingPages, KeepsClosingsBetween, pushed};
+ghost use Rattle.interval.specs.Prelude.{SentPagesRise, KeepsClosingsBetween, pushed};
 ghost use Rattle.transit.specs.Prelude.{letter};
-ghost use Rattle.book.specs.Prelude.{addressed, addressed_grant, departure_to, message_has_come, message_among};
-ghost use Rattle.book.specs.Prelude.{signal_message, AllowsNotices, AllowsSignal};
+ghost use Rattle.book.specs.Prelude.{transition_addressed, transition_addressed_grant, transition_departure_to, message_has_come, message_among};
+ghost use Rattle.book.specs.Prelude.{signal_message, AllowsNoticesOfCall, AllowsSignalOfCall};
 
 use interval::{Closed, Interval};
 use journal::Awaited;
@@ -24,11 +24,11 @@ pub(crate) fn grant_to(
     time: &VTime,
 ) -> Result<Option<(usize, Message)>, AllocError>
     requires owner { interval.now.owner < length closed.now.next }
-    requires pages { HasRisingPages interval.now.records }
+    requires pages { SentPagesRise interval.now.records }
     requires long { length time.now ≡ length closed.now.first }
-    requires next { IfSome next (λ r. AllowsNotices closed.now times.now r) }
-    ensures { IfOk result (λ g. option_map addressed g
-        ≡ option_map (addressed_grant (pushed closed.now interval.now) times.now time.now) next) }
+    requires next { IfSome next (λ r. AllowsNoticesOfCall closed.now times.now r) }
+    ensures { IfOk result (λ g. option_map transition_addressed g
+        ≡ option_map (transition_addressed_grant (pushed closed.now interval.now) times.now time.now) next) }
 {
     let Some(next) = next else {
         return Ok(None);
@@ -50,12 +50,12 @@ pub(crate) fn departures(
 ) -> Result<Vec<Message>, AllocError>
     requires owner { interval.now.owner < length closed.now.next }
     requires processor { interval.now.owner < length times.now }
-    requires pages { HasRisingPages interval.now.records }
+    requires pages { SentPagesRise interval.now.records }
     requires long { length time.now ≡ length closed.now.first }
     requires all { (r : ℕ) → r < length times.now
-        → AllowsNotices closed.now (slice_set times.now interval.now.owner own.now) r }
+        → AllowsNoticesOfCall closed.now (slice_set times.now interval.now.owner own.now) r }
     ensures { IfOk result (λ ms. map letter ms.items
-        ≡ map (departure_to (pushed closed.now interval.now) time.now)
+        ≡ map (transition_departure_to (pushed closed.now interval.now) time.now)
         (slice_set times.now interval.now.owner own.now)) }
 {
     let mut departures = Vec::with_capacity(alloc, times.len())?;
@@ -117,7 +117,7 @@ pub(crate) fn receive(
     requires come { message_has_come flags.now mail.old processor (awaited_kind awaited) ≡ true }
     requires processor { processor < length mail.old }
     requires flag { (f : ℕ) → awaited ≡ Awaited.Signal f
-        → AllowsSignal closed.now flags.now own.now f }
+        → AllowsSignalOfCall closed.now flags.now own.now f }
     requires none { (f : ℕ) → awaited ≡ Awaited.Signal f → mail.old ≡ slice_set mail.old processor None }
     ensures ok { IfOk result (λ m.
         message_among closed.now flags.now mail.old own.now processor (awaited_kind awaited) ≡ Some (letter m)) }

@@ -6,11 +6,11 @@ ghost use Rattle.std.specs.Option.{option_map};
 ghost use Rattle.base.specs.Prelude.{most_in_block};
 ghost use Rattle.journal.specs.Prelude.{awaited_kind, closing_kind};
 ghost use Rattle.vtime.specs.Times.{tick};
-ghost use Rattle.interval.specs.Prelude.{HasRisingPages, KeepsClosingsBetween, pushed};
+ghost use Rattle.interval.specs.Prelude.{SentPagesRise, KeepsClosingsBetween, pushed};
 ghost use Rattle.lockq.specs.LockQueues.{lock_at};
 ghost use Rattle.transit.specs.Prelude.{letter};
-ghost use Rattle.book.specs.Prelude.{AllowsClosing, IsOpen, AllowsNotices, book_open_interval, book_closed_by, if_free};
-ghost use Rattle.book.specs.Prelude.{book_grant, book_barrier_left, book_flag_joined, departures_to, time_of, EndsClosed};
+ghost use Rattle.book.specs.Prelude.{AllowsClosing, IsOpenToCall, AllowsNoticesOfCall, transition_open_interval, transition_closed_by, transition_if_free};
+ghost use Rattle.book.specs.Prelude.{transition_grant, transition_barrier_left, transition_flag_joined, transition_departures_to, state_time_of, EndsClosed};
 
 mod counting;
 mod named;
@@ -65,13 +65,13 @@ impl Protocol {
     ) -> Result<Option<Vec<Message>>, AllocError>
         requires owner { interval.now.owner < length self.now.closed.next }
         requires processor { interval.now.owner < length self.now.times }
-        requires pages { HasRisingPages interval.now.records }
+        requires pages { SentPagesRise interval.now.records }
         requires away { slice_get self.now.barrier.stages interval.now.owner ≡ Some Stage.Away }
         requires own_long { length own.now ≡ length self.now.barrier.stages }
         requires long { length self.now.barrier.stages ≡ length self.now.closed.first }
         requires all { (r : ℕ) → r < length self.now.times
-            → AllowsNotices self.now.closed (slice_set self.now.times interval.now.owner own.now) r }
-        ensures { IfOk result (λ o. option_map (λ ms. map letter ms.items) o ≡ departures_to
+            → AllowsNoticesOfCall self.now.closed (slice_set self.now.times interval.now.owner own.now) r }
+        ensures { IfOk result (λ o. option_map (λ ms. map letter ms.items) o ≡ transition_departures_to
             (pushed self.now.closed interval.now) self.now.barrier
             (slice_set self.now.times interval.now.owner own.now) interval.now.owner own.now) }
     {
@@ -95,9 +95,9 @@ impl Protocol {
     ) -> Result<Option<Message>, AllocError>
         requires lock { lock < length self.now.locks.locks }
         requires processor { processor < length self.now.times }
-        requires keeps { KeepsClosingsBetween self.now.closed (time_of self.now processor) (lock_at self.now.locks lock).time }
+        requires keeps { KeepsClosingsBetween self.now.closed (state_time_of self.now processor) (lock_at self.now.locks lock).time }
         ensures { IfOk result (λ m. option_map letter m
-            ≡ if_free (lock_at self.now.locks lock).holder (book_grant self.now processor (lock_at self.now.locks lock).time)) }
+            ≡ transition_if_free (lock_at self.now.locks lock).holder (transition_grant self.now processor (lock_at self.now.locks lock).time)) }
     {
         let locks = &self.locks;
         if locks.holder(lock).is_some() {
@@ -111,8 +111,8 @@ impl Protocol {
 
     /// The open interval of `processor`, with what it stored.
     pub(crate) fn open_interval(&self, processor: usize, records: Vec<Arc<Record>>) -> Interval
-        requires { IsOpen self.now processor }
-        ensures { result ≡ book_open_interval self.now processor (map arc_value records.items) }
+        requires { IsOpenToCall self.now processor }
+        ensures { result ≡ transition_open_interval self.now processor (map arc_value records.items) }
     {
         Interval {
             owner: processor,
@@ -123,9 +123,9 @@ impl Protocol {
 
     /// The timestamp that `processor` will have when it has closed its interval.
     pub(crate) fn closing_time(&self, processor: usize) -> VTime
-        requires open { IsOpen self.now processor }
-        requires fits { slice_index (time_of self.now processor) processor + 1 < 2 ^ 64 }
-        ensures { result ≡ tick (time_of self.now processor) processor }
+        requires open { IsOpenToCall self.now processor }
+        requires fits { slice_index (state_time_of self.now processor) processor + 1 < 2 ^ 64 }
+        ensures { result ≡ tick (state_time_of self.now processor) processor }
     {
         let mut time = self.times[processor].copy();
         time.tick(processor);
@@ -143,9 +143,9 @@ impl Protocol {
     ) -> Result<(), Refused>
         requires call { AllowsClosing self.old processor block.now }
         requires short { length block.now ≤ most_in_block }
-        requires open { interval ≡ book_open_interval self.old processor interval.records }
-        requires rising { HasRisingPages interval.records }
-        ensures { EndsClosed block.now (λ b. book_closed_by b processor (closing_kind closing) interval.records) self.old self.new result }
+        requires open { interval ≡ transition_open_interval self.old processor interval.records }
+        requires rising { SentPagesRise interval.records }
+        ensures { EndsClosed block.now (λ b. transition_closed_by b processor (closing_kind closing) interval.records) self.old self.new result }
     {
         make_room(&mut self.journal, self.owing, block.len() + 1)?;
         self.closed.push(interval)?;
@@ -161,7 +161,7 @@ impl Protocol {
 /// The time of a flag after one more set.
 pub(crate) fn with_set(kept: &Option<VTime>, time: &VTime) -> VTime
     requires { IfSome kept.now (λ t. length t ≡ length time.now) }
-    ensures { result ≡ book_flag_joined kept.now time.now }
+    ensures { result ≡ transition_flag_joined kept.now time.now }
 {
     match kept {
         Some(kept) => {
@@ -176,7 +176,7 @@ pub(crate) fn with_set(kept: &Option<VTime>, time: &VTime) -> VTime
 /// The barrier's part of a take.
 pub(crate) fn leave(barrier: &mut Barrier, awaited: Awaited, processor: usize)
     requires { awaited ≡ Awaited.Departure → slice_get barrier.old.stages processor ≡ Some Stage.Free }
-    ensures { barrier.new ≡ book_barrier_left (awaited_kind awaited) barrier.old processor }
+    ensures { barrier.new ≡ transition_barrier_left (awaited_kind awaited) barrier.old processor }
 {
     match awaited {
         Awaited::Departure => barrier.depart(processor),

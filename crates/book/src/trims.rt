@@ -1,6 +1,6 @@
 //! Trims of the closed intervals.
 ghost use Rattle.std.specs.Prelude.{◌≡◌, ℕ, ◌<◌, List, Some, length, slice_get};
-ghost use Rattle.book.specs.Prelude.{least, trimmed_by, AllowsTrim};
+ghost use Rattle.book.specs.Prelude.{least, transition_trimmed_by, AllowsTrimOfCall};
 
 use interval::Closed;
 use vtime::VTime;
@@ -21,8 +21,8 @@ fn least(times: &[VTime], q: usize) -> u64
 /// Drops the intervals that all of these timestamps cover, after that of `processor` has risen from `before`. Of an
 /// owner whose entry hasn't risen nothing is left to drop, unless `processor` is the only one.
 pub(crate) fn trim(closed: &mut Closed, times: &[VTime], processor: usize, before: &VTime)
-    requires { AllowsTrim closed.old times.now processor before.now }
-    ensures { closed.new ≡ trimmed_by closed.old times.now (length times.now) }
+    requires { AllowsTrimOfCall closed.old times.now processor before.now }
+    ensures { closed.new ≡ transition_trimmed_by closed.old times.now (length times.now) }
 {
     for owner in 0..times.len() {
         let has_risen = before.entry(owner) < times[processor].entry(owner);

@@ -3,14 +3,14 @@ use Rattle.std.proofs.Common.{◌≡◌, ◌≢◌, ℕ, ◌+◌, ◌<◌, inl, 
 use Rattle.std.specs.Prelude.{None}
 use Rattle.std.proofs.lemmas.Bool.{cases_eq}
 use Rattle.std.proofs.lemmas.Option.{same_Some, slice_get_within, slice_get-get_or}
-use Rattle.base.proofs.SlicesAndCounts.{push_cases}
+use Rattle.base.proofs.SlicesAndCounts.{slice_push_cases}
 use Rattle.journal.specs.declared.event.Event.{Event}
 use Rattle.journal.specs.declared.event.Kind.TheVariants.{Load, Store}
 use Rattle.journal.specs.DidEvent.{event}
 use Rattle.journal.specs.Events.{At}
 use Rattle.journal.specs.ExplainedAnswers.{IsAnswer, LatestStore, Untouched}
 use Rattle.journal.specs.WellFormed.{Does}
-use Rattle.journal.proofs.Order.CountedAndNumbered.{at_within, at_same, does_same}
+use Rattle.journal.proofs.Order.CountedAndNumbered.{numbered_at_within, numbered_at_same, numbered_does_same}
 use Rattle.judge.specs.Sources.Latest.{AreLatest, IsLatest, IsReadableRow}
 use Rattle.judge.proofs.sources.Answering.{answers_law, untouched}
 use Rattle.causes.specs.declared.originating.WordOrigin.{WordOrigin}
@@ -42,14 +42,14 @@ pub place_within : (j : List Event) (k a m i : ℕ) (places : List ℕ) → AreL
     → slice_get places m ≡ Some i → i < length j
 place_within j k a m i places are at =
     let x = (are.has i).0 (m, at) in
-    at_within j i (event x.1.store.by (Store a x.1.value)) (stands j k a x.0 i x.1)
+    numbered_at_within j i (event x.1.store.by (Store a x.1.value)) (stands j k a x.0 i x.1)
 
 -- a place whose event stores v is the source
 pub found : (j : List Event) (k a b v m i : ℕ) (e : Event) (places : List ℕ) → AreLatest j k a places
     → slice_get places m ≡ Some i → At j i e → e.kind ≡ Store b v → IsSource j k a v (StoreAt i)
 found j k a b v m i e places are at there is =
     let x = ((are.has i).0 (m, at)).1 in
-    let same = at_same j i (event x.store.by (Store a x.value)) e (stands j k a ((are.has i).0 (m, at)).0 i x) there in
+    let same = numbered_at_same j i (event x.store.by (Store a x.value)) e (stands j k a ((are.has i).0 (m, at)).0 i x) there in
     let value = stored_same a x.value b v (ap (λ (y : Event). y.kind) same ∙ is) in
     subst (λ w. (s : LatestStore j k a w) × (s.place ≡ i)) value (x.store, x.place)
 
@@ -108,7 +108,7 @@ pub origin_in : (j : List Event) (k a v : ℕ) (e : Event) (origin : Option Word
     → e.kind ≡ Load a v → NamesOrigin j k a v origin s → NamesOriginAt j k origin (Some s)
 origin_in j k a v e origin s at is names p b w x does some =
     let here : Does j k e.processor (Load a v) = subst (λ kind. At j k (event e.processor kind)) is at in
-    let same = (does_same j k e.processor p (Load a v) (Load b w) here does).1 in
+    let same = (numbered_does_same j k e.processor p (Load a v) (Load b w) here does).1 in
     subst (NamesOrigin j k b w origin) (same_Some s x some)
     (subst (λ c. NamesOrigin j k c w origin s) (address_same a v b w same)
     (subst (λ c. NamesOrigin j k a c origin s) (value_same a v b w same) names))
@@ -124,7 +124,7 @@ origin_out j k origin p a v x does some = absurd (none_is x some)
 pub named_next : (j : List Event) (origins : List (Option WordOrigin)) (rows : List (Option Source)) (k : ℕ)
     → (origin : Option WordOrigin) (o : Option Source) → length rows ≡ k → slice_get origins k ≡ Some origin
     → NameOrigins j origins rows → NamesOriginAt j k origin o → NameOrigins j origins (rows ++ o ∷ [])
-named_next j origins rows k origin o long at are now n other source there to = elim (push_cases rows o n source to) [
+named_next j origins rows k origin o long at are now n other source there to = elim (slice_push_cases rows o n source to) [
   | inl old ↦ are n other source there old.1
   | inr new ↦
       (let is : k ≡ n = omega (arith, new.0) in
@@ -139,7 +139,7 @@ pub none_next : (j : List Event) (places : List ℕ) (n v i : ℕ) (e : Event) �
 none_next j places n v i e at there away before m l f lt to stands a is = elim (cases_eq m n) [
   | inl same ↦
       (let one : i ≡ l = same_Some i l (sym at ∙ sym (ap (slice_get places) same) ∙ to) in
-      let event = at_same j l e f (subst (λ x. At j x e) one there) stands in
+      let event = numbered_at_same j l e f (subst (λ x. At j x e) one there) stands in
       away a (ap (λ (y : Event). y.kind) event ∙ is))
   | inr isnt ↦ before m l f (omega arith) to stands a is
 ]
@@ -154,7 +154,7 @@ source_in j k a v e s at is tells = record { loads = loads; others = λ none. ab
 
     loads : (p b w : ℕ) → Does j k p (Load b w) → HasSource j k b w (Some s)
     loads p b w does =
-        let same = (does_same j k e.processor p (Load a v) (Load b w) here does).1 in
+        let same = (numbered_does_same j k e.processor p (Load a v) (Load b w) here does).1 in
         record {
           source = s;
           is = refl;
@@ -172,7 +172,7 @@ row_latest j k a v e places at is row =
 -- one event more
 pub sources_next : (j : List Event) (rows : List (Option Source)) (k : ℕ) (o : Option Source) → length rows ≡ k
     → AreSources j rows → IsSourceAt j k o → AreSources j (rows ++ o ∷ [])
-sources_next j rows k o long are now n other at = elim (push_cases rows o n other at) [
+sources_next j rows k o long are now n other at = elim (slice_push_cases rows o n other at) [
   | inl old ↦ are n other old.1
   | inr new ↦
       (let is : k ≡ n = omega (arith, new.0) in

@@ -14,10 +14,10 @@ use Rattle.journal.specs.Events.{count_of, interval_at, is_closing}
 use Rattle.journal.specs.Sizes.{Sizes}
 use Rattle.journal.specs.Times.{ClosesAt, IsTimeOf}
 use Rattle.journal.specs.WellFormed.{Does}
-use Rattle.journal.proofs.CopyOfPage.Brought.{gap_is}
+use Rattle.journal.proofs.CopyOfPage.Brought.{brought_gap_is}
 use Rattle.journal.proofs.CopyOfPage.Stores.{stores_to}
 use Rattle.journal.proofs.Missing.GapsTaken.{gaps_apart}
-use Rattle.journal.proofs.Order.CountedAndNumbered.{at_within, count_of-mono, count_of-past, count_of-take-le}
+use Rattle.journal.proofs.Order.CountedAndNumbered.{numbered_at_within, count_of-mono, count_of-past, count_of-take-le}
 use Rattle.journal.proofs.Times.PushesCovered.{covered}
 use Rattle.judge.specs.Gaps.{FetchedUpTo}
 use Rattle.causes.specs.declared.originating.Applied.{Applied}
@@ -49,7 +49,7 @@ gap_between s j p m q i a v n f t fetched time apart does page = (there, back)
         let same = number_in_front j m q i (omega arith) in
         let less = (covered h p q i (Store a v) t time here apart).0 g.past in (
           elim (cases_lt (interval_at h q i) (f q)) [
-            | inl before ↦ absurd (((gap_is s h p n i).0 g).2 ((fetched.brought q i a v apart here page).1 before))
+            | inl before ↦ absurd (((brought_gap_is s h p n i).0 g).2 ((fetched.brought q i a v apart here page).1 before))
             | inr le ↦ omega arith
           ],
           omega arith,
@@ -71,7 +71,7 @@ gap_between s j p m q i a v n f t fetched time apart does page = (there, back)
         ] in
         let here = front low in
         let same = number_in_front j m q i (omega arith) in
-        (gap_is s h p n i).1 (
+        (brought_gap_is s h p n i).1 (
           (covered h p q i (Store a v) t time here apart).1 (omega arith),
           stores_to s h n i q a v here page,
           λ b. (let less = (fetched.brought q i a v apart here page).0 b in omega arith),
@@ -167,7 +167,7 @@ brought_last s j x a q c stores y fetch page apart are is from closing = record 
         ]
       where
         within : (k w : ℕ) → Does j k q (Store a w) → k < length j
-        within k w does = at_within j k (event q (Store a w)) does
+        within k w does = numbered_at_within j k (event q (Store a w)) does
 
         no_later : (k e : ℕ) → k ≤ y.place → interval_at j q k ≤ y.interval
             → IsBroughtStore s j x.reader a x.place q k e → ¬ IsAppliedBefore y.place c k e
@@ -185,7 +185,7 @@ pub brought_none : (s : Sizes) (j : List Event) (x : PageFetch) (a q : ℕ) (sto
 brought_none s j x a q stores fetch page apart are none i c b =
     let between = brought_between s j x a q i c fetch page apart b in
     let to = between.1 in
-    let z = are.all i b.value (at_within j i (event q (Store a b.value)) b.does) b.does in
+    let z = are.all i b.value (numbered_at_within j i (event q (Store a b.value)) b.does) b.does in
     let there = are.each z.0 z.1 z.2 in
     let number : z.1.interval ≡ interval_at j q i = there.interval ∙ ap (interval_at j q) z.3 in
     let high = none z.0 z.1 z.2 in
@@ -199,7 +199,7 @@ brought_before s j x a q stores y fetch page apart are is low i c b =
     let between = brought_between s j x a q i c fetch page apart b in
     let from = between.0 in
     let to = between.1 in
-    let z = are.all i b.value (at_within j i (event q (Store a b.value)) b.does) b.does in
+    let z = are.all i b.value (numbered_at_within j i (event q (Store a b.value)) b.does) b.does in
     let there = are.each z.0 z.1 z.2 in
     let number : z.1.interval ≡ interval_at j q i = there.interval ∙ ap (interval_at j q) z.3 in
     elim (cases_lt is.index z.0) [

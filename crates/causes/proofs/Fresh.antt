@@ -10,7 +10,7 @@ use Rattle.std.proofs.lemmas.List.Sorted.{Contains-permutation, IsPermutation-sy
 use Rattle.std.proofs.lemmas.Map.Keys.{IsDistinct-from_apart, IsDistinct-IsPermutation, IsStrictlyIncreasing-from_distinct}
 use Rattle.std.proofs.lemmas.Option.{none-some, same_Some, slice_get-get_or, slice_get_read, slice_get_within}
 use Rattle.base.specs.InOrderOnce.{Has, InOrder, IsOnce}
-use Rattle.base.proofs.SlicesAndCounts.{push_cases, slice_get-append_left, slice_get-last, slice_get-take}
+use Rattle.base.proofs.SlicesAndCounts.{slice_push_cases, slice_get-append_left, slice_get-last, slice_get-take}
 use Rattle.journal.specs.declared.event.Event.{Event}
 use Rattle.journal.specs.declared.event.Kind.{Kind}
 use Rattle.journal.specs.declared.event.Kind.TheVariants.{Acquire, Depart, Await}
@@ -21,7 +21,7 @@ use Rattle.journal.specs.HappensBeforeEdges.HappensBefore.{edge}
 use Rattle.journal.specs.Pasts.{InPast}
 use Rattle.journal.specs.Times.{ClosesAt, IsTimeIn, IsTimeOf}
 use Rattle.journal.proofs.Order.HappensBefore.{before_longer, before_shorter}
-use Rattle.journal.proofs.Order.CountedAndNumbered.{at_same, count_of-take-le, does_at, does_same}
+use Rattle.journal.proofs.Order.CountedAndNumbered.{numbered_at_same, count_of-take-le, numbered_does_at, numbered_does_same}
 use Rattle.causes.specs.declared.news.Step.{Step}
 use Rattle.causes.specs.Edges.{EdgeFromOther, LeadsOn}
 use Rattle.causes.specs.declared.index.Turn.{Turn}
@@ -81,7 +81,7 @@ new_is_news j x q i step new = record { leads = new.leads; first = first }
     first m f lt at mine h =
         let lt_i = before in
         let inside = within in
-        let same = at_same j x.place new.leads.edge.to step.event new.leads.edge.to_at step.at in
+        let same = numbered_at_same j x.place new.leads.edge.to step.event new.leads.edge.to_at step.at in
         let past : InPast (take x.place j) step.event.processor i =
         record {
           own = m;
@@ -126,20 +126,20 @@ news_is_new j x i low step news = record {
         let to = led j i k from step.event news.leads.edge.from_at step.at news.leads in
         record {
           kind = from.kind;
-          does = does_at j i from.processor from news.leads.edge.from_at refl;
+          does = numbered_does_at j i from.processor from news.leads.edge.from_at refl;
           closes = lets_closes from.kind _ step.event.kind _ to.1;
         }
 
     unheard : ¬ InPast (take k j) step.event.processor i
     unheard past =
-        let same = at_same j k news.leads.edge.to step.event news.leads.edge.to_at step.at in
+        let same = numbered_at_same j k news.leads.edge.to step.event news.leads.edge.to_at step.at in
         let mine : past.event.processor ≡ news.leads.edge.to.processor =
         past.mine ∙ sym (ap (λ (y : Event). y.processor) same) in
         let there : At j past.own past.event = front_at past.own past.event past.at in
         let lt : past.own < k = front_lt past.own past.event past.at in
         elim past.reaches [
           | inl is ↦
-              (let one = at_same j i from past.event news.leads.edge.from_at (subst (λ m. At j m past.event) (sym is) there) in
+              (let one = numbered_at_same j i from past.event news.leads.edge.from_at (subst (λ m. At j m past.event) (sym is) there) in
               news.leads.apart (ap (λ (y : Event). y.processor) one ∙ mine))
           | inr h ↦ news.first past.own past.event lt there mine (from_front j k i past.own h)
         ]
@@ -211,7 +211,7 @@ pub below_next : (j : List Event) (x : Step) (q n p : ℕ) (old places : List �
 below_next j x q n p old places here late counted leads was i = (there, back)
   where
     there : Has (places ++ p ∷ []) i → Has old i ⊎ (IsNewOf j x q i × (interval_at j q i < n + 1))
-    there at = elim (push_cases places p at.0 i at.1) [
+    there at = elim (slice_push_cases places p at.0 i at.1) [
       | inl older ↦ elim ((was i).0 (at.0, older.1)) [
         | inl first ↦ inl first
         | inr new ↦ (let lt = new.1 in inr (new.0, omega arith))
@@ -269,12 +269,12 @@ below_all j x q n old places le was i = (
 
 -- a place more that isn't among them
 once_next : (xs : List ℕ) (y : ℕ) → IsOnce xs → ¬ Has xs y → IsOnce (xs ++ y ∷ [])
-once_next xs y once away m n a b lt at to is = elim (push_cases xs y n b to) [
-  | inl last ↦ elim (push_cases xs y m a at) [
+once_next xs y once away m n a b lt at to is = elim (slice_push_cases xs y n b to) [
+  | inl last ↦ elim (slice_push_cases xs y m a at) [
     | inl first ↦ once m n a b lt first.1 last.1 is
     | inr new ↦ (let inside = slice_get_within xs n b last.1 in absurd (omega (arith, new.0)))
   ]
-  | inr last ↦ elim (push_cases xs y m a at) [
+  | inr last ↦ elim (slice_push_cases xs y m a at) [
     | inl first ↦ away (m, first.1 ∙ ap (λ z. Some z) (is ∙ sym last.1))
     | inr new ↦ absurd (omega (arith, new.0, last.0))
   ]
@@ -308,7 +308,7 @@ news_next j x n old new was has once = record { has = λ i. (there i, back i); o
     apart i at closes =
         let o = (was.has i).0 at in
         let lt = o.1 in
-        let same = (does_same j i o.0 n o.2.closes.kind closes.kind o.2.closes.does closes.does).0 in
+        let same = (numbered_does_same j i o.0 n o.2.closes.kind closes.kind o.2.closes.does closes.does).0 in
         absurd (omega arith)
 
     there : (i : ℕ) → Has new i → (q : ℕ) × (q < n + 1) × IsNewOf j x q i
@@ -381,7 +381,7 @@ news_all j x n places sorted most low step are moved up = record { has = λ i. (
 -- a row more
 pub incoming_next : (j : List Event) (rows : List (Vec ℕ)) (n : ℕ) (row : Vec ℕ) → length rows ≡ n
     → AreIncoming j rows → AreNewlyOrdered j n row.items → AreIncoming j (rows ++ row ∷ [])
-incoming_next j rows n row long are now k new at = elim (push_cases rows row k new at) [
+incoming_next j rows n row long are now k new at = elim (slice_push_cases rows row k new at) [
   | inl old ↦ are k new old.1
   | inr last ↦
       (let is : n ≡ k = omega (arith, last.0) in

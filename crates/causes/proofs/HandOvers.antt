@@ -5,12 +5,12 @@ use Rattle.std.specs.Global.{Vec}
 use Rattle.std.proofs.lemmas.Bool.{cases_eq, cases_lt}
 use Rattle.std.proofs.lemmas.Option.{none-some, same_Some, slice_get_within}
 use Rattle.base.specs.InOrderOnce.{Has, InOrder}
-use Rattle.base.proofs.SlicesAndCounts.{push_cases, slice_get-append_left, slice_get-last}
+use Rattle.base.proofs.SlicesAndCounts.{slice_push_cases, slice_get-append_left, slice_get-last}
 use Rattle.journal.specs.declared.event.Event.{Event}
 use Rattle.journal.specs.HappensBeforeEdges.{HappensBefore}
 use Rattle.journal.specs.Pasts.{UpTo}
 use Rattle.journal.proofs.Order.HappensBefore.{before_goes_forward}
-use Rattle.journal.proofs.Order.EdgesIntoPast.{up_to_back}
+use Rattle.journal.proofs.Order.EdgesIntoPast.{past_up_to_back}
 use Rattle.causes.specs.HandOvers.{AreHandOvers, AreLastFrom}
 use Rattle.causes.specs.News.{AreNewlyOrdered}
 
@@ -44,13 +44,13 @@ pub last_next : (j : List Event) (news : List ℕ) (n p : ℕ) (places : List �
 last_next j news n p places rising at away old = record { each = each; last = last; all = all }
   where
     each : (m : ℕ) → Has (places ++ p ∷ []) m → (x : ℕ) × (slice_get news x ≡ Some m)
-    each m has = elim (push_cases places p has.0 m has.1) [
+    each m has = elim (slice_push_cases places p has.0 m has.1) [
       | inl was ↦ old.each m (has.0, was.1)
       | inr new ↦ (n, at ∙ ap (λ y. Some y) new.1)
     ]
 
     last : (m x i : ℕ) → Has (places ++ p ∷ []) m → slice_get news x ≡ Some i → ¬ HappensBefore j m i
-    last m x i has to before = elim (push_cases places p has.0 m has.1) [
+    last m x i has to before = elim (slice_push_cases places p has.0 m has.1) [
       | inl was ↦ old.last m x i (has.0, was.1) to before
       | inr new ↦
           (let from : HappensBefore j p i = subst (λ y. HappensBefore j y i) (sym new.1) before in
@@ -58,7 +58,7 @@ last_next j news n p places rising at away old = record { each = each; last = la
           elim (cases_lt n x) [
             | inl lt ↦
                 (let up = old.all x i (omega arith) to in
-                away up.0 up.1 (up_to_back j p i up.0 from up.2))
+                away up.0 up.1 (past_up_to_back j p i up.0 from up.2))
             | inr le ↦ elim (cases_eq x n) [
               | inl is ↦
                   (let same : p ≡ i = same_Some p i (sym at ∙ ap (slice_get news) (sym is) ∙ to) in
@@ -94,7 +94,7 @@ last_all j k news places are last = record {
 pub hand_over_rows_next : (j : List Event) (rows : List (Vec ℕ)) (n : ℕ) (row : Vec ℕ) → length rows ≡ n
     → ((k : ℕ) (old : Vec ℕ) → slice_get rows k ≡ Some old → AreHandOvers j k old.items) → AreHandOvers j n row.items
     → (k : ℕ) (new : Vec ℕ) → slice_get (rows ++ row ∷ []) k ≡ Some new → AreHandOvers j k new.items
-hand_over_rows_next j rows n row long are now k new at = elim (push_cases rows row k new at) [
+hand_over_rows_next j rows n row long are now k new at = elim (slice_push_cases rows row k new at) [
   | inl old ↦ are k new old.1
   | inr last ↦
       (let is : n ≡ k = omega (arith, last.0) in

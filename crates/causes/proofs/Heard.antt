@@ -12,7 +12,7 @@ use Rattle.journal.specs.RacesFrom.{IsFirstRaceFrom, RaceFreeFrom}
 use Rattle.journal.specs.Base.{Base, no_base}
 use Rattle.journal.specs.Log.{Log, HoldsHistory}
 use Rattle.journal.specs.WellFormed.{Does}
-use Rattle.journal.proofs.Order.CountedAndNumbered.{at_same, at_within, does_at}
+use Rattle.journal.proofs.Order.CountedAndNumbered.{numbered_at_same, numbered_at_within, numbered_does_at}
 use Rattle.journal.proofs.Order.HappensBefore.{before_goes_forward}
 use Rattle.journal.proofs.FromBase.Uncut.{uncut_race}
 use Rattle.causes.specs.Heard.{IsHeard}
@@ -34,7 +34,7 @@ pub heard_next : (j : List Event) (q k n : ℕ) (e : Event) → At j n e → e.p
     → IsHeardBelow j q k (n + 1) (Some n)
 heard_next j q k n e at mine before = record {
   kind = e.kind;
-  does = does_at j n q e at mine;
+  does = numbered_does_at j n q e at mine;
   before = before;
   last = λ m a lt does h. omega arith;
 }
@@ -111,9 +111,9 @@ are_apart j i k e race at = record {
   at = race.second_at;
   quiet = access_quiet race.second.kind race.conflict.address race.conflict.second;
   apart =
-      subst (λ (x : Event). x.processor ≢ race.second.processor) (at_same j i race.first e race.first_at (at within))
+      subst (λ (x : Event). x.processor ≢ race.second.processor) (numbered_at_same j i race.first e race.first_at (at within))
       race.apart;
 }
   where
     within : i < length j
-    within = at_within j i race.first race.first_at
+    within = numbered_at_within j i race.first race.first_at

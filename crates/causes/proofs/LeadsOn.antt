@@ -5,13 +5,13 @@ use Rattle.std.proofs.lemmas.List.{length-take-le, get_or-set_same, get_or-set_o
 use Rattle.std.proofs.lemmas.List.Sums.{count_by-le-length}
 use Rattle.std.proofs.lemmas.Option.{none-some, slice_get_within}
 use Rattle.base.specs.InOrderOnce.{Has, InOrder}
-use Rattle.base.proofs.SlicesAndCounts.{push_cases, slice_get-append_left, slice_get-last}
+use Rattle.base.proofs.SlicesAndCounts.{slice_push_cases, slice_get-append_left, slice_get-last}
 use Rattle.journal.specs.declared.event.Event.{Event}
 use Rattle.journal.specs.declared.event.Kind.{Kind}
 use Rattle.journal.specs.declared.event.Kind.TheVariants.{Acquire, Release, Depart, Set, Await}
 use Rattle.journal.specs.Events.{At, count_of, is_arrive, is_depart}
 use Rattle.journal.specs.HappensBeforeEdges.{LetsThrough, Link, same, lets, meets}
-use Rattle.journal.proofs.Order.CountedAndNumbered.{at_same}
+use Rattle.journal.proofs.Order.CountedAndNumbered.{numbered_at_same}
 use Rattle.journal.proofs.Passes.ReachedNextRaces.{count_next}
 use Rattle.causes.specs.Edges.{AreEdges, EdgeFromOther, LeadsOn}
 
@@ -59,8 +59,8 @@ leads j i k e f lt at to x = record {
 
 pub led : (j : List Event) (i k : ℕ) (e f : Event) → At j i e → At j k f → EdgeFromOther j i k → LeadsTo j i k e f
 led j i k e f at to x =
-    let from = at_same j i x.edge.from e x.edge.from_at at in
-    let into = at_same j k x.edge.to f x.edge.to_at to in
+    let from = numbered_at_same j i x.edge.from e x.edge.from_at at in
+    let into = numbered_at_same j k x.edge.to f x.edge.to_at to in
     subst (λ (y : Event). LeadsTo j i k y f) from (subst (λ (y : Event). LeadsTo j i k x.edge.from y) into
     (x.apart, link_on j i k x.edge.from x.edge.to x.apart x.edge.link))
 
@@ -105,18 +105,18 @@ edges_next j k n places now old = record { all = all; each = each; order = order
     ]
 
     each : (i : ℕ) → Has (places ++ n ∷ []) i → (i < n + 1) × EdgeFromOther j i k
-    each i at = elim (push_cases places n at.0 i at.1) [
+    each i at = elim (slice_push_cases places n at.0 i at.1) [
       | inl was ↦ (let x = old.each i (at.0, was.1) in let lt = x.0 in (omega arith, x.1))
       | inr new ↦ (omega (arith, new.1), subst (λ m. EdgeFromOther j m k) new.1 now)
     ]
 
     order : InOrder (λ i m. i < m) (places ++ n ∷ [])
-    order m l i h lt at to = elim (push_cases places n l h to) [
-      | inl was ↦ elim (push_cases places n m i at) [
+    order m l i h lt at to = elim (slice_push_cases places n l h to) [
+      | inl was ↦ elim (slice_push_cases places n m i at) [
         | inl first ↦ old.order m l i h lt first.1 was.1
         | inr new ↦ absurd (omega (arith, was.0, new.0, lt))
       ]
-      | inr new ↦ elim (push_cases places n m i at) [
+      | inr new ↦ elim (slice_push_cases places n m i at) [
         | inl first ↦ (let x = (old.each i (m, first.1)).0 in omega (arith, new.1))
         | inr later ↦ absurd (omega (arith, later.0, new.0, lt))
       ]

@@ -4,12 +4,12 @@ use Rattle.std.specs.Global.{Vec}
 use Rattle.std.proofs.lemmas.Bool.{cases_eq, cases_lt, eq-eqb, ne_eqb, eqb-true, and_parts}
 use Rattle.std.proofs.lemmas.List.{length-append, length-take-le, take_all}
 use Rattle.std.proofs.lemmas.List.Sums.{count_by-le-length}
-use Rattle.base.proofs.SlicesAndCounts.{push_cases}
+use Rattle.base.proofs.SlicesAndCounts.{slice_push_cases}
 use Rattle.base.proofs.SliceSets.{slice_get-set_found, slice_get-set_other, slice_get-replicate_found}
 use Rattle.journal.specs.declared.event.Event.{Event}
 use Rattle.journal.specs.Events.{At, count_of, is_arrive, is_closing, is_depart}
 use Rattle.journal.specs.declared.event.Kind.{Kind}
-use Rattle.journal.proofs.Order.CountedAndNumbered.{at_same, count_of-past, does_at}
+use Rattle.journal.proofs.Order.CountedAndNumbered.{numbered_at_same, count_of-past, numbered_does_at}
 use Rattle.journal.proofs.Passes.ReachedNextRaces.{count_next}
 use Rattle.causes.specs.declared.index.Turn.{Turn}
 use Rattle.causes.specs.Index.{AreClosingsOf, IsClosing, IsEventTurn}
@@ -39,14 +39,14 @@ closings_next j q n e places at closes old = record { long = long; each = each }
         record {
           closes = record {
             kind = e.kind;
-            does = does_at j n q e at (eqb-true e.processor q both.0);
+            does = numbered_does_at j n q e at (eqb-true e.processor q both.0);
             closes = both.1;
           };
           number = sym old.long;
         }
 
     each : (m i : ℕ) → slice_get (places ++ n ∷ []) m ≡ Some i → IsClosing j q m i
-    each m i to = elim (push_cases places n m i to) [
+    each m i to = elim (slice_push_cases places n m i to) [
       | inl was ↦ old.each m i was.1
       | inr new ↦ subst (IsClosing j q m) new.1 (subst (λ x. IsClosing j q x n) (sym new.0) here)
     ]
@@ -76,7 +76,7 @@ closings_all j q n places is old = record {
 pub closing_rows_next : (j : List Event) (rows : List (Vec ℕ)) (n : ℕ) (row : Vec ℕ) → length rows ≡ n
     → ((q : ℕ) (old : Vec ℕ) → slice_get rows q ≡ Some old → AreClosingsOf j q old.items) → AreClosingsOf j n row.items
     → (q : ℕ) (new : Vec ℕ) → slice_get (rows ++ row ∷ []) q ≡ Some new → AreClosingsOf j q new.items
-closing_rows_next j rows n row long are now q new at = elim (push_cases rows row q new at) [
+closing_rows_next j rows n row long are now q new at = elim (slice_push_cases rows row q new at) [
   | inl old ↦ are q new old.1
   | inr last ↦
       (let is : n ≡ q = omega (arith, last.0) in
@@ -158,12 +158,12 @@ pub turns_next : (j : List Event) (n : ℕ) (e : Event) (turns : List Turn) (tur
     → IsEventTurn j n e.processor turn
     → ((i : ℕ) (f : Event) (t : Turn) → At j i f → slice_get turns i ≡ Some t → IsEventTurn j i f.processor t)
     → (i : ℕ) (f : Event) (t : Turn) → At j i f → slice_get (turns ++ turn ∷ []) i ≡ Some t → IsEventTurn j i f.processor t
-turns_next j n e turns turn long at now are i f t to got = elim (push_cases turns turn i t got) [
+turns_next j n e turns turn long at now are i f t to got = elim (slice_push_cases turns turn i t got) [
   | inl old ↦ are i f t to old.1
   | inr last ↦
       (let is : n ≡ i = omega (arith, last.0) in
       let here : IsEventTurn j i e.processor turn = subst (λ m. IsEventTurn j m e.processor turn) is now in
-      let same = at_same j i e f (subst (λ m. At j m e) is at) to in
+      let same = numbered_at_same j i e f (subst (λ m. At j m e) is at) to in
       subst (IsEventTurn j i f.processor) last.1 (subst (λ (x : Event). IsEventTurn j i x.processor turn) same here))
 ]
 

@@ -6,7 +6,7 @@ use Rattle.std.proofs.lemmas.Bool.{cases_eq, cases_lt}
 use Rattle.std.proofs.lemmas.List.{length-set}
 use Rattle.std.proofs.lemmas.Nat.{div-mul-add}
 use Rattle.std.proofs.lemmas.Option.{none-some, slice_get_within}
-use Rattle.base.proofs.SlicesAndCounts.{push_cases}
+use Rattle.base.proofs.SlicesAndCounts.{slice_push_cases}
 use Rattle.base.proofs.SliceSets.{slice_get-set_found, slice_get-set_other, slice_get-replicate_found}
 use Rattle.journal.specs.declared.event.Event.{Event}
 use Rattle.journal.specs.declared.event.Kind.{Kind}
@@ -16,7 +16,7 @@ use Rattle.journal.specs.DidEvent.{event}
 use Rattle.journal.specs.Events.{At}
 use Rattle.journal.specs.Sizes.{Sizes}
 use Rattle.journal.specs.WellFormed.{Does}
-use Rattle.journal.proofs.Order.CountedAndNumbered.{at_same, does_same}
+use Rattle.journal.proofs.Order.CountedAndNumbered.{numbered_at_same, numbered_does_same}
 use Rattle.judge.specs.Tallies.{row_index}
 use Rattle.causes.specs.declared.originating.Applied.{Applied}
 use Rattle.causes.specs.declared.originating.WordOrigin.{WordOrigin}
@@ -64,10 +64,10 @@ pub writes_only : (s : Sizes) (j : List Event) (p a k i : ℕ) (e : Event) → A
     → ((v : ℕ) → e ≢ event p (Store a v)) → ((w r d : ℕ) → e ≢ event p (Fetch w (a / s.words) r d))
     → ¬ WritesWord s j p a k i
 writes_only s j p a k i e at stores fetches (inl own) =
-    stores own.1.0 (at_same j k e (event p (Store a own.1.0)) at own.1.1)
+    stores own.1.0 (numbered_at_same j k e (event p (Store a own.1.0)) at own.1.1)
 writes_only s j p a k i e at stores fetches (inr last) =
     let f = last.brought.fetches in
-    fetches f.0 f.1 f.2 (at_same j k e (event p (Fetch f.0 (a / s.words) f.1 f.2)) at f.3)
+    fetches f.0 f.1 f.2 (numbered_at_same j k e (event p (Fetch f.0 (a / s.words) f.1 f.2)) at f.3)
 
 -- an event that neither stores nor fetches writes none
 pub origins_quiet : (s : Sizes) (j : List Event) (k : ℕ) (e : Event) (words : List (Option WordOrigin)) → At j k e
@@ -253,7 +253,7 @@ fetched_done s j k p n w r d f size words place reader page is does old =
 -- a row more
 pub origin_rows_next : (s : Sizes) (j : List Event) (rows : List (Option WordOrigin)) (k : ℕ) (o : Option WordOrigin)
     → length rows ≡ k → AreOrigins s j rows → IsOriginAt s j k o → AreOrigins s j (rows ++ o ∷ [])
-origin_rows_next s j rows k o long are now n other at = elim (push_cases rows o n other at) [
+origin_rows_next s j rows k o long are now n other at = elim (slice_push_cases rows o n other at) [
   | inl old ↦ are n other old.1
   | inr new ↦
       (let is : k ≡ n = omega (arith, new.0) in
@@ -270,7 +270,7 @@ pub origin_read : (s : Sizes) (j : List Event) (k a v : ℕ) (e : Event) (words 
 origin_read s j k a v e words o at kind low there are = record {
   loads = λ p b w does.
       (let here : Does j k e.processor (Load a v) = subst (λ x. At j k (event e.processor x)) kind at in
-      let same = does_same j k e.processor p (Load a v) (Load b w) here does in
+      let same = numbered_does_same j k e.processor p (Load a v) (Load b w) here does in
       subst (λ x. IsWordOriginOf s j x b k o) same.0
       (subst (λ c. IsWordOriginOf s j e.processor c k o) (load_address a v b w same.1)
       (are.each a e.processor o low there)));

@@ -8,12 +8,12 @@ use Rattle.std.proofs.lemmas.Bool.{cases_eq, cases_lt}
 use Rattle.std.proofs.lemmas.Nat.{div_below}
 use Rattle.std.proofs.lemmas.Option.{none-some, slice_get_within}
 use Rattle.base.specs.InOrderOnce.{Has, InOrder}
-use Rattle.base.proofs.SlicesAndCounts.{push_cases, slice_get-append_left, slice_get-from_take, slice_get-last}
+use Rattle.base.proofs.SlicesAndCounts.{slice_push_cases, slice_get-append_left, slice_get-from_take, slice_get-last}
 use Rattle.journal.specs.declared.event.Event.{Event}
 use Rattle.journal.specs.declared.event.Kind.{Kind}
 use Rattle.journal.specs.declared.event.Kind.TheVariants.{Fetch, Store}
 use Rattle.journal.specs.Blocks.{IsBlock}
-use Rattle.journal.specs.PageImages.{HasCount, StoredInGap}
+use Rattle.journal.specs.PageImages.{HasImageCount, StoredInGapOfImage}
 use Rattle.journal.specs.DidEvent.{event}
 use Rattle.journal.specs.Events.{At, interval_at, is_closing, is_taking}
 use Rattle.journal.specs.InRange.{ProcessorsInRange}
@@ -23,8 +23,8 @@ use Rattle.journal.specs.WellFormed.{Does}
 use Rattle.journal.proofs.CopyOfPage.CompleteBlocks.{gap_block}
 use Rattle.journal.proofs.CopyOfPage.Stores.{store_same}
 use Rattle.journal.proofs.Missing.Counted.{count_of_same}
-use Rattle.journal.proofs.Missing.GapsTaken.{gap_taken, stored_on}
-use Rattle.journal.proofs.Order.CountedAndNumbered.{at_within, count_of-front}
+use Rattle.journal.proofs.Missing.GapsTaken.{gap_taken, gap_stored_longer}
+use Rattle.journal.proofs.Order.CountedAndNumbered.{numbered_at_within, count_of-front}
 use Rattle.journal.proofs.Passes.NextClocks.{front_next}
 use Rattle.journal.proofs.Times.PushesCovered.{covered}
 use Rattle.judge.specs.Gaps.{FetchedUpTo, StoresInPage}
@@ -51,7 +51,7 @@ lacks_is s j p n q m f t apart fetched time = (
 -- nobody lacks what it stored itself
 lacks_own : (s : Sizes) (j : List Event) (p n q m : ℕ) → Lacks s j p n q m → q ≢ p
 lacks_own s j p n q m g is =
-    own_none s j p n m g.0 (subst (λ x. StoredInGap s j p n (x, m, g.0)) is g.1)
+    own_none s j p n m g.0 (subst (λ x. StoredInGapOfImage s j p n (x, m, g.0)) is g.1)
 
 -- who stored it is a processor
 lacks_low : (s : Sizes) (j : List Event) (p n q m : ℕ) → ProcessorsInRange 16 j → Lacks s j p n q m → q < 16
@@ -68,13 +68,13 @@ comes_is s j p n q m k f t takes before after apart = (there, back)
 
     -- a store of the history up to the event is one of before
     old : (i a v : ℕ) → Does (j ++ e ∷ []) i q (Store a v) → Does j i q (Store a v)
-    old i a v does = elim (push_cases j e i (event q (Store a v)) does) [
+    old i a v does = elim (slice_push_cases j e i (event q (Store a v)) does) [
       | inl was ↦ was.1
       | inr new ↦ absurd (apart (sym (ap (λ (x : Event). x.processor) new.1)))
     ]
 
     number : (i a v : ℕ) → Does j i q (Store a v) → interval_at (j ++ e ∷ []) q i ≡ interval_at j q i
-    number i a v does = count_of-front is_closing j (e ∷ []) i q (le_of_lt (at_within j i (event q (Store a v)) does))
+    number i a v does = count_of-front is_closing j (e ∷ []) i q (le_of_lt (numbered_at_within j i (event q (Store a v)) does))
 
     there : Lacks s (j ++ e ∷ []) p n q m × (¬ Lacks s j p n q m) → Between s (j ++ e ∷ []) n q f t m
     there h =
@@ -163,14 +163,14 @@ in_fetch s j k e w n r d span kind reader first end low fetched time x = (there,
         record {
           some = y.some;
           count =
-              subst (λ c. HasCount (IsToldBy s j k p c x.page x.writer) x.records) (sym kind)
+              subst (λ c. HasImageCount (IsToldBy s j k p c x.page x.writer) x.records) (sym kind)
               (count_of_same In Told x.records (is page (λ same. y.apart (same ∙ sym reader))) y.count);
         }
 
     back : IsMissingRecord s j k e x → IsInSpan s h span x
     back y =
-        let told : HasCount Told x.records =
-        subst (λ c. HasCount (IsToldBy s j k p c x.page x.writer) x.records) kind y.count in
+        let told : HasImageCount Told x.records =
+        subst (λ c. HasImageCount (IsToldBy s j k p c x.page x.writer) x.records) kind y.count in
         let one = count_some Told x.records told (positive x.records y.some) in
         let page = one.1.0 in
         let apart = lacks_own s h p x.page x.writer one.0 one.1.1 in
@@ -259,13 +259,13 @@ quiet_dues s j k e at quiet none = record {
     next = front_next j k e at
 
     block : IsBlock p (e ∷ [])
-    block m f here = elim (push_cases [] e m f here) [
+    block m f here = elim (slice_push_cases [] e m f here) [
       | inl old ↦ absurd (let lt = old.0 in omega arith)
       | inr new ↦ (sym (ap (λ (x : Event). x.processor) new.1), sym (ap (λ (x : Event). is_taking x.kind) new.1) ∙ quiet)
     ]
 
     away : (n m w r d : ℕ) → ¬ Does (e ∷ []) m p (Fetch w n r d)
-    away n m w r d here = elim (push_cases [] e m (event p (Fetch w n r d)) here) [
+    away n m w r d here = elim (slice_push_cases [] e m (event p (Fetch w n r d)) here) [
       | inl old ↦ (let lt = old.0 in omega arith)
       | inr new ↦ none w n r d (ap (λ (x : Event). x.kind) new.1)
     ]
@@ -273,7 +273,7 @@ quiet_dues s j k e at quiet none = record {
     same : (n q m : ℕ) → Lacks s (take k j ++ e ∷ []) p n q m → Lacks s (take k j) p n q m
     same n q m g = (
       g.0,
-      (stored_on s (take k j) (e ∷ []) p n
+      (gap_stored_longer s (take k j) (e ∷ []) p n
           (λ i. gap_block s (take k j) (e ∷ []) p n i block (λ m w r d. away n m w r d)) (q, m, g.0)).0 g.1,
     )
 
@@ -315,8 +315,8 @@ same_due : (s : Sizes) (j : List Event) (span : Span) (x y : Due) → x.page ≡
 same_due s j span x y page writer one two =
     due_of x y page writer
     (count_unique (Between s j x.page x.writer (slice_index span.from) (slice_index span.to)) x.records y.records one.count
-    (subst (λ q. HasCount (Between s j x.page q (slice_index span.from) (slice_index span.to)) y.records) (sym writer)
-    (subst (λ n. HasCount (Between s j n y.writer (slice_index span.from) (slice_index span.to)) y.records) (sym page)
+    (subst (λ q. HasImageCount (Between s j x.page q (slice_index span.from) (slice_index span.to)) y.records) (sym writer)
+    (subst (λ n. HasImageCount (Between s j n y.writer (slice_index span.from) (slice_index span.to)) y.records) (sym page)
     two.count)))
   where
     due_of : (a b : Due) → a.page ≡ b.page → a.writer ≡ b.writer → a.records ≡ b.records → a ≡ b
@@ -339,12 +339,12 @@ none_between s j span x q y is le =
 
 -- and nothing where nothing is counted
 pub none_counted : (s : Sizes) (j : List Event) (span : Span) (x : Due) (n q r : ℕ) → IsInSpan s j span x → x.page ≡ n
-    → x.writer ≡ q → HasCount (Between s j n q (slice_index span.from) (slice_index span.to)) r → r ≡ 0 → ⊥
+    → x.writer ≡ q → HasImageCount (Between s j n q (slice_index span.from) (slice_index span.to)) r → r ≡ 0 → ⊥
 none_counted s j span x n q r y page writer count none =
     y.some
     (count_unique (Between s j x.page x.writer (slice_index span.from) (slice_index span.to)) x.records r y.count
-    (subst (λ l. HasCount (Between s j l x.writer (slice_index span.from) (slice_index span.to)) r) (sym page)
-    (subst (λ w. HasCount (Between s j n w (slice_index span.from) (slice_index span.to)) r) (sym writer) count))
+    (subst (λ l. HasImageCount (Between s j l x.writer (slice_index span.from) (slice_index span.to)) r) (sym page)
+    (subst (λ w. HasImageCount (Between s j n w (slice_index span.from) (slice_index span.to)) r) (sym writer) count))
     ∙ none)
 
 -- a page that somebody stores in is one of the pages
@@ -400,7 +400,7 @@ due_below_next s j span n q (Some d) dues new lt one more are =
     row = let page = one.1 in let writer = one.2 in omega arith
 
     there : (x : Due) → Has (dues ++ d ∷ []) x → IsInSpan s j span x × (row_index x.page x.writer < row_index n q + 1)
-    there x at = elim (push_cases dues d at.0 x at.1) [
+    there x at = elim (slice_push_cases dues d at.0 x at.1) [
       | inl old ↦ (let y = (are.has x).0 (at.0, old.1) in let less = y.1 in (y.0, omega arith))
       | inr now ↦
           (let here = row in
@@ -421,7 +421,7 @@ due_below_next s j span n q (Some d) dues new lt one more are =
     ]
 
     order : InOrder (λ (x y : Due). row_index x.page x.writer < row_index y.page y.writer) (dues ++ d ∷ [])
-    order m l x y less at to = elim (push_cases dues d l y to) [
+    order m l x y less at to = elim (slice_push_cases dues d l y to) [
       | inl old ↦
           (let inside = old.0 in
           are.order m l x y less (sym (slice_get-append_left dues (d ∷ []) m (omega arith)) ∙ at) old.1)
@@ -437,7 +437,7 @@ due_below_next s j span n q (Some d) dues new lt one more are =
 -- a row of dues more
 pub due_rows_next : (s : Sizes) (j : List Event) (rows : List (Vec Due)) (n : ℕ) (row : Vec Due) → length rows ≡ n
     → AreAllDues s j rows → ((e : Event) → At j n e → AreDues s j n e row.items) → AreAllDues s j (rows ++ row ∷ [])
-due_rows_next s j rows n row long are now k e new here at = elim (push_cases rows row k new at) [
+due_rows_next s j rows n row long are now k e new here at = elim (slice_push_cases rows row k new at) [
   | inl old ↦ are k e new here old.1
   | inr last ↦
       (let is : n ≡ k = omega (arith, last.0) in

@@ -6,7 +6,7 @@ use Rattle.std.proofs.Common.{◌≡◌, ◌≢◌, ℕ, ◌+◌, ◌-◌, ◌<�
 use Rattle.std.proofs.lemmas.Bool.{cases_eq, cases_lt}
 use Rattle.std.proofs.lemmas.Option.{same_Some, slice_get_within}
 use Rattle.base.specs.InOrderOnce.{InOrder}
-use Rattle.base.proofs.SlicesAndCounts.{push_cases, slice_get-append_left, slice_get-from_take, slice_get-last, slice_get-take, slice_get-take_within}
+use Rattle.base.proofs.SlicesAndCounts.{slice_push_cases, slice_get-append_left, slice_get-from_take, slice_get-last, slice_get-take, slice_get-take_within}
 use Rattle.journal.specs.declared.event.Event.{Event}
 use Rattle.journal.specs.declared.event.Kind.{Kind}
 use Rattle.journal.specs.declared.event.Kind.TheVariants.{Acquire, Release, Set, Await}
@@ -16,10 +16,10 @@ use Rattle.journal.specs.HappensBeforeEdges.{Edge, HappensBefore, LetsThrough, L
 use Rattle.journal.specs.Pasts.{InPast, UpTo}
 use Rattle.journal.specs.Times.{IsTimeOf}
 use Rattle.journal.specs.WellFormed.{Does}
-use Rattle.journal.proofs.Order.CountedAndNumbered.{at_same, at_within, count_of-mono, does_at, does_same}
+use Rattle.journal.proofs.Order.CountedAndNumbered.{numbered_at_same, numbered_at_within, count_of-mono, numbered_does_at, numbered_does_same}
 use Rattle.journal.proofs.Order.HappensBefore.{before_goes_forward}
-use Rattle.journal.proofs.Order.EdgesIntoPast.{last_step, up_to_back}
-use Rattle.journal.proofs.Times.LeavingCloses.{own_order}
+use Rattle.journal.proofs.Order.EdgesIntoPast.{past_last_step, past_up_to_back}
+use Rattle.journal.proofs.Times.LeavingCloses.{leaving_own_order}
 use Rattle.journal.proofs.Times.PushesCovered.{covered}
 use Rattle.causes.specs.declared.takings.Taking.{Taking}
 use Rattle.causes.specs.Edges.{EdgeFromOther}
@@ -36,14 +36,14 @@ up_to_le j k i (inr h) = let lt : i < k = before_goes_forward j h in omega arith
 -- what is up to something is up to what that is up to
 pub up_to_on : (j : List Event) (i m k : ℕ) → UpTo j m i → UpTo j k m → UpTo j k i
 up_to_on j i m k (inl is) up = subst (λ n. UpTo j k n) (sym is) up
-up_to_on j i m k (inr h) up = up_to_back j i m k h up
+up_to_on j i m k (inr h) up = past_up_to_back j i m k h up
 
 -- what is up to an event of q is up to each later one of q
 pub up_to_own : (j : List Event) (q i k m : ℕ) (a b : Kind) → Does j k q a → Does j m q b → k ≤ m → UpTo j k i
     → UpTo j m i
 up_to_own j q i k m a b one two le up = elim (cases_eq k m) [
   | inl is ↦ subst (λ n. UpTo j n i) is up
-  | inr isnt ↦ up_to_on j i k m up (inr (own_order j q k m a b one two (omega arith)))
+  | inr isnt ↦ up_to_on j i k m up (inr (leaving_own_order j q k m a b one two (omega arith)))
 ]
 
 -- after its event at place m, q's timestamp counts p's event at place i exactly where that is up to place m
@@ -52,10 +52,10 @@ pub taken_tells : (j : List Event) (p q i m : ℕ) (a b : Kind) (t : ℕ → ℕ
 taken_tells j p q i m a b t does at apart time = (there, back)
   where
     within : m < length j
-    within = at_within j m (event q b) at
+    within = numbered_at_within j m (event q b) at
 
     there : UpTo j m i → interval_at j p i < t p
-    there (inl is) = absurd (apart (does_same j m p q a b (subst (λ n. Does j n p a) is does) at).0)
+    there (inl is) = absurd (apart (numbered_does_same j m p q a b (subst (λ n. Does j n p a) is does) at).0)
     there (inr h) =
         let lt : i < m = before_goes_forward j h in
         let inside = within in
@@ -80,7 +80,7 @@ taken_tells j p q i m a b t does at apart time = (there, back)
     from_past x =
         let lt = slice_get-take_within j (m + 1) x.own x.event x.at in
         let there = slice_get-from_take j (m + 1) x.own x.event x.at in
-        up_to_own j q i x.own m x.event.kind b (does_at j x.own q x.event there x.mine) at (omega arith)
+        up_to_own j q i x.own m x.event.kind b (numbered_does_at j x.own q x.event there x.mine) at (omega arith)
         (up_front x.own x.reaches)
 
     back : interval_at j p i < t p → UpTo j m i
@@ -120,23 +120,23 @@ pub record TakingBefore (j : List Event) (q i k : ℕ) : Type 0 where
 reached_before : (j : List Event) (p q i k : ℕ) (a b : Kind) → Does j i p a → Does j k q b → p ≢ q → UpTo j k i
     → HappensBefore j i k
 reached_before j p q i k a b does at apart (inl is) =
-    absurd (apart (does_same j k p q a b (subst (λ n. Does j n p a) is does) at).0)
+    absurd (apart (numbered_does_same j k p q a b (subst (λ n. Does j n p a) is does) at).0)
 reached_before j p q i k a b does at apart (inr h) = h
 
 taking_within : (j : List Event) (n p q i k : ℕ) (a b : Kind) → k < n → Does j i p a → Does j k q b → p ≢ q
     → HappensBefore j i k → TakingBefore j q i k
 taking_within j zero p q i k a b lt does at apart h = absurd (omega arith)
 taking_within j (suc n) p q i k a b lt does at apart h =
-    let s = last_step j i k h in
+    let s = past_last_step j i k h in
     let l = s.0 in
     let d = s.2 in
     let before = d.before in
-    let into : d.to ≡ event q b = at_same j k d.to (event q b) d.to_at at in
+    let into : d.to ≡ event q b = numbered_at_same j k d.to (event q b) d.to_at at in
     let to_mine : d.to.processor ≡ q = ap (λ (e : Event). e.processor) into in
     let to_kind : d.to.kind ≡ b = ap (λ (e : Event). e.kind) into in
     elim (cases_eq d.from.processor q) [
       | inl is ↦
-          (let one : Does j l q d.from.kind = does_at j l q d.from d.from_at is in
+          (let one : Does j l q d.from.kind = numbered_does_at j l q d.from d.from_at is in
           let further : HappensBefore j i l = reached_before j p q i l a d.from.kind does one apart s.1 in
           let t = taking_within j n p q i l a d.from.kind (omega arith) does one apart further in
           let le = t.within in
@@ -200,7 +200,7 @@ pub none_reached : (j : List Event) (p q i number : ℕ) (a : Kind) (takings : L
     → (k : ℕ) (b : Kind) → Does j k q b → ¬ UpTo j k i
 none_reached j p q i number a takings does apart is are none k b at up =
     let t = taking_before j p q i k a b does at apart up in
-    let w = are.all t.place t.kind (at_within j t.place (event q t.kind) t.does) t.does t.takes in
+    let w = are.all t.place t.kind (numbered_at_within j t.place (event q t.kind) t.does) t.does t.takes in
     let x = w.1 in
     let here = are.each w.0 x w.2 in
     let le = none w.0 x w.2 in
@@ -232,7 +232,7 @@ first_reached j p q i m number a takings does apart is are found =
     first : (k : ℕ) (b : Kind) → k < x.place → Does j k q b → ¬ UpTo j k i
     first k b lt at up =
         let t = taking_before j p q i k a b does at apart up in
-        let w = are.all t.place t.kind (at_within j t.place (event q t.kind) t.does) t.does t.takes in
+        let w = are.all t.place t.kind (numbered_at_within j t.place (event q t.kind) t.does) t.does t.takes in
         let y = w.1 in
         let there = are.each w.0 y w.2 in
         let place : y.place ≡ t.place = w.3 in
@@ -267,23 +267,23 @@ none_enters j q i k first none = go first.reached
   where
     into : (l : ℕ) → UpTo j l i → (d : Edge j l k) → ⊥
     into l up d =
-        let to = at_same j k d.to (event q first.kind) d.to_at first.does in
+        let to = numbered_at_same j k d.to (event q first.kind) d.to_at first.does in
         let mine : d.to.processor ≡ q = ap (λ (e : Event). e.processor) to in
         elim (cases_eq d.from.processor q) [
-          | inl is ↦ first.first l d.from.kind d.before (does_at j l q d.from d.from_at is) up
+          | inl is ↦ first.first l d.from.kind d.before (numbered_does_at j l q d.from d.from_at is) up
           | inr isnt ↦
               (let leads : EdgeFromOther j l k = record { edge = d; apart = λ s. isnt (s ∙ mine) } in
               let news : IsNews j l k = record {
                 leads = leads;
                 first = λ m f lt at own h.
-                    first.first m f.kind lt (does_at j m q f at (own ∙ mine)) (up_to_on j i l m up (inr h));
+                    first.first m f.kind lt (numbered_does_at j m q f at (own ∙ mine)) (up_to_on j i l m up (inr h));
               } in
               none l news up)
         ]
 
     go : UpTo j k i → k ≡ i
     go (inl is) = sym is
-    go (inr h) = let s = last_step j i k h in absurd (into s.0 s.1 s.2)
+    go (inr h) = let s = past_last_step j i k h in absurd (into s.0 s.1 s.2)
 
 -- a way of one place
 pub way_one : (j : List Event) (i k : ℕ) → k ≡ i → IsWay j i k (k ∷ [])
@@ -312,7 +312,7 @@ way_on j i m k places way d = record { first = first; last = last; steps = steps
 
     steps : (n a b : ℕ) → slice_get (places ++ k ∷ []) n ≡ Some a → slice_get (places ++ k ∷ []) (n + 1) ≡ Some b
         → Edge j a b
-    steps n a b at to = elim (push_cases places k (n + 1) b to) [
+    steps n a b at to = elim (slice_push_cases places k (n + 1) b to) [
       | inl old ↦
           (let lt = old.0 in
           way.steps n a b (sym (slice_get-append_left places (k ∷ []) n (omega arith)) ∙ at) old.1)

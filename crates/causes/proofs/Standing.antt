@@ -3,7 +3,7 @@ use Rattle.std.proofs.Common.{◌≡◌, ◌≢◌, ℕ, ◌+◌, ◌<◌, inl, 
 use Rattle.std.proofs.lemmas.Bool.{cases_eq}
 use Rattle.std.proofs.lemmas.Option.{none-some, slice_get_within}
 use Rattle.base.specs.InOrderOnce.{Has, InOrder}
-use Rattle.base.proofs.SlicesAndCounts.{push_cases, slice_get-append_left, slice_get-last}
+use Rattle.base.proofs.SlicesAndCounts.{slice_push_cases, slice_get-append_left, slice_get-last}
 use Rattle.journal.specs.declared.event.Event.{Event}
 use Rattle.journal.specs.declared.event.Kind.TheVariants.{Acquire, Release}
 use Rattle.journal.specs.Events.{At}
@@ -40,7 +40,7 @@ pub those_next : (P : ℕ → Type 0) (n : ℕ) (qs : List ℕ) → P n → AreT
 those_next P n qs now old = record { has = λ q. (there q, back q); order = order }
   where
     there : (q : ℕ) → Has (qs ++ n ∷ []) q → (q < n + 1) × P q
-    there q at = elim (push_cases qs n at.0 q at.1) [
+    there q at = elim (slice_push_cases qs n at.0 q at.1) [
       | inl was ↦ (let x = (old.has q).0 (at.0, was.1) in let lt = x.0 in (omega arith, x.1))
       | inr new ↦ (omega (arith, new.1), subst P new.1 now)
     ]
@@ -55,12 +55,12 @@ those_next P n qs now old = record { has = λ q. (there q, back q); order = orde
     ]
 
     order : InOrder (λ p q. p < q) (qs ++ n ∷ [])
-    order m l a b lt at to = elim (push_cases qs n l b to) [
-      | inl was ↦ elim (push_cases qs n m a at) [
+    order m l a b lt at to = elim (slice_push_cases qs n l b to) [
+      | inl was ↦ elim (slice_push_cases qs n m a at) [
         | inl first ↦ old.order m l a b lt first.1 was.1
         | inr new ↦ (let inside = slice_get_within qs l b was.1 in absurd (omega (arith, new.0)))
       ]
-      | inr new ↦ elim (push_cases qs n m a at) [
+      | inr new ↦ elim (slice_push_cases qs n m a at) [
         | inl first ↦ (let x = ((old.has a).0 (m, first.1)).0 in omega (arith, new.1))
         | inr later ↦ absurd (omega (arith, later.0, new.0, lt))
       ]
@@ -82,7 +82,7 @@ those_other P n qs away old = record { has = λ q. (there q, back q); order = ol
 -- a row more
 pub waits_next : (n : ℕ) (j : List Event) (waits : List Wait) (p : ℕ) (w : Wait) → length waits ≡ p
     → AreWaits n j waits → IsWait n j p w → AreWaits n j (waits ++ w ∷ [])
-waits_next n j waits p w long are now q new at = elim (push_cases waits w q new at) [
+waits_next n j waits p w long are now q new at = elim (slice_push_cases waits w q new at) [
   | inl old ↦ are q new old.1
   | inr last ↦
       (let is : p ≡ q = omega (arith, last.0) in

@@ -5,7 +5,7 @@ use Rattle.std.specs.Global.{Vec}
 use Rattle.std.proofs.lemmas.Bool.{cases_eq, cases_lt}
 use Rattle.std.proofs.lemmas.List.{length-set}
 use Rattle.std.proofs.lemmas.Option.{none-some, slice_get_within}
-use Rattle.base.proofs.SlicesAndCounts.{push_cases, slice_get-append_left, slice_get-last}
+use Rattle.base.proofs.SlicesAndCounts.{slice_push_cases, slice_get-append_left, slice_get-last}
 use Rattle.base.proofs.SliceSets.{slice_get-set_found, slice_get-set_other}
 use Rattle.base.specs.InOrderOnce.{InOrder}
 use Rattle.journal.specs.declared.event.Event.{Event}
@@ -13,7 +13,7 @@ use Rattle.journal.specs.declared.event.Kind.TheVariants.{Store}
 use Rattle.journal.specs.DidEvent.{event}
 use Rattle.journal.specs.Events.{At, interval_at, is_closing}
 use Rattle.journal.specs.WellFormed.{Does}
-use Rattle.journal.proofs.Order.CountedAndNumbered.{at_same, count_of-mono, does_at}
+use Rattle.journal.proofs.Order.CountedAndNumbered.{numbered_at_same, count_of-mono, numbered_does_at}
 use Rattle.judge.specs.Tallies.{row_index}
 use Rattle.causes.specs.declared.stores.NumberedStore.{NumberedStore}
 use Rattle.causes.specs.declared.stores.StoreRows.{StoreRows}
@@ -45,7 +45,7 @@ stores_other j a q n e stores at away old = record {
   each = λ m x to. store_below j a q n x (old.each m x to);
   rising = old.rising;
   all = λ i v lt does. elim (cases_eq i n) [
-    | inl is ↦ absurd (away v (at_same j n e (event q (Store a v)) at (subst (λ m. Does j m q (Store a v)) is does)))
+    | inl is ↦ absurd (away v (numbered_at_same j n e (event q (Store a v)) at (subst (λ m. Does j m q (Store a v)) is does)))
     | inr isnt ↦ old.all i v (omega arith) does
   ];
 }
@@ -65,13 +65,13 @@ stores_now j a q v n x stores does place number old = record { each = each; risi
     }
 
     each : (m : ℕ) (y : NumberedStore) → slice_get (stores ++ x ∷ []) m ≡ Some y → IsNumberedStore j a q (n + 1) y
-    each m y to = elim (push_cases stores x m y to) [
+    each m y to = elim (slice_push_cases stores x m y to) [
       | inl was ↦ store_below j a q n y (old.each m y was.1)
       | inr new ↦ subst (IsNumberedStore j a q (n + 1)) new.1 now
     ]
 
     rising : InOrder (λ (y z : NumberedStore). y.place < z.place) (stores ++ x ∷ [])
-    rising k m y z lt to end = elim (push_cases stores x m z end) [
+    rising k m y z lt to end = elim (slice_push_cases stores x m z end) [
       | inl was ↦
           (let inside = was.0 in
           old.rising k m y z lt (sym (slice_get-append_left stores (x ∷ []) k (omega arith)) ∙ to) was.1)

@@ -6,7 +6,7 @@ use Rattle.std.specs.Global.{Vec}
 use Rattle.std.proofs.lemmas.Bool.{cases_eq}
 use Rattle.std.proofs.lemmas.List.{get_or_append_left, length-set}
 use Rattle.std.proofs.lemmas.Option.{none-some, slice_get_within}
-use Rattle.base.proofs.SlicesAndCounts.{push_cases, slice_get-append_left, slice_get-last}
+use Rattle.base.proofs.SlicesAndCounts.{slice_push_cases, slice_get-append_left, slice_get-last}
 use Rattle.base.proofs.SliceSets.{slice_get-set_found, slice_get-set_other}
 use Rattle.base.specs.InOrderOnce.{InOrder}
 use Rattle.std.proofs.Math.Seq.{get_or-append_seam}
@@ -16,7 +16,7 @@ use Rattle.journal.specs.DidEvent.{event}
 use Rattle.journal.specs.Events.{At, interval_at, is_taking}
 use Rattle.journal.specs.Times.{IsTimeOf}
 use Rattle.journal.specs.WellFormed.{Does}
-use Rattle.journal.proofs.Order.CountedAndNumbered.{at_same, does_at}
+use Rattle.journal.proofs.Order.CountedAndNumbered.{numbered_at_same, numbered_does_at}
 use Rattle.causes.specs.declared.takings.Taking.{Taking}
 use Rattle.causes.specs.Takings.{AreAllTakings, AreTakings, IsTaking}
 
@@ -45,7 +45,7 @@ takings_other j q n e takings at quiet old = record {
   rising = old.rising;
   all = λ k a lt does takes. elim (cases_eq k n) [
     | inl is ↦
-        (let here = at_same j n e (event q a) at (subst (λ m. Does j m q a) is does) in
+        (let here = numbered_at_same j n e (event q a) at (subst (λ m. Does j m q a) is does) in
         let none = quiet (ap (λ (y : Event). y.processor) here) in
         absurd (true≢false (sym takes ∙ sym (ap (λ (y : Event). is_taking y.kind) here) ∙ none)))
     | inr isnt ↦ old.all k a (omega arith) does takes
@@ -62,18 +62,18 @@ takings_now j q n e x takings at mine place time old = record { each = each; ris
     now = record {
       below = omega arith;
       kind = e.kind;
-      does = subst (λ m. Does j m q e.kind) (sym place) (does_at j n q e at mine);
+      does = subst (λ m. Does j m q e.kind) (sym place) (numbered_does_at j n q e at mine);
       after = subst (λ m. IsTimeOf (take (m + 1) j) q (slice_index x.after)) (sym place) time;
     }
 
     each : (m : ℕ) (y : Taking) → slice_get (takings ++ x ∷ []) m ≡ Some y → IsTaking j q (n + 1) y
-    each m y to = elim (push_cases takings x m y to) [
+    each m y to = elim (slice_push_cases takings x m y to) [
       | inl was ↦ taking_below j q n y (old.each m y was.1)
       | inr new ↦ subst (IsTaking j q (n + 1)) new.1 now
     ]
 
     rising : InOrder (λ (y z : Taking). y.place < z.place) (takings ++ x ∷ [])
-    rising k m y z lt to end = elim (push_cases takings x m z end) [
+    rising k m y z lt to end = elim (slice_push_cases takings x m z end) [
       | inl was ↦
           (let inside = was.0 in
           old.rising k m y z lt (sym (slice_get-append_left takings (x ∷ []) k (omega arith)) ∙ to) was.1)
@@ -133,7 +133,7 @@ pub numbers_next : (j : List Event) (n number : ℕ) (e : Event) (numbers new : 
 numbers_next j n number e numbers new long at now is old k f lt to =
     ap (λ (xs : List ℕ). slice_index xs k) is ∙ elim (cases_eq k n) [
       | inl same ↦
-          (let one = at_same j n e f at (subst (λ m. At j m f) same to) in
+          (let one = numbered_at_same j n e f at (subst (λ m. At j m f) same to) in
           let end : k ≡ length numbers = omega arith in
           ap (slice_index (numbers ++ number ∷ [])) end ∙ get_or-append_seam numbers number [] 0 ∙ now
           ∙ ap (λ (g : Event). interval_at j g.processor n) one ∙ ap (interval_at j f.processor) (sym same))

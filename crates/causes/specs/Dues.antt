@@ -5,7 +5,7 @@ use Rattle.base.specs.InOrderOnce.{Has, InOrder}
 use Rattle.journal.specs.declared.event.Event.{Event}
 use Rattle.journal.specs.declared.event.Kind.{Kind}
 use Rattle.journal.specs.declared.event.Kind.TheVariants.{Fetch}
-use Rattle.journal.specs.PageImages.{HasCount, StoredInGap}
+use Rattle.journal.specs.PageImages.{HasImageCount, StoredInGapOfImage}
 use Rattle.journal.specs.Events.{At}
 use Rattle.journal.specs.Sizes.{Sizes}
 use Rattle.judge.specs.Gaps.{StoresInPage}
@@ -15,7 +15,7 @@ use Rattle.causes.specs.declared.missing.Span.{Span}
 
 -- p's copy of page n lacks what q stored there in its interval m
 abbrev pub Lacks : Sizes → List Event → ℕ → ℕ → ℕ → ℕ → Type 0
-Lacks s j p n q m = (a : ℕ) × StoredInGap s j p n (q, m, a)
+Lacks s j p n q m = (a : ℕ) × StoredInGapOfImage s j p n (q, m, a)
 
 -- it lacks that after the event at place k, and didn't before
 abbrev pub ComesToLack : Sizes → List Event → ℕ → ℕ → ℕ → ℕ → ℕ → Type 0
@@ -30,7 +30,7 @@ IsToldBy s j k p _ n q m = ComesToLack s j k p n q m
 -- the event e at place k tells of that many records of the writer in the page, and of some
 pub record IsMissingRecord (s : Sizes) (j : List Event) (k : ℕ) (e : Event) (x : Due) : Type 0 where
   pub some : x.records ≢ 0
-  pub count : HasCount (IsToldBy s j k e.processor e.kind x.page x.writer) x.records
+  pub count : HasImageCount (IsToldBy s j k e.processor e.kind x.page x.writer) x.records
 
 -- by rising pages, and for each page by rising writers
 abbrev pub ByPageAndWriter : Due → Due → Type 0
@@ -54,7 +54,7 @@ pub record IsInSpan (s : Sizes) (j : List Event) (span : Span) (x : Due) : Type 
   pub from : span.first ≤ x.page
   pub to : x.page < span.end
   pub some : x.records ≢ 0
-  pub count : HasCount (λ m. StoresInPage s j x.page x.writer m × (slice_index span.from x.writer ≤ m)
+  pub count : HasImageCount (λ m. StoresInPage s j x.page x.writer m × (slice_index span.from x.writer ≤ m)
       × (m < slice_index span.to x.writer)) x.records
 
 -- what there is of this page and writer in the span

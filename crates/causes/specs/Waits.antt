@@ -4,7 +4,7 @@ use Rattle.base.specs.InOrderOnce.{Has, InOrder}
 use Rattle.journal.specs.declared.event.Event.{Event}
 use Rattle.journal.specs.declared.event.Kind.TheVariants.{Arrive, Ask, Set, Watch}
 use Rattle.journal.specs.Events.{At, count_of, is_arrive, is_depart}
-use Rattle.journal.specs.Waits.{IsIdle}
+use Rattle.journal.specs.Waits.{WaitsForNothing}
 use Rattle.journal.specs.WellFormed.{Does, Holds, LastIs}
 use Rattle.causes.specs.declared.waiting.Wait.{Wait}
 use Rattle.causes.specs.declared.waiting.Wait.TheVariants.{Nothing, Lock, Flag, Barrier}
@@ -29,7 +29,7 @@ IsAbsent j p q = count_of is_arrive j q ≤ count_of is_depart j p
 -- what is said of what p waits for, one of n processors: nothing; a lock, which this one holds or nobody, and of which
 -- the asks of these are earlier; a flag, and whether it is set; or that these arrive
 abbrev pub IsWait : ℕ → List Event → ℕ → Wait → Type 0
-IsWait n j p Nothing = IsIdle j p
+IsWait n j p Nothing = WaitsForNothing j p
 IsWait n j p (Lock l holder earlier) =
     (i : ℕ) × LastIs j p i (Ask l)
     × MatchOption holder ((q : ℕ) → q < n → ¬ Holds j q l) (λ q. Holds j q l)

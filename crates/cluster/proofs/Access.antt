@@ -10,7 +10,7 @@ use Rattle.journal.specs.Sizes.{addresses}
 use Rattle.cluster.specs.Copies.PageReplica.{Copied, may_use_replica}
 use Rattle.cluster.specs.Copies.Local.{Local}
 use Rattle.cluster.specs.Copies.Sound.{IsSound}
-use Rattle.cluster.specs.Refusals.{first_refusal_due, is_waiting, block_full, access_refusal}
+use Rattle.cluster.specs.Refusals.{first_refusal_due, refusal_is_waiting, refusal_block_full, access_refusal}
 
 -- where there is no such page, the address is past the last
 access_over : (n w a : ℕ) → 0 < w → n ≤ a / w → n * w ≤ a
@@ -54,8 +54,8 @@ pub access_at : (was m : Local) (a : ℕ) (c : Copied) (r : Option Refused) → 
     → slice_get m.copies (a / m.sizes.words) ≡ Some c
     → r ≡ first_refusal_due (
     (not (may_use_replica c.page.access), refused.Invalid (a / was.sizes.words))
-    ∷ (is_waiting m, Waiting)
-    ∷ (block_full m, BlockFull) ∷ [])
+    ∷ (refusal_is_waiting m, Waiting)
+    ∷ (refusal_block_full m, BlockFull) ∷ [])
     → r ≡ access_refusal m a
 access_at was m a c r same sound at why =
     let long = sound.copies.long in
@@ -65,5 +65,5 @@ access_at was m a c r same sound at why =
     rw (lt-leb (addresses m.sizes) a within, at)
     (subst (λ (l : Local). r ≡ first_refusal_due (
     (not (may_use_replica c.page.access), refused.Invalid (a / l.sizes.words))
-    ∷ (is_waiting m, Waiting)
-    ∷ (block_full m, BlockFull) ∷ [])) same why)
+    ∷ (refusal_is_waiting m, Waiting)
+    ∷ (refusal_block_full m, BlockFull) ∷ [])) same why)

@@ -36,12 +36,12 @@ use Rattle.cluster.specs.Refusals.{flush_refusal}
 use Rattle.cluster.proofs.Covering.{covers}
 use Rattle.cluster.proofs.FaithfulHistory.{history_taken_is}
 use Rattle.cluster.proofs.LeavingCalls.{call_of_nothing}
-use Rattle.cluster.proofs.UnchangedCalls.{alike_all, calls_entered, entered_sound, free_of, call_seat_spent, call_not_spent, now_by, called_now_same, few_now, called_now_allowed, unchanged_after, unchanged_is, unchanged_calls, unchanged_allowed, unchanged_sound}
-use Rattle.cluster.proofs.Visiting.{Visit, on}
+use Rattle.cluster.proofs.UnchangedCalls.{unchanged_copies_alike, calls_entered, unchanged_entered_sound, unchanged_call_free_of, call_seat_spent, call_not_spent, unchanged_now_by_cuts, called_now_same, unchanged_calls_few, called_now_allowed, unchanged_after, unchanged_is, unchanged_calls, unchanged_allowed, unchanged_sound}
+use Rattle.cluster.proofs.Visiting.{Visit, visiting_processor_on}
 
 -- what is dropped makes a list no longer
-length-drop_le : {A : Type 0} (n : ℕ) (xs : List A) → length (drop n xs) ≤ length xs
-length-drop_le n xs =
+length-drop_cutting : {A : Type 0} (n : ℕ) (xs : List A) → length (drop n xs) ≤ length xs
+length-drop_cutting n xs =
     let both = ap length (take-append-drop n xs) in let long = length-append (take n xs) (drop n xs) in omega arith
 
 module _ (m : Local) (b new : State) (was : WasBookCut b new) where
@@ -49,7 +49,7 @@ module _ (m : Local) (b new : State) (was : WasBookCut b new) where
   cutting_leaves_events = ap (λ (l : Log). l.events) was.journal.left
 
   cutting_leaves_fewer : length new.journal.events ≤ length b.journal.events
-  cutting_leaves_fewer = let le = length-drop_le was.journal.taken b.journal.events in let all = ap length cutting_leaves_events in omega arith
+  cutting_leaves_fewer = let le = length-drop_cutting was.journal.taken b.journal.events in let all = ap length cutting_leaves_events in omega arith
 
   -- and by so many more are cut off
   pub cutting_has_grown : new.journal.base.cut ≡ b.journal.base.cut + was.journal.taken
@@ -141,46 +141,46 @@ module _ {m : Local} {b new : State} {after : ChairToken State View} (v : Visit 
   abbrev then : Local
   then = entered m v.finds.rest b.journal.base.cut
 
-  abbrev history : List Event
-  history = m.seen ++ v.finds.rest
+  abbrev cutting_call_history : List Event
+  cutting_call_history = m.seen ++ v.finds.rest
 
   call : IsCallOf m b [] new
   call = call_of_cut m b new was
 
-  abbrev own_grown : ℕ
-  own_grown = m.own_cut + was.journal.taken
+  abbrev cutting_call_own_grown : ℕ
+  cutting_call_own_grown = m.own_cut + was.journal.taken
 
-  same : on after m ≡ record then { cut = new.journal.base.cut; own_cut = own_grown }
-  same =
-      now_by v [] call (on after m) refl own_grown
+  cutting_call_same : visiting_processor_on after m ≡ record then { cut = new.journal.base.cut; own_cut = cutting_call_own_grown }
+  cutting_call_same =
+      unchanged_now_by_cuts v [] call (visiting_processor_on after m) refl cutting_call_own_grown
       (let cuts = call.cuts in let more = cutting_has_grown m b new was in omega arith)
-      ∙ ap (λ (h : List Event). record then { seen = h; cut = new.journal.base.cut; own_cut = own_grown })
-      (append-nil history)
+      ∙ ap (λ (h : List Event). record then { seen = h; cut = new.journal.base.cut; own_cut = cutting_call_own_grown })
+      (append-nil cutting_call_history)
 
-  pub cutting_good : IsSound (on after m)
+  pub cutting_good : IsSound (visiting_processor_on after m)
   cutting_good =
-      subst IsSound (sym same)
-      (entering.entered_sound then then.entries new.journal.base.cut own_grown
-      (entered_sound m b v.sound v.finds b.journal.base.cut))
+      subst IsSound (sym cutting_call_same)
+      (entering.entered_sound then then.entries new.journal.base.cut cutting_call_own_grown
+      (unchanged_entered_sound m b v.sound v.finds b.journal.base.cut))
 
-  race_free : RaceFree (take (b.journal.base.cut + was.journal.taken) history)
+  race_free : RaceFree (take (b.journal.base.cut + was.journal.taken) cutting_call_history)
   race_free =
-      let told = cut_law m.sizes history b new v.finds.kept.told was in
-      let P : ℕ → Type 0 = λ n. RaceFree (take n history) in
-      subst P (cutting_has_grown m b new was) (subst RaceFree (history_taken_is m.sizes history new told) told.holds.rest.base.race_free)
+      let told = cut_law m.sizes cutting_call_history b new v.finds.kept.told was in
+      let P : ℕ → Type 0 = λ n. RaceFree (take n cutting_call_history) in
+      subst P (cutting_has_grown m b new was) (subst RaceFree (history_taken_is m.sizes cutting_call_history new told) told.holds.rest.base.race_free)
 
-  cutting_was_cut_off : WasCutOff then (on after m)
+  cutting_was_cut_off : WasCutOff then (visiting_processor_on after m)
   cutting_was_cut_off = record {
     taken = was.journal.taken;
-    may = cutting_may_cut_off m.sizes history b v.finds.kept.told was.journal.taken was.journal.may;
+    may = cutting_may_cut_off m.sizes cutting_call_history b v.finds.kept.told was.journal.taken was.journal.may;
     race_free = race_free;
-    after = same ∙ ap (λ (n : ℕ). record then { cut = n; own_cut = own_grown }) (cutting_has_grown m b new was);
+    after = cutting_call_same ∙ ap (λ (n : ℕ). record then { cut = n; own_cut = cutting_call_own_grown }) (cutting_has_grown m b new was);
   }
 
-  pub cutting_done : IsCuttingCall m (on after m) None
+  pub cutting_done : IsCuttingCall m (visiting_processor_on after m) None
   cutting_done = record {
-    same = called_now_same v [] call (on after m) refl;
-    outside = λ d there. absurd (free_of (flush_refusal m) d (call_not_spent v) there);
+    same = called_now_same v [] call (visiting_processor_on after m) refl;
+    outside = λ d there. absurd (unchanged_call_free_of (flush_refusal m) d (call_not_spent v) there);
     ok = λ _. (
       record {
         rest = v.finds.rest;
@@ -189,27 +189,27 @@ module _ {m : Local} {b new : State} {after : ChairToken State View} (v : Visit 
         more = v.finds.kept.behind m.number (view_having_seen m.sizes m.seen m.cut m.own_cut) v.finds.at;
         after = cutting_was_cut_off;
       },
-      few_now v [] call (on after m) refl,
+      unchanged_calls_few v [] call (visiting_processor_on after m) refl,
     );
     err = λ e _ is. absurd (none-some e is);
-    calls_are = ap calls same ∙ calls_entered m b v.finds new.journal.base.cut;
-    covers = covers (on after m) cutting_good;
-    allowed = λ _. called_now_allowed v [] call (on after m) refl;
+    calls_are = ap calls cutting_call_same ∙ calls_entered m b v.finds new.journal.base.cut;
+    covers = covers (visiting_processor_on after m) cutting_good;
+    allowed = λ _. called_now_allowed v [] call (visiting_processor_on after m) refl;
   }
 
 -- a call that was refused inside
 pub cutting_refused : {m : Local} {b : State} {after : ChairToken State View} (v : Visit m b b after) (e : CutFault)
-    → IsCutFault b.journal e → IsCuttingCall m (on after m) (Some (book_cut_refusal e))
+    → IsCutFault b.journal e → IsCuttingCall m (visiting_processor_on after m) (Some (book_cut_refusal e))
 cutting_refused {m} {b} {after} v e fault =
-    let alike = alike_all m.copies in
-    let now = on after m in
+    let alike = unchanged_copies_alike m.copies in
+    let now = visiting_processor_on after m in
     let is = unchanged_is v m.copies alike in
     let P : Local → Type 0 = λ n. IsCuttingRefusal n.sizes n.seen n.cut (book_cut_refusal e) in
     let why = subst P (sym is) (cutting_refuses m.sizes (m.seen ++ v.finds.rest) b v.finds.kept.told e fault) in
     let Q : Refused → Type 0 = λ r. IsCuttingRefusal now.sizes now.seen now.cut r in
     record {
       same = record { lock = v.same_lock; number = refl; sizes = refl };
-      outside = λ d there. absurd (free_of (flush_refusal m) d (call_not_spent v) there);
+      outside = λ d there. absurd (unchanged_call_free_of (flush_refusal m) d (call_not_spent v) there);
       ok = λ none. absurd (none-some (book_cut_refusal e) (sym none));
       err = λ d _ some. (unchanged_after v m.copies alike, subst Q (same_Some (book_cut_refusal e) d some) why);
       calls_are = unchanged_calls v m.copies alike;
@@ -223,15 +223,15 @@ cutting_spent {m} sound all = record {
   same = record { lock = refl; number = refl; sizes = refl };
   outside = λ d there. (sym (call_seat_spent m all) ∙ there, refl);
   ok = λ none. absurd (none-some SeatSpent (sym none));
-  err = λ d free _. absurd (free_of (flush_refusal m) SeatSpent free (call_seat_spent m all));
+  err = λ d free _. absurd (unchanged_call_free_of (flush_refusal m) SeatSpent free (call_seat_spent m all));
   calls_are = refl;
   covers = covers m sound;
   allowed = λ h. h;
 }
 
 -- a valid copy, from what was kept of what was cut off
-pub from_base : FromBaseLaw
-from_base m h a n c cover within at valid here =
+pub cutting_calls_from_base : FromBaseLaw
+cutting_calls_from_base m h a n c cover within at valid here =
     let covered = cover.each h a in
     let told = a.kept.told in
     let whole : h ++ m.block ≡ told.holds.taken ++ (a.book.journal.events ++ m.block) =
@@ -243,8 +243,8 @@ from_base m h a n c cover within at valid here =
     (subst P whole (covered.lawful n c at valid))
 
 -- what is left of a faithful history is faithful from what was kept
-pub left_history_law : LeftLaw
-left_history_law s c h j of faithful =
+pub cutting_calls_left_law : LeftLaw
+cutting_calls_left_law s c h j of faithful =
     let base : IsBaseOf s.processors (addresses s) c j.base =
     subst₂ (λ (p n : ℕ). IsBaseOf p n c j.base) of.processors of.addresses_are of.holds.base in
     let well = subst (WellFormed s) of.holds.history faithful.well_formed in

@@ -10,7 +10,7 @@ use Rattle.journal.specs.ExplainedAnswers.{Explained}
 use Rattle.journal.specs.Counted.{AreCounted}
 use Rattle.journal.specs.Log.{Log, HoldsRestOfHistory}
 use Rattle.base.specs.Limits.{most_events}
-use Rattle.cluster.specs.Copies.Sound.{most_seen}
+use Rattle.cluster.specs.Copies.Sound.{most_seen_by_sound}
 use Rattle.journal.proofs.Flat.FlatMemory.{flat_up_to}
 use Rattle.book.specs.State.{State}
 use Rattle.book.specs.Told.{Represents}
@@ -38,7 +38,7 @@ history_told_long s h b told =
 
 -- so it is short
 pub history_told_few : (s : Sizes) (h : List Event) (b : State) → Represents s h b → length b.journal.events ≤ most_events
-    → length h ≤ most_seen
+    → length h ≤ most_seen_by_sound
 history_told_few s h b told few = let long = history_told_long s h b told in let cut = told.holds.rest.few in omega arith
 
 -- a journal like that of a book that the history tells

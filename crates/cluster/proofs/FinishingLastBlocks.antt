@@ -9,18 +9,18 @@ use Rattle.journal.specs.declared.event.Event.{Event}
 use Rattle.journal.specs.declared.event.Kind.{Kind}
 use Rattle.journal.specs.Sizes.{Sizes}
 use Rattle.journal.specs.Events.{At}
-use Rattle.base.proofs.SlicesAndCounts.{append_cases, take-suc_at}
+use Rattle.base.proofs.SlicesAndCounts.{slice_append_cases, take-suc_at}
 use Rattle.book.specs.State.{State}
-use Rattle.book.specs.Calls.{AllowsFlush, AllowsBlock}
-use Rattle.book.specs.Transitions.{book_handed_last}
+use Rattle.book.specs.Calls.{AllowsFlush, AllowsBlockCall}
+use Rattle.book.specs.Transitions.{transition_handed_last}
 use Rattle.book.proofs.Told.Whole.{last_law}
 use Rattle.cluster.specs.Copies.Local.{Local}
 use Rattle.cluster.specs.Copies.Sound.{IsSound}
 use Rattle.cluster.proofs.copies.Entering.{entered_awaited_others}
 use Rattle.cluster.specs.Covers.{IsCovered}
-use Rattle.cluster.specs.Finishing.{HasCallsOf, IsToFinish, IsFinishing, AreBlocksToFinish}
-use Rattle.cluster.proofs.Covering.{covered_on, part_away}
-use Rattle.cluster.proofs.Found.{awaited_once, at_or}
+use Rattle.cluster.specs.Finishing.{HasCallsToFinish, IsToFinish, IsFinishing, AreBlocksToFinish}
+use Rattle.cluster.proofs.Covering.{covered_on, covering_part_away}
+use Rattle.cluster.proofs.Found.{found_awaited_once, found_at_or}
 use Rattle.cluster.proofs.Handing.{handed_part_own}
 
 module _ (s : Sizes) (ms : List Local) (k : ℕ) (b : State) (m : Local) (at : slice_get ms k ≡ Some m)
@@ -29,29 +29,29 @@ module _ (s : Sizes) (ms : List Local) (k : ℕ) (b : State) (m : Local) (at : s
   abbrev h : List Event
   h = m.seen ++ rest
 
-  sound : IsSound m
-  sound = (fin.sound k m at).0
+  last_block_sound : IsSound m
+  last_block_sound = (fin.sound k m at).0
 
   number : m.number ≡ k
   number = (fin.sound k m at).1
 
-  sizes : m.sizes ≡ s
-  sizes = (fin.sound k m at).2
+  last_block_sizes : m.sizes ≡ s
+  last_block_sizes = (fin.sound k m at).2
 
-  mine : (i : ℕ) (e : Event) → At m.block i e → e.processor ≡ m.number
-  mine i e there = (sound.inner i e there).mine
+  last_block_mine : (i : ℕ) (e : Event) → At m.block i e → e.processor ≡ m.number
+  last_block_mine i e there = (last_block_sound.inner i e there).mine
 
   last_awaits_here : slice_get b.awaits m.number ≡ Some m.awaits
   last_awaits_here =
       let told = fin.told.awaits in
-      let within : m.number < s.processors = subst (λ (z : Sizes). m.number < z.processors) sizes sound.mine in
-      let there = at_or b.awaits m.number s.processors None told.long within in
-      there ∙ ap (λ (w : Option Kind). Some w) (awaited_once h m.number (slice_index_or b.awaits m.number None)
+      let within : m.number < s.processors = subst (λ (z : Sizes). m.number < z.processors) last_block_sizes last_block_sound.mine in
+      let there = found_at_or b.awaits m.number s.processors None told.long within in
+      there ∙ ap (λ (w : Option Kind). Some w) (found_awaited_once h m.number (slice_index_or b.awaits m.number None)
       m.awaits (told.each m.number (slice_index_or b.awaits m.number None) there)
-      (entered_awaited_others m.seen rest m.number m.awaits away sound.awaits))
+      (entered_awaited_others m.seen rest m.number m.awaits away last_block_sound.awaits))
 
-  may_give_last : AllowsBlock s b m.number m.block
-  may_give_last = record { waits = (m.awaits, last_awaits_here, sound.quiet); inner = rw (← sizes) sound.inner }
+  may_give_last : AllowsBlockCall s b m.number m.block
+  may_give_last = record { waits = (m.awaits, last_awaits_here, last_block_sound.quiet); inner = rw (← last_block_sizes) last_block_sound.inner }
 
   -- the block may be handed in
   pub may_flush_last : AllowsFlush b k m.block
@@ -63,19 +63,19 @@ module _ (s : Sizes) (ms : List Local) (k : ℕ) (b : State) (m : Local) (at : s
 
   -- and there is room for it
   pub room_last : length m.block ≤ b.journal.room
-  room_last = let within = slice_get_within ms k m at in let short = sound.short in let room = fin.room in omega arith
+  room_last = let within = slice_get_within ms k m at in let short = last_block_sound.short in let room = fin.room in omega arith
 
   covered_last : IsCovered m h
-  covered_last = covered_on m sound rest away (rw sizes fin.told.well_formed) fin.explained (rw sizes fin.counted)
+  covered_last = covered_on m last_block_sound rest away (rw last_block_sizes fin.told.well_formed) fin.explained (rw last_block_sizes fin.counted)
 
   -- after that one more is done
-  pub finishing_step : IsFinishing s ms (k + 1) (h ++ m.block) (book_handed_last b m.block)
+  pub finishing_step : IsFinishing s ms (k + 1) (h ++ m.block) (transition_handed_last b m.block)
   finishing_step = record {
     told = last_law s h m.block b m.number fin.told may_give_last;
     explained = covered_last.explained;
-    counted = rw (← sizes) covered_last.counted;
+    counted = rw (← last_block_sizes) covered_last.counted;
     cuts = fin.cuts;
-    room = let short = sound.short in let enough = room_last in let room = fin.room in omega arith;
+    room = let short = last_block_sound.short in let enough = room_last in let room = fin.room in omega arith;
     sound = fin.sound;
     done = done;
     to_come = to_come;
@@ -93,19 +93,19 @@ module _ (s : Sizes) (ms : List Local) (k : ℕ) (b : State) (m : Local) (at : s
       more : take (k + 1) ms ≡ take k ms ++ m ∷ []
       more = ap (λ (n : ℕ). take n ms) (add-one k) ∙ take-suc_at ms k m at
 
-      done : (p : ℕ) (x : Local) → p < k + 1 → slice_get ms p ≡ Some x → HasCallsOf (h ++ m.block) x
+      done : (p : ℕ) (x : Local) → p < k + 1 → slice_get ms p ≡ Some x → HasCallsToFinish (h ++ m.block) x
       done p x before there = elim (cases_eq p k) [
         | inl same ↦
             (let P : ℕ → Type 0 = λ i. slice_get ms i ≡ Some x in
             let is : m ≡ x = cc (at, subst P same there) in
-            subst (HasCallsOf (h ++ m.block)) is (record {
+            subst (HasCallsToFinish (h ++ m.block)) is (record {
               begins = (rest ++ m.block, append_assoc m.seen rest m.block);
               calls_are =
                   rw (
                     filter-append,
                     filter-append,
-                    part_away rest m.number away,
-                    handed_part_own m.block m.number mine,
+                    covering_part_away rest m.number away,
+                    handed_part_own m.block m.number last_block_mine,
                     append-nil,
                   ) refl;
             }))
@@ -113,14 +113,14 @@ module _ (s : Sizes) (ms : List Local) (k : ℕ) (b : State) (m : Local) (at : s
             (let old = fin.done p x (omega arith) there in
             let own = (fin.sound p x there).1 in
             let apart : (i : ℕ) (e : Event) → At m.block i e → e.processor ≢ x.number =
-            λ i e here is. other (sym own ∙ sym is ∙ mine i e here ∙ number) in
+            λ i e here is. other (sym own ∙ sym is ∙ last_block_mine i e here ∙ number) in
             record {
               begins = (
                 old.begins.0 ++ m.block,
                 ap (λ (xs : List Event). xs ++ m.block) old.begins.1
                     ∙ append_assoc x.seen old.begins.0 m.block,
               );
-              calls_are = rw (filter-append, part_away m.block x.number apart, append-nil) old.calls_are;
+              calls_are = rw (filter-append, covering_part_away m.block x.number apart, append-nil) old.calls_are;
             })
       ]
 
@@ -131,35 +131,35 @@ module _ (s : Sizes) (ms : List Local) (k : ℕ) (b : State) (m : Local) (at : s
           record {
             rest = old.rest ++ m.block;
             begins = ap (λ (xs : List Event). xs ++ m.block) old.begins ∙ append_assoc x.seen old.rest m.block;
-            away = λ i e here. elim (append_cases old.rest m.block i e here) [
+            away = λ i e here. elim (slice_append_cases old.rest m.block i e here) [
               | inl a ↦ old.away i e a.1
-              | inr a ↦ (λ is. let same = mine a.0 e a.2 in let first = number in omega arith)
+              | inr a ↦ (λ is. let same = last_block_mine a.0 e a.2 in let first = number in omega arith)
             ];
           }
 
 module _ (s : Sizes) (ms : List Local) (k : ℕ) (h : List Event) (b : State) (fin : IsFinishing s ms k h b) (m : Local)
     (at : slice_get ms k ≡ Some m) where
-  abbrev come : IsToFinish h m
-  come = fin.to_come k m (omega arith) at
+  abbrev last_block_come : IsToFinish h m
+  last_block_come = fin.to_come k m (omega arith) at
 
-  abbrev here : IsFinishing s ms k (m.seen ++ come.rest) b
-  here = let P : List Event → Type 0 = λ xs. IsFinishing s ms k xs b in subst P come.begins fin
+  abbrev here : IsFinishing s ms k (m.seen ++ last_block_come.rest) b
+  here = let P : List Event → Type 0 = λ xs. IsFinishing s ms k xs b in subst P last_block_come.begins fin
 
   -- the next block may be handed in
   pub may_last : AllowsFlush b k m.block
-  may_last = may_flush_last s ms k b m at come.rest come.away here
+  may_last = may_flush_last s ms k b m at last_block_come.rest last_block_come.away here
 
   pub fits_last : length m.block ≤ b.journal.room
-  fits_last = room_last s ms k b m at come.rest come.away here
+  fits_last = room_last s ms k b m at last_block_come.rest last_block_come.away here
 
   -- and then the history has it
-  pub finishing_one_more : (g : List Event) × IsFinishing s ms (k + 1) g (book_handed_last b m.block)
-  finishing_one_more = ((m.seen ++ come.rest) ++ m.block, finishing_step s ms k b m at come.rest come.away here)
+  pub finishing_one_more : (g : List Event) × IsFinishing s ms (k + 1) g (transition_handed_last b m.block)
+  finishing_one_more = ((m.seen ++ last_block_come.rest) ++ m.block, finishing_step s ms k b m at last_block_come.rest last_block_come.away here)
 
 -- what stands at a place of a mapped list
-pub mapped_at : {A B : Type 0} (f : A → B) (xs : List A) (k : ℕ) (x : A) → slice_get xs k ≡ Some x
+pub last_blocks_mapped_at : {A B : Type 0} (f : A → B) (xs : List A) (k : ℕ) (x : A) → slice_get xs k ≡ Some x
     → slice_get (map f xs) k ≡ Some (f x)
-mapped_at f xs k x at = slice_get-map f xs k ∙ ap (option_map f) at
+last_blocks_mapped_at f xs k x at = slice_get-map f xs k ∙ ap (option_map f) at
 
 -- the processor whose block stands at this place
 pub block_of : (ms : List Local) (blocks : List (List Event)) (k : ℕ) (block : List Event) → AreBlocksToFinish ms blocks
@@ -181,5 +181,5 @@ module _ (ms : List Local) (s : Sizes) (h : List Event) (b : State) (k : ℕ) (f
   pub fits_last_block : length block ≤ b.journal.room
   fits_last_block = let m = block_of ms blocks k block are at in rw (m.2) (fits_last s ms k h b fin m.0 m.1)
 
-  pub finishing_one_more_block : (g : List Event) × IsFinishing s ms (k + 1) g (book_handed_last b block)
+  pub finishing_one_more_block : (g : List Event) × IsFinishing s ms (k + 1) g (transition_handed_last b block)
   finishing_one_more_block = let m = block_of ms blocks k block are at in rw (m.2) (finishing_one_more s ms k h b fin m.0 m.1)

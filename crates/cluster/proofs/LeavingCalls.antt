@@ -13,25 +13,25 @@ use Rattle.journal.specs.Log.{Log}
 use Rattle.journal.specs.Events.{At}
 use Rattle.journal.specs.ExplainedAnswers.{Explained}
 use Rattle.journal.specs.Counted.{AreCounted}
-use Rattle.journal.proofs.CopyOfPage.LoadAnswers.{explained_push}
+use Rattle.journal.proofs.CopyOfPage.LoadAnswers.{load_answers_push}
 use Rattle.journal.proofs.Missing.Counted.{counted_push}
 use Rattle.base.specs.Limits.{most_events}
-use Rattle.base.proofs.SlicesAndCounts.{append_cases, push_cases}
+use Rattle.base.proofs.SlicesAndCounts.{slice_append_cases, slice_push_cases}
 use Rattle.base.proofs.SliceSets.{slice_get-set_found, slice_get-set_other, slice_get-set_same}
 use Rattle.book.specs.State.{State}
 use Rattle.book.specs.Told.{Represents}
-use Rattle.book.specs.Transitions.{book_handed_in}
+use Rattle.book.specs.Transitions.{transition_handed_in}
 use Rattle.book.proofs.Told.Whole.{hand_in_law}
 use Rattle.cluster.specs.Copies.Local.{Local}
 use Rattle.cluster.specs.Copies.Sound.{IsSound}
 use Rattle.cluster.specs.declared.keeper.View.{View}
-use Rattle.cluster.specs.KeptViews.{ExtendsView, LockInvariant, KeptWithViews, SeesView, added, view_having_seen}
+use Rattle.cluster.specs.KeptViews.{ExtendsView, LockInvariant, KeptWithViews, SeesView, view_added, view_having_seen}
 use Rattle.cluster.specs.Covers.{IsCovered}
-use Rattle.cluster.specs.Entering.{Finds, IsCallOf}
+use Rattle.cluster.specs.Entering.{FindsOnEntering, IsCallOf}
 use Rattle.cluster.specs.Laws.{SeenLaw}
 use Rattle.cluster.proofs.Covering.{covered_on}
 use Rattle.cluster.proofs.Found.{found_may_give}
-use Rattle.cluster.proofs.Sums.{sum_by-set_at}
+use Rattle.cluster.proofs.Sums.{sums_by-set_at}
 
 module _ (s : Sizes) (h : List Event) (b : State) (views : List View) (kept : LockInvariant s h b views) (p : ℕ)
     (es : List Event) (mine : (k : ℕ) (e : Event) → At es k e → e.processor ≡ p) (cut own_cut : ℕ) where
@@ -55,7 +55,7 @@ module _ (s : Sizes) (h : List Event) (b : State) (views : List View) (kept : Lo
           shape = goes.shape;
           rest = goes.rest ++ es;
           begins = ap (λ (xs : List Event). xs ++ es) goes.begins ∙ append_assoc x.seen goes.rest es;
-          away = λ k e at. elim (append_cases goes.rest es k e at) [
+          away = λ k e at. elim (slice_append_cases goes.rest es k e at) [
             | inl a ↦ goes.away k e a.1
             | inr a ↦ (λ is. other (sym is ∙ mine a.0 e a.2))
           ];
@@ -91,7 +91,7 @@ module _ (s : Sizes) (h : List Event) (b : State) (views : List View) (kept : Lo
     behind = leaving_behind_on c.journal.base.cut more mine;
     cuts =
         (let now = view_having_seen s (h ++ es) cut own_cut in
-        let sums = sum_by-set_at (λ (v : View). v.own_cut) views p x now at in
+        let sums = sums_by-set_at (λ (v : View). v.own_cut) views p x now at in
         let was = kept.cuts in
         omega arith);
     whole =
@@ -101,9 +101,9 @@ module _ (s : Sizes) (h : List Event) (b : State) (views : List View) (kept : Lo
   }
 
 -- what p finds, where the lock's fact holds with what p has seen
-abbrev pub finds : (m : Local) (b : State) (views : List View)
-    → slice_get views m.number ≡ Some (view_having_seen m.sizes m.seen m.cut m.own_cut) → KeptWithViews b views → Finds m b
-finds m b views at fact =
+abbrev pub leaving_call_finds : (m : Local) (b : State) (views : List View)
+    → slice_get views m.number ≡ Some (view_having_seen m.sizes m.seen m.cut m.own_cut) → KeptWithViews b views → FindsOnEntering m b
+leaving_call_finds m b views at fact =
     let s = fact.0 in
     let h = fact.1 in
     let goes = fact.2.each m.number (view_having_seen m.sizes m.seen m.cut m.own_cut) at in
@@ -119,7 +119,7 @@ finds m b views at fact =
 
 -- the call keeps the fact
 pub call_kept : (m : Local) (old : State) (es : List Event) (new : State) (call : IsCallOf m old es new)
-    (f : Finds m old) → LockInvariant m.sizes ((m.seen ++ f.rest) ++ es) new
+    (f : FindsOnEntering m old) → LockInvariant m.sizes ((m.seen ++ f.rest) ++ es) new
     (slice_set f.views m.number
     (view_having_seen m.sizes ((m.seen ++ f.rest) ++ es) new.journal.base.cut (m.own_cut + call.taken)))
 call_kept m old es new call f =
@@ -133,7 +133,7 @@ pub may_leave : (m : Local) (old : State) (es : List Event) (new : State) → Is
     → (views : List View) → slice_get views m.number ≡ Some (view_having_seen m.sizes m.seen m.cut m.own_cut) → KeptWithViews old views
     → (w : View) × SeesView old new m.number (view_having_seen m.sizes m.seen m.cut m.own_cut) w × KeptWithViews new (slice_set views m.number w)
 may_leave m old es new call views at fact =
-    let f = finds m old views at fact in
+    let f = leaving_call_finds m old views at fact in
     let h = (m.seen ++ f.rest) ++ es in (
       view_having_seen m.sizes h new.journal.base.cut (m.own_cut + call.taken),
       record {
@@ -161,18 +161,18 @@ seen_law b views fact = (
 )
 
 -- a journal that goes on with these events
-adds_events : (old new : Log) (es : List Event) → new.events ≡ old.events ++ es → added old new ≡ es
-adds_events old new es is = ap (λ (xs : List Event). drop (length old.events) xs) is ∙ drop-append_seam old.events es
+leaving_call_adds_events : (old new : Log) (es : List Event) → new.events ≡ old.events ++ es → view_added old new ≡ es
+leaving_call_adds_events old new es is = ap (λ (xs : List Event). drop (length old.events) xs) is ∙ drop-append_seam old.events es
 
 -- and with none
-adds_nothing : (log : Log) → added log log ≡ []
-adds_nothing log = adds_events log log [] (sym (append-nil log.events))
+leaving_call_adds_nothing : (log : Log) → view_added log log ≡ []
+leaving_call_adds_nothing log = leaving_call_adds_events log log [] (sym (append-nil log.events))
 
 -- a call that changes nothing
 pub call_of_nothing : (m : Local) (b : State) → IsCallOf m b [] b
 call_of_nothing m b = record {
   mine = λ k e at. absurd (none-some e at);
-  adds = adds_nothing b.journal;
+  adds = leaving_call_adds_nothing b.journal;
   room = refl;
   told = λ f. rw append-nil f.kept.told;
   explained = λ f. rw append-nil f.kept.explained;
@@ -183,26 +183,26 @@ call_of_nothing m b = record {
 }
 
 module _ (m : Local) (sound : IsSound m) (b : State) where
-  covered : (f : Finds m b) → IsCovered m (m.seen ++ f.rest)
-  covered f = covered_on m sound f.rest f.away f.kept.told.well_formed f.kept.explained f.kept.counted
+  leaving_call_covered : (f : FindsOnEntering m b) → IsCovered m (m.seen ++ f.rest)
+  leaving_call_covered f = covered_on m sound f.rest f.away f.kept.told.well_formed f.kept.explained f.kept.counted
 
   -- the events that the journal has then are as many
-  few_then : (n : ℕ) (es : List Event) (new : State) → length b.journal.events + n ≤ most_events → length es ≡ n
+  leaving_call_few_then : (n : ℕ) (es : List Event) (new : State) → length b.journal.events + n ≤ most_events → length es ≡ n
       → new.journal.events ≡ b.journal.events ++ es → length new.journal.events ≤ most_events
-  few_then n es new fits long goes =
+  leaving_call_few_then n es new fits long goes =
       let all = ap length goes in let both = length-append b.journal.events es in omega arith
 
   -- the block is handed in
   pub call_of_block : length b.journal.events + length m.block ≤ most_events
-      → IsCallOf m b m.block (book_handed_in b m.block)
+      → IsCallOf m b m.block (transition_handed_in b m.block)
   call_of_block fits = record {
     mine = λ k e at. (sound.inner k e at).mine;
-    adds = adds_events b.journal (book_handed_in b m.block).journal m.block refl;
+    adds = leaving_call_adds_events b.journal (transition_handed_in b m.block).journal m.block refl;
     room = refl;
     told = λ f. hand_in_law m.sizes (m.seen ++ f.rest) m.block b m.number f.kept.told (found_may_give m sound b f);
-    explained = λ f. (covered f).explained;
-    counted = λ f. (covered f).counted;
-    few = λ _. few_then (length m.block) m.block (book_handed_in b m.block) fits refl refl;
+    explained = λ f. (leaving_call_covered f).explained;
+    counted = λ f. (leaving_call_covered f).counted;
+    few = λ _. leaving_call_few_then (length m.block) m.block (transition_handed_in b m.block) fits refl refl;
     taken = 0;
     cuts = omega arith;
   }
@@ -212,26 +212,26 @@ module _ (m : Local) (sound : IsSound m) (b : State) where
       → length b.journal.events + length m.block + 1 ≤ most_events
       → new.journal.events ≡ b.journal.events ++ (m.block ++ event m.number k ∷ [])
       → new.journal.room ≡ b.journal.room → new.journal.base.cut ≡ b.journal.base.cut
-      → ((f : Finds m b) → Represents m.sizes (did ((m.seen ++ f.rest) ++ m.block) m.number k) new)
+      → ((f : FindsOnEntering m b) → Represents m.sizes (did ((m.seen ++ f.rest) ++ m.block) m.number k) new)
       → IsCallOf m b (m.block ++ event m.number k ∷ []) new
   call_of_event k new no_load no_fetch fits goes room cut told = record {
-    mine = λ i e at. elim (push_cases m.block (event m.number k) i e at) [
+    mine = λ i e at. elim (slice_push_cases m.block (event m.number k) i e at) [
       | inl h ↦ (sound.inner i e h.1).mine
       | inr h ↦ ap (λ (x : Event). x.processor) (sym h.1)
     ];
-    adds = adds_events b.journal new.journal (m.block ++ event m.number k ∷ []) goes;
+    adds = leaving_call_adds_events b.journal new.journal (m.block ++ event m.number k ∷ []) goes;
     room = room;
     told = λ f. rw (← append_assoc (m.seen ++ f.rest) m.block (event m.number k ∷ [])) (told f);
     explained =
         λ f. rw (← append_assoc (m.seen ++ f.rest) m.block (event m.number k ∷ []))
-        (explained_push ((m.seen ++ f.rest) ++ m.block) (event m.number k) (covered f).explained (λ p a v is.
+        (load_answers_push ((m.seen ++ f.rest) ++ m.block) (event m.number k) (leaving_call_covered f).explained (λ p a v is.
         absurd (no_load a v (ap (λ (x : Event). x.kind) is))));
     counted =
         λ f. rw (← append_assoc (m.seen ++ f.rest) m.block (event m.number k ∷ []))
         (counted_push m.sizes ((m.seen ++ f.rest) ++ m.block) (event m.number k) (λ p n w r d is.
-        absurd (no_fetch w n r d (ap (λ (x : Event). x.kind) is))) (covered f).counted);
+        absurd (no_fetch w n r d (ap (λ (x : Event). x.kind) is))) (leaving_call_covered f).counted);
     few =
-        λ _. few_then (length m.block + 1) (m.block ++ event m.number k ∷ []) new (omega arith)
+        λ _. leaving_call_few_then (length m.block + 1) (m.block ++ event m.number k ∷ []) new (omega arith)
         (length-append m.block (event m.number k ∷ [])) goes;
     taken = 0;
     cuts = (let same = cut in omega arith);
@@ -242,23 +242,23 @@ module _ (m : Local) (sound : IsSound m) (b : State) where
       → ((w n r d : ℕ) → k ≢ Fetch w n r d) → length b.journal.events + 1 ≤ most_events
       → new.journal.events ≡ b.journal.events ++ event m.number k ∷ [] → new.journal.room ≡ b.journal.room
       → new.journal.base.cut ≡ b.journal.base.cut
-      → ((f : Finds m b) → Represents m.sizes (did (m.seen ++ f.rest) m.number k) new)
+      → ((f : FindsOnEntering m b) → Represents m.sizes (did (m.seen ++ f.rest) m.number k) new)
       → IsCallOf m b (event m.number k ∷ []) new
   call_of_event_alone k new no_load no_fetch fits goes room cut told = record {
-    mine = λ i e at. elim (push_cases [] (event m.number k) i e at) [
+    mine = λ i e at. elim (slice_push_cases [] (event m.number k) i e at) [
       | inl h ↦ absurd (none-some e h.1)
       | inr h ↦ ap (λ (x : Event). x.processor) (sym h.1)
     ];
-    adds = adds_events b.journal new.journal (event m.number k ∷ []) goes;
+    adds = leaving_call_adds_events b.journal new.journal (event m.number k ∷ []) goes;
     room = room;
     told = told;
     explained =
-        λ f. explained_push (m.seen ++ f.rest) (event m.number k) f.kept.explained (λ p a v is.
+        λ f. load_answers_push (m.seen ++ f.rest) (event m.number k) f.kept.explained (λ p a v is.
         absurd (no_load a v (ap (λ (x : Event). x.kind) is)));
     counted =
         λ f. counted_push m.sizes (m.seen ++ f.rest) (event m.number k) (λ p n w r d is.
         absurd (no_fetch w n r d (ap (λ (x : Event). x.kind) is))) f.kept.counted;
-    few = λ _. few_then 1 (event m.number k ∷ []) new fits refl goes;
+    few = λ _. leaving_call_few_then 1 (event m.number k ∷ []) new fits refl goes;
     taken = 0;
     cuts = (let same = cut in omega arith);
   }

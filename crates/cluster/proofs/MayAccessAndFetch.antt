@@ -10,28 +10,28 @@ use Rattle.journal.specs.Sizes.{addresses}
 use Rattle.base.specs.Limits.{most_in_block}
 use Rattle.cluster.specs.Copies.PageReplica.{Copied, may_use_replica}
 use Rattle.cluster.specs.Copies.Local.{Local}
-use Rattle.cluster.specs.Refusals.{serves, has_valid, is_waiting, block_full, access_refusal, fetch_refusal}
+use Rattle.cluster.specs.Refusals.{refusal_copy_serves, refusal_has_valid, refusal_is_waiting, refusal_block_full, access_refusal, fetch_refusal}
 
 -- what becomes of what is there is there
-pub is_some_mapped : {A B : Type 0} (f : A → B) (o : Option A) → is_some (option_map f o) ≡ is_some o
-is_some_mapped f None = refl
-is_some_mapped f (Some a) = refl
+pub may_access_mapped : {A B : Type 0} (f : A → B) (o : Option A) → is_some (option_map f o) ≡ is_some o
+may_access_mapped f None = refl
+may_access_mapped f (Some a) = refl
 
 -- the first doesn't apply, nor do the others
-pub due_none : (b : Bool) (r : Refused) (rest : Option Refused) → cond b (Some r) rest ≡ None
+pub may_access_due_none : (b : Bool) (r : Refused) (rest : Option Refused) → cond b (Some r) rest ≡ None
     → (b ≡ false) × (rest ≡ None)
-due_none true r rest h = absurd (none-some r (sym h))
-due_none false r rest h = (refl, h)
+may_access_due_none true r rest h = absurd (none-some r (sym h))
+may_access_due_none false r rest h = (refl, h)
 
 -- what is not there is nothing
-pub unawaited : {A : Type 0} (o : Option A) → is_some o ≡ false → o ≡ None
-unawaited None h = refl
-unawaited (Some x) h = absurd (cc)
+pub may_access_unawaited : {A : Type 0} (o : Option A) → is_some o ≡ false → o ≡ None
+may_access_unawaited None h = refl
+may_access_unawaited (Some x) h = absurd (cc)
 
 -- a copy that serves is there and valid
-pub serving : (o : Option Copied) → serves o ≡ true → (c : Copied) × (o ≡ Some c) × (c.page.access ≡ Valid)
-serving None h = absurd (cc)
-serving (Some c) h = (c, refl, usable c.page.access h)
+pub may_access_serving : (o : Option Copied) → refusal_copy_serves o ≡ true → (c : Copied) × (o ≡ Some c) × (c.page.access ≡ Valid)
+may_access_serving None h = absurd (cc)
+may_access_serving (Some c) h = (c, refl, usable c.page.access h)
   where
     usable : (a : Access) → may_use_replica a ≡ true → a ≡ Valid
     usable Valid h = refl
@@ -48,17 +48,17 @@ pub record MayAccess (m : Local) (a : ℕ) : Type 0 where
 
 pub may_access : (m : Local) (a : ℕ) → access_refusal m a ≡ None → MayAccess m a
 may_access m a none =
-    let one = due_none (nat_le (addresses m.sizes) a) _ _ none in
-    let two = due_none (not (has_valid m (a / m.sizes.words))) _ _ one.1 in
-    let three = due_none (is_waiting m) _ _ two.1 in
-    let four = due_none (block_full m) _ _ three.1 in
-    let found = serving (slice_get m.copies (a / m.sizes.words)) (not-false _ two.0) in
+    let one = may_access_due_none (nat_le (addresses m.sizes) a) _ _ none in
+    let two = may_access_due_none (not (refusal_has_valid m (a / m.sizes.words))) _ _ one.1 in
+    let three = may_access_due_none (refusal_is_waiting m) _ _ two.1 in
+    let four = may_access_due_none (refusal_block_full m) _ _ three.1 in
+    let found = may_access_serving (slice_get m.copies (a / m.sizes.words)) (not-false _ two.0) in
     record {
       within = leb-false (addresses m.sizes) a one.0;
       copy = found.0;
       at = found.1;
       valid = found.2;
-      idle = unawaited m.awaits three.0;
+      idle = may_access_unawaited m.awaits three.0;
       room = leb-false most_in_block (length m.block) four.0;
     }
 
@@ -92,17 +92,17 @@ pub record MayFetch (m : Local) (n : ℕ) : Type 0 where
   pub within : n < m.sizes.pages
   pub idle : m.awaits ≡ None
   pub room : length m.block < most_in_block
-  pub invalid : has_valid m n ≡ false
+  pub invalid : refusal_has_valid m n ≡ false
 
 pub may_fetch : (m : Local) (n : ℕ) → fetch_refusal m n ≡ None → MayFetch m n
 may_fetch m n none =
-    let one = due_none (nat_le m.sizes.pages n) _ _ none in
-    let two = due_none (is_waiting m) _ _ one.1 in
-    let three = due_none (block_full m) _ _ two.1 in
-    let four = due_none (has_valid m n) _ _ three.1 in
+    let one = may_access_due_none (nat_le m.sizes.pages n) _ _ none in
+    let two = may_access_due_none (refusal_is_waiting m) _ _ one.1 in
+    let three = may_access_due_none (refusal_block_full m) _ _ two.1 in
+    let four = may_access_due_none (refusal_has_valid m n) _ _ three.1 in
     record {
       within = leb-false m.sizes.pages n one.0;
-      idle = unawaited m.awaits two.0;
+      idle = may_access_unawaited m.awaits two.0;
       room = leb-false most_in_block (length m.block) three.0;
       invalid = four.0;
     }
@@ -110,7 +110,7 @@ may_fetch m n none =
 -- so the copy is not valid
 pub fetch_stale_copy : (m : Local) (n : ℕ) (c : Copied) → fetch_refusal m n ≡ None → slice_get m.copies n ≡ Some c
     → c.page.access ≡ Invalid
-fetch_stale_copy m n c free at = unusable c.page.access (ap serves (sym at) ∙ (may_fetch m n free).invalid)
+fetch_stale_copy m n c free at = unusable c.page.access (ap refusal_copy_serves (sym at) ∙ (may_fetch m n free).invalid)
   where
     unusable : (a : Access) → may_use_replica a ≡ false → a ≡ Invalid
     unusable Valid h = absurd (cc)

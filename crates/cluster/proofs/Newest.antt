@@ -11,41 +11,41 @@ use Rattle.journal.specs.PageImages.{InGap, page_write}
 use Rattle.journal.specs.ClosedIntervals.{ClosedAt}
 use Rattle.journal.specs.MissingWords.{Missing, AreMissing, MissingInOrder}
 use Rattle.journal.proofs.CopyOfPage.Stores.{store_writes}
-use Rattle.journal.proofs.Missing.InGroups.{AreGroups, groups_of, groups_gap, store_closed}
+use Rattle.journal.proofs.Missing.InGroups.{AreGroups, groups_of, groups_gap, group_store_closed}
 use Rattle.journal.proofs.Missing.Placed.{placed_before}
 use Rattle.journal.proofs.Times.Closing.{closed_once}
 use Rattle.base.specs.InOrderOnce.{Has, InOrder}
 use Rattle.base.specs.MarkedRecords.{records_applied}
-use Rattle.base.proofs.Joined.{in_order_concat}
+use Rattle.base.proofs.Joined.{joined_in_order}
 use Rattle.base.proofs.LastWritten.{word_written}
 use Rattle.base.proofs.Records.{records_same}
-use Rattle.cluster.specs.Accesses.{IsLastStoreInGap, HasNoStoreInGap, AreNewestStores}
+use Rattle.cluster.specs.Accesses.{IsLastAccessInGap, HasNoAccessInGap, AreNewestAccesses}
 
 -- the store at place i was closed before that at place k, or in one interval with it and it stands before
-abbrev pub ClosedBefore : List Event → ℕ → ℕ → Type 0
-ClosedBefore j i k = (c d : ℕ) → ClosedAt j i c → ClosedAt j k d → (c < d) ⊎ ((c ≡ d) × (i ≤ k))
+abbrev pub NewestClosedBefore : List Event → ℕ → ℕ → Type 0
+NewestClosedBefore j i k = (c d : ℕ) → ClosedAt j i c → ClosedAt j k d → (c < d) ⊎ ((c ≡ d) × (i ≤ k))
 
 module _ (s : Sizes) (j : List Event) (p n : ℕ) (missing : List Missing) (lacks : AreMissing s j p n missing)
     (order : MissingInOrder missing) where
   -- the stores of the gap, by intervals in closing order
-  in_order : (groups : List (List ℕ)) → AreGroups s j n missing groups → InOrder (ClosedBefore j) (concat groups)
-  in_order groups of = in_order_concat (ClosedBefore j) groups within across
+  in_order : (groups : List (List ℕ)) → AreGroups s j n missing groups → InOrder (NewestClosedBefore j) (concat groups)
+  in_order groups of = joined_in_order (NewestClosedBefore j) groups within across
     where
-      within : (g : List ℕ) → Has groups g → InOrder (ClosedBefore j) g
+      within : (g : List ℕ) → Has groups g → InOrder (NewestClosedBefore j) g
       within g h x y a b less at to c d closed closed_too =
           let r = of.of h.0 g h.1 in
           let placed = lacks.placed r.0 (h.0, r.1) in
           let first =
-          store_closed s j r.0.owner r.0.number n a placed.at ((r.2 a).0 (x, at)) placed.closes placed.number in
+          group_store_closed s j r.0.owner r.0.number n a placed.at ((r.2 a).0 (x, at)) placed.closes placed.number in
           let second =
-          store_closed s j r.0.owner r.0.number n b placed.at ((r.2 b).0 (y, to)) placed.closes placed.number in
+          group_store_closed s j r.0.owner r.0.number n b placed.at ((r.2 b).0 (y, to)) placed.closes placed.number in
           let rises = r.3 x y a b less at to in
           inr (
             closed_once j a c placed.at closed first ∙ sym (closed_once j b d placed.at closed_too second),
             omega arith,
           )
 
-      across : InOrder (λ (g h : List ℕ). (a b : ℕ) → Has g a → Has h b → ClosedBefore j a b) groups
+      across : InOrder (λ (g h : List ℕ). (a b : ℕ) → Has g a → Has h b → NewestClosedBefore j a b) groups
       across x y g h less at to a b in_g in_h c d closed closed_too =
           let r = of.of x g at in
           let t = of.of y h to in
@@ -53,10 +53,10 @@ module _ (s : Sizes) (j : List Event) (p n : ℕ) (missing : List Missing) (lack
           let two = lacks.placed t.0 (y, t.1) in
           let first =
           closed_once j a c one.at closed
-          (store_closed s j r.0.owner r.0.number n a one.at ((r.2 a).0 in_g) one.closes one.number) in
+          (group_store_closed s j r.0.owner r.0.number n a one.at ((r.2 a).0 in_g) one.closes one.number) in
           let second =
           closed_once j b d two.at closed_too
-          (store_closed s j t.0.owner t.0.number n b two.at ((t.2 b).0 in_h) two.closes two.number) in
+          (group_store_closed s j t.0.owner t.0.number n b two.at ((t.2 b).0 in_h) two.closes two.number) in
           let before =
           placed_before j r.0.owner r.0.number r.0.place t.0.owner t.0.number t.0.place one two
           (order x y r.0 t.0 less r.1 t.1) in
@@ -66,7 +66,7 @@ module _ (s : Sizes) (j : List Event) (p n : ℕ) (missing : List Missing) (lack
   newest_in_gap : (o v : ℕ) (groups : List (List ℕ)) → AreGroups s j n missing groups → (i k : ℕ)
       → slice_get (concat groups) k ≡ Some i → page_write s (slice_get j i) ≡ Some (o, v)
       → ((m y u : ℕ) → k < m → slice_get (concat groups) m ≡ Some y → page_write s (slice_get j y) ≢ Some (o, u))
-      → IsLastStoreInGap s j p n o v
+      → IsLastAccessInGap s j p n o v
   newest_in_gap o v groups of i k here written_there later = record {
     place = i;
     by = gap.store.by;
@@ -108,11 +108,11 @@ module _ (s : Sizes) (j : List Event) (p n : ℕ) (missing : List Missing) (lack
           ]
 
   -- the missing records leave each word with the store of the gap that was closed last
-  pub newest : (page : List ℕ) → AreNewestStores s j p n page (records_applied page (map (λ (x : Missing). x.words) missing))
+  pub newest : (page : List ℕ) → AreNewestAccesses s j p n page (records_applied page (map (λ (x : Missing). x.words) missing))
   newest page o v at = go (groups_of s j n missing lacks.contents)
     where
       go : ((groups : List (List ℕ)) × AreGroups s j n missing groups)
-          → IsLastStoreInGap s j p n o v ⊎ ((slice_get page o ≡ Some v) × HasNoStoreInGap s j p n o)
+          → IsLastAccessInGap s j p n o v ⊎ ((slice_get page o ≡ Some v) × HasNoAccessInGap s j p n o)
       go (groups, of) =
           elim (word_written (λ (i : ℕ). page_write s (slice_get j i)) page (concat groups) o v
           (ap (λ (ws : List ℕ). slice_get ws o)

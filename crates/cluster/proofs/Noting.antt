@@ -17,23 +17,23 @@ use Rattle.journal.proofs.Intervals.StoreContents.{store_in}
 use Rattle.journal.proofs.Missing.Counted.{block_counts_push}
 use Rattle.base.specs.LastWritten.{wrote}
 use Rattle.base.specs.MarkedRecords.{mark}
-use Rattle.base.proofs.SlicesAndCounts.{push_cases}
+use Rattle.base.proofs.SlicesAndCounts.{slice_push_cases}
 use Rattle.base.proofs.SliceSets.{slice_get-set_found, slice_get-set_other}
 use Rattle.page.specs.declared.page.Access.TheVariants.{Valid, Invalid}
 use Rattle.page.specs.Contents.{IsClean}
-use Rattle.book.specs.Calls.{IsInner}
-use Rattle.book.specs.Stamps.{EachAt}
+use Rattle.book.specs.Calls.{IsInnerCall}
+use Rattle.book.specs.Stamps.{EachStampedAt}
 use Rattle.base.specs.Limits.{most_in_block}
 use Rattle.cluster.specs.Copies.PageReplica.{Copied, IsReplica, replica_written_at}
-use Rattle.cluster.specs.Copies.Local.{Local, noted}
-use Rattle.cluster.specs.Accesses.{stored_at}
+use Rattle.cluster.specs.Copies.Local.{Local, local_noted}
+use Rattle.cluster.specs.Accesses.{stored_by_access}
 use Rattle.cluster.specs.Refusals.{access_refusal}
 use Rattle.cluster.specs.Copies.Sound.{IsSound}
 use Rattle.cluster.proofs.copies.Replicas.{replica_long, replica_pushed}
 use Rattle.cluster.proofs.MayAccessAndFetch.{MayAccess, may_access}
 
-pub valid_is_not_stale : Valid ≢ Invalid
-valid_is_not_stale h = cc
+pub noting_valid_not_stale : Valid ≢ Invalid
+noting_valid_not_stale h = cc
 
 -- the offset of an address lies in its page
 pub noted_offset_within : (m : Local) (a : ℕ) (c : Copied) → slice_get m.copies (a / m.sizes.words) ≡ Some c → IsSound m
@@ -44,11 +44,11 @@ noted_offset_within m a c at sound =
 
 -- the block with one more event of p, inside the sizes
 pub noted_inner_pushed : (m : Local) (k : Kind) → is_taking k ≡ false → is_closing k ≡ false → KindInRange m.sizes k
-    → ((i : ℕ) (e : Event) → At m.block i e → IsInner m.sizes m.number e) → (i : ℕ) (e : Event)
-    → At (m.block ++ event m.number k ∷ []) i e → IsInner m.sizes m.number e
-noted_inner_pushed m k takes closes range inner i e at = elim (push_cases m.block (event m.number k) i e at) [
+    → ((i : ℕ) (e : Event) → At m.block i e → IsInnerCall m.sizes m.number e) → (i : ℕ) (e : Event)
+    → At (m.block ++ event m.number k ∷ []) i e → IsInnerCall m.sizes m.number e
+noted_inner_pushed m k takes closes range inner i e at = elim (slice_push_cases m.block (event m.number k) i e at) [
   | inl h ↦ inner i e h.1
-  | inr h ↦ subst (IsInner m.sizes m.number) h.1 (record {
+  | inr h ↦ subst (IsInnerCall m.sizes m.number) h.1 (record {
     mine = refl;
     takes = takes;
     closes = closes;
@@ -71,7 +71,7 @@ abbrev pub NotedStaysRight : Local → Kind → List Copied → List Bool → (�
 NotedStaysRight m k cs st bases = record {
   answers : BlockAnswers m.sizes m.seen (m.block ++ event m.number k ∷ []) m.number bases;
   counts : BlockCounts m.sizes m.seen (m.block ++ event m.number k ∷ []) m.number;
-  copies : EachAt m.sizes.pages (λ n c.
+  copies : EachStampedAt m.sizes.pages (λ n c.
       IsReplica m.sizes m.seen (m.block ++ event m.number k ∷ []) m.number n (bases n) c) cs;
   marks : length st ≡ 64;
   clean : (n : ℕ) (c : Copied) → slice_get cs n ≡ Some c → slice_get st n ≡ Some false → IsClean c.page;
@@ -79,7 +79,7 @@ NotedStaysRight m k cs st bases = record {
 
 -- one more event of its open block keeps p sound, where its copies, its marks and what it did in the block stay right
 pub noted_sound : (m : Local) (k : Kind) (cs : List Copied) (st : List Bool) (bases : ℕ → List ℕ) → IsSound m
-    → MayNote m k → NotedStaysRight m k cs st bases → IsSound (record (noted m k) { copies = cs; stored = st })
+    → MayNote m k → NotedStaysRight m k cs st bases → IsSound (record (local_noted m k) { copies = cs; stored = st })
 noted_sound m k cs st bases sound may right = record {
   sizes = sound.sizes;
   mine = sound.mine;
@@ -121,7 +121,7 @@ module _ (m : Local) (a v : ℕ) (c : Copied) (free : access_refusal m a ≡ Non
   }
 
   -- a load answers a word of a valid copy
-  pub loaded_noted : slice_get c.page.words (a % m.sizes.words) ≡ Some v → IsSound m → IsSound (noted m (Load a v))
+  pub loaded_noted : slice_get c.page.words (a % m.sizes.words) ≡ Some v → IsSound m → IsSound (local_noted m (Load a v))
   loaded_noted word sound =
       noted_sound m (Load a v) m.copies m.stored sound.bases sound (noting (Load a v) refl refl may.within) (record {
         answers = valid_load m.sizes m.seen m.block m.number a v sound.bases (sound.bases n) c.page.words refl
@@ -147,14 +147,14 @@ module _ (m : Local) (a v : ℕ) (c : Copied) (free : access_refusal m a ≡ Non
             λ stale. (
               (λ here. let P : ℕ → Type 0 = λ k. slice_get m.copies k ≡ Some d in
                   let same : c ≡ d = cc (at, subst P (sym here) found) in
-                  valid_is_not_stale (sym valid ∙ ap (λ (x : Copied). x.page.access) same ∙ stale)),
+                  noting_valid_not_stale (sym valid ∙ ap (λ (x : Copied). x.page.access) same ∙ stale)),
               refl,
             );
       }) (sound.copies.each i d found)
 
   -- a store writes a word of a valid copy, and marks it and its page
-  pub stored : IsSound m → IsSound (stored_at m a v c)
-  stored sound =
+  pub noting_stored_sound : IsSound m → IsSound (stored_by_access m a v c)
+  noting_stored_sound sound =
       noted_sound m (Store a v) (slice_set m.copies n d) (slice_set m.stored n true) sound.bases sound
       (noting (Store a v) refl refl may.within) (record {
         answers = answers_push m.sizes m.seen m.block e m.number sound.bases sound.answers
@@ -178,7 +178,7 @@ module _ (m : Local) (a v : ℕ) (c : Copied) (free : access_refusal m a ≡ Non
         dirty = sym (ap (mark c.page.dirty) (store_in m.sizes n a v refl));
         access = refl;
         missing = refl;
-        away = λ stale. absurd (valid_is_not_stale (sym valid ∙ stale));
+        away = λ stale. absurd (noting_valid_not_stale (sym valid ∙ stale));
       }) (sound.copies.each n c at)
 
       copies : (i : ℕ) (x : Copied) → slice_get (slice_set m.copies n d) i ≡ Some x
@@ -217,7 +217,7 @@ module _ (m : Local) (a v : ℕ) (c : Copied) (free : access_refusal m a ≡ Non
 pub store_noted_done : {was m : Local} {page offset : ℕ} {y : Copied} {block : List Event} {marks : List Bool}
     (a v : ℕ) (x : Copied) → was ≡ m → page ≡ a / m.sizes.words → offset ≡ a % m.sizes.words → y ≡ replica_written_at x offset v
     → block ≡ was.block ++ event was.number (Store a v) ∷ [] → marks ≡ slice_set was.stored page true
-    → record was { block = block; copies = slice_set was.copies page y; stored = marks } ≡ stored_at m a v x
+    → record was { block = block; copies = slice_set was.copies page y; stored = marks } ≡ stored_by_access m a v x
 store_noted_done {m = m} a v x same page_is offset_is y_is block_is marks_are =
     rw (
       y_is,

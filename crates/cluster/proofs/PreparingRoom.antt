@@ -4,13 +4,13 @@ use Rattle.std.proofs.lemmas.Option.{slice_get_within}
 use Rattle.journal.specs.declared.event.Event.{Event}
 use Rattle.journal.specs.Sizes.{Sizes}
 use Rattle.journal.specs.WellFormed.{Ready}
-use Rattle.interval.specs.Closings.{is_of_page}
+use Rattle.interval.specs.Closings.{is_closing_of_page}
 use Rattle.interval.specs.SentIntervals.{SentRecord}
 use Rattle.transit.specs.Letters.{letter}
 use Rattle.transit.specs.declared.message.Message.{Message}
-use Rattle.book.specs.Messages.{brought}
-use Rattle.book.specs.Calls.{IsProcessor, AllowsSomeTake}
-use Rattle.book.proofs.Parts.TimesAndAwaits.{is_processor}
+use Rattle.book.specs.Messages.{brought_by_message}
+use Rattle.book.specs.Calls.{IsProcessorOfCall, AllowsSomeTakeCall}
+use Rattle.book.proofs.Parts.TimesAndAwaits.{times_is_processor}
 use Rattle.book.specs.State.{State}
 use Rattle.book.specs.Told.{Represents}
 use Rattle.book.specs.Refusals.{IsRoomRefusal}
@@ -22,7 +22,7 @@ use Rattle.cluster.specs.Taking.{HasRoomToTake}
 
 -- room by counts of these records is room for them
 pub room_for : (counts : List ℕ) (sent : List SentRecord) (copies : List Copied) → length counts ≡ length copies
-    → EachIndex counts (λ n. slice_index counts n ≡ count_by (is_of_page n) sent) → HaveRoomForNews counts copies
+    → EachIndex counts (λ n. slice_index counts n ≡ count_by (is_closing_of_page n) sent) → HaveRoomForNews counts copies
     → HasRoomToTake sent copies
 room_for counts sent copies long are room n c at =
     let inside = slice_get_within copies n c at in
@@ -31,20 +31,20 @@ room_for counts sent copies long are room n c at =
     omega arith
 
 pub room_ok : {A E : Type 0} (r : Result A E) (counts : List ℕ) (sent : List SentRecord) (copies : List Copied)
-    → length counts ≡ length copies → EachIndex counts (λ n. slice_index counts n ≡ count_by (is_of_page n) sent)
+    → length counts ≡ length copies → EachIndex counts (λ n. slice_index counts n ≡ count_by (is_closing_of_page n) sent)
     → OnOk r (HaveRoomForNews counts copies) → OnOk r (HasRoomToTake sent copies)
 room_ok (Ok a) counts sent copies long are room = room_for counts sent copies long are room
 room_ok (Err e) counts sent copies long are room = tt
 
 -- what is taken is what would have been
 pub room_brought : {E : Type 0} (r : Result Message E) (b : State) (p : ℕ) (copies : List Copied)
-    → IfOk r (λ m. (letter m).notices ≡ brought b p) → HasRoomToTake (brought b p) copies
+    → IfOk r (λ m. (letter m).notices ≡ brought_by_message b p) → HasRoomToTake (brought_by_message b p) copies
     → IfOk r (λ m. HasRoomToTake (letter m).notices copies)
 room_brought (Ok m) b p copies same room = rw same room
 room_brought (Err e) b p copies same room = tt
 
 -- one who is ready isn't told that it is early
-pub prepared_never_absent : {A : Type 0} (r : Result A Refused) (b : State) (p : ℕ) → AllowsSomeTake b p
+pub prepared_never_absent : {A : Type 0} (r : Result A Refused) (b : State) (p : ℕ) → AllowsSomeTakeCall b p
     → ((s : Sizes) (h : List Event) → Represents s h b → Ready s h p)
     → ((s : Sizes) (h : List Event) → Represents s h b → r ≡ Err NotYet ↔ (¬ Ready s h p)) → r ≢ Err NotYet
 prepared_never_absent r b p may ready absent is =
@@ -52,10 +52,10 @@ prepared_never_absent r b p may ready absent is =
     (absent by.sizes by.history by.told).0 is (ready by.sizes by.history by.told)
 
 -- so the book's answer is one of the others
-pub in_time : {A : Type 0} (r : Result A Refused) → r ≢ Err NotYet → IfErr r (λ e. (e ≡ NotYet) ⊎ IsRoomRefusal e)
+pub room_prepared_in_time : {A : Type 0} (r : Result A Refused) → r ≢ Err NotYet → IfErr r (λ e. (e ≡ NotYet) ⊎ IsRoomRefusal e)
     → IfErr r IsRoomRefusal
-in_time (Ok a) never only = tt
-in_time (Err e) never only =
+room_prepared_in_time (Ok a) never only = tt
+room_prepared_in_time (Err e) never only =
     elim only [ inl late ↦ absurd (never (ap (λ (x : Refused). Err x) late)) | inr want ↦ want ]
 
 -- and these are no NotYet
@@ -66,7 +66,7 @@ prepared_never_late (Err e) only is =
     elim only [ inl full ↦ absurd (cc (full, same)) | inr none ↦ absurd (cc (none, same)) ]
 
 -- who waits for something is a processor
-pub may_look : (b : State) (p : ℕ) → AllowsSomeTake b p → IsProcessor b p
-may_look b p may =
+pub room_preparing_may_look : (b : State) (p : ℕ) → AllowsSomeTakeCall b p → IsProcessorOfCall b p
+room_preparing_may_look b p may =
     let by = may.take.by in
-    record { by = by; processor = is_processor by.sizes by.history b p (Some may.kind) by.told may.take.waits }
+    record { by = by; processor = times_is_processor by.sizes by.history b p (Some may.kind) by.told may.take.waits }

@@ -13,34 +13,34 @@ use Rattle.journal.specs.WellFormed.{Holds}
 use Rattle.journal.specs.MissingWords.{Missing}
 use Rattle.journal.proofs.Journals.WellFormedLast.{well_formed_empty}
 use Rattle.journal.proofs.Times.Times.{time_none, time_equal}
-use Rattle.journal.proofs.CopyOfPage.ValidAndStale.{valid_start, answers_start}
+use Rattle.journal.proofs.CopyOfPage.ValidAndStale.{valid_start, valid_answers_start}
 use Rattle.journal.proofs.Intervals.Dirty.{dirty_start}
 use Rattle.journal.proofs.Missing.Counted.{counted_start, block_counts_start}
 use Rattle.base.proofs.SliceSets.{index-zeros}
 use Rattle.base.proofs.Joined.{in_order-nil}
-use Rattle.base.proofs.SlicesAndCounts.{push_cases, slice_get-append_right}
+use Rattle.base.proofs.SlicesAndCounts.{slice_push_cases, slice_get-append_right}
 use Rattle.base.proofs.SliceSets.{slice_get-replicate_found, slice_get-replicate}
-use Rattle.turn.specs.Chairs.{LockId, lock, view, entries}
+use Rattle.turn.specs.Chairs.{ChairLockId, lock, chair_view, entries}
 use Rattle.turn.specs.declared.chair.ChairToken.{ChairToken}
 use Rattle.lockq.specs.LockQueues.{unheld_lock}
 use Rattle.book.specs.State.{State}
-use Rattle.book.specs.Transitions.{new_book}
+use Rattle.book.specs.Transitions.{transition_new_book}
 use Rattle.book.proofs.Told.Whole.{new_law}
 use Rattle.cluster.specs.declared.keeper.View.{View}
 use Rattle.cluster.specs.Copies.PageReplica.{Copied, IsReplica}
 use Rattle.cluster.specs.Copies.Local.{Local, blank, new_local}
-use Rattle.cluster.specs.Seats.{local}
-use Rattle.cluster.specs.Clusters.{SharedCluster, IsNewChair, IsSeatedAt, IsNewCluster, IsClusterCovered}
+use Rattle.cluster.specs.Seats.{seat_local}
+use Rattle.cluster.specs.Clusters.{SharedCluster, IsNewClusterChair, IsSeatedAtCluster, IsNewCluster, IsClusterCovered}
 use Rattle.cluster.proofs.Covering.{covers}
 use Rattle.cluster.specs.Copies.Sound.{AreSoundSizes, IsSound}
-use Rattle.cluster.specs.KeptViews.{ExtendsView, LockInvariant, view_of_nothing, book_sizes}
-use Rattle.cluster.specs.Covers.{LockAllows}
-use Rattle.cluster.proofs.Noting.{valid_is_not_stale}
+use Rattle.cluster.specs.KeptViews.{ExtendsView, LockInvariant, view_of_nothing, view_book_sizes}
+use Rattle.cluster.specs.Covers.{LockAllowsCover}
+use Rattle.cluster.proofs.Noting.{noting_valid_not_stale}
 
 start_replica_blank : (s : Sizes) (p n : ℕ) → IsReplica s [] [] p n (replicate s.words 0) (blank s)
 start_replica_blank s p n = record {
   valid = λ _. (valid_start s p n, refl);
-  stale = λ h. absurd (valid_is_not_stale h);
+  stale = λ h. absurd (noting_valid_not_stale h);
   order = in_order-nil (λ (x y : Missing). x.place < y.place);
   dirty = dirty_start s p n (replicate s.words 0) (length-replicate s.words 0);
 }
@@ -55,7 +55,7 @@ start_time_zero p n =
     (time_none [] (InPast [] p) (start_none_past p))
 
 -- a processor before its first call
-pub start_sound : (l : LockId) (p : ℕ) (s : Sizes) → AreSoundSizes s → p < s.processors → IsSound (new_local l p s)
+pub start_sound : (l : ChairLockId) (p : ℕ) (s : Sizes) → AreSoundSizes s → p < s.processors → IsSound (new_local l p s)
 start_sound l p s sizes mine = record {
   sizes = sizes;
   mine = mine;
@@ -65,7 +65,7 @@ start_sound l p s sizes mine = record {
   short = omega arith;
   time = record { long = length-replicate s.processors 0; is = start_time_zero p s.processors };
   bases = λ _. replicate s.words 0;
-  answers = answers_start s [] p (λ _. replicate s.words 0);
+  answers = valid_answers_start s [] p (λ _. replicate s.words 0);
   counts = block_counts_start s [] p;
   copies = record {
     long = length-replicate s.pages (blank s);
@@ -95,7 +95,7 @@ start_sound l p s sizes mine = record {
 }
 
 -- an empty book with a view of nothing for each processor
-pub start_kept : (s : Sizes) → 0 < s.processors → LockInvariant s [] (new_book s) (replicate s.processors (view_of_nothing s))
+pub start_kept : (s : Sizes) → 0 < s.processors → LockInvariant s [] (transition_new_book s) (replicate s.processors (view_of_nothing s))
 start_kept s some = record {
   told = new_law s some;
   explained = λ k p a v d. absurd (none-some (record { processor = p; kind = Load a v }) d);
@@ -118,7 +118,7 @@ start_kept s some = record {
 }
 
 -- the sizes of an empty book
-pub start_sizes : (s : Sizes) → 0 < s.words → book_sizes (new_book s) ≡ s
+pub start_sizes : (s : Sizes) → 0 < s.words → view_book_sizes (transition_new_book s) ≡ s
 start_sizes s some =
     rw (
       length-replicate s.locks (unheld_lock s.processors),
@@ -127,16 +127,16 @@ start_sizes s some =
     )
 
 -- each new processor has a place in it
-pub start_allowed : (l : LockId) (p : ℕ) (s : Sizes) → p < s.processors → LockAllows (new_local l p s) []
+pub start_allowed : (l : ChairLockId) (p : ℕ) (s : Sizes) → p < s.processors → LockAllowsCover (new_local l p s) []
 start_allowed l p s mine = record {
-  book = new_book s;
+  book = transition_new_book s;
   views = replicate s.processors (view_of_nothing s);
   mine = slice_get-replicate s.processors (view_of_nothing s) p mine;
   kept = start_kept s (omega arith);
 }
 
 -- what a new processor has: an empty block, zero copies and marks, and a zero timestamp; and it holds no lock
-pub record AreNewParts (s : Sizes) (block : List Event) (copies : List Copied) (stored : List Bool) (time : List ℕ)
+pub record AreNewStartingParts (s : Sizes) (block : List Event) (copies : List Copied) (stored : List Bool) (time : List ℕ)
     (held : List Bool) : Type 0 where
   pub block_is : block ≡ []
   pub copies_are : copies ≡ replicate s.pages (blank s)
@@ -145,9 +145,9 @@ pub record AreNewParts (s : Sizes) (block : List Event) (copies : List Copied) (
   pub held_is : held ≡ replicate s.locks false
 
 -- with a view of nothing it is a new processor
-new_parts_local : {s : Sizes} {block : List Event} {copies : List Copied} {stored : List Bool} {time : List ℕ}
-    {held : List Bool} (l : LockId) (e p : ℕ) (v : View) → e ≡ 0 → v ≡ view_of_nothing s
-    → AreNewParts s block copies stored time held
+starting_parts_local : {s : Sizes} {block : List Event} {copies : List Copied} {stored : List Bool} {time : List ℕ}
+    {held : List Bool} (l : ChairLockId) (e p : ℕ) (v : View) → e ≡ 0 → v ≡ view_of_nothing s
+    → AreNewStartingParts s block copies stored time held
     → ◌≡◌ {A = Local} (record {
       lock = l;
       entries = e;
@@ -163,15 +163,15 @@ new_parts_local : {s : Sizes} {block : List Event} {copies : List Copied} {store
       held = held;
       awaits = None;
     }) (new_local l p s)
-new_parts_local l e p v none nothing are =
+starting_parts_local l e p v none nothing are =
     rw (none, nothing, are.block_is, are.copies_are, are.stored_is, are.time_is, are.held_is) refl
 
 pub start_parts : {s : Sizes} {block : List Event} {copies : List Copied} {stored : List Bool} {time : List ℕ}
-    {held : List Bool} (chair : ChairToken State View) (p : ℕ) → IsNewChair (lock chair) s p chair
-    → AreNewParts s block copies stored time held
-    → local chair p s block copies stored time held None ≡ new_local (lock chair) p s
+    {held : List Bool} (chair : ChairToken State View) (p : ℕ) → IsNewClusterChair (lock chair) s p chair
+    → AreNewStartingParts s block copies stored time held
+    → seat_local chair p s block copies stored time held None ≡ new_local (lock chair) p s
 start_parts chair p new are =
-    new_parts_local (lock chair) (entries chair) p (view chair) new.entries_are new.view_is are
+    starting_parts_local (lock chair) (entries chair) p (chair_view chair) new.entries_are new.view_is are
 
 -- new processors may have some book, and are covered
 pub start_covered : (c : SharedCluster) (ms : List Local) → AreSoundSizes c.sizes → IsNewCluster c ms → IsClusterCovered ms
@@ -179,7 +179,7 @@ start_covered c ms sizes new = record {
   allowed =
       λ p m at. (
         [],
-        subst (λ (x : Local). LockAllows x []) (sym (new.each p m at))
+        subst (λ (x : Local). LockAllowsCover x []) (sym (new.each p m at))
             (start_allowed c.lock p c.sizes (within p m at)),
       );
   covers =
@@ -190,19 +190,19 @@ start_covered c ms sizes new = record {
     within p m at = let here = slice_get_within ms p m at in let all = new.all in omega arith
 
 -- the item between two lists
-pub at_middle : {A : Type 0} (xs ys : List A) (x : A) → slice_get (xs ++ x ∷ ys) (length xs) ≡ Some x
-at_middle xs ys x =
+pub starting_at_middle : {A : Type 0} (xs ys : List A) (x : A) → slice_get (xs ++ x ∷ ys) (length xs) ≡ Some x
+starting_at_middle xs ys x =
     let P : ℕ → Type 0 = λ k. slice_get (xs ++ x ∷ ys) k ≡ Some x in
     subst P (add-zero (length xs)) (slice_get-append_right xs (x ∷ ys) 0)
 
 -- one more chair has its processor
-pub seated_more : (s : Sizes) (chairs : List (ChairToken State View)) (ms : List Local) (c : ChairToken State View)
+pub starting_seated_more : (s : Sizes) (chairs : List (ChairToken State View)) (ms : List Local) (c : ChairToken State View)
     (m : Local) → slice_get chairs (length ms) ≡ Some c → m ≡ new_local (lock c) (length ms) s
-    → ((p : ℕ) (x : Local) → slice_get ms p ≡ Some x → IsSeatedAt s chairs p x) → (p : ℕ) (x : Local)
-    → slice_get (ms ++ m ∷ []) p ≡ Some x → IsSeatedAt s chairs p x
-seated_more s chairs ms c m here is each p x at = elim (push_cases ms m p x at) [
+    → ((p : ℕ) (x : Local) → slice_get ms p ≡ Some x → IsSeatedAtCluster s chairs p x) → (p : ℕ) (x : Local)
+    → slice_get (ms ++ m ∷ []) p ≡ Some x → IsSeatedAtCluster s chairs p x
+starting_seated_more s chairs ms c m here is each p x at = elim (slice_push_cases ms m p x at) [
   | inl h ↦ each p x h.1
-  | inr h ↦ (let P : ℕ → Local → Type 0 = λ k y. IsSeatedAt s chairs k y in subst₂ P (sym h.0) h.1 (record {
+  | inr h ↦ (let P : ℕ → Local → Type 0 = λ k y. IsSeatedAtCluster s chairs k y in subst₂ P (sym h.0) h.1 (record {
     chair = c;
     at = here;
     is = is;

@@ -7,7 +7,7 @@ use Rattle.journal.specs.declared.event.Kind.TheVariants.{Store}
 use Rattle.journal.specs.DidEvent.{event}
 use Rattle.journal.specs.Events.{interval_at}
 use Rattle.journal.specs.Sizes.{Sizes}
-use Rattle.journal.specs.PageImages.{HasCount, StoredInGap}
+use Rattle.journal.specs.PageImages.{HasImageCount, StoredInGapOfImage}
 use Rattle.base.specs.InOrderOnce.{Has}
 use Rattle.base.proofs.OnceWithout.{once_le}
 
@@ -41,7 +41,7 @@ stored_mark_at j start (e ∷ es) (suc i) q a v at =
     (suc rest.0, rw (← same) rest.1)
 
 -- so what is counted of them is no more than its events
-pub stored_few : (s : Sizes) (j : List Event) (p n words : ℕ) → HasCount (StoredInGap s j p n) words → words ≤ length j
+pub stored_few : (s : Sizes) (j : List Event) (p n words : ℕ) → HasImageCount (StoredInGapOfImage s j p n) words → words ≤ length j
 stored_few s j p n words count =
     let le = once_le count.list (stored_marks j 0 j) count.once (λ x h. (
     let stored = (count.each x).0 h in

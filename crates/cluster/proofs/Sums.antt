@@ -4,9 +4,9 @@ use Rattle.std.proofs.lemmas.Option.{slice_get_within, get_or_from_slice_get}
 use Rattle.std.proofs.lemmas.List.Sums.{sum_by-cons, sum_by-set}
 
 -- where one item is another then, the sum has the other's part in place of the one's
-pub sum_by-set_at : {A : Type 0} (f : A → ℕ) (xs : List A) (p : ℕ) (x y : A) → slice_get xs p ≡ Some x
+pub sums_by-set_at : {A : Type 0} (f : A → ℕ) (xs : List A) (p : ℕ) (x y : A) → slice_get xs p ≡ Some x
     → sum_by f (slice_set xs p y) + f x ≡ sum_by f xs + f y
-sum_by-set_at {A} f xs p x y at =
+sums_by-set_at {A} f xs p x y at =
     let P : A → Type 0 = λ z. sum_by f (slice_set xs p y) + f z ≡ sum_by f xs + f y in
     subst P (get_or_from_slice_get xs p x x at) (sum_by-set f xs p y x (slice_get_within xs p x at))
 

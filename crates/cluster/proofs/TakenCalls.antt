@@ -19,85 +19,85 @@ use Rattle.vtime.specs.Times.{join}
 use Rattle.interval.specs.Closings.{closings_between}
 use Rattle.interval.specs.SentIntervals.{SentRecord}
 use Rattle.book.specs.Messages.{message_for}
-use Rattle.book.specs.Calls.{AllowsSomeTake}
-use Rattle.book.specs.Laws.{IsMessage}
+use Rattle.book.specs.Calls.{AllowsSomeTakeCall}
+use Rattle.book.specs.Laws.{IsMessageByLaw}
 use Rattle.book.specs.News.{news_of_page}
-use Rattle.book.specs.State.{State, time_of}
+use Rattle.book.specs.State.{State, state_time_of}
 use Rattle.book.specs.Told.{Represents}
-use Rattle.book.specs.Transitions.{book_taken, BookTakes}
+use Rattle.book.specs.Transitions.{transition_taken, TransitionTakes}
 use Rattle.book.specs.declared.refused.Refused.{Refused}
 use Rattle.book.specs.declared.refused.Refused.TheVariants.{NotYet, JournalFull, NoMemory}
 use Rattle.book.specs.Refusals.{IsFullRefusal}
 use Rattle.book.proofs.Told.Whole.{take_law, message_law, news_law, news_order_law}
 use Rattle.cluster.specs.Copies.PageReplica.{Copied}
 use Rattle.cluster.specs.Copies.Local.{Local, calls}
-use Rattle.cluster.specs.Copies.Sound.{IsSound, most_seen}
+use Rattle.cluster.specs.Copies.Sound.{IsSound, most_seen_by_sound}
 use Rattle.cluster.specs.Copies.AfterNews.{AreAfterNews, AreSameCopies, MayLearnNews, found, took_news, held_after}
 use Rattle.cluster.proofs.copies.Calls.{called_took_message, called_waits_to_take}
 use Rattle.cluster.proofs.copies.Waiting.{waiting_may_learn}
 use Rattle.cluster.specs.declared.keeper.View.{View}
 use Rattle.cluster.specs.Calls.{IsCall}
-use Rattle.cluster.specs.Entering.{Finds, IsCallOf, entered}
+use Rattle.cluster.specs.Entering.{FindsOnEntering, IsCallOf, entered}
 use Rattle.cluster.specs.Refusals.{flush_refusal}
-use Rattle.cluster.specs.Taking.{IsTakeLate, IsTakeDone, HasRoomToTake, awaited_event}
+use Rattle.cluster.specs.Taking.{IsTakeLate, IsTakeDone, HasRoomToTake, taking_awaited_event}
 use Rattle.cluster.proofs.Found.{found_here_sound, awaits_found, time_found}
 use Rattle.cluster.proofs.Handing.{handing_had_room}
 use Rattle.cluster.proofs.FaithfulHistory.{history_told_few}
 use Rattle.cluster.proofs.LeavingCalls.{call_of_nothing, call_of_event_alone}
-use Rattle.cluster.proofs.Visiting.{Visit, on, visit_left_as}
-use Rattle.cluster.proofs.UnchangedCalls.{entered_sound, call_not_spent, now_is, call_done, call_inside, unchanged, unchanged_seen}
+use Rattle.cluster.proofs.Visiting.{Visit, visiting_processor_on, visit_left_as}
+use Rattle.cluster.proofs.UnchangedCalls.{unchanged_entered_sound, call_not_spent, unchanged_now_is, call_done, call_inside, unchanged, unchanged_seen}
 
-taking_no_load : (k : Kind) → is_taking k ≡ true → (a v : ℕ) → k ≢ Load a v
-taking_no_load k takes a v is = true≢false (sym takes ∙ ap is_taking is)
+taken_call_no_load : (k : Kind) → is_taking k ≡ true → (a v : ℕ) → k ≢ Load a v
+taken_call_no_load k taken_call_takes a v is = true≢false (sym taken_call_takes ∙ ap is_taking is)
 
-taking_no_fetch : (k : Kind) → is_taking k ≡ true → (w n r d : ℕ) → k ≢ Fetch w n r d
-taking_no_fetch k takes w n r d is = true≢false (sym takes ∙ ap is_taking is)
+taken_call_no_fetch : (k : Kind) → is_taking k ≡ true → (w n r d : ℕ) → k ≢ Fetch w n r d
+taken_call_no_fetch k taken_call_takes w n r d is = true≢false (sym taken_call_takes ∙ ap is_taking is)
 
 -- what one processor awaits is one thing
-same_kind : (o : Option (Option Kind)) (j k : Kind) → o ≡ Some (Some j) → o ≡ Some (Some k) → j ≡ k
-same_kind o j k a b = let same : ◌≡◌ {A = Option (Option Kind)} (Some (Some j)) (Some (Some k)) = sym a ∙ b in cc same
+taken_call_same_kind : (o : Option (Option Kind)) (j k : Kind) → o ≡ Some (Some j) → o ≡ Some (Some k) → j ≡ k
+taken_call_same_kind o j k a b = let taken_call_same : ◌≡◌ {A = Option (Option Kind)} (Some (Some j)) (Some (Some k)) = sym a ∙ b in cc taken_call_same
 
 module _ (m : Local) (sound : IsSound m) (b : State) (k : Kind) (waits : m.awaits ≡ Some k) where
-  takes : is_taking k ≡ true
-  takes = called_waits_to_take m sound k waits
+  taken_call_takes : is_taking k ≡ true
+  taken_call_takes = called_waits_to_take m sound k waits
 
-  awaits_kind : (f : Finds m b) → slice_get b.awaits m.number ≡ Some (Some k)
-  awaits_kind f = awaits_found m sound b f ∙ ap (λ (w : Option Kind). Some w) waits
+  taken_call_awaits_kind : (f : FindsOnEntering m b) → slice_get b.awaits m.number ≡ Some (Some k)
+  taken_call_awaits_kind f = awaits_found m sound b f ∙ ap (λ (w : Option Kind). Some w) waits
 
   -- p may take
-  pub may_take : Finds m b → AllowsSomeTake b m.number
-  may_take f = record {
+  pub taken_call_may_take : FindsOnEntering m b → AllowsSomeTakeCall b m.number
+  taken_call_may_take f = record {
     kind = k;
     take = record {
       by = record { sizes = m.sizes; history = m.seen ++ f.rest; told = f.kept.told };
-      waits = awaits_kind f;
+      waits = taken_call_awaits_kind f;
     };
   }
 
   -- what it takes is what has come for this
-  pub taken_message : (x : Letter) (new : State) → Finds m b → BookTakes b m.number x new
-      → (message_for b m.number k ≡ Some x) × (new ≡ book_taken b m.number k x)
+  pub taken_message : (x : Letter) (new : State) → FindsOnEntering m b → TransitionTakes b m.number x new
+      → (message_for b m.number k ≡ Some x) × (new ≡ transition_taken b m.number k x)
   taken_message x new f t =
-      let same = same_kind (slice_get b.awaits m.number) t.kind k t.awaits (awaits_kind f) in (
-        subst (λ j. message_for b m.number j ≡ Some x) same t.message,
-        subst (λ j. new ≡ book_taken b m.number j x) same t.after,
+      let taken_call_same = taken_call_same_kind (slice_get b.awaits m.number) t.kind k t.awaits (taken_call_awaits_kind f) in (
+        subst (λ j. message_for b m.number j ≡ Some x) taken_call_same t.message,
+        subst (λ j. new ≡ transition_taken b m.number j x) taken_call_same t.after,
       )
 
   module _ (x : Letter) (come : message_for b m.number k ≡ Some x) where
     -- it is a call of p
     pub call_of_take : length b.journal.events + 1 ≤ most_events
-        → IsCallOf m b (event m.number k ∷ []) (book_taken b m.number k x)
+        → IsCallOf m b (event m.number k ∷ []) (transition_taken b m.number k x)
     call_of_take fits =
-        call_of_event_alone m sound b k (book_taken b m.number k x) (taking_no_load k takes) (taking_no_fetch k takes)
+        call_of_event_alone m sound b k (transition_taken b m.number k x) (taken_call_no_load k taken_call_takes) (taken_call_no_fetch k taken_call_takes)
         fits refl refl refl (λ f.
-        take_law m.sizes (m.seen ++ f.rest) b m.number k x f.kept.told (awaits_kind f) come)
+        take_law m.sizes (m.seen ++ f.rest) b m.number k x f.kept.told (taken_call_awaits_kind f) come)
 
-    module _ (f : Finds m b) where
-      pub message : IsMessage m.sizes (m.seen ++ f.rest) b m.number k x
-      message = message_law m.sizes (m.seen ++ f.rest) b m.number k x f.kept.told (awaits_kind f) come
+    module _ (f : FindsOnEntering m b) where
+      pub message : IsMessageByLaw m.sizes (m.seen ++ f.rest) b m.number k x
+      message = message_law m.sizes (m.seen ++ f.rest) b m.number k x f.kept.told (taken_call_awaits_kind f) come
 
-      abbrev IsNews : ℕ → List ℕ → List SentRecord → Type 0
-      IsNews n t sent =
+      abbrev IsNewsOfTakenCall : ℕ → List ℕ → List SentRecord → Type 0
+      IsNewsOfTakenCall n t sent =
           AreMissingNotices m.sizes (m.seen ++ f.rest) m.number n (slice_index t) (slice_index (join t x.time))
           (news_of_page n sent)
 
@@ -107,15 +107,15 @@ module _ (m : Local) (sound : IsSound m) (b : State) (k : Kind) (waits : m.await
       news_taken n =
           let time = time_found m sound b f in
           let brought = news_law m.sizes (m.seen ++ f.rest) b m.number n k x.time f.kept.told sound.mine message.time in
-          let P : List ℕ → Type 0 = λ t. IsNews n t (closings_between b.closed t x.time) in
+          let P : List ℕ → Type 0 = λ t. IsNewsOfTakenCall n t (closings_between b.closed t x.time) in
           rw (message.notices, time) (subst P time brought)
 
       module _ (copies : List Copied) (after : AreAfterNews m.copies x.notices copies) where
         -- the processor is as it has to be
-        pub taken_sound : length (did (m.seen ++ f.rest) m.number k) ≤ most_seen → (cut : ℕ)
+        pub taken_sound : length (did (m.seen ++ f.rest) m.number k) ≤ most_seen_by_sound → (cut : ℕ)
             → IsSound (took_news (entered m f.rest cut) k x.time copies)
         taken_sound few cut =
-            called_took_message (entered m f.rest cut) (entered_sound m b sound f cut) k waits b f.kept.told
+            called_took_message (entered m f.rest cut) (unchanged_entered_sound m b sound f cut) k waits b f.kept.told
             (awaits_found m sound b f) (time_found m sound b f) x come copies few after
 
         -- and has taken
@@ -139,9 +139,9 @@ calls_taken m k u copies none =
     rw (none, append-nil, filter-append, eq-eqb m.number m.number refl)
     (ap (λ (xs : List Event). xs ++ event m.number k ∷ []) (sym (append-nil (events_of m.seen m.number))))
 
-module _ (m : Local) (sound : IsSound m) (b : State) (k : Kind) (waits : m.awaits ≡ Some k) (f : Finds m b) where
+module _ (m : Local) (sound : IsSound m) (b : State) (k : Kind) (waits : m.awaits ≡ Some k) (f : FindsOnEntering m b) where
   -- whatever the book answers, it is a call of p
-  pub call_of_receive : (r : Result Message Refused) (new : State) → IfOk r (λ x. BookTakes b m.number (letter x) new)
+  pub call_of_receive : (r : Result Message Refused) (new : State) → IfOk r (λ x. TransitionTakes b m.number (letter x) new)
       → OnErr r (new ≡ b) → (◌≢◌ {A = Result Message Refused} r (Err NotYet)
       → IsFullRefusal (length b.journal.events + 1) r) → (es : List Event) × IsCallOf m b es new
   call_of_receive (Ok x) new ok err full =
@@ -177,11 +177,11 @@ pub record TakenCall (m : Local) (b : State) (k : Kind) (x : Letter) (after : Ch
   pub waits : m.awaits ≡ Some k
   pub come : message_for b m.number k ≡ Some x
   pub fits : length b.journal.events + 1 ≤ most_events
-  pub visit : Visit m b (book_taken b m.number k x) after
+  pub visit : Visit m b (transition_taken b m.number k x) after
 
 -- as the book answered
 pub taken_visit : {A : Type 0} {m : Local} {b new : State} {k : Kind} {x : Letter} {after : ChairToken State View}
-    (a : A) → m.awaits ≡ Some k → Visit m b new after → BookTakes b m.number x new
+    (a : A) → m.awaits ≡ Some k → Visit m b new after → TransitionTakes b m.number x new
     → (◌≢◌ {A = Result A Refused} (Ok a) (Err NotYet) → IsFullRefusal (length b.journal.events + 1) (Ok a))
     → TakenCall m b k x after
 taken_visit {m = m} {b} {new} {k} {x} a waits visit ok full =
@@ -197,10 +197,10 @@ module _ {m : Local} {b : State} {k : Kind} {x : Letter} {after : ChairToken Sta
   abbrev sound : IsSound m
   sound = t.visit.sound
 
-  abbrev f : Finds m b
+  abbrev f : FindsOnEntering m b
   f = t.visit.finds
 
-  brings : IsMessage m.sizes (m.seen ++ f.rest) b m.number k x
+  brings : IsMessageByLaw m.sizes (m.seen ++ f.rest) b m.number k x
   brings = message m sound b k t.waits x t.come f
 
   -- the timestamp of what it takes has an entry for each processor
@@ -219,12 +219,12 @@ module _ {m : Local} {b : State} {k : Kind} {x : Letter} {after : ChairToken Sta
 
       order : (n : ℕ) → MissingInOrder (news_of_page n x.notices)
       order n =
-          rw (brings.notices) (news_order_law m.sizes (m.seen ++ f.rest) b n (time_of b m.number) x.time f.kept.told)
+          rw (brings.notices) (news_order_law m.sizes (m.seen ++ f.rest) b n (state_time_of b m.number) x.time f.kept.told)
 
   module _ (cs : List Copied) (told : AreAfterNews m.copies x.notices cs) where
     -- the processor after it took
     abbrev taken_now : Local
-    taken_now = record (on after m) {
+    taken_now = record (visiting_processor_on after m) {
       copies = cs;
       time = join m.time x.time;
       held = held_after k m.held;
@@ -234,23 +234,23 @@ module _ {m : Local} {b : State} {k : Kind} {x : Letter} {after : ChairToken Sta
     abbrev then : Local
     then = entered m f.rest b.journal.base.cut
 
-    call : IsCallOf m b (event m.number k ∷ []) (book_taken b m.number k x)
+    call : IsCallOf m b (event m.number k ∷ []) (transition_taken b m.number k x)
     call = call_of_take m sound b k t.waits x t.come t.fits
 
-    same : taken_now ≡ took_news then k x.time cs
-    same = now_is t.visit (event m.number k ∷ []) call taken_now refl refl
+    taken_call_same : taken_now ≡ took_news then k x.time cs
+    taken_call_same = unchanged_now_is t.visit (event m.number k ∷ []) call taken_now refl refl
 
     -- it is as it has to be
     pub taken_good : IsSound taken_now
     taken_good =
-        subst IsSound (sym same) (taken_sound m sound b k t.waits x t.come f cs told
-        (history_told_few m.sizes ((m.seen ++ f.rest) ++ event m.number k ∷ []) (book_taken b m.number k x) (call.told f)
+        subst IsSound (sym taken_call_same) (taken_sound m sound b k t.waits x t.come f cs told
+        (history_told_few m.sizes ((m.seen ++ f.rest) ++ event m.number k ∷ []) (transition_taken b m.number k x) (call.told f)
         (call.few f)) b.journal.base.cut)
 
-    pub taken_done : IsCall (flush_refusal m) 1 IsTakeLate IsTakeDone (awaited_event m.number m.awaits) m taken_now None
+    pub taken_done : IsCall (flush_refusal m) 1 IsTakeLate IsTakeDone (taking_awaited_event m.number m.awaits) m taken_now None
     taken_done =
         let quiet : m.block ≡ [] = sound.quiet (λ none. none-some k (sym none ∙ t.waits)) in
         call_done t.visit (event m.number k ∷ []) call taken_now refl (call_not_spent t.visit) refl taken_good
-        (subst (IsTakeDone then) (sym same) (taken m sound b k t.waits x t.come f cs told b.journal.base.cut))
-        (ap calls same ∙ calls_taken then k x.time cs quiet
-        ∙ ap (λ (w : Option Kind). calls then ++ awaited_event m.number w) (sym t.waits))
+        (subst (IsTakeDone then) (sym taken_call_same) (taken m sound b k t.waits x t.come f cs told b.journal.base.cut))
+        (ap calls taken_call_same ∙ calls_taken then k x.time cs quiet
+        ∙ ap (λ (w : Option Kind). calls then ++ taking_awaited_event m.number w) (sym t.waits))

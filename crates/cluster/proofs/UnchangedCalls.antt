@@ -15,43 +15,43 @@ use Rattle.book.specs.declared.refused.Refused.TheVariants.{NotYet, JournalFull,
 use Rattle.book.specs.Refusals.{IsFullRefusal, IsRoomRefusal}
 use Rattle.cluster.specs.Copies.Local.{Local, calls}
 use Rattle.cluster.specs.Copies.Sound.{IsSound}
-use Rattle.cluster.specs.Copies.AfterNews.{found, IsSameCopy, AreSameCopies}
+use Rattle.cluster.specs.Copies.AfterNews.{found, IsSameCopyAfterNews, AreSameCopies}
 use Rattle.cluster.proofs.copies.Entering as entering
 use Rattle.cluster.proofs.copies.Waiting.{waiting_roomy_sound}
-use Rattle.cluster.specs.Calls.{IsCall, IsCallRefusedInside, IsSameAfterCall, IsSameProcessor, IsCallUnmade, Nothing}
+use Rattle.cluster.specs.Calls.{IsCall, IsCallRefusedInside, IsSameAfterCall, IsSameProcessorOfCall, IsCallUnmade, CallWaitsForNothing}
 use Rattle.cluster.specs.declared.keeper.View.{View}
 use Rattle.cluster.specs.Refusals.{flush_refusal}
-use Rattle.cluster.specs.Entering.{Finds, IsCallOf, EnteredAndDid, entered}
+use Rattle.cluster.specs.Entering.{FindsOnEntering, IsCallOf, EnteredAndDid, entered}
 use Rattle.cluster.specs.Covers.{IsAllowed}
-use Rattle.cluster.proofs.Covering.{covers, part_away}
+use Rattle.cluster.proofs.Covering.{covers, covering_part_away}
 use Rattle.cluster.proofs.FaithfulHistory.{history_told_long}
 use Rattle.cluster.specs.KeptViews.{view_having_seen}
 use Rattle.cluster.proofs.Found.{found_here_sound}
 use Rattle.cluster.proofs.LeavingCalls.{call_of_nothing}
-use Rattle.cluster.proofs.Visiting.{Visit, on, visit_local_after, visit_allowed_after}
+use Rattle.cluster.proofs.Visiting.{Visit, visiting_processor_on, visit_local_after, visit_allowed_after}
 
 -- that a lock entry was spent, and events were cut off, changes nothing else
-pub entered_sound : (m : Local) (b : State) → IsSound m → (f : Finds m b) (cut : ℕ) → IsSound (entered m f.rest cut)
-entered_sound m b sound f cut = entering.entered_sound (found m f.rest) (m.entries + 1) cut m.own_cut (found_here_sound m sound b f)
+pub unchanged_entered_sound : (m : Local) (b : State) → IsSound m → (f : FindsOnEntering m b) (cut : ℕ) → IsSound (entered m f.rest cut)
+unchanged_entered_sound m b sound f cut = entering.entered_sound (found m f.rest) (m.entries + 1) cut m.own_cut (found_here_sound m sound b f)
 
 -- copies that are alike
-pub alike_all : (xs : List Copied) → AreSameCopies xs xs
-alike_all xs = record {
+pub unchanged_copies_alike : (xs : List Copied) → AreSameCopies xs xs
+unchanged_copies_alike xs = record {
   all = refl;
   each =
-      λ n c d a b. (let P : Copied → Type 0 = λ x. IsSameCopy c x in let is : c ≡ d = cc (a, b) in subst P is (record {
+      λ n c d a b. (let P : Copied → Type 0 = λ x. IsSameCopyAfterNews c x in let is : c ≡ d = cc (a, b) in subst P is (record {
         page = refl;
         missing = refl;
       }));
 }
 
 -- what others did is none of p's calls
-pub calls_entered : (m : Local) (b : State) (f : Finds m b) (cut : ℕ) → calls (entered m f.rest cut) ≡ calls m
-calls_entered m b f cut = rw (filter-append, part_away f.rest m.number f.away, append-nil)
+pub calls_entered : (m : Local) (b : State) (f : FindsOnEntering m b) (cut : ℕ) → calls (entered m f.rest cut) ≡ calls m
+calls_entered m b f cut = rw (filter-append, covering_part_away f.rest m.number f.away, append-nil)
 
 -- what isn't there is nothing
-pub free_of : {A : Type 0} (first : Option A) (e : A) → first ≡ None → ¬ (first ≡ Some e)
-free_of first e none some = none-some e (sym none ∙ some)
+pub unchanged_call_free_of : {A : Type 0} (first : Option A) (e : A) → first ≡ None → ¬ (first ≡ Some e)
+unchanged_call_free_of first e none some = none-some e (sym none ∙ some)
 
 -- what a `?` answers
 pub call_refused_with : {A : Type 0} (r : Result A Refused) (e : Refused) → IsErrAnd r (λ d. d ≡ e)
@@ -79,7 +79,7 @@ module _ {first : Option Refused} {many : ℕ} {absent : Local → Type 0} {done
       → IsCall first many absent done added m m (Some NoMemory)
   call_unmade sound free never = record {
     same = record { lock = refl; number = refl; sizes = refl };
-    outside = λ d there. absurd (free_of first d free there);
+    outside = λ d there. absurd (unchanged_call_free_of first d free there);
     ok = λ none. absurd (none-some NoMemory (sym none));
     err = λ d _ same. (let it : NoMemory ≡ d = cc same in inr (sym it, refl, never));
     kept = λ _. refl;
@@ -109,19 +109,19 @@ call_not_spent {m} v = let less = v.some_left in rw (lt-leb m.lock.limit m.entri
 module _ {m : Local} {b : State} {after : ChairToken State View} (v : Visit m b b after) (cs : List Copied)
     (alike : AreSameCopies m.copies cs) where
   abbrev pub unchanged : Local
-  unchanged = record (on after m) { copies = cs }
+  unchanged = record (visiting_processor_on after m) { copies = cs }
 
   abbrev cut : ℕ
   cut = b.journal.base.cut
 
-  nothing_more : m.own_cut + (call_of_nothing m b).taken ≡ m.own_cut
-  nothing_more = let cuts = (call_of_nothing m b).cuts in omega arith
+  unchanged_nothing_more : m.own_cut + (call_of_nothing m b).taken ≡ m.own_cut
+  unchanged_nothing_more = let cuts = (call_of_nothing m b).cuts in omega arith
 
   pub unchanged_is : unchanged ≡ record (entered m v.finds.rest cut) { copies = cs }
   unchanged_is =
       visit_local_after v [] (call_of_nothing m b) unchanged refl
       ∙ ap₂ (λ (h : List Event) (o : ℕ). record (entered m v.finds.rest cut) { seen = h; own_cut = o; copies = cs })
-      (append-nil (m.seen ++ v.finds.rest)) nothing_more
+      (append-nil (m.seen ++ v.finds.rest)) unchanged_nothing_more
 
   pub unchanged_seen : unchanged.seen ≡ m.seen ++ v.finds.rest
   unchanged_seen = ap (λ (n : Local). n.seen) unchanged_is
@@ -129,7 +129,7 @@ module _ {m : Local} {b : State} {after : ChairToken State View} (v : Visit m b 
   pub unchanged_sound : IsSound unchanged
   unchanged_sound =
       subst IsSound (sym unchanged_is)
-      (waiting_roomy_sound (entered m v.finds.rest cut) (entered_sound m b v.sound v.finds cut) cs alike)
+      (waiting_roomy_sound (entered m v.finds.rest cut) (unchanged_entered_sound m b v.sound v.finds cut) cs alike)
 
   pub unchanged_after : EnteredAndDid IsSameAfterCall m unchanged
   unchanged_after = record {
@@ -147,7 +147,7 @@ module _ {m : Local} {b : State} {after : ChairToken State View} (v : Visit m b 
   unchanged_allowed =
       visit_allowed_after v [] (call_of_nothing m b) unchanged refl refl
       (unchanged_seen ∙ sym (append-nil (m.seen ++ v.finds.rest))) (ap (λ (n : Local). n.cut) unchanged_is)
-      (ap (λ (n : Local). n.own_cut) unchanged_is ∙ sym nothing_more)
+      (ap (λ (n : Local). n.own_cut) unchanged_is ∙ sym unchanged_nothing_more)
 
   pub call_inside : {first : Option Refused} {many : ℕ} {absent : Local → Type 0} {done : Local → Local → Type 0}
       {added : List Event} (e : Refused) → first ≡ None → (e ≡ NotYet) ⊎ (e ≡ JournalFull) ⊎ (e ≡ NoMemory)
@@ -156,7 +156,7 @@ module _ {m : Local} {b : State} {after : ChairToken State View} (v : Visit m b 
       → IsCall first many absent done added m unchanged (Some e)
   call_inside {first} {many} {absent} e free why not_yet early full = record {
     same = record { lock = ap (λ (n : Local). n.lock) unchanged_is; number = refl; sizes = refl };
-    outside = λ d there. absurd (free_of first d free there);
+    outside = λ d there. absurd (unchanged_call_free_of first d free there);
     ok = λ none. absurd (none-some e (sym none));
     err =
         λ d _ is. (let P : Refused → Type 0 = λ x. IsCallRefusedInside many absent m unchanged x
@@ -188,9 +188,9 @@ module _ {m : Local} {b : State} {after : ChairToken State View} (v : Visit m b 
 pub call_refused : {A : Type 0} {m : Local} {b : State} {after : ChairToken State View} {many : ℕ}
     {done : Local → Local → Type 0} {added : List Event} (v : Visit m b b after) (e : Refused) (n : ℕ)
     → IsRoomRefusal e → IsFullRefusal {A = A} n (Err e) → n ≡ length b.journal.events + many
-    → IsCall (flush_refusal m) many Nothing done added m (on after m) (Some e)
+    → IsCall (flush_refusal m) many CallWaitsForNothing done added m (visiting_processor_on after m) (Some e)
 call_refused {A} {m} {b} v e n only full same =
-    call_inside v m.copies (alike_all m.copies) e (call_not_spent v) (inr only) (
+    call_inside v m.copies (unchanged_copies_alike m.copies) e (call_not_spent v) (inr only) (
       (λ late. elim only [ inl h ↦ absurd (cc (late, h)) | inr h ↦ absurd (cc (late, h)) ]),
       λ never. absurd never,
     ) (λ _. refl) (λ _. (
@@ -200,13 +200,13 @@ call_refused {A} {m} {b} v e n only full same =
 
 -- a call that was done, with these events, after which the processor has these parts
 module _ {m : Local} {b new : State} {after : ChairToken State View} (v : Visit m b new after) (es : List Event)
-    (call : IsCallOf m b es new) (n : Local) (own : n ≡ record (on after n) { number = m.number; sizes = m.sizes })
+    (call : IsCallOf m b es new) (n : Local) (own : n ≡ record (visiting_processor_on after n) { number = m.number; sizes = m.sizes })
   where
     abbrev then : Local
     then = entered m v.finds.rest new.journal.base.cut
 
     -- what it knows then, where its own cuts took off so many in all
-    pub now_by : (own_cut : ℕ) → m.own_cut + call.taken ≡ own_cut → n ≡ record n {
+    pub unchanged_now_by_cuts : (own_cut : ℕ) → m.own_cut + call.taken ≡ own_cut → n ≡ record n {
       lock = then.lock;
       entries = then.entries;
       number = then.number;
@@ -215,7 +215,7 @@ module _ {m : Local} {b new : State} {after : ChairToken State View} (v : Visit 
       cut = then.cut;
       own_cut = own_cut;
     }
-    now_by own_cut is =
+    unchanged_now_by_cuts own_cut is =
         let P : ℕ → Type 0 = λ o. n ≡ record n {
           lock = then.lock;
           entries = then.entries;
@@ -228,7 +228,7 @@ module _ {m : Local} {b new : State} {after : ChairToken State View} (v : Visit 
         subst P is (visit_local_after v es call n own)
 
     -- and where the call took off none
-    pub now_is : new.journal.base.cut ≡ b.journal.base.cut → n ≡ record n {
+    pub unchanged_now_is : new.journal.base.cut ≡ b.journal.base.cut → n ≡ record n {
       lock = then.lock;
       entries = then.entries;
       number = then.number;
@@ -237,15 +237,15 @@ module _ {m : Local} {b new : State} {after : ChairToken State View} (v : Visit 
       cut = then.cut;
       own_cut = then.own_cut;
     }
-    now_is same = now_by m.own_cut (let cuts = call.cuts in omega arith)
+    unchanged_now_is same = unchanged_now_by_cuts m.own_cut (let cuts = call.cuts in omega arith)
 
-    pub more_now : m.cut ≤ then.cut
-    more_now =
+    pub unchanged_calls_more : m.cut ≤ then.cut
+    unchanged_calls_more =
         let first = v.finds.kept.behind m.number (view_having_seen m.sizes m.seen m.cut m.own_cut) v.finds.at in
         let grew = call.cuts in omega arith
 
-    pub few_now : length n.seen ≤ most_events + n.cut
-    few_now =
+    pub unchanged_calls_few : length n.seen ≤ most_events + n.cut
+    unchanged_calls_few =
         let long = history_told_long m.sizes ((m.seen ++ v.finds.rest) ++ es) new (call.told v.finds) in
         let is = visit_local_after v es call n own in
         let seen = ap (λ (x : Local). length x.seen) is in
@@ -260,7 +260,7 @@ module _ {m : Local} {b new : State} {after : ChairToken State View} (v : Visit 
         (ap (λ (x : Local). x.seen) is) (ap (λ (x : Local). x.cut) is) (ap (λ (x : Local). x.own_cut) is)
 
     -- it is the same processor
-    pub called_now_same : IsSameProcessor m n
+    pub called_now_same : IsSameProcessorOfCall m n
     called_now_same = record {
       lock = ap (λ (x : Local). x.lock) (visit_local_after v es call n own);
       number = ap (λ (x : Local). x.number) (visit_local_after v es call n own);
@@ -272,16 +272,16 @@ module _ {m : Local} {b new : State} {after : ChairToken State View} (v : Visit 
         → IsCall first many absent done added m n None
     call_done {first} {many} {absent} {done} {added} free same good made all = record {
       same = called_now_same;
-      outside = λ d there. absurd (free_of first d free there);
+      outside = λ d there. absurd (unchanged_call_free_of first d free there);
       ok =
           λ _. (
-            record { rest = v.finds.rest; away = v.finds.away; cut = then.cut; more = more_now; after = made },
-            few_now,
+            record { rest = v.finds.rest; away = v.finds.away; cut = then.cut; more = unchanged_calls_more; after = made },
+            unchanged_calls_few,
             all ∙ ap (λ (xs : List Event). xs ++ added) (calls_entered m b v.finds then.cut),
           );
       err = λ d _ is. absurd (none-some d is);
       kept = λ some. absurd (some refl);
-      uncut = ap (λ (x : Local). x.own_cut) (now_is same);
+      uncut = ap (λ (x : Local). x.own_cut) (unchanged_now_is same);
       covers = covers n good;
       allowed = λ _. called_now_allowed;
     }

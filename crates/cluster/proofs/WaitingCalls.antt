@@ -19,18 +19,18 @@ use Rattle.cluster.specs.KeptViews.{view_having_seen}
 use Rattle.cluster.specs.Refusals.{flush_refusal}
 use Rattle.cluster.specs.Waiting.{IsWaitingCall}
 use Rattle.cluster.proofs.Covering.{covers}
-use Rattle.cluster.proofs.UnchangedCalls.{alike_all, free_of, call_not_spent, call_seat_spent, unchanged_is, unchanged_seen, unchanged_calls, unchanged_allowed, unchanged_sound}
-use Rattle.cluster.proofs.Visiting.{Visit, on}
+use Rattle.cluster.proofs.UnchangedCalls.{unchanged_copies_alike, unchanged_call_free_of, call_not_spent, call_seat_spent, unchanged_is, unchanged_seen, unchanged_calls, unchanged_allowed, unchanged_sound}
+use Rattle.cluster.proofs.Visiting.{Visit, visiting_processor_on}
 
 -- what is there is something
-pub awaited : {A : Type 0} (o : Option A) → is_some o ≡ true → (x : A) × (o ≡ Some x)
-awaited None h = absurd (cc)
-awaited (Some x) h = (x, refl)
+pub waiting_call_awaited : {A : Type 0} (o : Option A) → is_some o ≡ true → (x : A) × (o ≡ Some x)
+waiting_call_awaited None h = absurd (cc)
+waiting_call_awaited (Some x) h = (x, refl)
 
 -- what a `?` answers
-pub answered_with : {A : Type 0} (r : Result A Refused) (e : Refused) → IsErrAnd r (λ d. d ≡ e) → r ≡ Err e
-answered_with (Ok a) e h = absurd h
-answered_with (Err d) e h = ap (λ (x : Refused). Err x) h
+pub waiting_call_answered_with : {A : Type 0} (r : Result A Refused) (e : Refused) → IsErrAnd r (λ d. d ≡ e) → r ≡ Err e
+waiting_call_answered_with (Ok a) e h = absurd h
+waiting_call_answered_with (Err d) e h = ap (λ (x : Refused). Err x) h
 
 -- who awaits nothing
 pub wait_idle : {m : Local} → IsSound m → m.awaits ≡ None → IsWaitingCall m m (Ok MayHaveCome)
@@ -53,7 +53,7 @@ wait_spent {m} sound waits all = record {
   kept = refl;
   idle = λ none. absurd (waits none);
   outside = λ _ e there. (let same : ◌≡◌ {A = Option Refused} (Some SeatSpent) (Some e) = sym (call_seat_spent m all) ∙ there in cc same, refl);
-  looked = λ _ free. absurd (free_of (flush_refusal m) SeatSpent free (call_seat_spent m all));
+  looked = λ _ free. absurd (unchanged_call_free_of (flush_refusal m) SeatSpent free (call_seat_spent m all));
   stuck = λ is. absurd (cc is);
   deserted = λ is. absurd (cc is);
   calls_are = refl;
@@ -65,10 +65,10 @@ wait_spent {m} sound waits all = record {
 pub wait_looked : {m : Local} {b : State} {after : ChairToken State View} (v : Visit m b b after) → m.awaits ≢ None
     → (w : Waited) → ((s : Sizes) (h : List Event) → Represents s h b → w ≡ Stuck ↔ IsDeadlock s h)
     → ((s : Sizes) (h : List Event) → Represents s h b → w ≡ Deserted → ¬ Ready s h m.number)
-    → IsWaitingCall m (on after m) (Ok w)
+    → IsWaitingCall m (visiting_processor_on after m) (Ok w)
 wait_looked {m} {b} {after} v waits w stuck deserted =
-    let alike = alike_all m.copies in
-    let now = on after m in
+    let alike = unchanged_copies_alike m.copies in
+    let now = visiting_processor_on after m in
     let is = unchanged_is v m.copies alike in
     let history = m.seen ++ v.finds.rest in
     let told = v.finds.kept.told in
@@ -81,7 +81,7 @@ wait_looked {m} {b} {after} v waits w stuck deserted =
     record {
       kept = subst Keeps (sym is) refl;
       idle = λ none. absurd (waits none);
-      outside = λ _ e there. absurd (free_of (flush_refusal m) e (call_not_spent v) there);
+      outside = λ _ e there. absurd (unchanged_call_free_of (flush_refusal m) e (call_not_spent v) there);
       looked = λ _ _. record {
         entered = record {
           rest = v.finds.rest;

@@ -9,30 +9,30 @@ use Rattle.journal.specs.ClosedIntervals.{ClosedAt}
 use Rattle.cluster.specs.declared.copies.page_copy.MissingCounts.{MissingCounts}
 use Rattle.cluster.specs.Copies.PageReplica.{Copied, replica_fetched, replica_written_at}
 use Rattle.cluster.specs.Copies.Counts.{AreCounts}
-use Rattle.cluster.specs.Copies.Local.{Local, noted}
+use Rattle.cluster.specs.Copies.Local.{Local, local_noted}
 
 -- the processor's copy of the address's page has this word there
-pub record HasWord (m : Local) (a v : ℕ) : Type 0 where
+pub record HasWordToAccess (m : Local) (a v : ℕ) : Type 0 where
   pub copy : Copied
   pub at : slice_get m.copies (a / m.sizes.words) ≡ Some copy
   pub word : slice_get copy.page.words (a % m.sizes.words) ≡ Some v
 
 -- the processor after a store of v at address a, c being its copy of the page
-abbrev pub stored_at : Local → ℕ → ℕ → Copied → Local
-stored_at m a v c = record (noted m (Store a v)) {
+abbrev pub stored_by_access : Local → ℕ → ℕ → Copied → Local
+stored_by_access m a v c = record (local_noted m (Store a v)) {
   copies = slice_set m.copies (a / m.sizes.words) (replica_written_at c (a % m.sizes.words) v);
   stored = slice_set m.stored (a / m.sizes.words) true;
 }
 
 -- and it had one
-pub record StoreDone (old : Local) (a v : ℕ) (new : Local) : Type 0 where
+pub record StoreAccessDone (old : Local) (a v : ℕ) (new : Local) : Type 0 where
   pub copy : Copied
   pub at : slice_get old.copies (a / old.sizes.words) ≡ Some copy
-  pub after : new ≡ stored_at old a v copy
+  pub after : new ≡ stored_by_access old a v copy
 
 -- place i stores v at offset o in the gap, and of the gap's stores there its interval was closed last, and it is the
 -- last of them in that interval
-pub record IsLastStoreInGap (s : Sizes) (j : List Event) (p n o v : ℕ) : Type 0 where
+pub record IsLastAccessInGap (s : Sizes) (j : List Event) (p n o v : ℕ) : Type 0 where
   pub place : ℕ
   pub by : ℕ
   pub address : ℕ
@@ -44,19 +44,19 @@ pub record IsLastStoreInGap (s : Sizes) (j : List Event) (p n o v : ℕ) : Type 
       → (c < d) ⊎ ((c ≡ d) × (i ≤ place))
 
 -- no store of the gap is at offset o
-abbrev pub HasNoStoreInGap : Sizes → List Event → ℕ → ℕ → ℕ → Type 0
-HasNoStoreInGap s j p n o = (i q a w : ℕ) → Does j i q (Store a w) → a % s.words ≡ o → ¬ InGap s j p n i
+abbrev pub HasNoAccessInGap : Sizes → List Event → ℕ → ℕ → ℕ → Type 0
+HasNoAccessInGap s j p n o = (i q a w : ℕ) → Does j i q (Store a w) → a % s.words ≡ o → ¬ InGap s j p n i
 
 -- each word with stores in the gap has the value of the one whose interval was closed last,
 -- and the others are as before
-abbrev pub AreNewestStores : Sizes → List Event → ℕ → ℕ → List ℕ → List ℕ → Type 0
-AreNewestStores s j p n old new = (o v : ℕ) → slice_get new o ≡ Some v
-    → IsLastStoreInGap s j p n o v ⊎ ((slice_get old o ≡ Some v) × HasNoStoreInGap s j p n o)
+abbrev pub AreNewestAccesses : Sizes → List Event → ℕ → ℕ → List ℕ → List ℕ → Type 0
+AreNewestAccesses s j p n old new = (o v : ℕ) → slice_get new o ≡ Some v
+    → IsLastAccessInGap s j p n o v ⊎ ((slice_get old o ≡ Some v) × HasNoAccessInGap s j p n o)
 
 -- the processor after a fetch of page n with these counts, c being its copy of the page
-abbrev pub fetched_at : Local → ℕ → Copied → MissingCounts → Local
-fetched_at m n c k =
-    record (noted m (Fetch k.writers n k.records k.words)) { copies = slice_set m.copies n (replica_fetched c) }
+abbrev pub fetched_for_access : Local → ℕ → Copied → MissingCounts → Local
+fetched_for_access m n c k =
+    record (local_noted m (Fetch k.writers n k.records k.words)) { copies = slice_set m.copies n (replica_fetched c) }
 
 -- and it had one, whose missing records are that many; each word with stores in the gap has the newest of them
 pub record FetchDone (old : Local) (n : ℕ) (new : Local) : Type 0 where
@@ -64,5 +64,5 @@ pub record FetchDone (old : Local) (n : ℕ) (new : Local) : Type 0 where
   pub at : slice_get old.copies n ≡ Some copy
   pub counts : MissingCounts
   pub are : AreCounts copy.missing counts
-  pub newest : AreNewestStores old.sizes old.seen old.number n copy.page.words (replica_fetched copy).page.words
-  pub after : new ≡ fetched_at old n copy counts
+  pub newest : AreNewestAccesses old.sizes old.seen old.number n copy.page.words (replica_fetched copy).page.words
+  pub after : new ≡ fetched_for_access old n copy counts

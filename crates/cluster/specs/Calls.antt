@@ -5,7 +5,7 @@ use Rattle.base.specs.Limits.{most_events}
 use Rattle.book.specs.declared.refused.Refused.{Refused}
 use Rattle.book.specs.declared.refused.Refused.TheVariants.{NotYet, JournalFull, NoMemory}
 use Rattle.cluster.specs.Copies.Local.{Local, calls}
-use Rattle.cluster.specs.Copies.AfterNews.{AreSameCopies, handed}
+use Rattle.cluster.specs.Copies.AfterNews.{AreSameCopies, handed_after_news}
 use Rattle.cluster.specs.Refusals.{flush_refusal}
 use Rattle.cluster.specs.Entering.{EnteredAndDid}
 use Rattle.cluster.specs.Covers.{HasCoverage, IsAllowed}
@@ -17,7 +17,7 @@ pub record IsSameAfterCall (m n : Local) : Type 0 where
 
 -- the block was handed in
 abbrev pub IsHandedByCall : Local → Local → Type 0
-IsHandedByCall m n = n ≡ handed m
+IsHandedByCall m n = n ≡ handed_after_news m
 
 -- the call entered, and left all as it found it: what it waits for is absent, or the journal has no room for that many
 -- events, or no memory was to be had
@@ -30,7 +30,7 @@ pub record IsCallRefusedInside (many : ℕ) (absent : Local → Type 0) (old new
   pub full : ¬ absent new → e ≡ JournalFull ↔ (most_events + new.cut < length new.seen + many)
 
 -- it is the same processor of the same cluster
-pub record IsSameProcessor (old new : Local) : Type 0 where
+pub record IsSameProcessorOfCall (old new : Local) : Type 0 where
   pub lock : new.lock ≡ old.lock
   pub number : new.number ≡ old.number
   pub sizes : new.sizes ≡ old.sizes
@@ -43,7 +43,7 @@ IsCallUnmade absent old new e = (e ≡ NoMemory) × (new ≡ old) × ((m : Local
 -- knows by itself; else it enters, and is done or refused, or memory was refused before it could enter.
 pub record IsCall (first : Option Refused) (many : ℕ) (absent : Local → Type 0) (done : Local → Local → Type 0)
     (added : List Event) (old new : Local) (refused : Option Refused) : Type 0 where
-  pub same : IsSameProcessor old new
+  pub same : IsSameProcessorOfCall old new
   pub outside : (e : Refused) → first ≡ Some e → (refused ≡ Some e) × (new ≡ old)
   pub ok : refused ≡ None
       → EnteredAndDid done old new × (length new.seen ≤ most_events + new.cut) × (calls new ≡ calls old ++ added)
@@ -55,9 +55,9 @@ pub record IsCall (first : Option Refused) (many : ℕ) (absent : Local → Type
   pub allowed : IsAllowed old → IsAllowed new
 
 -- nothing is waited for
-abbrev pub Nothing : Local → Type 0
-Nothing m = ⊥
+abbrev pub CallWaitsForNothing : Local → Type 0
+CallWaitsForNothing m = ⊥
 
 -- a call that hands the block in
 abbrev pub IsHandingCall : Local → Local → Option Refused → Type 0
-IsHandingCall old new refused = IsCall (flush_refusal old) (length old.block) Nothing IsHandedByCall [] old new refused
+IsHandingCall old new refused = IsCall (flush_refusal old) (length old.block) CallWaitsForNothing IsHandedByCall [] old new refused

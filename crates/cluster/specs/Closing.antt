@@ -7,28 +7,28 @@ use Rattle.journal.specs.Events.{is_closing}
 use Rattle.journal.specs.WellFormed.{KindInRange}
 use Rattle.book.specs.declared.refused.Refused.{Refused}
 use Rattle.cluster.specs.Copies.Local.{Local}
-use Rattle.cluster.specs.Copies.AfterNews.{handed, interval_closed}
+use Rattle.cluster.specs.Copies.AfterNews.{handed_after_news, closed_after_news}
 use Rattle.cluster.specs.Refusals.{refusal_or_spent}
-use Rattle.cluster.specs.Calls.{IsCall, Nothing}
+use Rattle.cluster.specs.Calls.{IsCall, CallWaitsForNothing}
 
 -- the block was handed in, and the interval closed by this event
 abbrev pub IsClosedBy : Kind → Local → Local → Type 0
-IsClosedBy k m n = n ≡ interval_closed (handed m) k
+IsClosedBy k m n = n ≡ closed_after_news (handed_after_news m) k
 
 -- the locks that a processor holds let it do this
-abbrev pub MayHold : List Bool → Kind → Type 0
-MayHold held (Ask l) = slice_index_or held l false ≡ false
-MayHold held (Release l) = slice_index_or held l false ≡ true
-MayHold held _ = Unit {0}
+abbrev pub MayHoldWhenClosing : List Bool → Kind → Type 0
+MayHoldWhenClosing held (Ask l) = slice_index_or held l false ≡ false
+MayHoldWhenClosing held (Release l) = slice_index_or held l false ≡ true
+MayHoldWhenClosing held _ = Unit {0}
 
 -- and nothing else is in its way
-pub record MayMake (m : Local) (k : Kind) : Type 0 where
+pub record MayMakeClosing (m : Local) (k : Kind) : Type 0 where
   pub closes : is_closing k ≡ true
   pub in_range : KindInRange m.sizes k
   pub idle : m.awaits ≡ None
-  pub held : MayHold m.held k
+  pub held : MayHoldWhenClosing m.held k
 
 -- a call that closes the interval by this event, if the test finds no reason against it
 abbrev pub IsClosingCall : Option Refused → Kind → Local → Local → Option Refused → Type 0
 IsClosingCall test k old new refused =
-    IsCall (refusal_or_spent test old) (length old.block + 1) Nothing (IsClosedBy k) (event old.number k ∷ []) old new refused
+    IsCall (refusal_or_spent test old) (length old.block + 1) CallWaitsForNothing (IsClosedBy k) (event old.number k ∷ []) old new refused

@@ -2,7 +2,7 @@
 use Rattle.std.specs.Prelude.{ℕ, ◌≡◌, ◌≤◌, Some, List, [], length, replicate, slice_get, vec_capacity, false}
 use Rattle.journal.specs.Sizes.{Sizes}
 use Rattle.base.specs.Limits.{most_in_block}
-use Rattle.turn.specs.Chairs.{LockId, lock, place, view, entries, IsOutside}
+use Rattle.turn.specs.Chairs.{ChairLockId, lock, chair_place, chair_view, entries, IsChairOutside}
 use Rattle.turn.specs.declared.chair.ChairToken.{ChairToken}
 use Rattle.book.specs.State.{State}
 use Rattle.cluster.specs.declared.keeper.View.{View}
@@ -13,10 +13,10 @@ use Rattle.cluster.specs.Covers.{IsAllowed, HasCoverage}
 
 -- its lock and its sizes
 pub record SharedCluster : Type 0 where
-  pub lock : LockId
+  pub lock : ChairLockId
   pub sizes : Sizes
 
-abbrev pub shared_cluster : LockId → Sizes → SharedCluster
+abbrev pub shared_cluster : ChairLockId → Sizes → SharedCluster
 shared_cluster l s = record { lock = l; sizes = s }
 
 -- a block with room, blank copies, no lock held and no interval performed
@@ -28,19 +28,19 @@ pub record AreClusterParts (s : Sizes) (x : Parts) : Type 0 where
   pub time : x.time ≡ replicate s.processors 0
 
 -- the chair at place p of this lock, which never entered
-pub record IsNewChair (l : LockId) (s : Sizes) (p : ℕ) (c : ChairToken State View) : Type 0 where
+pub record IsNewClusterChair (l : ChairLockId) (s : Sizes) (p : ℕ) (c : ChairToken State View) : Type 0 where
   pub lock_is : lock c ≡ l
-  pub place_is : place c ≡ p
-  pub view_is : view c ≡ view_of_nothing s
+  pub place_is : chair_place c ≡ p
+  pub view_is : chair_view c ≡ view_of_nothing s
   pub entries_are : entries c ≡ 0
-  pub outside : IsOutside c
+  pub outside : IsChairOutside c
 
 -- all of them, in the order of their places
-abbrev pub AreNewChairs : Sizes → List (ChairToken State View) → Type 0
-AreNewChairs s cs = (p : ℕ) (c : ChairToken State View) → slice_get cs p ≡ Some c → IsNewChair (lock c) s p c
+abbrev pub AreNewClusterChairs : Sizes → List (ChairToken State View) → Type 0
+AreNewClusterChairs s cs = (p : ℕ) (c : ChairToken State View) → slice_get cs p ≡ Some c → IsNewClusterChair (lock c) s p c
 
 -- the processor at place p of those that these chairs were given to
-pub record IsSeatedAt (s : Sizes) (cs : List (ChairToken State View)) (p : ℕ) (m : Local) : Type 0 where
+pub record IsSeatedAtCluster (s : Sizes) (cs : List (ChairToken State View)) (p : ℕ) (m : Local) : Type 0 where
   pub chair : ChairToken State View
   pub at : slice_get cs p ≡ Some chair
   pub is : m ≡ new_local (lock chair) p s
@@ -48,7 +48,7 @@ pub record IsSeatedAt (s : Sizes) (cs : List (ChairToken State View)) (p : ℕ) 
 -- each of them
 pub record IsClusterSeated (s : Sizes) (cs : List (ChairToken State View)) (ms : List Local) : Type 0 where
   pub all : length ms ≡ length cs
-  pub each : (p : ℕ) (m : Local) → slice_get ms p ≡ Some m → IsSeatedAt s cs p m
+  pub each : (p : ℕ) (m : Local) → slice_get ms p ≡ Some m → IsSeatedAtCluster s cs p m
 
 -- all processors of the cluster in the order of their numbers, before their first calls
 pub record IsNewCluster (c : SharedCluster) (ms : List Local) : Type 0 where

@@ -7,7 +7,7 @@ use Rattle.journal.specs.Times.{IsTimeOf}
 use Rattle.journal.specs.ExplainedAnswers.{Explained}
 use Rattle.journal.specs.Counted.{AreCounted}
 use Rattle.journal.specs.PageImages.{Lawful}
-use Rattle.journal.specs.BroughtCopy.{NoGap}
+use Rattle.journal.specs.BroughtCopy.{CopyHasNoGap}
 use Rattle.page.specs.declared.page.Access.TheVariants.{Valid}
 use Rattle.book.specs.State.{State}
 use Rattle.cluster.specs.declared.keeper.View.{View}
@@ -16,7 +16,7 @@ use Rattle.cluster.specs.Copies.Local.{Local, calls}
 use Rattle.cluster.specs.KeptViews.{LockInvariant, view_having_seen}
 
 -- the lock may have a book that represents this history, with what p has seen at p's place
-pub record LockAllows (m : Local) (h : List Event) : Type 0 where
+pub record LockAllowsCover (m : Local) (h : List Event) : Type 0 where
   pub book : State
   pub views : List View
   pub mine : slice_get views m.number ≡ Some (view_having_seen m.sizes m.seen m.cut m.own_cut)
@@ -24,7 +24,7 @@ pub record LockAllows (m : Local) (h : List Event) : Type 0 where
 
 -- and there is such a history
 abbrev pub IsAllowed : Local → Type 0
-IsAllowed m = (h : List Event) × LockAllows m h
+IsAllowed m = (h : List Event) × LockAllowsCover m h
 
 -- by this history and p's open block: p's part of it is its calls, its timestamp counts its past, and its copy of a
 -- page is valid exactly if nothing is missing, and then it is what p's past makes of the page
@@ -33,7 +33,7 @@ pub record IsCovered (m : Local) (h : List Event) : Type 0 where
   pub calls_are : events_of h m.number ++ m.block ≡ calls m
   pub time : IsTimeOf (h ++ m.block) m.number (slice_index m.time)
   pub valid : (n : ℕ) (c : Copied) → slice_get m.copies n ≡ Some c
-      → c.page.access ≡ Valid ↔ NoGap m.sizes (h ++ m.block) m.number n
+      → c.page.access ≡ Valid ↔ CopyHasNoGap m.sizes (h ++ m.block) m.number n
   pub lawful : (n : ℕ) (c : Copied) → slice_get m.copies n ≡ Some c → c.page.access ≡ Valid
       → Lawful m.sizes (h ++ m.block) m.number n c.page.words
   pub explained : Explained (h ++ m.block)
@@ -41,4 +41,4 @@ pub record IsCovered (m : Local) (h : List Event) : Type 0 where
 
 -- and so it is for every history that the lock allows
 pub record HasCoverage (m : Local) : Type 0 where
-  pub each : (h : List Event) → LockAllows m h → IsCovered m h
+  pub each : (h : List Event) → LockAllowsCover m h → IsCovered m h

@@ -12,7 +12,7 @@ use Rattle.base.specs.Limits.{most_cut, most_events}
 use Rattle.book.specs.declared.refused.Refused.{Refused}
 use Rattle.book.specs.declared.refused.Refused.TheVariants.{NoMemory, Racy, NoEpisode, BaseFull}
 use Rattle.cluster.specs.Copies.Local.{Local, calls}
-use Rattle.cluster.specs.Calls.{IsSameAfterCall, IsSameProcessor}
+use Rattle.cluster.specs.Calls.{IsSameAfterCall, IsSameProcessorOfCall}
 use Rattle.cluster.specs.Covers.{HasCoverage, IsAllowed}
 use Rattle.cluster.specs.Entering.{EnteredAndDid}
 use Rattle.cluster.specs.Refusals.{flush_refusal}
@@ -44,7 +44,7 @@ IsCuttingFault log e = (f : CutFault) × (e ≡ book_cut_refusal f) × IsCutFaul
 
 -- the call is refused if the entries are spent; else it enters, and cuts, or leaves all as it found it
 pub record IsCuttingCall (old new : Local) (refused : Option Refused) : Type 0 where
-  pub same : IsSameProcessor old new
+  pub same : IsSameProcessorOfCall old new
   pub outside : (e : Refused) → flush_refusal old ≡ Some e → (refused ≡ Some e) × (new ≡ old)
   pub ok : refused ≡ None → EnteredAndDid WasCutOff old new × (length new.seen ≤ most_events + new.cut)
   pub err : (e : Refused) → flush_refusal old ≡ None → refused ≡ Some e

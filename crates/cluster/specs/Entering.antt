@@ -5,7 +5,7 @@ use Rattle.journal.specs.Events.{At}
 use Rattle.journal.specs.ExplainedAnswers.{Explained}
 use Rattle.journal.specs.Counted.{AreCounted}
 use Rattle.base.specs.Limits.{most_events}
-use Rattle.turn.specs.Chairs.{lock, place, view, entries, IsSameChair, IsInside, IsOutside, Stands}
+use Rattle.turn.specs.Chairs.{lock, chair_place, chair_view, entries, IsSameChair, IsChairInside, IsChairOutside, ChairStands}
 use Rattle.turn.specs.declared.chair.Held.{Held}
 use Rattle.turn.specs.declared.chair.ChairToken.{ChairToken}
 use Rattle.book.specs.State.{State}
@@ -13,10 +13,10 @@ use Rattle.book.specs.Told.{Represents}
 use Rattle.cluster.specs.Copies.Local.{Local}
 use Rattle.cluster.specs.Copies.AfterNews.{found}
 use Rattle.cluster.specs.declared.keeper.View.{View}
-use Rattle.cluster.specs.KeptViews.{LockInvariant, KeptWithViews, SeesView, added, view_having_seen}
+use Rattle.cluster.specs.KeptViews.{LockInvariant, KeptWithViews, SeesView, view_added, view_having_seen}
 
 -- p finds this book: a history of it that is kept goes on from what p has seen
-pub record Finds (m : Local) (b : State) : Type 0 where
+pub record FindsOnEntering (m : Local) (b : State) : Type 0 where
   pub rest : List Event
   pub views : List View
   pub away : (k : ℕ) (e : Event) → At rest k e → e.processor ≢ m.number
@@ -26,38 +26,38 @@ pub record Finds (m : Local) (b : State) : Type 0 where
 -- and leaves the new book, which its events make of the old one, with that many more events cut off
 pub record IsCallOf (m : Local) (old : State) (es : List Event) (new : State) : Type 0 where
   pub mine : (k : ℕ) (e : Event) → At es k e → e.processor ≡ m.number
-  pub adds : added old.journal new.journal ≡ es
+  pub adds : view_added old.journal new.journal ≡ es
   pub room : new.journal.room ≡ old.journal.room
-  pub told : (f : Finds m old) → Represents m.sizes ((m.seen ++ f.rest) ++ es) new
-  pub explained : (f : Finds m old) → Explained ((m.seen ++ f.rest) ++ es)
-  pub counted : (f : Finds m old) → AreCounted m.sizes ((m.seen ++ f.rest) ++ es)
-  pub few : (f : Finds m old) → length new.journal.events ≤ most_events
+  pub told : (f : FindsOnEntering m old) → Represents m.sizes ((m.seen ++ f.rest) ++ es) new
+  pub explained : (f : FindsOnEntering m old) → Explained ((m.seen ++ f.rest) ++ es)
+  pub counted : (f : FindsOnEntering m old) → AreCounted m.sizes ((m.seen ++ f.rest) ++ es)
+  pub few : (f : FindsOnEntering m old) → length new.journal.events ≤ most_events
   pub taken : ℕ
   pub cuts : new.journal.base.cut ≡ old.journal.base.cut + taken
 
 -- the chair is that of processor m
-pub record IsChairOf (m : Local) (c : ChairToken State View) : Type 0 where
-  pub place_is : place c ≡ m.number
-  pub view_is : view c ≡ view_having_seen m.sizes m.seen m.cut m.own_cut
+pub record IsEnteringChairOf (m : Local) (c : ChairToken State View) : Type 0 where
+  pub place_is : chair_place c ≡ m.number
+  pub view_is : chair_view c ≡ view_having_seen m.sizes m.seen m.cut m.own_cut
 
 -- the chair has entered once more, and is inside with the book
 pub record HasEntered (old new : ChairToken State View) (held : Held) (b : State) : Type 0 where
   pub some_left : entries old < (lock old).limit
   pub once_more : entries new ≡ entries old + 1
   pub same : IsSameChair old new
-  pub view_is : view new ≡ view old
-  pub inside : IsInside new held b
+  pub view_is : chair_view new ≡ chair_view old
+  pub inside : IsChairInside new held b
 
 -- the chair is outside again, gave this book back, and has seen what was left there
-pub record HasLeft (old new : ChairToken State View) (held : Held) (b : State) : Type 0 where
+pub record HasLeftAfterEntering (old new : ChairToken State View) (held : Held) (b : State) : Type 0 where
   pub same : IsSameChair old new
   pub entries_are : entries new ≡ entries old
-  pub outside : IsOutside new
-  pub seen : (found : State) → IsInside old held found → SeesView found b (place old) (view old) (view new)
+  pub outside : IsChairOutside new
+  pub seen : (found : State) → IsChairInside old held found → SeesView found b (chair_place old) (chair_view old) (chair_view new)
 
 -- the lock keeps this book, with the chair's view at its place
-abbrev pub FindsBook : ChairToken State View → State → Type 0
-FindsBook c b = Stands KeptWithViews b (place c) (view c)
+abbrev pub FindsBookOnEntering : ChairToken State View → State → Type 0
+FindsBookOnEntering c b = ChairStands KeptWithViews b (chair_place c) (chair_view c)
 
 -- the processor after it entered, others' events had come, and that many were cut off
 abbrev pub entered : Local → List Event → ℕ → Local

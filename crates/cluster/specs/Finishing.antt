@@ -8,7 +8,7 @@ use Rattle.journal.specs.ExplainedAnswers.{Explained}
 use Rattle.journal.specs.Counted.{AreCounted}
 use Rattle.journal.specs.Log.{Log}
 use Rattle.base.specs.Limits.{most_in_block}
-use Rattle.turn.specs.Chairs.{lock, IsOutside}
+use Rattle.turn.specs.Chairs.{lock, IsChairOutside}
 use Rattle.turn.specs.declared.chair.ChairToken.{ChairToken}
 use Rattle.book.specs.State.{State}
 use Rattle.book.specs.Told.{Represents}
@@ -16,11 +16,11 @@ use Rattle.cluster.specs.Copies.Local.{Local, calls}
 use Rattle.cluster.specs.Copies.Sound.{IsSound}
 use Rattle.cluster.specs.declared.keeper.View.{View}
 use Rattle.cluster.specs.Clusters.{SharedCluster}
-use Rattle.cluster.specs.Entering.{IsChairOf}
+use Rattle.cluster.specs.Entering.{IsEnteringChairOf}
 use Rattle.cluster.specs.FaithfulJournals.{IsFaithful, IsJournalOf}
 
 -- the processor is the one with this number of this cluster
-pub record IsProcessorOf (c : SharedCluster) (p : ℕ) (m : Local) : Type 0 where
+pub record IsFinishingProcessor (c : SharedCluster) (p : ℕ) (m : Local) : Type 0 where
   pub lock : m.lock ≡ c.lock
   pub number : m.number ≡ p
   pub sizes : m.sizes ≡ c.sizes
@@ -28,10 +28,10 @@ pub record IsProcessorOf (c : SharedCluster) (p : ℕ) (m : Local) : Type 0 wher
 -- all processors of the cluster, by rising number
 pub record AreAllToFinish (c : SharedCluster) (ms : List Local) : Type 0 where
   pub all : length ms ≡ c.sizes.processors
-  pub each : (p : ℕ) (m : Local) → slice_get ms p ≡ Some m → IsProcessorOf c p m
+  pub each : (p : ℕ) (m : Local) → slice_get ms p ≡ Some m → IsFinishingProcessor c p m
 
 -- the history goes on from what the processor had seen, and has its calls
-pub record HasCallsOf (h : List Event) (m : Local) : Type 0 where
+pub record HasCallsToFinish (h : List Event) (m : Local) : Type 0 where
   pub begins : (rest : List Event) × (h ≡ m.seen ++ rest)
   pub calls_are : events_of h m.number ≡ calls m
 
@@ -43,23 +43,23 @@ pub record IsFinished (s : Sizes) (ms : List Local) (j : Log) : Type 0 where
   pub journal : IsJournalOf s taken history j
   pub cuts : length taken ≡ sum_by (λ m. m.own_cut) ms
   pub faithful : IsFaithful s history
-  pub each : (p : ℕ) (m : Local) → slice_get ms p ≡ Some m → HasCallsOf history m
+  pub each : (p : ℕ) (m : Local) → slice_get ms p ≡ Some m → HasCallsToFinish history m
   pub in_turn : (front : List Event) × (history ≡ front ++ flat_map (λ m. m.block) ms)
 
 -- a sound processor was taken apart into its chair and its open block
-pub record IsTakenApart (m : Local) (c : ChairToken State View) (block : List Event) : Type 0 where
+pub record IsTakenApartToFinish (m : Local) (c : ChairToken State View) (block : List Event) : Type 0 where
   pub sound : IsSound m
-  pub chair : IsChairOf m c
+  pub chair : IsEnteringChairOf m c
   pub lock_is : lock c ≡ m.lock
-  pub outside : IsOutside c
+  pub outside : IsChairOutside c
   pub block_is : block ≡ m.block
 
 -- all of them
-pub record AreTakenApart (ms : List Local) (cs : List (ChairToken State View)) (blocks : List (List Event)) : Type 0 where
+pub record AreTakenApartToFinish (ms : List Local) (cs : List (ChairToken State View)) (blocks : List (List Event)) : Type 0 where
   pub chairs : length cs ≡ length ms
   pub blocks_are : length blocks ≡ length ms
   pub each : (p : ℕ) (m : Local) (c : ChairToken State View) (block : List Event) → slice_get ms p ≡ Some m
-      → slice_get cs p ≡ Some c → slice_get blocks p ≡ Some block → IsTakenApart m c block
+      → slice_get cs p ≡ Some c → slice_get blocks p ≡ Some block → IsTakenApartToFinish m c block
 
 -- the history goes on without the processor, whose block is to come
 pub record IsToFinish (h : List Event) (m : Local) : Type 0 where
@@ -75,7 +75,7 @@ pub record IsFinishing (s : Sizes) (ms : List Local) (k : ℕ) (h : List Event) 
   pub cuts : b.journal.base.cut ≡ sum_by (λ m. m.own_cut) ms
   pub room : most_in_block * length ms ≤ b.journal.room + most_in_block * k
   pub sound : (p : ℕ) (m : Local) → slice_get ms p ≡ Some m → IsSound m × (m.number ≡ p) × (m.sizes ≡ s)
-  pub done : (p : ℕ) (m : Local) → p < k → slice_get ms p ≡ Some m → HasCallsOf h m
+  pub done : (p : ℕ) (m : Local) → p < k → slice_get ms p ≡ Some m → HasCallsToFinish h m
   pub to_come : (p : ℕ) (m : Local) → k ≤ p → slice_get ms p ≡ Some m → IsToFinish h m
   pub in_turn : (front : List Event) × (h ≡ front ++ flat_map (λ m. m.block) (take k ms))
 

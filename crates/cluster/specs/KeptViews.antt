@@ -20,8 +20,8 @@ abbrev pub view_of_nothing : Sizes → View
 view_of_nothing s = view_having_seen s [] 0 0
 
 -- the sizes of the cluster whose book it is
-abbrev pub book_sizes : State → Sizes
-book_sizes b = record {
+abbrev pub view_book_sizes : State → Sizes
+view_book_sizes b = record {
   processors = b.journal.processors;
   pages = b.journal.addresses / b.words;
   words = b.words;
@@ -41,8 +41,8 @@ abbrev pub IsSeenInViews : List View → List Event → Type 0
 IsSeenInViews views h = (p : ℕ) × (v : View) × (slice_get views p ≡ Some v) × (v.seen ≡ h)
 
 -- how many events all of them cut off
-abbrev pub all_cut : List View → ℕ
-all_cut views = sum_by (λ v. v.own_cut) views
+abbrev pub all_views_cut : List View → ℕ
+all_views_cut views = sum_by (λ v. v.own_cut) views
 
 -- the book represents the history, its loads are explained and its fetches count their gaps, and it goes on from
 -- what each processor has seen, who knows of no more cut off than was; somebody has seen all of it; and what was cut
@@ -55,7 +55,7 @@ pub record LockInvariant (s : Sizes) (h : List Event) (b : State) (views : List 
   pub all : length views ≡ s.processors
   pub each : (p : ℕ) (v : View) → slice_get views p ≡ Some v → ExtendsView s h p v
   pub behind : (p : ℕ) (v : View) → slice_get views p ≡ Some v → v.cut ≤ b.journal.base.cut
-  pub cuts : all_cut views ≡ b.journal.base.cut
+  pub cuts : all_views_cut views ≡ b.journal.base.cut
   pub whole : IsSeenInViews views h
   pub owing : b.journal.room ≡ most_in_block * s.processors
 
@@ -64,8 +64,8 @@ abbrev pub KeptWithViews : State → List View → Type 0
 KeptWithViews b views = (s : Sizes) × (h : List Event) × LockInvariant s h b views
 
 -- the events by which the new journal goes on from the old one
-abbrev pub added : Log → Log → List Event
-added old new = drop (length old.events) new.events
+abbrev pub view_added : Log → Log → List Event
+view_added old new = drop (length old.events) new.events
 
 -- who found this book, with its view at place p, and leaves the new one, has seen a history that was kept there, and
 -- the events that the new book has beyond it; and what is cut off now and wasn't, it cut off itself
@@ -75,6 +75,6 @@ pub record SeesView (found left : State) (p : ℕ) (old new : View) : Type 0 whe
   pub at : slice_get views p ≡ Some old
   pub kept : LockInvariant old.shape history found views
   pub shape : new.shape ≡ old.shape
-  pub seen : new.seen ≡ history ++ added found.journal left.journal
+  pub seen : new.seen ≡ history ++ view_added found.journal left.journal
   pub cut : new.cut ≡ left.journal.base.cut
   pub own_cut : new.own_cut + found.journal.base.cut ≡ old.own_cut + left.journal.base.cut

@@ -2,7 +2,7 @@
 use Rattle.std.specs.Prelude.{ℕ, ◌≡◌, ◌<◌, Some, List, ◌++◌, slice_get}
 use Rattle.journal.specs.declared.event.Event.{Event}
 use Rattle.journal.specs.PageImagesFrom.{LawfulFrom}
-use Rattle.journal.specs.WellFormedFrom.{IsAway}
+use Rattle.journal.specs.WellFormedFrom.{IsAwayFrom}
 use Rattle.book.specs.State.{State}
 use Rattle.book.specs.Told.{HoldsSome}
 use Rattle.page.specs.declared.page.Access.TheVariants.{Valid}
@@ -10,7 +10,7 @@ use Rattle.cluster.specs.Copies.PageReplica.{Copied}
 use Rattle.cluster.specs.Copies.Local.{Local}
 use Rattle.cluster.specs.declared.keeper.View.{View}
 use Rattle.cluster.specs.KeptViews.{IsSeenInViews, KeptWithViews}
-use Rattle.cluster.specs.Covers.{LockAllows, HasCoverage, IsAllowed}
+use Rattle.cluster.specs.Covers.{LockAllowsCover, HasCoverage, IsAllowed}
 use Rattle.cluster.specs.FaithfulJournals.{IsFaithful, IsFaithfulFrom, IsJournalOf}
 use Rattle.journal.specs.Log.{Log}
 use Rattle.journal.specs.Sizes.{Sizes}
@@ -33,9 +33,9 @@ AllowedLaw = (m n : Local) → n.number ≡ m.number → n.sizes ≡ m.sizes →
 -- a valid copy of a processor that has done something in the journal or its block is the base's page after the stores
 -- to it in the past within these, whatever book the lock has
 abbrev pub FromBaseLaw : Type 0
-FromBaseLaw = (m : Local) (h : List Event) (a : LockAllows m h) (n : ℕ) (c : Copied)
+FromBaseLaw = (m : Local) (h : List Event) (a : LockAllowsCover m h) (n : ℕ) (c : Copied)
     → HasCoverage m → n < m.sizes.pages → slice_get m.copies n ≡ Some c → c.page.access ≡ Valid
-    → ¬ IsAway (a.book.journal.events ++ m.block) m.number
+    → ¬ IsAwayFrom (a.book.journal.events ++ m.block) m.number
     → LawfulFrom m.sizes a.book.journal.base (a.book.journal.events ++ m.block) m.number n c.page.words
 
 -- the journal that holds what is left of a faithful history is faithful from its base

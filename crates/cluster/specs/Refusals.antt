@@ -7,7 +7,7 @@ use Rattle.journal.specs.declared.event.Kind.{Kind}
 use Rattle.journal.specs.declared.event.Kind.TheVariants.{Ask, Release, Arrive, Set, Watch}
 use Rattle.journal.specs.Sizes.{addresses}
 use Rattle.base.specs.Limits.{most_in_block}
-use Rattle.cluster.specs.Copies.PageReplica.{Copied, may_use_replica, words_if}
+use Rattle.cluster.specs.Copies.PageReplica.{Copied, may_use_replica, replica_words_if}
 use Rattle.cluster.specs.Copies.Local.{Local}
 
 -- the first of these that applies
@@ -16,62 +16,62 @@ first_refusal_due [] = None
 first_refusal_due (r ∷ rs) = cond r.0 (Some r.1) (first_refusal_due rs)
 
 -- the copy may be used, if there is one
-abbrev pub serves : Option Copied → Bool
-serves None = false
-serves (Some c) = may_use_replica c.page.access
+abbrev pub refusal_copy_serves : Option Copied → Bool
+refusal_copy_serves None = false
+refusal_copy_serves (Some c) = may_use_replica c.page.access
 
 -- the words of the copy, if it may be used
-abbrev pub words_in : Option Copied → Option (List ℕ)
-words_in None = None
-words_in (Some c) = words_if (may_use_replica c.page.access) c
+abbrev pub refusal_words_in : Option Copied → Option (List ℕ)
+refusal_words_in None = None
+refusal_words_in (Some c) = replica_words_if (may_use_replica c.page.access) c
 
 -- the words of p's copy of page n, if it is valid
-abbrev pub page_of : Local → ℕ → Option (List ℕ)
-page_of m n = words_in (slice_get m.copies n)
+abbrev pub refusal_page_of : Local → ℕ → Option (List ℕ)
+refusal_page_of m n = refusal_words_in (slice_get m.copies n)
 
 -- p's copy of page n is valid
-abbrev pub has_valid : Local → ℕ → Bool
-has_valid m n = serves (slice_get m.copies n)
+abbrev pub refusal_has_valid : Local → ℕ → Bool
+refusal_has_valid m n = refusal_copy_serves (slice_get m.copies n)
 
 -- p waits
-abbrev pub is_waiting : Local → Bool
-is_waiting m = is_some m.awaits
+abbrev pub refusal_is_waiting : Local → Bool
+refusal_is_waiting m = is_some m.awaits
 
 -- no event fits into the open block any more
-abbrev pub block_full : Local → Bool
-block_full m = nat_le most_in_block (length m.block)
+abbrev pub refusal_block_full : Local → Bool
+refusal_block_full m = nat_le most_in_block (length m.block)
 
 -- why the open block may not have one more event
 abbrev pub event_refusal : Local → Option Refused
-event_refusal m = first_refusal_due ((is_waiting m, Waiting) ∷ (block_full m, BlockFull) ∷ [])
+event_refusal m = first_refusal_due ((refusal_is_waiting m, Waiting) ∷ (refusal_block_full m, BlockFull) ∷ [])
 
 -- why a load or a store at this address is refused
 abbrev pub access_refusal : Local → ℕ → Option Refused
 access_refusal m a = first_refusal_due (
     (nat_le (addresses m.sizes) a, OutOfRange)
-    ∷ (not (has_valid m (a / m.sizes.words)), refused.Invalid (a / m.sizes.words))
-    ∷ (is_waiting m, Waiting)
-    ∷ (block_full m, BlockFull) ∷ [])
+    ∷ (not (refusal_has_valid m (a / m.sizes.words)), refused.Invalid (a / m.sizes.words))
+    ∷ (refusal_is_waiting m, Waiting)
+    ∷ (refusal_block_full m, BlockFull) ∷ [])
 
 -- why a fetch of this page is refused
 abbrev pub fetch_refusal : Local → ℕ → Option Refused
 fetch_refusal m n = first_refusal_due (
     (nat_le m.sizes.pages n, OutOfRange)
-    ∷ (is_waiting m, Waiting)
-    ∷ (block_full m, BlockFull)
-    ∷ (has_valid m n, AlreadyValid) ∷ [])
+    ∷ (refusal_is_waiting m, Waiting)
+    ∷ (refusal_block_full m, BlockFull)
+    ∷ (refusal_has_valid m n, AlreadyValid) ∷ [])
 
 -- p has entered the book as often as it may
-abbrev pub is_spent : Local → Bool
-is_spent m = nat_le m.lock.limit m.entries
+abbrev pub refusal_is_spent : Local → Bool
+refusal_is_spent m = nat_le m.lock.limit m.entries
 
 -- p holds the lock
-abbrev pub has_lock : Local → ℕ → Bool
-has_lock m l = slice_index_or m.held l false
+abbrev pub refusal_has_lock : Local → ℕ → Bool
+refusal_has_lock m l = slice_index_or m.held l false
 
 -- why a flush or an audit doesn't enter the book
 abbrev pub flush_refusal : Local → Option Refused
-flush_refusal m = first_refusal_due ((is_spent m, SeatSpent) ∷ [])
+flush_refusal m = first_refusal_due ((refusal_is_spent m, SeatSpent) ∷ [])
 
 -- this reason, or else that the entries are spent
 abbrev pub refusal_or_spent : Option Refused → Local → Option Refused
@@ -80,25 +80,25 @@ refusal_or_spent (Some e) m = Some e
 
 -- why a call that closes the interval is refused that names no lock
 abbrev pub arrive_refusal : Local → Option Refused
-arrive_refusal m = first_refusal_due ((is_waiting m, Waiting) ∷ [])
+arrive_refusal m = first_refusal_due ((refusal_is_waiting m, Waiting) ∷ [])
 
 -- why an ask of this lock is
 abbrev pub ask_refusal : Local → ℕ → Option Refused
 ask_refusal m l = first_refusal_due (
     (nat_le m.sizes.locks l, BadLock)
-    ∷ (is_waiting m, Waiting)
-    ∷ (has_lock m l, AlreadyHeld) ∷ [])
+    ∷ (refusal_is_waiting m, Waiting)
+    ∷ (refusal_has_lock m l, AlreadyHeld) ∷ [])
 
 -- why a release of this lock is
 abbrev pub release_refusal : Local → ℕ → Option Refused
 release_refusal m l = first_refusal_due (
     (nat_le m.sizes.locks l, BadLock)
-    ∷ (is_waiting m, Waiting)
-    ∷ (not (has_lock m l), NotHeld) ∷ [])
+    ∷ (refusal_is_waiting m, Waiting)
+    ∷ (not (refusal_has_lock m l), NotHeld) ∷ [])
 
 -- why a set or a watch of this flag is
 abbrev pub flag_refusal : Local → ℕ → Option Refused
-flag_refusal m f = first_refusal_due ((nat_le m.sizes.flags f, BadFlag) ∷ (is_waiting m, Waiting) ∷ [])
+flag_refusal m f = first_refusal_due ((nat_le m.sizes.flags f, BadFlag) ∷ (refusal_is_waiting m, Waiting) ∷ [])
 
 -- why a call that closes the interval by this event is
 abbrev pub closing_refusal : Local → Kind → Option Refused
@@ -111,4 +111,4 @@ closing_refusal m _ = None
 
 -- why a take is
 abbrev pub take_refusal : Local → Option Refused
-take_refusal m = first_refusal_due ((not (is_waiting m), NothingAwaited) ∷ [])
+take_refusal m = first_refusal_due ((not (refusal_is_waiting m), NothingAwaited) ∷ [])

@@ -8,7 +8,7 @@ use Rattle.journal.specs.MissingWords.{AreMissingNotices}
 use Rattle.journal.specs.WellFormed.{Allowed, Ready}
 use Rattle.vtime.specs.Times.{join}
 use Rattle.interval.specs.SentIntervals.{SentRecord}
-use Rattle.interval.specs.Closings.{is_of_page}
+use Rattle.interval.specs.Closings.{is_closing_of_page}
 use Rattle.book.specs.News.{news_of_page}
 use Rattle.book.specs.Stamps.{IsStamp}
 use Rattle.book.specs.declared.refused.Refused.{Refused}
@@ -23,9 +23,9 @@ abbrev pub IsTakeLate : Local → Type 0
 IsTakeLate m = ¬ Ready m.sizes m.seen m.number
 
 -- the event that ends p's wait
-abbrev pub awaited_event : ℕ → Option Kind → List Event
-awaited_event p None = []
-awaited_event p (Some k) = event p k ∷ []
+abbrev pub taking_awaited_event : ℕ → Option Kind → List Event
+taking_awaited_event p None = []
+taking_awaited_event p (Some k) = event p k ∷ []
 
 -- p took what it waited for, which had come: it takes over the time of what that brings, and of each page the news, and
 -- a copy with news is stale
@@ -45,9 +45,9 @@ pub record IsTakeDone (m n : Local) : Type 0 where
 -- each copy has room for what these bring of its page
 abbrev pub HasRoomToTake : List SentRecord → List Copied → Type 0
 HasRoomToTake sent copies =
-    (n : ℕ) (c : Copied) → slice_get copies n ≡ Some c → count_by (is_of_page n) sent ≤ c.room
+    (n : ℕ) (c : Copied) → slice_get copies n ≡ Some c → count_by (is_closing_of_page n) sent ≤ c.room
 
 -- a call that takes what is awaited
 abbrev pub IsTakingCall : Local → Local → Option Refused → Type 0
 IsTakingCall old new refused =
-    IsCall (refusal_or_spent (take_refusal old) old) 1 IsTakeLate IsTakeDone (awaited_event old.number old.awaits) old new refused
+    IsCall (refusal_or_spent (take_refusal old) old) 1 IsTakeLate IsTakeDone (taking_awaited_event old.number old.awaits) old new refused

@@ -16,12 +16,12 @@ waited_answer None = MayHaveCome
 waited_answer (Some w) = w
 
 -- nothing was changed
-abbrev pub IsUnchanged : Local → Local → Type 0
-IsUnchanged m n = n ≡ m
+abbrev pub IsUnchangedByWaiting : Local → Local → Type 0
+IsUnchangedByWaiting m n = n ≡ m
 
 -- the call entered and changed nothing, and says so if the history that it found is a deadlock
 pub record HasLookedAndWaits (old new : Local) (answer : Result Waited Refused) : Type 0 where
-  pub entered : EnteredAndDid IsUnchanged old new
+  pub entered : EnteredAndDid IsUnchangedByWaiting old new
   pub ok : IsOk answer
   pub exact : IsDeadlock new.sizes new.seen → answer ≡ Ok Stuck
 

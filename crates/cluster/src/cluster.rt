@@ -2,7 +2,7 @@
 ghost use Rattle.std.specs.Prelude.{◌≡◌, ◌≢◌, ◌⊎◌, ◌↔◌, ◌^◌, ◌≤◌, ◌<◌, Err, IfErr, IfOk, IsTrue, ℕ, List, [], length};
 ghost use Rattle.std.specs.Prelude.{vec_len, vec_capacity, slice_get, Some};
 ghost use Rattle.cluster.specs.Copies.Prelude.{AreSoundSizes};
-ghost use Rattle.cluster.specs.Prelude.{AreClusterParts, AreNewChairs, IsClusterSeated, IsNewCluster, IsClusterCovered};
+ghost use Rattle.cluster.specs.Prelude.{AreClusterParts, AreNewClusterChairs, IsClusterSeated, IsNewCluster, IsClusterCovered};
 
 mod calls;
 mod closing;
@@ -134,7 +134,7 @@ impl<T: BookTurn> Cluster<T> {
         mut all: Vec<Processor<T>>,
     ) -> Vec<Processor<T>>
         requires sizes { AreSoundSizes shape }
-        requires chairs { (vec_len chairs ≡ shape.processors) × AreNewChairs shape chairs.items }
+        requires chairs { (vec_len chairs ≡ shape.processors) × AreNewClusterChairs shape chairs.items }
         requires parts { (vec_len parts ≡ shape.processors)
             × ((p : ℕ) (x : Parts) → slice_get parts.items p ≡ Some x → AreClusterParts shape x) }
         requires room { (all.items ≡ []) × (shape.processors ≤ vec_capacity all) }

@@ -1,5 +1,5 @@
 //! What the book's lock keeps.
-ghost use Rattle.cluster.specs.Prelude.{KeptWithViews, view_of_nothing, book_sizes, SeesView};
+ghost use Rattle.cluster.specs.Prelude.{KeptWithViews, view_of_nothing, view_book_sizes, SeesView};
 
 use crate::shape::Shape;
 use book::Book;
@@ -22,13 +22,13 @@ pub struct View {
 pub struct Rule;
 
 impl Keeper<Book> for Rule {
-    ghost use Rattle.cluster.specs.KeptViews.{KeptWithViews, view_of_nothing, book_sizes};
+    ghost use Rattle.cluster.specs.KeptViews.{KeptWithViews, view_of_nothing, view_book_sizes};
 
     type View = View;
 
     ghost fact = { KeptWithViews };
 
-    ghost first = { λ b. view_of_nothing (book_sizes b) };
+    ghost first = { λ b. view_of_nothing (view_book_sizes b) };
 
     ghost nobody = { view_of_nothing (record
         { processors = 0; pages = 0; words = 0; locks = 0; flags = 0 }) };

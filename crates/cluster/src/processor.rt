@@ -7,11 +7,11 @@ ghost use Rattle.std.specs.Result.{result_err};
 ghost use Rattle.base.specs.Prelude.{most_in_block, most_pages};
 ghost use Rattle.turn.specs.Prelude.{lock};
 ghost use Rattle.journal.specs.Prelude.{awaited_kind, closing_kind, event};
-ghost use Rattle.cluster.specs.Copies.Prelude.{blank, DirtyAreMarked, cleaned, AreSoundSizes, calls, noted, new_local};
+ghost use Rattle.cluster.specs.Copies.Prelude.{blank, DirtyAreMarked, copy_cleaned_after_news, AreSoundSizes, calls, local_noted, new_local};
 ghost use Rattle.cluster.specs.Copies.Prelude.{AreHarvests, held_after};
-ghost use Rattle.cluster.specs.Prelude.{AreClusterParts, IsNewChair, page_of, has_valid, is_waiting, access_refusal};
+ghost use Rattle.cluster.specs.Prelude.{AreClusterParts, IsNewClusterChair, refusal_page_of, refusal_has_valid, refusal_is_waiting, access_refusal};
 ghost use Rattle.cluster.specs.Prelude.{fetch_refusal, event_refusal, arrive_refusal, ask_refusal, release_refusal, flag_refusal};
-ghost use Rattle.cluster.specs.Prelude.{take_refusal, closing_refusal, HasWord, StoreDone, FetchDone, HasCoverage, IsTakenApart};
+ghost use Rattle.cluster.specs.Prelude.{take_refusal, closing_refusal, HasWordToAccess, StoreAccessDone, FetchDone, HasCoverage, IsTakenApartToFinish};
 
 use crate::copies::{Marks, Replica};
 use crate::keeper::{BookTurn, Rule};
@@ -81,21 +81,21 @@ pub struct Processor<T: BookTurn> {
 impl<T: BookTurn> Model for Processor<T> {
     ghost use Rattle.std.specs.Prelude.{◌≡◌, ◌≤◌, vec_capacity};
     ghost use Rattle.std.specs.Option.{option_map};
-    ghost use Rattle.turn.specs.Chairs.{lock, view, entries, place, IsOutside};
+    ghost use Rattle.turn.specs.Chairs.{lock, chair_view, entries, chair_place, IsChairOutside};
     ghost use Rattle.base.specs.Limits.{most_in_block};
     ghost use Rattle.journal.specs.Closing.{awaited_kind};
     ghost use Rattle.cluster.specs.Copies.Local.{Local};
-    ghost use Rattle.cluster.specs.Seats.{local};
+    ghost use Rattle.cluster.specs.Seats.{seat_local};
     ghost use Rattle.cluster.specs.Copies.Sound.{IsSound};
     ghost use Rattle.cluster.specs.Seats.{IsSeated};
 
     ghost Value = { Local };
 
-    ghost view = { λ m. local m.chair m.number m.shape m.block.items m.replicas.items m.stored
+    ghost view = { λ m. seat_local m.chair m.number m.shape m.block.items m.replicas.items m.stored
         m.time m.held.items (option_map awaited_kind m.awaits) };
 
     ghost invariant = { λ m.
-        IsSound (local m.chair m.number m.shape m.block.items m.replicas.items m.stored m.time m.held.items
+        IsSound (seat_local m.chair m.number m.shape m.block.items m.replicas.items m.stored m.time m.held.items
         (option_map awaited_kind m.awaits))
         × IsSeated m.chair m.number m.shape
         × (most_in_block ≤ vec_capacity m.block) };
@@ -111,7 +111,7 @@ impl<T: BookTurn> Processor<T> {
     ) -> Processor<T>
         requires sizes { AreSoundSizes shape }
         requires number { number < shape.processors }
-        requires chair { IsNewChair (lock chair) shape number chair }
+        requires chair { IsNewClusterChair (lock chair) shape number chair }
         requires parts { AreClusterParts shape parts }
         ensures { result ≡ new_local (lock chair) number shape }
     {
@@ -137,7 +137,7 @@ impl<T: BookTurn> Processor<T> {
 
     /// Its chair and its open block, at the end.
     pub(crate) fn into_parts(self) -> (Chair<Book, Rule>, Vec<Event>)
-        ensures { IsTakenApart self result.0 result.1.items }
+        ensures { IsTakenApartToFinish self result.0 result.1.items }
     {
         (self.chair, self.block)
     }
@@ -151,14 +151,14 @@ impl<T: BookTurn> Processor<T> {
 
     /// Its copy of the page: None if that lacks records, or past the last page.
     pub fn page(&self, page: usize) -> Option<&[u32]>
-        ensures { option_map (λ words. words.now) result ≡ page_of self.now page }
+        ensures { option_map (λ words. words.now) result ≡ refusal_page_of self.now page }
     {
         self.replicas.get(page)?.words()
     }
 
     /// Whether its copy of the page lacks nothing; false past the last page.
     pub fn is_valid(&self, page: usize) -> bool
-        ensures { result ≡ has_valid self.now page }
+        ensures { result ≡ refusal_has_valid self.now page }
     {
         match self.replicas.get(page) {
             Some(replica) => replica.is_valid(),
@@ -177,9 +177,9 @@ impl<T: BookTurn> Processor<T> {
     }
 
     /// Whether it has asked, arrived or watched, and not yet taken.
-    #[tactic(auto, using(crate::proofs::MayAccessAndFetch::is_some_mapped))]
+    #[tactic(auto, using(crate::proofs::MayAccessAndFetch::may_access_mapped))]
     pub fn waiting(&self) -> bool
-        ensures { result ≡ is_waiting self.now }
+        ensures { result ≡ refusal_is_waiting self.now }
     {
         self.awaits.is_some()
     }
@@ -208,8 +208,8 @@ impl<T: BookTurn> Processor<T> {
     pub fn load(&mut self, address: usize) -> Result<u32, Refused>
         ensures refused { result_err result ≡ access_refusal self.old address }
         ensures err { OnErr result (self.new ≡ self.old) }
-        ensures word { IfOk result (λ v. HasWord self.old address v) }
-        ensures ok { IfOk result (λ v. self.new ≡ noted self.old (Kind.Load address v)) }
+        ensures word { IfOk result (λ v. HasWordToAccess self.old address v) }
+        ensures ok { IfOk result (λ v. self.new ≡ local_noted self.old (Kind.Load address v)) }
         ensures calls { IfOk result (λ v. calls self.new
             ≡ calls self.old ++ event self.old.number (Kind.Load address v) ∷ []) }
         ensures covers { HasCoverage self.new }
@@ -228,7 +228,7 @@ impl<T: BookTurn> Processor<T> {
     pub fn store(&mut self, address: usize, value: u32) -> Result<(), Refused>
         ensures refused { result_err result ≡ access_refusal self.old address }
         ensures err { OnErr result (self.new ≡ self.old) }
-        ensures ok { OnOk result (StoreDone self.old address value self.new) }
+        ensures ok { OnOk result (StoreAccessDone self.old address value self.new) }
         ensures calls { OnOk result (calls self.new
             ≡ calls self.old ++ event self.old.number (Kind.Store address value) ∷ []) }
         ensures covers { HasCoverage self.new }
@@ -408,7 +408,7 @@ impl<T: BookTurn> Processor<T> {
 /// Cleans the copies, and unmarks all pages.
 pub(crate) fn clean(replicas: &mut Vec<Replica>, stored: &mut Marks)
     requires { DirtyAreMarked replicas.old.items stored.old }
-    ensures copies { replicas.new.items ≡ map cleaned replicas.old.items }
+    ensures copies { replicas.new.items ≡ map copy_cleaned_after_news replicas.old.items }
     ensures stored { stored.new ≡ replicate most_pages false }
 {
     crate::copies::clean(replicas.as_mut_slice(), stored);

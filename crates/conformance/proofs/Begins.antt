@@ -7,7 +7,7 @@ use Rattle.journal.specs.declared.event.Kind.TheVariants as kind
 use Rattle.lrc_script.specs.declared.script.Instruction.{Instruction}
 use Rattle.lrc_script.specs.declared.script.Instruction.TheVariants.{Load, Store, Add, Acquire, Release, Barrier, Set, Await, Cut}
 use Rattle.conformance.specs.Begins.{BeginsSection}
-use Rattle.conformance.specs.Follows.{FollowsSection, load_of}
+use Rattle.conformance.specs.Follows.{FollowsSection, followed_load}
 use Rattle.conformance.specs.Instructions.{AreEventsOfInstruction, AreEventsOfInstructions}
 use Rattle.conformance.proofs.Instructions.{instructions-append, instructions-push, follows_section_instructions}
 
@@ -24,18 +24,18 @@ begin_some_events (Await f) = (kind.Watch f ∷ kind.Await f ∷ [], refl)
 begin_some_events Cut = ([], refl)
 
 -- and so do instructions
-some_events_of_all : (is : List Instruction) → (kinds : List Kind) × AreEventsOfInstructions is kinds
-some_events_of_all [] = ([], refl)
-some_events_of_all (i ∷ is) =
+begin_some_of_all : (is : List Instruction) → (kinds : List Kind) × AreEventsOfInstructions is kinds
+begin_some_of_all [] = ([], refl)
+begin_some_of_all (i ∷ is) =
     let first = begin_some_events i in
-    let rest = some_events_of_all is in
+    let rest = begin_some_of_all is in
     (first.0 ++ rest.0, (first.0, rest.0, refl, first.1, rest.1))
 
 -- loads of these addresses
-some_loads : (addresses : List ℕ) → (loads : List (ℕ × ℕ)) × (map (λ (x : ℕ × ℕ). x.0) loads ≡ addresses)
-some_loads [] = ([], refl)
-some_loads (a ∷ addresses) =
-    let rest = some_loads addresses in
+begin_some_loads : (addresses : List ℕ) → (loads : List (ℕ × ℕ)) × (map (λ (x : ℕ × ℕ). x.0) loads ≡ addresses)
+begin_some_loads [] = ([], refl)
+begin_some_loads (a ∷ addresses) =
+    let rest = begin_some_loads addresses in
     ((a, 0) ∷ rest.0, ap (λ xs. a ∷ xs) rest.1)
 
 -- what begins a section begins it without its last calls, too
@@ -50,19 +50,19 @@ begins_front section shown xs ys begins = record {
 pub begins_whole : (section : List Instruction) (shown : List ℕ) (kinds : List Kind) → AreEventsOfInstructions section kinds
     → BeginsSection section shown (kinds ++ kind.Arrive ∷ kind.Depart ∷ [])
 begins_whole section shown kinds are =
-    let loads = some_loads shown in
+    let loads = begin_some_loads shown in
     let closing = kind.Arrive ∷ kind.Depart ∷ [] in
     record {
-      rest = map load_of loads.0;
-      follows = follows_section_instructions section shown ((kinds ++ closing) ++ map load_of loads.0) kinds loads.0 are
-          (append_assoc kinds closing (map load_of loads.0)) loads.1;
+      rest = map followed_load loads.0;
+      follows = follows_section_instructions section shown ((kinds ++ closing) ++ map followed_load loads.0) kinds loads.0 are
+          (append_assoc kinds closing (map followed_load loads.0)) loads.1;
     }
 
 -- the events of its first n instructions
 pub begins_after : (section : List Instruction) (shown : List ℕ) (n : ℕ) (kinds : List Kind)
     → AreEventsOfInstructions (take n section) kinds → BeginsSection section shown kinds
 begins_after section shown n kinds are =
-    let more = some_events_of_all (drop n section) in
+    let more = begin_some_of_all (drop n section) in
     let all = instructions-append (take n section) (drop n section) kinds more.0 are more.1 in
     let P : List Instruction → Type 0 = λ is. AreEventsOfInstructions is (kinds ++ more.0) in
     let whole = begins_whole section shown (kinds ++ more.0) (subst P (take-append-drop n section) all) in

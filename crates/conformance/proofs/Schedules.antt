@@ -3,17 +3,17 @@ use Rattle.std.proofs.Common.{ℕ, ◌≡◌, ◌+◌, ◌++◌, Some, None, Lis
 use Rattle.std.proofs.lemmas.List.{replicate-append-replicate}
 use Rattle.std.specs.Option.{option_map_or}
 use Rattle.lrc_script.specs.LineReading.{parts_of_line}
-use Rattle.conformance.specs.Schedules.{item_turns, turns_after}
+use Rattle.conformance.specs.Schedules.{schedule_item_turns, schedule_turns_after}
 
 -- one turn more
-pub item_pushed : (xs ys zs : List ℕ) (count p : ℕ) → zs ≡ ys ++ p ∷ [] → ys ≡ xs ++ replicate count p
+pub schedule_item_pushed : (xs ys zs : List ℕ) (count p : ℕ) → zs ≡ ys ++ p ∷ [] → ys ≡ xs ++ replicate count p
     → zs ≡ xs ++ replicate (count + 1) p
-item_pushed xs ys zs count p more was = more ∙ ap (λ ps. ps ++ p ∷ []) was
+schedule_item_pushed xs ys zs count p more was = more ∙ ap (λ ps. ps ++ p ∷ []) was
     ∙ append_assoc xs (replicate count p) (p ∷ [])
     ∙ ap (λ ps. xs ++ ps) (replicate-append-replicate count 1 p)
 
 -- an item more
-pub items_next : (turns new : List ℕ) (item : List ℕ) (items : List (List ℕ)) → item_turns (parts_of_line 58 item) ≡ Some new
-    → turns_after turns (item ∷ items) ≡ turns_after (turns ++ new) items
-items_next turns new item items gives =
-    ap (λ o. option_map_or (λ ts. turns_after (turns ++ ts) items) o None) gives
+pub schedule_items_next : (turns new : List ℕ) (item : List ℕ) (items : List (List ℕ)) → schedule_item_turns (parts_of_line 58 item) ≡ Some new
+    → schedule_turns_after turns (item ∷ items) ≡ schedule_turns_after (turns ++ new) items
+schedule_items_next turns new item items gives =
+    ap (λ o. option_map_or (λ ts. schedule_turns_after (turns ++ ts) items) o None) gives

@@ -19,13 +19,13 @@ abbrev pub drawing_of : ℕ → ℕ → Drawing
 drawing_of seed n = drawing (ordered (pcg32_of_seed (pcg32_seed 16 seed)) (range_with_len 0 n))
 
 -- whoever stands at this place comes last
-abbrev pub lowered : List ℕ → ℕ → List ℕ
-lowered order place = take place order ++ drop (place + 1) order ++ slice_index_or order place 0 ∷ []
+abbrev pub draws_lowered : List ℕ → ℕ → List ℕ
+draws_lowered order place = take place order ++ drop (place + 1) order ++ slice_index_or order place 0 ∷ []
 
 -- after the turn of the processor at this place, of about m turns: a walk draws an order anew; else whoever had the turn
 -- comes last, if a word modulo m is below 3
 abbrev pub next_drawing : Bool → ℕ → ℕ → Drawing → Drawing
 next_drawing walks m place d = cond walks (drawing (ordered d.generator d.order)) (record {
-  order = cond (nat_lt ((pcg32 d.generator).0 % m) 3) (lowered d.order place) d.order;
+  order = cond (nat_lt ((pcg32 d.generator).0 % m) 3) (draws_lowered d.order place) d.order;
   generator = (pcg32 d.generator).1;
 })

@@ -17,43 +17,43 @@ scheduled s turns zero = turns
 scheduled s turns (suc round) = turn_orders s None round
 
 -- so many turns of a processor in a row
-abbrev pub item_text : ℕ → ℕ → List ℕ
-item_text p count = if count == 1 then decimal p else decimal p ++ (codes ":" ++ decimal count)
+abbrev pub schedule_item_text : ℕ → ℕ → List ℕ
+schedule_item_text p count = if count == 1 then decimal p else decimal p ++ (codes ":" ++ decimal count)
 
 -- so many turns of p, and those behind them
-abbrev pub turns_text : ℕ → ℕ → List ℕ → List ℕ
-turns_text p count [] = item_text p count
-turns_text p count (q ∷ qs) =
-    if q == p then turns_text p (count + 1) qs else item_text p count ++ (codes "," ++ turns_text q 1 qs)
+abbrev pub schedule_turns_text : ℕ → ℕ → List ℕ → List ℕ
+schedule_turns_text p count [] = schedule_item_text p count
+schedule_turns_text p count (q ∷ qs) =
+    if q == p then schedule_turns_text p (count + 1) qs else schedule_item_text p count ++ (codes "," ++ schedule_turns_text q 1 qs)
 
 -- the text of a schedule
 abbrev pub schedule_text : List ℕ → List ℕ
 schedule_text [] = codes "-"
-schedule_text (p ∷ ps) = turns_text p 1 ps
+schedule_text (p ∷ ps) = schedule_turns_text p 1 ps
 
 -- so many turns of a processor in a row, if there are some
-abbrev pub repeated : Option ℕ → Option ℕ → Option (List ℕ)
-repeated (Some p) (Some count) = if count == 0 then None else Some (replicate count p)
-repeated _ _ = None
+abbrev pub schedule_repeated : Option ℕ → Option ℕ → Option (List ℕ)
+schedule_repeated (Some p) (Some count) = if count == 0 then None else Some (replicate count p)
+schedule_repeated _ _ = None
 
 -- the turns that an item gives, by its parts between colons
-abbrev pub item_turns : List (List ℕ) → Option (List ℕ)
-item_turns (p ∷ []) = repeated (number_read p) (Some 1)
-item_turns (p ∷ count ∷ []) = repeated (number_read p) (number_read count)
-item_turns _ = None
+abbrev pub schedule_item_turns : List (List ℕ) → Option (List ℕ)
+schedule_item_turns (p ∷ []) = schedule_repeated (number_read p) (Some 1)
+schedule_item_turns (p ∷ count ∷ []) = schedule_repeated (number_read p) (number_read count)
+schedule_item_turns _ = None
 
 -- these turns, and those that items give
-abbrev pub turns_after : List ℕ → List (List ℕ) → Option (List ℕ)
-turns_after turns [] = Some turns
-turns_after turns (item ∷ items) =
-    option_map_or (λ new. turns_after (turns ++ new) items) (item_turns (parts_of_line 58 item)) None
+abbrev pub schedule_turns_after : List ℕ → List (List ℕ) → Option (List ℕ)
+schedule_turns_after turns [] = Some turns
+schedule_turns_after turns (item ∷ items) =
+    option_map_or (λ new. schedule_turns_after (turns ++ new) items) (schedule_item_turns (parts_of_line 58 item)) None
 
 -- a text that gives these turns: `-`, or items between commas
 abbrev pub IsScheduleText : List ℕ → List ℕ → Type 0
-IsScheduleText text turns = ((text ≡ codes "-") × (turns ≡ [])) ⊎ (turns_after [] (parts_of_line 44 text) ≡ Some turns)
+IsScheduleText text turns = ((text ≡ codes "-") × (turns ≡ [])) ⊎ (schedule_turns_after [] (parts_of_line 44 text) ≡ Some turns)
 
 -- the schedule has this turn, counted from 1, and its number is no processor's exactly if that is what is said
-pub record IsMisfit (s : Plan) (turns : List ℕ) (turn : ℕ) (misfit : Misfit) : Type 0 where
+pub record IsScheduleMisfit (s : Plan) (turns : List ℕ) (turn : ℕ) (misfit : Misfit) : Type 0 where
   pub processor : ℕ
   pub place : ℕ
   pub turn_is : turn ≡ place + 1
@@ -64,4 +64,4 @@ pub record IsMisfit (s : Plan) (turns : List ℕ) (turn : ℕ) (misfit : Misfit)
 -- end
 abbrev pub IsScheduleFault : Plan → List ℕ → ScheduleFault → Type 0
 IsScheduleFault s turns (fault.Run why) = why.cause ≢ Stuck
-IsScheduleFault s turns (fault.Misfit turn misfit) = IsMisfit s turns turn misfit
+IsScheduleFault s turns (fault.Misfit turn misfit) = IsScheduleMisfit s turns turn misfit

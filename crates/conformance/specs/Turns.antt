@@ -6,7 +6,7 @@ use Rattle.journal.specs.WellFormed.{Ready}
 use Rattle.lrc_script.specs.declared.script.Instruction.{Instruction}
 use Rattle.lrc_script.specs.declared.script.Instruction.TheVariants.{Barrier}
 use Rattle.lrc_script.specs.Plan.{Plan}
-use Rattle.conformance.specs.Follows.{calls_of, plan_sizes}
+use Rattle.conformance.specs.Follows.{followed_calls, followed_plan_sizes}
 use Rattle.conformance.specs.Instructions.{AreEventsOfInstruction}
 use Rattle.conformance.specs.declared.progress.TurnProgress.{TurnProgress}
 use Rattle.conformance.specs.declared.progress.TurnProgress.TheVariants.{Next, Waits, Passed}
@@ -33,8 +33,8 @@ pub record TurnLooksInVain (s : Plan) (h : List Event) (p : ℕ) (calls : List K
   pub found : List Event
   pub rest : List Event
   pub begins : h ≡ found ++ rest
-  pub calls_are : calls_of found p ≡ calls
-  pub late : ¬ Ready (plan_sizes s) found p
+  pub calls_are : followed_calls found p ≡ calls
+  pub late : ¬ Ready (followed_plan_sizes s) found p
 
 -- instruction n was done, by these calls
 pub record TurnIsDone (section : List Instruction) (n : ℕ) (calls : List Kind) (new : TurnStage) : Type 0 where

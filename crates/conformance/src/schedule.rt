@@ -1,7 +1,7 @@
 //! Schedules: which processor has its turn, one turn after another.
 ghost use Rattle.std.specs.Prelude.{ℕ, ◌≡◌, ◌++◌, IfOk, IfSome, List, OnOk, Some, replicate, string_bytes};
 ghost use Rattle.lrc_script.specs.Prelude.{parts_of_line};
-ghost use Rattle.conformance.specs.Prelude.{IsScheduleText, item_text, item_turns, schedule_text, turns_text};
+ghost use Rattle.conformance.specs.Prelude.{IsScheduleText, schedule_item_text, schedule_item_turns, schedule_text, schedule_turns_text};
 
 use crate::cause::{Cause, RunFault};
 use crate::ended::Ended;
@@ -78,7 +78,7 @@ pub struct DrawnRun {
 
 /// The processor and the number of its turns that an item of a schedule's text gives: `P`, or `P:K` with K above 0.
 fn item_of(item: &[u8]) -> Option<(usize, usize)>
-    ensures { IfSome result (λ x. item_turns (parts_of_line 58 item.now) ≡ Some (replicate x.1 x.0)) }
+    ensures { IfSome result (λ x. schedule_item_turns (parts_of_line 58 item.now) ≡ Some (replicate x.1 x.0)) }
 {
     let (word, rest) = split_at_byte(item, b':');
     let processor = number(word)?;
@@ -105,7 +105,7 @@ fn repeat(turns: &mut Vec<usize>, processor: usize, count: usize) -> Result<(), 
 
 /// Adds the turns that an item gives.
 fn add_item(turns: &mut Vec<usize>, item: &[u8]) -> Result<(), ScheduleFault>
-    ensures { OnOk result ((new : List ℕ) × (item_turns (parts_of_line 58 item.now) ≡ Some new)
+    ensures { OnOk result ((new : List ℕ) × (schedule_item_turns (parts_of_line 58 item.now) ≡ Some new)
         × (turns.new.items ≡ turns.old.items ++ new)) }
 {
     let before = turns.len();
@@ -120,7 +120,7 @@ fn add_item(turns: &mut Vec<usize>, item: &[u8]) -> Result<(), ScheduleFault>
 
 /// Adds the text of so many turns of a processor in a row.
 fn put_item(text: &mut String, processor: usize, count: usize) -> Result<(), AllocError>
-    ensures { OnOk result (string_bytes text.new ≡ string_bytes text.old ++ item_text processor count) }
+    ensures { OnOk result (string_bytes text.new ≡ string_bytes text.old ++ schedule_item_text processor count) }
 {
     if count == 1 {
         write!(text, "{processor}")
@@ -131,7 +131,7 @@ fn put_item(text: &mut String, processor: usize, count: usize) -> Result<(), All
 
 /// Adds the text of a turn and those behind it.
 fn put_turns(text: &mut String, first: usize, rest: &[usize]) -> Result<(), AllocError>
-    ensures { OnOk result (string_bytes text.new ≡ string_bytes text.old ++ turns_text first 1 rest.now) }
+    ensures { OnOk result (string_bytes text.new ≡ string_bytes text.old ++ schedule_turns_text first 1 rest.now) }
 {
     let mut processor = first;
     let mut count: usize = 1;

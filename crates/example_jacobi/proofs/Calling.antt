@@ -8,12 +8,12 @@ use Rattle.journal.specs.DidEvent.{event}
 use Rattle.journal.specs.Events.{events_of}
 use Rattle.journal.specs.Waits.{awaited}
 use Rattle.book.specs.declared.refused.Refused.{Refused}
-use Rattle.cluster.specs.Copies.Local.{Local, calls, noted}
-use Rattle.cluster.specs.Accesses.{FetchDone, StoreDone}
+use Rattle.cluster.specs.Copies.Local.{Local, calls, local_noted}
+use Rattle.cluster.specs.Accesses.{FetchDone, StoreAccessDone}
 use Rattle.cluster.specs.Calls.{IsCall, IsHandingCall}
 use Rattle.cluster.specs.Closing.{IsClosingCall}
 use Rattle.cluster.specs.Clusters.{SharedCluster}
-use Rattle.cluster.specs.Taking.{awaited_event, IsTakingCall}
+use Rattle.cluster.specs.Taking.{taking_awaited_event, IsTakingCall}
 use Rattle.cluster.specs.Waiting.{IsWaitingCall}
 use Rattle.cluster.specs.declared.waited.Waited.{Waited}
 use Rattle.example_jacobi.specs.Workers.{HasLoaded, IsAtWork, IsSameWorker, MayStore, Placed, StoresAreOwn, Waits, Works, placed_local}
@@ -120,7 +120,7 @@ pub works_take : (c : SharedCluster) (m n : Local) (r : Option Refused) → IsAt
 works_take c m n r at call = works_call c m n r at call (own m.awaits at.waits)
     (λ l waits is a v e. none_is_no_store n.awaits a v (ap (λ (x : Local). x.awaits) is.after) e)
   where
-    own : (w : Option Kind) → ((a v : ℕ) → w ≢ Some (Store a v)) → StoresAreOwn (awaited_event m.number w)
+    own : (w : Option Kind) → ((a v : ℕ) → w ≢ Some (Store a v)) → StoresAreOwn (taking_awaited_event m.number w)
     own None free = own_none
     own (Some k) free = own_one m.number k (λ a v e. absurd (free a v (ap Some e)))
 
@@ -139,15 +139,15 @@ works_wait c m n answer at call = record {
 
 -- a load
 pub works_load : (c : SharedCluster) (m n : Local) (a : ℕ) (r : Result ℕ Refused) → IsAtWork c m → OnErr r (n ≡ m)
-    → IfOk r (λ v. n ≡ noted m (Load a v)) → Works c m n
+    → IfOk r (λ v. n ≡ local_noted m (Load a v)) → Works c m n
 works_load c m n a (Ok v) at err ok = subst (Works c m) (sym ok)
-    (works c m (noted m (Load a v)) (event m.number (Load a v) ∷ []) at refl refl refl
+    (works c m (local_noted m (Load a v)) (event m.number (Load a v) ∷ []) at refl refl refl
     (sym (append_assoc (events_of m.seen m.number) m.block _)) (own_one m.number (Load a v) (λ b w e. cc)) at.waits)
 works_load c m n a (Err e) at err ok = works_same c m n at err
 
 -- a store where it may
 pub works_store : {A : Type 0} (c : SharedCluster) (m n : Local) (a v : ℕ) (r : Result A Refused) → IsAtWork c m
-    → MayStore m.number a → OnErr r (n ≡ m) → OnOk r (StoreDone m a v n) → Works c m n
+    → MayStore m.number a → OnErr r (n ≡ m) → OnOk r (StoreAccessDone m a v n) → Works c m n
 works_store c m n a v (Ok x) at may err ok = subst (Works c m) (sym ok.after)
     (works c m _ (event m.number (Store a v) ∷ []) at refl refl refl
     (sym (append_assoc (events_of m.seen m.number) m.block _))
@@ -171,7 +171,7 @@ same_by old mid c m n same is works = record {
 }
 
 -- a load that was answered
-pub loaded : (m n : Local) (a v : ℕ) → n ≡ noted m (Load a v) → calls n ≡ calls m ++ event m.number (Load a v) ∷ []
+pub loaded : (m n : Local) (a v : ℕ) → n ≡ local_noted m (Load a v) → calls n ≡ calls m ++ event m.number (Load a v) ∷ []
     → HasLoaded n a v
 loaded m n a v ok more = record {
   front = calls m;

@@ -4,7 +4,7 @@ use Rattle.std.specs.Prelude.{None}
 use Rattle.std.proofs.lemmas.Bool.{cases_eq, cases_order}
 use Rattle.std.proofs.lemmas.Option.{same_Some, none-some, slice_get-get_or}
 use Rattle.base.specs.InOrderOnce.{Has}
-use Rattle.base.proofs.SlicesAndCounts.{push_cases}
+use Rattle.base.proofs.SlicesAndCounts.{slice_push_cases}
 use Rattle.journal.specs.declared.event.Event.{Event}
 use Rattle.journal.specs.declared.event.Kind.{Kind}
 use Rattle.journal.specs.declared.event.Kind.TheVariants.{Ask, Acquire, Arrive, Watch}
@@ -13,7 +13,7 @@ use Rattle.journal.specs.Sizes.{Sizes}
 use Rattle.journal.specs.Events.{At}
 use Rattle.journal.specs.Waits.{awaited}
 use Rattle.journal.specs.WellFormed.{AnswersCall, Holds, LastIs, MayBeGranted, MayFollow}
-use Rattle.journal.proofs.Order.CountedAndNumbered.{at_within}
+use Rattle.journal.proofs.Order.CountedAndNumbered.{numbered_at_within}
 use Rattle.journal.proofs.Journals.WellFormedLast.{last_unique, last_now, last_longer, last_shorter}
 use Rattle.judge.specs.Why.{WaitsFor}
 use Rattle.explore.specs.Waiting.{AsksAt, AwaitsLock, IsFirstOf, TellsWaiting}
@@ -105,7 +105,7 @@ asked_small asked small k d lt = small (slice_index_or asked k d) (k, slice_get-
 
 -- one event and no other
 one_away : (e : Event) (p : ℕ) → e.processor ≢ p → (m : ℕ) (f : Event) → At (e ∷ []) m f → f.processor ≢ p
-one_away e p isnt m f at is = elim (push_cases [] e m f at) [
+one_away e p isnt m f at is = elim (slice_push_cases [] e m f at) [
   | inl none ↦ absurd (omega (arith, none.0))
   | inr same ↦ isnt (ap (λ (x : Event). x.processor) same.1 ∙ is)
 ]
@@ -184,7 +184,7 @@ asks_own j p i k a =
 
 -- an ask before one more event
 pub asks_old : (j : List Event) (q i : ℕ) → AsksAt j q i → i < length j
-asks_old j q i a = at_within j i (event q (Ask a.0)) a.1.does
+asks_old j q i a = numbered_at_within j i (event q (Ask a.0)) a.1.does
 
 -- so the lock, which nobody holds, may be granted to p exactly where p is the first
 pub first_may : (j : List Event) (x : Waiting) (p i l q : ℕ) → TellsWaiting j x → LastIs j p i (Ask l)

@@ -6,7 +6,7 @@ use Rattle.journal.specs.declared.event.Event.{Event}
 use Rattle.journal.specs.Races.{IsFirstRace, Race}
 use Rattle.journal.proofs.FromBase.Races.{race_shorter}
 use Rattle.journal.proofs.Order.HappensBefore.{before_shorter}
-use Rattle.journal.proofs.Order.CountedAndNumbered.{at_longer, at_within}
+use Rattle.journal.proofs.Order.CountedAndNumbered.{numbered_at_longer, numbered_at_within}
 use Rattle.lrc_script.specs.Plan.{Plan}
 use Rattle.explore.specs.Prefixes.Beginnings.{IsFlatBeginning}
 use Rattle.explore.proofs.prefixes.Beginnings.{front_begins}
@@ -17,11 +17,11 @@ race_longer c j i k r = record {
   before = r.before;
   first = r.first;
   second = r.second;
-  first_at = at_longer c j i r.first r.first_at;
-  second_at = at_longer c j k r.second r.second_at;
+  first_at = numbered_at_longer c j i r.first r.first_at;
+  second_at = numbered_at_longer c j k r.second r.second_at;
   apart = r.apart;
   conflict = r.conflict;
-  unordered = λ h. r.unordered (before_shorter c j (at_within c k r.second r.second_at) h);
+  unordered = λ h. r.unordered (before_shorter c j (numbered_at_within c k r.second r.second_at) h);
 }
 
 first_shorter : (c j : List Event) (i k : ℕ) → k < length c → IsFirstRace (c ++ j) i k → IsFirstRace c i k

@@ -3,7 +3,7 @@
 use Rattle.std.proofs.Common.{ℕ, zero, suc, ◌≡◌, ◌<◌, ◌≤◌, inl, inr, List, [], ◌∷◌, ◌++◌, Option, Some, length, slice_get, refl, sym, ap, subst, ◌∙◌, length-append, arith}
 use Rattle.std.specs.Prelude.{None}
 use Rattle.std.proofs.lemmas.Option.{same_Some, none-some, slice_get_within}
-use Rattle.base.proofs.SlicesAndCounts.{push_cases, slice_get-append_left, slice_get-last}
+use Rattle.base.proofs.SlicesAndCounts.{slice_push_cases, slice_get-append_left, slice_get-last}
 use Rattle.journal.specs.declared.event.Event.{Event}
 use Rattle.journal.specs.declared.event.Kind.{Kind}
 use Rattle.journal.specs.DidEvent.{did, event}
@@ -66,14 +66,14 @@ module _ (s : Plan) (x y : States) (m : FlatState) (o : Option Origin) (pushed :
         let one = length-append (states_of x) (m ∷ []) in
         let two = length-append x.origins.items (o ∷ []) in
         omega arith);
-    known = λ place f at. elim (push_cases (states_of x) m place f (ap (λ ms. slice_get ms place) (sym pushed.states) ∙ at)) [
+    known = λ place f at. elim (slice_push_cases (states_of x) m place f (ap (λ ms. slice_get ms place) (sym pushed.states) ∙ at)) [
       | inl before ↦ old.known place f before.1
       | inr now ↦ (g, subst (Knows s g) now.1 knows)
     ];
     come = λ place f p at from_at.
-        elim (push_cases (states_of x) m place f (ap (λ ms. slice_get ms place) (sym pushed.states) ∙ at)) [
+        elim (slice_push_cases (states_of x) m place f (ap (λ ms. slice_get ms place) (sym pushed.states) ∙ at)) [
           | inl before ↦
-              elim (push_cases x.origins.items o place p (ap (λ os. slice_get os place) (sym pushed.origins) ∙ from_at)) [
+              elim (slice_push_cases x.origins.items o place p (ap (λ os. slice_get os place) (sym pushed.origins) ∙ from_at)) [
                 | inl was ↦
                     (let lt = before.0 in
                     comes_kept s (states_of x) (states_of y) place f p pushed_keeps (omega arith)
@@ -81,7 +81,7 @@ module _ (s : Plan) (x y : States) (m : FlatState) (o : Option Origin) (pushed :
                 | inr wrong ↦ (let lt = before.0 in let is = wrong.0 in let long = old.long in absurd (omega arith))
               ]
           | inr now ↦
-              elim (push_cases x.origins.items o place p (ap (λ os. slice_get os place) (sym pushed.origins) ∙ from_at)) [
+              elim (slice_push_cases x.origins.items o place p (ap (λ os. slice_get os place) (sym pushed.origins) ∙ from_at)) [
                 | inl wrong ↦ (let lt = wrong.0 in let is = now.0 in let long = old.long in absurd (omega arith))
                 | inr mine ↦
                     subst (λ q. ComesFrom s (states_of y) place f q) mine.1

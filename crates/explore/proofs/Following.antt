@@ -12,7 +12,7 @@ use Rattle.journal.specs.Events.{count_of, is_arrive, is_depart, is_taking}
 use Rattle.journal.specs.Waits.{awaited}
 use Rattle.journal.specs.WellFormed.{Allowed, AnswersCall, KindInRange, LastIs, MayBeGranted, MayFollow}
 use Rattle.journal.proofs.Journals.WellFormedLast.{last_unique}
-use Rattle.journal.proofs.Journals.ReadyIdleWaits.{awaited_answers, idle_answers, waits_for}
+use Rattle.journal.proofs.Journals.ReadyIdleWaits.{waits_awaited_answers, idle_answers, waits_for}
 use Rattle.judge.specs.Tells.{IsSet}
 use Rattle.judge.specs.Why.{WaitsFor}
 use Rattle.judge.proofs.Verdicts.{quiet_kind, waits_takes}
@@ -100,7 +100,7 @@ waiting_follows s j p k within range waits = (
     processor = within;
     in_range = range;
     answers = λ i a last. subst (λ x. AnswersCall x k) (last_unique j p waits.place i waits.kind a waits.last last).1
-        (awaited_answers waits.kind k waits.awaits);
+        (waits_awaited_answers waits.kind k waits.awaits);
     allowed = allowed;
   },
   λ may. may.allowed,

@@ -6,19 +6,19 @@ use Rattle.std.proofs.lemmas.Bool.{cases_eq}
 use Rattle.std.proofs.lemmas.Option.{slice_get-get_or}
 use Rattle.std.proofs.lemmas.List.Elements.{All-get_or}
 use Rattle.base.specs.Limits.{most_held}
-use Rattle.base.proofs.SlicesAndCounts.{push_induction}
+use Rattle.base.proofs.SlicesAndCounts.{slice_push_induction}
 use Rattle.journal.specs.declared.event.Event.{Event}
 use Rattle.journal.specs.declared.event.Kind.{Kind}
 use Rattle.journal.specs.InRange.{ProcessorsInRange}
-use Rattle.journal.proofs.Order.CountedAndNumbered.{at_last, at_longer}
+use Rattle.journal.proofs.Order.CountedAndNumbered.{numbered_at_last, numbered_at_longer}
 use Rattle.lrc_script.specs.declared.script.Instruction.{Instruction}
 use Rattle.lrc_script.specs.declared.script.Instruction.TheVariants.{Load, Store, Add, Acquire, Release, Barrier, Set, Await, Cut}
 use Rattle.lrc_script.specs.Plan.{Plan}
 use Rattle.lrc_script.specs.Lawful.{IsLawful, IsLawfulSection}
 use Rattle.conformance.specs.Begins.{BeginsSection}
-use Rattle.conformance.specs.Follows.{calls_of, FollowsSection}
-use Rattle.conformance.specs.FlatRuns.{HasNoFetch}
-use Rattle.conformance.proofs.Calls.{calls_of-own, calls_of-other}
+use Rattle.conformance.specs.Follows.{followed_calls, FollowsSection}
+use Rattle.conformance.specs.FlatRuns.{FlatRunHasNoFetch}
+use Rattle.conformance.proofs.Calls.{followed_calls-own, followed_calls-others}
 use Rattle.explore.specs.Prefixes.Beginnings.{IsFlatBeginning}
 use Rattle.explore.specs.Prefixes.Calling.{load_steps, section_steps, shown_by, steps_of, steps_of_all}
 use Rattle.explore.proofs.prefixes.Calling.{follows_length}
@@ -103,24 +103,24 @@ total_few f (suc n) most few =
     omega arith
 
 -- each event is its processor's call
-length_total : (n : ℕ) (g : List Event) → HasNoFetch g → ProcessorsInRange n g
-    → length g ≡ total (λ p. length (calls_of g p)) n
-length_total n = push_induction (λ (g : List Event). HasNoFetch g → ProcessorsInRange n g
-    → length g ≡ total (λ p. length (calls_of g p)) n) (λ none within. sym (total_zero n)) step
+length_total : (n : ℕ) (g : List Event) → FlatRunHasNoFetch g → ProcessorsInRange n g
+    → length g ≡ total (λ p. length (followed_calls g p)) n
+length_total n = slice_push_induction (λ (g : List Event). FlatRunHasNoFetch g → ProcessorsInRange n g
+    → length g ≡ total (λ p. length (followed_calls g p)) n) (λ none within. sym (total_zero n)) step
   where
     step : (g : List Event) (e : Event)
-        → (HasNoFetch g → ProcessorsInRange n g → length g ≡ total (λ p. length (calls_of g p)) n)
-        → HasNoFetch (g ++ e ∷ []) → ProcessorsInRange n (g ++ e ∷ [])
-        → length (g ++ e ∷ []) ≡ total (λ p. length (calls_of (g ++ e ∷ []) p)) n
+        → (FlatRunHasNoFetch g → ProcessorsInRange n g → length g ≡ total (λ p. length (followed_calls g p)) n)
+        → FlatRunHasNoFetch (g ++ e ∷ []) → ProcessorsInRange n (g ++ e ∷ [])
+        → length (g ++ e ∷ []) ≡ total (λ p. length (followed_calls (g ++ e ∷ []) p)) n
     step g e old none within =
-        let before = old (λ i f at. none i f (at_longer g (e ∷ []) i f at)) (λ i f at. within i f (at_longer g (e ∷ []) i f at)) in
-        let call = none (length g) e (at_last g e) in
-        let mine : length (calls_of (g ++ e ∷ []) e.processor) ≡ suc (length (calls_of g e.processor)) =
-        (let own = ap (λ (ks : List Kind). length ks) (calls_of-own g e.processor e.kind call) in
-        let both = length-append (calls_of g e.processor) (e.kind ∷ []) in omega arith) in
-        let more = total_more (λ p. length (calls_of g p)) (λ p. length (calls_of (g ++ e ∷ []) p)) n e.processor
-        (within (length g) e (at_last g e)) mine
-        (λ q apart. ap (λ (ks : List Kind). length ks) (calls_of-other g e.processor q e.kind apart)) in
+        let before = old (λ i f at. none i f (numbered_at_longer g (e ∷ []) i f at)) (λ i f at. within i f (numbered_at_longer g (e ∷ []) i f at)) in
+        let call = none (length g) e (numbered_at_last g e) in
+        let mine : length (followed_calls (g ++ e ∷ []) e.processor) ≡ suc (length (followed_calls g e.processor)) =
+        (let own = ap (λ (ks : List Kind). length ks) (followed_calls-own g e.processor e.kind call) in
+        let both = length-append (followed_calls g e.processor) (e.kind ∷ []) in omega arith) in
+        let more = total_more (λ p. length (followed_calls g p)) (λ p. length (followed_calls (g ++ e ∷ []) p)) n e.processor
+        (within (length g) e (numbered_at_last g e)) mine
+        (λ q apart. ap (λ (ks : List Kind). length ks) (followed_calls-others g e.processor q e.kind apart)) in
         let longer = length-append g (e ∷ []) in
         omega arith
 
@@ -133,13 +133,13 @@ shown_few s p lawful = go (p == 0)
 
 -- no processor calls more than its section says
 pub calls_few : (s : Plan) (g : List Event) (p : ℕ) → IsLawful s → IsFlatBeginning s g → p < s.processors
-    → length (calls_of g p) ≤ 20066
+    → length (followed_calls g p) ≤ 20066
 calls_few s g p lawful begins lt =
     let long = lawful.but_uneven.one_each in
     let within : p < length s.sections = omega arith in
     let section = slice_index_or s.sections p [] in
     let is = All-get_or (IsLawfulSection s) s.sections p [] within lawful.but_uneven.sections in
-    let begun = begun_few section (shown_by s p) (calls_of g p) (begins.begins p section (slice_get-get_or s.sections p [] within)) in
+    let begun = begun_few section (shown_by s p) (followed_calls g p) (begins.begins p section (slice_get-get_or s.sections p [] within)) in
     let few = section_few section (shown_by s p) is.most (shown_few s p lawful) in
     omega arith
 
@@ -151,6 +151,6 @@ processors_of s g begins i e at = (begins.well_formed i e at).processor
 pub history_few : (s : Plan) (g : List Event) → IsLawful s → IsFlatBeginning s g → length g < most_held
 history_few s g lawful begins =
     let is = length_total s.processors g begins.no_fetch (processors_of s g begins) in
-    let few = total_few (λ p. length (calls_of g p)) s.processors 20066 (λ q lt. calls_few s g q lawful begins lt) in
+    let few = total_few (λ p. length (followed_calls g p)) s.processors 20066 (λ q lt. calls_few s g q lawful begins lt) in
     let most = lawful.but_uneven.sizes.most_processors in
     omega arith

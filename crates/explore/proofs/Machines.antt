@@ -12,17 +12,17 @@ use Rattle.journal.specs.declared.event.Event.{Event}
 use Rattle.journal.specs.declared.event.Kind.{Kind}
 use Rattle.journal.specs.declared.event.Kind.TheVariants as kind
 use Rattle.journal.specs.DidEvent.{did, event}
-use Rattle.journal.specs.FlatMemory.{AnswersWord, flat_write, memory_after}
+use Rattle.journal.specs.FlatMemory.{AnswersFlatWord, flat_write, memory_after}
 use Rattle.journal.specs.InRange.{AddressInRange}
 use Rattle.journal.specs.Sizes.{Sizes}
 use Rattle.journal.specs.WellFormed.{KindInRange, MayFollow}
 use Rattle.lrc_script.specs.declared.script.Instruction.{Instruction}
 use Rattle.lrc_script.specs.Plan.{Plan}
 use Rattle.lrc_script.specs.Lawful.{plan_addresses, IsLawful, IsLawfulSection}
-use Rattle.conformance.specs.Follows.{calls_of, is_fetch, plan_sizes}
-use Rattle.conformance.proofs.Calls.{calls_of-own, calls_of-other}
+use Rattle.conformance.specs.Follows.{followed_calls, is_followed_fetch, followed_plan_sizes}
+use Rattle.conformance.proofs.Calls.{followed_calls-own, followed_calls-others}
 use Rattle.judge.specs.Sizes.{AreSmall}
-use Rattle.conformance.proofs.Script.SectionSteps.{told, told_load, is_load}
+use Rattle.conformance.proofs.Script.SectionSteps.{told, section_load_told, is_section_load}
 use Rattle.explore.specs.declared.prefixes.script_call.ScriptCall.{ScriptCall}
 use Rattle.explore.specs.declared.prefixes.script_call.ScriptCall.TheVariants.{Call, Adds}
 use Rattle.explore.specs.declared.flat_state.FlatState.{FlatState}
@@ -34,59 +34,59 @@ use Rattle.explore.proofs.Proper.{proper_section}
 
 -- a load with the word of the memory is the one that the step says
 pub load_call : (reply a w v : ℕ) (memory : List ℕ) → slice_get memory a ≡ Some v → (k : Kind)
-    → (kind.Load a v ≡ k) ↔ (IsStep reply (Call (kind.Load a w)) k × AnswersWord memory k)
+    → (kind.Load a v ≡ k) ↔ (IsStep reply (Call (kind.Load a w)) k × AnswersFlatWord memory k)
 load_call reply a w v memory at k = (there, back)
   where
-    there : kind.Load a v ≡ k → IsStep reply (Call (kind.Load a w)) k × AnswersWord memory k
-    there is = subst (λ x. IsStep reply (Call (kind.Load a w)) x × AnswersWord memory x) is (refl, at)
+    there : kind.Load a v ≡ k → IsStep reply (Call (kind.Load a w)) k × AnswersFlatWord memory k
+    there is = subst (λ x. IsStep reply (Call (kind.Load a w)) x × AnswersFlatWord memory x) is (refl, at)
 
-    back : IsStep reply (Call (kind.Load a w)) k × AnswersWord memory k → kind.Load a v ≡ k
+    back : IsStep reply (Call (kind.Load a w)) k × AnswersFlatWord memory k → kind.Load a v ≡ k
     back h =
-        let load = told_load k a h.0 in
-        let word : slice_get memory a ≡ Some load.0 = subst (AnswersWord memory) load.1 h.1 in
+        let load = section_load_told k a h.0 in
+        let word : slice_get memory a ≡ Some load.0 = subst (AnswersFlatWord memory) load.1 h.1 in
         ap (λ x. kind.Load a x) (same_Some v load.0 (sym at ∙ word)) ∙ sym load.1
 
 -- any other call is itself
-replyless_other : (c : Kind) → ((a w : ℕ) → c ≢ kind.Load a w) → (replyless c ≡ c) × (is_load c ≡ false)
+replyless_other : (c : Kind) → ((a w : ℕ) → c ≢ kind.Load a w) → (replyless c ≡ c) × (is_section_load c ≡ false)
 replyless_other (kind.Load a w) other = absurd (other a w refl)
 replyless_other _ other = (refl, refl)
 
-other_word : (memory : List ℕ) (c : Kind) → ((a w : ℕ) → c ≢ kind.Load a w) → AnswersWord memory c
+other_word : (memory : List ℕ) (c : Kind) → ((a w : ℕ) → c ≢ kind.Load a w) → AnswersFlatWord memory c
 other_word memory (kind.Load a w) other = absurd (other a w refl)
 other_word memory _ other = tt
 
 pub other_call : (reply : ℕ) (c : Kind) (memory : List ℕ) → ((a w : ℕ) → c ≢ kind.Load a w) → (k : Kind)
-    → (c ≡ k) ↔ (IsStep reply (Call c) k × AnswersWord memory k)
+    → (c ≡ k) ↔ (IsStep reply (Call c) k × AnswersFlatWord memory k)
 other_call reply c memory other k = (
-  λ is. subst (λ x. IsStep reply (Call c) x × AnswersWord memory x) is (refl, other_word memory c other),
+  λ is. subst (λ x. IsStep reply (Call c) x × AnswersFlatWord memory x) is (refl, other_word memory c other),
   λ h. let same = replyless_other c other in sym (told k c (h.0 ∙ same.0) same.1),
 )
 
 -- the store of an add is
 pub adds_call : (reply a v : ℕ) (memory : List ℕ) (k : Kind)
-    → (kind.Store a ((reply + v) % 2 ^ 32) ≡ k) ↔ (IsStep reply (Adds a v) k × AnswersWord memory k)
-adds_call reply a v memory k = ((λ is. (sym is, subst (AnswersWord memory) is tt)), (λ h. sym h.0))
+    → (kind.Store a ((reply + v) % 2 ^ 32) ≡ k) ↔ (IsStep reply (Adds a v) k × AnswersFlatWord memory k)
+adds_call reply a v memory k = ((λ is. (sym is, subst (AnswersFlatWord memory) is tt)), (λ h. sym h.0))
 
 -- what a proper step says is in range, and no fetch
 range_replyless : (s : Sizes) (k : Kind) → KindInRange s k ↔ KindInRange s (replyless k)
 range_replyless s (kind.Load a v) = ((λ h. h), (λ h. h))
 range_replyless s _ = ((λ h. h), (λ h. h))
 
-fetch_replyless : (k : Kind) → is_fetch (replyless k) ≡ is_fetch k
+fetch_replyless : (k : Kind) → is_followed_fetch (replyless k) ≡ is_followed_fetch k
 fetch_replyless (kind.Load a v) = refl
 fetch_replyless _ = refl
 
 pub step_range : (s : Plan) (reply : ℕ) (x : ScriptCall) (k : Kind) → IsProper s x → IsStep reply x k
-    → KindInRange (plan_sizes s) k
+    → KindInRange (followed_plan_sizes s) k
 step_range s reply (Call c) k proper is =
-    (range_replyless (plan_sizes s) k).1
-    (subst (KindInRange (plan_sizes s)) (sym is) ((range_replyless (plan_sizes s) c).0 proper.0))
-step_range s reply (Adds a v) k proper is = subst (KindInRange (plan_sizes s)) (sym is) proper
+    (range_replyless (followed_plan_sizes s) k).1
+    (subst (KindInRange (followed_plan_sizes s)) (sym is) ((range_replyless (followed_plan_sizes s) c).0 proper.0))
+step_range s reply (Adds a v) k proper is = subst (KindInRange (followed_plan_sizes s)) (sym is) proper
 
-step_call : (s : Plan) (reply : ℕ) (x : ScriptCall) (k : Kind) → IsProper s x → IsStep reply x k → is_fetch k ≡ false
+step_call : (s : Plan) (reply : ℕ) (x : ScriptCall) (k : Kind) → IsProper s x → IsStep reply x k → is_followed_fetch k ≡ false
 step_call s reply (Call c) k proper is =
-    sym (fetch_replyless k) ∙ ap is_fetch is ∙ fetch_replyless c ∙ proper.1
-step_call s reply (Adds a v) k proper is = ap is_fetch is
+    sym (fetch_replyless k) ∙ ap is_followed_fetch is ∙ fetch_replyless c ∙ proper.1
+step_call s reply (Adds a v) k proper is = ap is_followed_fetch is
 
 -- and its address has a word
 pub step_word : (s : Plan) (x : ScriptCall) (size : ℕ) → size ≡ plan_addresses s → IsProper s x → StepReads size x
@@ -140,61 +140,61 @@ row_proper s p row n x lawful of at =
 
 module _ (s : Plan) (g : List Event) (m : FlatState) (p : ℕ) (row : Vec ScriptCall) (lawful : IsLawful s) (of : IsRowOf s p row)
     (small : p < 16) (knows : Knows s g m) where
-  called : (k : Kind) → IsFlatBeginning s (did g p k) → IsCalledNext row.items (calls_of g p) k
+  called : (k : Kind) → IsFlatBeginning s (did g p k) → IsCalledNext row.items (followed_calls g p) k
   called k h =
-      subst (λ xs. IsCalledNext xs (calls_of g p) k) (sym of.are)
+      subst (λ xs. IsCalledNext xs (followed_calls g p) k) (sym of.are)
       (((next_begins s g p k).0 h).1.calls.next of.section of.at)
 
   -- where all calls are made, there is no next one
   pub past_steps : length row.items ≤ slice_index m.done p → (k : Kind) → ¬ IsFlatBeginning s (did g p k)
   past_steps past k h =
       let next = called k h in
-      let within = slice_get_within row.items (length (calls_of g p)) next.step next.at in
+      let within = slice_get_within row.items (length (followed_calls g p)) next.step next.at in
       let done = knows.done p small in
       omega (arith, within, done)
 
   -- else the next step says which it may be
-  pub at_step : (reply : ℕ) → reply ≡ last_reply (calls_of g p) → (x : ScriptCall)
+  pub at_step : (reply : ℕ) → reply ≡ last_reply (followed_calls g p) → (x : ScriptCall)
       → slice_get row.items (slice_index m.done p) ≡ Some x → (c : Kind)
-      → ((k : Kind) → (c ≡ k) ↔ (IsStep reply x k × AnswersWord m.memory.items k)) → (k : Kind)
-      → IsFlatBeginning s (did g p k) ↔ (MayFollow (plan_sizes s) g (event p c) × (c ≡ k))
+      → ((k : Kind) → (c ≡ k) ↔ (IsStep reply x k × AnswersFlatWord m.memory.items k)) → (k : Kind)
+      → IsFlatBeginning s (did g p k) ↔ (MayFollow (followed_plan_sizes s) g (event p c) × (c ≡ k))
   at_step reply told x at c says k = (there, back)
     where
-      next_at : slice_get row.items (length (calls_of g p)) ≡ Some x
+      next_at : slice_get row.items (length (followed_calls g p)) ≡ Some x
       next_at = subst (λ n. slice_get row.items n ≡ Some x) (knows.done p small) at
 
-      there : IsFlatBeginning s (did g p k) → MayFollow (plan_sizes s) g (event p c) × (c ≡ k)
+      there : IsFlatBeginning s (did g p k) → MayFollow (followed_plan_sizes s) g (event p c) × (c ≡ k)
       there h =
           let next = called k h in
           let all = ((next_begins s g p k).0 h).1 in
           let same = same_Some next.step x (sym next.at ∙ next_at) in
-          let step = subst (λ y. IsStep (last_reply (calls_of g p)) y k) same next.is in
+          let step = subst (λ y. IsStep (last_reply (followed_calls g p)) y k) same next.is in
           let mine = subst (λ r. IsStep r x k) (sym told) step in
-          let word = subst (λ xs. AnswersWord xs k) (sym knows.memory) all.answers in
+          let word = subst (λ xs. AnswersFlatWord xs k) (sym knows.memory) all.answers in
           let is = (says k).1 (mine, word) in
-          (subst (λ y. MayFollow (plan_sizes s) g (event p y)) (sym is) all.may_follow, is)
+          (subst (λ y. MayFollow (followed_plan_sizes s) g (event p y)) (sym is) all.may_follow, is)
 
-      back : MayFollow (plan_sizes s) g (event p c) × (c ≡ k) → IsFlatBeginning s (did g p k)
+      back : MayFollow (followed_plan_sizes s) g (event p c) × (c ≡ k) → IsFlatBeginning s (did g p k)
       back h =
           let both = (says k).0 h.1 in
           let step = subst (λ r. IsStep r x k) told both.0 in
           (next_begins s g p k).1 (
             knows.beginning,
             record {
-              may_follow = subst (λ y. MayFollow (plan_sizes s) g (event p y)) h.1 h.0;
+              may_follow = subst (λ y. MayFollow (followed_plan_sizes s) g (event p y)) h.1 h.0;
               calls = record {
-                call = step_call s (last_reply (calls_of g p)) x k (row_proper s p row (slice_index m.done p) x lawful of at) step;
+                call = step_call s (last_reply (followed_calls g p)) x k (row_proper s p row (slice_index m.done p) x lawful of at) step;
                 next = λ section here.
-                    subst (λ ys. IsCalledNext ys (calls_of g p) k)
+                    subst (λ ys. IsCalledNext ys (followed_calls g p) k)
                     (of.are ∙ ap (λ y. section_steps y (shown_by s p)) (same_Some of.section section (sym of.at ∙ here)))
                     (record { step = x; at = next_at; is = step });
               };
-              answers = subst (λ xs. AnswersWord xs k) knows.memory both.1;
+              answers = subst (λ xs. AnswersFlatWord xs k) knows.memory both.1;
             },
           )
 
 -- the sizes of a lawful script
-pub sizes_small : (s : Plan) → IsLawful s → AreSmall (plan_sizes s)
+pub sizes_small : (s : Plan) → IsLawful s → AreSmall (followed_plan_sizes s)
 sizes_small s lawful =
     let sizes = lawful.but_uneven.sizes in
     record {
@@ -230,36 +230,36 @@ pub read_at : {A : Type 0} (xs : List A) (k : ℕ) (x : A) → k < length xs →
 read_at xs k x lt is = slice_get-get_or xs k x lt ∙ ap Some (sym is)
 
 -- an address in range is one of the memory
-pub kind_address : (s : Plan) (k : Kind) (size : ℕ) → size ≡ plan_addresses s → KindInRange (plan_sizes s) k → AddressInRange size k
+pub kind_address : (s : Plan) (k : Kind) (size : ℕ) → size ≡ plan_addresses s → KindInRange (followed_plan_sizes s) k → AddressInRange size k
 kind_address s (kind.Load a v) size is range = subst (λ n. a < n) (sym is) range
 kind_address s (kind.Store a v) size is range = subst (λ n. a < n) (sym is) range
 kind_address s _ size is range = tt
 
 module _ (s : Plan) (g : List Event) (p : ℕ) (k : Kind) (next : IsFlatBeginning s (did g p k)) where
-  pub next_may : MayFollow (plan_sizes s) g (event p k)
+  pub next_may : MayFollow (followed_plan_sizes s) g (event p k)
   next_may = ((next_begins s g p k).0 next).1.may_follow
 
-  pub next_call : is_fetch k ≡ false
+  pub next_call : is_followed_fetch k ≡ false
   next_call = ((next_begins s g p k).0 next).1.calls.call
 
   pub next_within : p < s.processors
   next_within = next_may.processor
 
   -- what processors have done, after one call more
-  pub done_next : (ns : List ℕ) → length ns ≡ 16 → p < 16 → ((q : ℕ) → q < 16 → slice_index ns q ≡ length (calls_of g q))
-      → (q : ℕ) → q < 16 → slice_index (slice_set ns p (slice_index ns p + 1)) q ≡ length (calls_of (did g p k) q)
+  pub done_next : (ns : List ℕ) → length ns ≡ 16 → p < 16 → ((q : ℕ) → q < 16 → slice_index ns q ≡ length (followed_calls g q))
+      → (q : ℕ) → q < 16 → slice_index (slice_set ns p (slice_index ns p + 1)) q ≡ length (followed_calls (did g p k) q)
   done_next ns long small old q lt = elim (cases_eq q p) [
     | inl same ↦
         (let n = slice_index ns p + 1 in
-        let mine = ap (λ (ks : List Kind). length ks) (calls_of-own g p k next_call) in
-        let both = length-append (calls_of g p) (k ∷ []) in
+        let mine = ap (λ (ks : List Kind). length ks) (followed_calls-own g p k next_call) in
+        let both = length-append (followed_calls g p) (k ∷ []) in
         let was = old p small in
         let now : slice_index (slice_set ns p n) p ≡ n = get_or-set_same ns p n 0 (omega arith) in
-        let here : slice_index (slice_set ns p n) p ≡ length (calls_of (did g p k) p) = omega arith in
-        subst (λ r. slice_index (slice_set ns p n) r ≡ length (calls_of (did g p k) r)) (sym same) here)
+        let here : slice_index (slice_set ns p n) p ≡ length (followed_calls (did g p k) p) = omega arith in
+        subst (λ r. slice_index (slice_set ns p n) r ≡ length (followed_calls (did g p k) r)) (sym same) here)
     | inr isnt ↦
         get_or-set_other ns p q (slice_index ns p + 1) 0 isnt ∙ old q lt
-        ∙ ap (λ (ks : List Kind). length ks) (sym (calls_of-other g p q k (λ e. isnt (sym e))))
+        ∙ ap (λ (ks : List Kind). length ks) (sym (followed_calls-others g p q k (λ e. isnt (sym e))))
   ]
 
   -- and the memory

@@ -2,7 +2,7 @@
 use Rattle.std.proofs.Common.{◌≡◌, ◌≢◌, ℕ, ◌<◌, inl, inr, List, [], ◌∷◌, ◌++◌, length, not, ◌==◌, subst, sym, refl, ap, ◌∙◌, arith}
 use Rattle.std.proofs.lemmas.Bool.{cases_eq, eq-eqb, ne_eqb, false≢true}
 use Rattle.base.specs.InOrderOnce.{Has, InOrder}
-use Rattle.base.proofs.Joined.{has-nil, has-cons, has-append, in_order-append, in_order_single}
+use Rattle.base.proofs.Joined.{has-nil, has-cons, has-append, in_order-append, joined_in_order_single}
 use Rattle.base.proofs.FilteredInOrder.{has-filter, in_order-filter}
 use Rattle.journal.specs.declared.event.Event.{Event}
 use Rattle.journal.specs.declared.event.Kind.{Kind}
@@ -66,7 +66,7 @@ module _ (s : Sizes) (j : List Event) (p : ℕ) (k : Kind) (asked : List ℕ) (m
     order =
         in_order-append (AskedBefore (did j p k)) asked (p ∷ [])
         (order_same j (did j p k) asked (λ q i has. was q i has) old.order)
-        (in_order_single (AskedBefore (did j p k)) p) across;
+        (joined_in_order_single (AskedBefore (did j p k)) p) across;
     small = λ q has. elim ((has-append asked (p ∷ []) q).0 has) [
       | inl before ↦ old.small q before
       | inr now ↦ subst (λ r. r < 16) (has_single p q now) small

@@ -12,8 +12,8 @@ use Rattle.journal.specs.declared.event.Kind.{Kind}
 use Rattle.journal.specs.declared.event.Kind.TheVariants as kind
 use Rattle.journal.specs.DidEvent.{did}
 use Rattle.lrc_script.specs.Plan.{Plan}
-use Rattle.conformance.specs.Follows.{calls_of, is_fetch}
-use Rattle.conformance.proofs.Calls.{calls_of-own, calls_of-other}
+use Rattle.conformance.specs.Follows.{followed_calls, is_followed_fetch}
+use Rattle.conformance.proofs.Calls.{followed_calls-own, followed_calls-others}
 use Rattle.explore.specs.Prefixes.Calling.{last_reply, reply_after}
 use Rattle.explore.specs.Machines.{items_of, last_or}
 use Rattle.explore.specs.Outcomes.{AreReplies, replies_in}
@@ -69,33 +69,33 @@ items_push (x ∷ vs) v = ap (λ rows. x.items ∷ rows) (items_push vs v)
 module _ (s : Plan) (g : List Event) (p : ℕ) (vs : List (Vec ℕ)) (v : Vec ℕ) (within : p < s.processors)
     (at : slice_get vs p ≡ Some v) (old : AreReplies s g (items_of vs)) where
   -- the row of a processor has its replies
-  pub row_replies : v.items ≡ replies_in (calls_of g p)
-  row_replies = same_Some v.items (replies_in (calls_of g p)) (sym (items_at vs p v at) ∙ old.each p within)
+  pub row_replies : v.items ≡ replies_in (followed_calls g p)
+  row_replies = same_Some v.items (replies_in (followed_calls g p)) (sym (items_at vs p v at) ∙ old.each p within)
 
-  pub last_told : (reply : ℕ) → reply ≡ last_or 0 v.items → reply ≡ last_reply (calls_of g p)
-  last_told reply is = is ∙ ap (last_or 0) row_replies ∙ last_reply_from 0 (calls_of g p)
+  pub last_told : (reply : ℕ) → reply ≡ last_or 0 v.items → reply ≡ last_reply (followed_calls g p)
+  last_told reply is = is ∙ ap (last_or 0) row_replies ∙ last_reply_from 0 (followed_calls g p)
 
   -- and after its next call
-  pub replies_next : (k : Kind) (new : Vec ℕ) → is_fetch k ≡ false → new.items ≡ v.items ++ replies_in (k ∷ [])
+  pub replies_next : (k : Kind) (new : Vec ℕ) → is_followed_fetch k ≡ false → new.items ≡ v.items ++ replies_in (k ∷ [])
       → AreReplies s (did g p k) (items_of (slice_set vs p new))
   replies_next k new call is = subst (AreReplies s (did g p k)) (sym (items_set vs p new)) (record {
     long = length-set (items_of vs) p new.items ∙ old.long;
     each = λ q lt. elim (cases_eq q p) [
       | inl same ↦
-          subst (λ r. slice_get (slice_set (items_of vs) p new.items) r ≡ Some (replies_in (calls_of (did g p k) r)))
+          subst (λ r. slice_get (slice_set (items_of vs) p new.items) r ≡ Some (replies_in (followed_calls (did g p k) r)))
           (sym same) mine
       | inr isnt ↦
           slice_get-set_other (items_of vs) p q new.items isnt ∙ old.each q lt
-          ∙ ap (λ ks. Some (replies_in ks)) (sym (calls_of-other g p q k (λ e. isnt (sym e))))
+          ∙ ap (λ ks. Some (replies_in ks)) (sym (followed_calls-others g p q k (λ e. isnt (sym e))))
     ];
   })
     where
-      told : new.items ≡ replies_in (calls_of (did g p k) p)
+      told : new.items ≡ replies_in (followed_calls (did g p k) p)
       told =
           is ∙ ap (λ words. words ++ replies_in (k ∷ [])) row_replies
-          ∙ sym (replies_in-append (calls_of g p) (k ∷ [])) ∙ ap replies_in (sym (calls_of-own g p k call))
+          ∙ sym (replies_in-append (followed_calls g p) (k ∷ [])) ∙ ap replies_in (sym (followed_calls-own g p k call))
 
-      mine : slice_get (slice_set (items_of vs) p new.items) p ≡ Some (replies_in (calls_of (did g p k) p))
+      mine : slice_get (slice_set (items_of vs) p new.items) p ≡ Some (replies_in (followed_calls (did g p k) p))
       mine =
           slice_get-set_same (items_of vs) p new.items (slice_get_within (items_of vs) p v.items (items_at vs p v at))
           ∙ ap Some told

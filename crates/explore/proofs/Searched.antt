@@ -8,8 +8,8 @@ use Rattle.std.proofs.lemmas.Bool.{cases_eq, cases_lt, false≢true}
 use Rattle.std.proofs.lemmas.List.{get_or_past}
 use Rattle.std.proofs.lemmas.Option.{none-some, same_Some, slice_get_within}
 use Rattle.base.specs.InOrderOnce.{Has, IsOnce}
-use Rattle.base.proofs.Joined.{has-append, has-cons, has-nil, in_order-append, in_order-nil, in_order_single}
-use Rattle.base.proofs.SliceSets.{same_places}
+use Rattle.base.proofs.Joined.{has-append, has-cons, has-nil, in_order-append, in_order-nil, joined_in_order_single}
+use Rattle.base.proofs.SliceSets.{slice_sets_same}
 use Rattle.journal.specs.declared.event.Event.{Event}
 use Rattle.journal.specs.declared.event.Kind.{Kind}
 use Rattle.journal.specs.DidEvent.{did}
@@ -239,7 +239,7 @@ past_none (x ∷ xs) zero le = absurd (omega arith)
 past_none (x ∷ xs) (suc k) le = past_none xs k (omega arith)
 
 pub same_replies : (s : Plan) (g : List Event) (a b : List (List ℕ)) → AreReplies s g a → AreReplies s g b → a ≡ b
-same_replies s g a b first second = same_places a b (λ k. elim (cases_lt k s.processors) [
+same_replies s g a b first second = slice_sets_same a b (λ k. elim (cases_lt k s.processors) [
   | inl lt ↦ first.each k lt ∙ sym (second.each k lt)
   | inr past ↦
       (let one = first.long in
@@ -323,7 +323,7 @@ module _ (s : Plan) (x : Search) (steps : List (Vec ScriptCall)) (n : ℕ) (f : 
     once =
         subst IsOnce (sym pushed.1)
         (in_order-append (λ (a b : List (List ℕ)). a ≢ b) old (items_of f.replies.items ∷ []) shows.once
-        (in_order_single (λ (a b : List (List ℕ)). a ≢ b) (items_of f.replies.items))
+        (joined_in_order_single (λ (a b : List (List ℕ)). a ≢ b) (items_of f.replies.items))
         (λ a b has one same. pushed.0 (subst (Has old) (same ∙ sym (one_of (items_of f.replies.items) b one)) has)));
   }
     where

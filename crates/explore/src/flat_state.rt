@@ -4,9 +4,9 @@ ghost use Rattle.std.specs.Prelude.{length, replicate, slice_index_or};
 ghost use Rattle.base.specs.Prelude.{wrote};
 ghost use Rattle.journal.specs.declared.event.Event.{Event as AnEvent};
 ghost use Rattle.journal.specs.declared.event.Kind.{Kind as AKind};
-ghost use Rattle.journal.specs.Prelude.{AddressInRange, AnswersWord, did, flat_write};
+ghost use Rattle.journal.specs.Prelude.{AddressInRange, AnswersFlatWord, did, flat_write};
 ghost use Rattle.lrc_script.specs.Prelude.{IsLawful, Plan, plan_of};
-ghost use Rattle.conformance.specs.Follows.{Follows, calls_of};
+ghost use Rattle.conformance.specs.Follows.{Follows, followed_calls};
 ghost use Rattle.explore.specs.Prefixes.Calling.{IsStep, last_reply};
 ghost use Rattle.explore.specs.Prefixes.Prelude.{IsFlatBeginning};
 ghost use Rattle.explore.specs.Machines.{AreLawfulSteps, StepReads, SameState, IsRunning, IsStepOf, Knows};
@@ -35,7 +35,7 @@ pub struct FlatState {
 /// The call that the step says, after this reply, with the word of the memory where it loads.
 fn call_of(step: ScriptCall, reply: u32, memory: &[u32]) -> Kind
     requires { StepReads (length memory.now) step }
-    ensures { (k : AKind) → (result ≡ k) ↔ (IsStep reply step k × AnswersWord memory.now k) }
+    ensures { (k : AKind) → (result ≡ k) ↔ (IsStep reply step k × AnswersFlatWord memory.now k) }
 {
     match step {
         ScriptCall::Call(Kind::Load(address, _)) => Kind::Load(address, memory[address]),
@@ -114,7 +114,7 @@ impl FlatState {
     /// What the processor's last load answered, 0 where there is none.
     fn reply_before(&self, processor: usize) -> u32
         requires { processor < length self.now.replies.items }
-        ensures { (s : Plan) (g : List AnEvent) → Knows s g self.now → result ≡ last_reply (calls_of g processor) }
+        ensures { (s : Plan) (g : List AnEvent) → Knows s g self.now → result ≡ last_reply (followed_calls g processor) }
     {
         last_of(&self.replies[processor])
     }

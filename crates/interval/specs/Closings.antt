@@ -25,39 +25,39 @@ pushed c interval = record {
 }
 
 -- the owner's interval has a number below `to`
-abbrev pub is_trimmed : ℕ → ℕ → KeptInterval → Bool
-is_trimmed owner to k = k.interval.owner == owner && nat_lt k.interval.number to
+abbrev pub is_trimmed_from_closings : ℕ → ℕ → KeptInterval → Bool
+is_trimmed_from_closings owner to k = k.interval.owner == owner && nat_lt k.interval.number to
 
 -- the owner's intervals with numbers below `to` are dropped
-abbrev pub trimmed : Closings → ℕ → ℕ → Closings
-trimmed c owner to = record {
-  kept = filter (λ k. not (is_trimmed owner to k)) c.kept;
+abbrev pub closings_trimmed_below : Closings → ℕ → ℕ → Closings
+closings_trimmed_below c owner to = record {
+  kept = filter (λ k. not (is_trimmed_from_closings owner to k)) c.kept;
   first = slice_set c.first owner (max (slice_index c.first owner) (min to (slice_index c.next owner)));
   next = c.next;
   pushed = c.pushed;
 }
 
 -- the timestamp `new` covers the interval and `old` doesn't
-abbrev pub is_news : List ℕ → List ℕ → KeptInterval → Bool
-is_news old new k =
+abbrev pub is_news_of_closings : List ℕ → List ℕ → KeptInterval → Bool
+is_news_of_closings old new k =
     nat_le (slice_index old k.interval.owner) k.interval.number && nat_lt k.interval.number
     (slice_index new k.interval.owner)
 
 -- a record of the interval, under its notice
-abbrev pub sent_record : KeptInterval → Changes → SentRecord
-sent_record k r = record {
+abbrev pub closings_sent_record : KeptInterval → Changes → SentRecord
+closings_sent_record k r = record {
   notice = record { page = r.page; owner = k.interval.owner; number = k.interval.number };
   place = k.place;
   content = r;
 }
 
 -- all of the interval's records
-abbrev pub sent_interval : KeptInterval → List SentRecord
-sent_interval k = map (sent_record k) k.interval.records
+abbrev pub closings_sent_interval : KeptInterval → List SentRecord
+closings_sent_interval k = map (closings_sent_record k) k.interval.records
 
 -- the kept intervals that `new` covers and `old` doesn't, in closing order
 abbrev pub closings_between : Closings → List ℕ → List ℕ → List SentRecord
-closings_between c old new = flat_map sent_interval (filter (is_news old new) c.kept)
+closings_between c old new = flat_map closings_sent_interval (filter (is_news_of_closings old new) c.kept)
 
 -- all that lies between these timestamps is kept: each has an entry for each owner, and none is dropped that `old`
 -- doesn't cover
@@ -67,13 +67,13 @@ pub record KeepsClosingsBetween (c : Closings) (old new : List ℕ) : Type 0 whe
   pub none_trimmed : (q : ℕ) → slice_index c.first q ≤ slice_index old q
 
 -- it announces a record of the page
-abbrev pub is_of_page : ℕ → SentRecord → Bool
-is_of_page page s = s.notice.page == page
+abbrev pub is_closing_of_page : ℕ → SentRecord → Bool
+is_closing_of_page page s = s.notice.page == page
 
 -- the interval is that of the notice
-abbrev pub is_noticed : Notice → KeptInterval → Bool
-is_noticed n k = k.interval.owner == n.owner && k.interval.number == n.number
+abbrev pub is_noticed_closing : Notice → KeptInterval → Bool
+is_noticed_closing n k = k.interval.owner == n.owner && k.interval.number == n.number
 
 -- the record that the notice announces, if its interval is kept and has one
 abbrev pub record_of : Closings → Notice → Option Changes
-record_of c n = option_and_then (λ k. find (λ r. r.page == n.page) k.interval.records) (find (is_noticed n) c.kept)
+record_of c n = option_and_then (λ k. find (λ r. r.page == n.page) k.interval.records) (find (is_noticed_closing n) c.kept)

@@ -3,7 +3,7 @@ use Rattle.std.specs.Prelude.{ℕ, ◌≡◌, ◌≢◌, ◌↔◌, ◌+◌, ◌
 use Rattle.std.specs.List.{flat_map}
 use Rattle.base.specs.InOrderOnce.{Has, InOrder}
 use Rattle.interval.specs.declared.kept_interval.KeptInterval.{KeptInterval}
-use Rattle.interval.specs.SentIntervals.{HasRisingPages}
+use Rattle.interval.specs.SentIntervals.{SentPagesRise}
 use Rattle.interval.specs.Closings.{Closings}
 
 -- the kept intervals of one owner by rising number, from `first` on
@@ -13,19 +13,19 @@ pub record Queue : Type 0 where
 
 -- the list with k at its place. One that has an interval with k's closing number stays as it is, and k
 -- is dropped
-abbrev pub placed : KeptInterval → List KeptInterval → List KeptInterval
-placed k [] = k ∷ []
-placed k (x ∷ xs) =
-    cond (nat_lt k.place x.place) (k ∷ x ∷ xs) (cond (nat_lt x.place k.place) (x ∷ placed k xs) (x ∷ xs))
+abbrev pub queue_placed : KeptInterval → List KeptInterval → List KeptInterval
+queue_placed k [] = k ∷ []
+queue_placed k (x ∷ xs) =
+    cond (nat_lt k.place x.place) (k ∷ x ∷ xs) (cond (nat_lt x.place k.place) (x ∷ queue_placed k xs) (x ∷ xs))
 
 -- the intervals by rising closing number, one for each such number
-abbrev pub by_place : List KeptInterval → List KeptInterval
-by_place [] = []
-by_place (x ∷ xs) = placed x (by_place xs)
+abbrev pub queue_by_place : List KeptInterval → List KeptInterval
+queue_by_place [] = []
+queue_by_place (x ∷ xs) = queue_placed x (queue_by_place xs)
 
 -- all queues as one list in closing order
 abbrev pub merged_queues : List Queue → List KeptInterval
-merged_queues queues = by_place (flat_map (λ (q : Queue). q.kept) queues)
+merged_queues queues = queue_by_place (flat_map (λ (q : Queue). q.kept) queues)
 
 -- what the queues hold, in the words of contracts
 abbrev pub queue_closings : List Queue → ℕ → Closings
@@ -41,7 +41,7 @@ pub record IsQueued (owner count : ℕ) (queue : Queue) (i : ℕ) (k : KeptInter
   pub owner_is : k.interval.owner ≡ owner
   pub number_is : k.interval.number ≡ queue.first + i
   pub closed : k.place < count
-  pub pages : HasRisingPages k.interval.records
+  pub pages : SentPagesRise k.interval.records
 
 -- the owner's queue, when that many intervals were closed in all
 pub record IsQueue (owner count : ℕ) (queue : Queue) : Type 0 where
@@ -56,7 +56,7 @@ pub record AreQueues (queues : List Queue) (count : ℕ) : Type 0 where
       → Has a.kept j → Has b.kept k → j.place ≡ k.place → q ≡ r
 
 -- the list has just these intervals, in any order, and no closing number twice
-pub record SameIntervals (ks list : List KeptInterval) : Type 0 where
+pub record SameQueuedIntervals (ks list : List KeptInterval) : Type 0 where
   pub same : (k : KeptInterval) → Has list k ↔ Has ks k
   pub apart : InOrder (λ (j k : KeptInterval). j.place ≢ k.place) list
 

@@ -17,13 +17,13 @@ pub record SentRecord : Type 0 where
   pub content : Changes
 
 -- one record a page, in rising order of page
-abbrev pub HasRisingPages : List Changes → Type 0
-HasRisingPages records = InOrder (λ (r s : Changes). r.page < s.page) records
+abbrev pub SentPagesRise : List Changes → Type 0
+SentPagesRise records = InOrder (λ (r s : Changes). r.page < s.page) records
 
 -- one comes before the other: its interval was closed before, or it is one interval and the page is lower
-abbrev pub ComesBefore : SentRecord → SentRecord → Type 0
-ComesBefore a b = (a.place < b.place) ⊎ ((a.place ≡ b.place) × (a.notice.page < b.notice.page))
+abbrev pub IsSentBefore : SentRecord → SentRecord → Type 0
+IsSentBefore a b = (a.place < b.place) ⊎ ((a.place ≡ b.place) × (a.notice.page < b.notice.page))
 
 -- in closing order, and by rising page within one interval
-abbrev pub IsInClosingOrder : List SentRecord → Type 0
-IsInClosingOrder sent = InOrder ComesBefore sent
+abbrev pub IsSentInClosingOrder : List SentRecord → Type 0
+IsSentInClosingOrder sent = InOrder IsSentBefore sent

@@ -4,8 +4,8 @@ ghost use Rattle.std.specs.Prelude.{replicate, [], ◌∷◌, length, find, filt
 ghost use Rattle.std.specs.Prelude.{EachIndex, map};
 ghost use Rattle.std.specs.Option.{option_copied};
 ghost use Rattle.vtime.specs.Times.{tick};
-ghost use Rattle.interval.specs.Prelude.{HasRisingPages, IsInClosingOrder, KeepsClosingsBetween, pushed, trimmed, is_news};
-ghost use Rattle.interval.specs.Prelude.{closings_between, is_of_page, record_of, SameIntervals};
+ghost use Rattle.interval.specs.Prelude.{SentPagesRise, IsSentInClosingOrder, KeepsClosingsBetween, pushed, closings_trimmed_below, is_news_of_closings};
+ghost use Rattle.interval.specs.Prelude.{closings_between, is_closing_of_page, record_of, SameQueuedIntervals};
 
 use crate::kept_interval::{Interval, KeptInterval};
 use crate::notice::{Notice, Sent};
@@ -53,7 +53,7 @@ impl Closed {
     pub fn push(&mut self, interval: Interval) -> Result<(), AllocError>
         requires owner { interval.owner < length self.old.next }
         requires number { interval.number ≡ slice_index self.old.next interval.owner }
-        requires pages { HasRisingPages interval.records }
+        requires pages { SentPagesRise interval.records }
         requires fits { self.old.pushed < 2 ^ 64 - 1 }
         ensures ok { OnOk result (self.new ≡ pushed self.old interval) }
 
@@ -79,7 +79,7 @@ impl Closed {
     pub fn between(&self, old: &VTime, new: &VTime) -> Result<Vec<Sent>, AllocError>
         requires { KeepsClosingsBetween self.now old.now new.now }
         ensures value { IfOk result (λ sent. sent.items ≡ closings_between self.now old.now new.now) }
-        ensures in_order { IfOk result (λ sent. IsInClosingOrder sent.items) }
+        ensures in_order { IfOk result (λ sent. IsSentInClosingOrder sent.items) }
     {
         let mut news = self.news(old, new)?;
         news.sort_unstable_by_key(|kept| kept.place);
@@ -96,7 +96,7 @@ impl Closed {
     pub fn count_news(&self, old: &VTime, new: &VTime, counts: &mut [usize])
         requires { KeepsClosingsBetween self.now old.now new.now }
         ensures each { EachIndex counts.new
-            (λ n. slice_index counts.new n ≡ count_by (is_of_page n)
+            (λ n. slice_index counts.new n ≡ count_by (is_closing_of_page n)
             (closings_between self.now old.now new.now)) }
         ensures same_length { length counts.new ≡ length counts.old }
     {
@@ -106,7 +106,7 @@ impl Closed {
     /// How many notices of the page `between` answers. It takes no memory, and costs as `count_news` does.
     pub fn news_of(&self, page: usize, old: &VTime, new: &VTime) -> usize
         requires { KeepsClosingsBetween self.now old.now new.now }
-        ensures { result ≡ count_by (is_of_page page) (closings_between self.now old.now new.now) }
+        ensures { result ≡ count_by (is_closing_of_page page) (closings_between self.now old.now new.now) }
     {
         let mut count = [0];
         self.count_pages(page, old, new, &mut count);
@@ -118,7 +118,7 @@ impl Closed {
     fn count_pages(&self, base: usize, old: &VTime, new: &VTime, counts: &mut [usize])
         requires { KeepsClosingsBetween self.now old.now new.now }
         ensures each { EachIndex counts.new
-            (λ i. slice_index counts.new i ≡ count_by (is_of_page (base + i))
+            (λ i. slice_index counts.new i ≡ count_by (is_closing_of_page (base + i))
             (closings_between self.now old.now new.now)) }
         ensures same_length { length counts.new ≡ length counts.old }
     {
@@ -137,11 +137,11 @@ impl Closed {
         new: &VTime,
     ) -> Result<Vec<Sent>, AllocError>
         requires owner { interval.now.owner < length self.now.next }
-        requires pages { HasRisingPages interval.now.records }
+        requires pages { SentPagesRise interval.now.records }
         requires kept { KeepsClosingsBetween self.now old.now new.now }
         ensures value { IfOk result (λ sent. sent.items
             ≡ closings_between (pushed self.now interval.now) old.now new.now) }
-        ensures in_order { IfOk result (λ sent. IsInClosingOrder sent.items) }
+        ensures in_order { IfOk result (λ sent. IsSentInClosingOrder sent.items) }
     {
         let mut sent = self.between(old, new)?;
         let (owner, number) = (interval.owner, interval.number);
@@ -154,7 +154,7 @@ impl Closed {
     /// The intervals that `new` covers and `old` doesn't, owner by owner.
     fn news(&self, old: &VTime, new: &VTime) -> Result<Vec<&KeptInterval>, AllocError>
         requires { KeepsClosingsBetween self.now old.now new.now }
-        ensures { IfOk result (λ news. SameIntervals (filter (is_news old.now new.now) self.now.kept)
+        ensures { IfOk result (λ news. SameQueuedIntervals (filter (is_news_of_closings old.now new.now) self.now.kept)
             (map (λ k. k.now) news.items)) }
     {
         let mut news = Vec::new(*self.queues.allocator());
@@ -188,7 +188,7 @@ impl Closed {
     /// Drops the owner's intervals with numbers below `to`, which everyone has performed.
     pub fn trim(&mut self, owner: usize, to: u64)
         requires { owner < length self.old.first }
-        ensures value { self.new ≡ trimmed self.old owner to }
+        ensures value { self.new ≡ closings_trimmed_below self.old owner to }
 
         // A processor that has performed the dropped intervals is sent what was sent before.
         ensures same_news { (old new : List ℕ) → to ≤ slice_index old owner

@@ -2,7 +2,7 @@
 ghost use Rattle.std.specs.Prelude.{◌≡◌, ◌==◌, ◌++◌, IfOk, OnOk, find, map};
 ghost use Rattle.std.specs.Arc.{arc_value};
 ghost use Rattle.std.specs.Option.{option_copied};
-ghost use Rattle.interval.specs.Prelude.{sent_interval, sent_record, pages_of_records, CountsGrew, CountsHaveRoom};
+ghost use Rattle.interval.specs.Prelude.{closings_sent_interval, closings_sent_record, pages_of_records, CountsGrew, CountsHaveRoom};
 
 use crate::notice::{Notice, Sent};
 use page::Record;
@@ -62,7 +62,7 @@ impl Interval {
     /// Adds each record, under its notice, to what is sent of the interval with this closing number.
     pub(crate) fn send(&self, place: u64, sent: &mut Vec<Sent>) -> Result<(), AllocError>
         ensures { OnOk result (sent.new.items
-            ≡ sent.old.items ++ sent_interval (record { place = place; interval = self.now })) }
+            ≡ sent.old.items ++ closings_sent_interval (record { place = place; interval = self.now })) }
     {
         for record in self.shared_records() {
             sent.push(self.announced(place, record)?)?;
@@ -73,7 +73,7 @@ impl Interval {
     /// A record of its own, under its notice.
     fn announced(&self, place: u64, shared: &Arc<Record>) -> Result<Sent, AllocError>
         ensures { IfOk result (λ sent. sent
-            ≡ sent_record (record { place = place; interval = self.now }) (arc_value shared.now)) }
+            ≡ closings_sent_record (record { place = place; interval = self.now }) (arc_value shared.now)) }
     {
         Ok(Sent {
             notice: Notice {
@@ -125,7 +125,7 @@ impl KeptInterval {
 
     /// Adds each record of the interval, under its notice, to what is sent.
     pub(crate) fn send(&self, sent: &mut Vec<Sent>) -> Result<(), AllocError>
-        ensures { OnOk result (sent.new.items ≡ sent.old.items ++ sent_interval self.now) }
+        ensures { OnOk result (sent.new.items ≡ sent.old.items ++ closings_sent_interval self.now) }
     {
         self.interval.send(self.place, sent)
     }

@@ -35,7 +35,7 @@ abbrev pub load_entry : Accesses → ℕ → ℕ → ℕ
 load_entry x a = loads_entry (access_at x.last.items a).loads (slice_index_or x.loads.items a [])
 
 -- place i is an event that these numbers count, or happens before one
-pub record IsReached (j : List Event) (numbers : ℕ → ℕ) (i : ℕ) : Type 0 where
+pub record IsReachedByAccesses (j : List Event) (numbers : ℕ → ℕ) (i : ℕ) : Type 0 where
   pub by : ℕ
   pub last : ℕ
   pub kind : Kind
@@ -48,23 +48,23 @@ pub record IsReached (j : List Event) (numbers : ℕ → ℕ) (i : ℕ) : Type 0
 pub record AreAccessEntries (j : List Event) (addresses : ℕ) (x : Accesses) : Type 0 where
   pub last_long : vec_len x.last ≡ addresses
   pub loads_long : vec_len x.loads ≡ addresses
-  pub stores : (a q i v : ℕ) → Does j i q (Store a v) → IsReached j (store_entry x a) i
+  pub stores : (a q i v : ℕ) → Does j i q (Store a v) → IsReachedByAccesses j (store_entry x a) i
   pub loads : (a q i v : ℕ) → Does j i q (Load a v)
-      → IsReached j (store_entry x a) i ⊎ IsReached j (load_entry x a) i
+      → IsReachedByAccesses j (store_entry x a) i ⊎ IsReachedByAccesses j (load_entry x a) i
 
 -- p's timestamp t reaches the numbers of all others
-abbrev pub AreWithin : (ℕ → ℕ) → (ℕ → ℕ) → ℕ → Type 0
-AreWithin numbers t p = (q : ℕ) → q ≢ p → numbers q ≤ t q
+abbrev pub AreAccessEntriesWithin : (ℕ → ℕ) → (ℕ → ℕ) → ℕ → Type 0
+AreAccessEntriesWithin numbers t p = (q : ℕ) → q ≢ p → numbers q ≤ t q
 
 -- p's timestamp t reaches those of all last accesses by others that conflict with this
-abbrev pub ConflictsAreCounted : Accesses → ℕ → (ℕ → ℕ) → Kind → Type 0
-ConflictsAreCounted x p t (Load a v) = AreWithin (store_entry x a) t p
-ConflictsAreCounted x p t (Store a v) = AreWithin (store_entry x a) t p × AreWithin (load_entry x a) t p
-ConflictsAreCounted x p t _ = Unit {0}
+abbrev pub ConflictEntriesAreCounted : Accesses → ℕ → (ℕ → ℕ) → Kind → Type 0
+ConflictEntriesAreCounted x p t (Load a v) = AreAccessEntriesWithin (store_entry x a) t p
+ConflictEntriesAreCounted x p t (Store a v) = AreAccessEntriesWithin (store_entry x a) t p × AreAccessEntriesWithin (load_entry x a) t p
+ConflictEntriesAreCounted x p t _ = Unit {0}
 
 -- numbers after a load by p at the timestamp t: p's is above its interval, and each other one as great as before, or t
 -- counts what it was
-pub record AreLoadsAfter (old new t : ℕ → ℕ) (p : ℕ) : Type 0 where
+pub record AreLoadEntriesAfter (old new t : ℕ → ℕ) (p : ℕ) : Type 0 where
   pub own : t p < new p
   pub others : (q : ℕ) → q ≢ p → (old q ≤ t q) ⊎ (old q ≤ new q)
 
@@ -76,7 +76,7 @@ pub record StoreAccessNoted (x y : Accesses) (a p : ℕ) (t : ℕ → ℕ) : Typ
 
 -- a load of a is among the last ones, and all else is as before
 pub record LoadAccessNoted (x y : Accesses) (a p : ℕ) (t : ℕ → ℕ) : Type 0 where
-  pub loads : AreLoadsAfter (load_entry x a) (load_entry y a) t p
+  pub loads : AreLoadEntriesAfter (load_entry x a) (load_entry y a) t p
   pub same_stores : (b q : ℕ) → store_entry y b q ≡ store_entry x b q
   pub same_loads : (b q : ℕ) → b ≢ a → load_entry y b q ≡ load_entry x b q
 

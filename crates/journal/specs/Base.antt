@@ -22,5 +22,5 @@ no_base addresses = record {
 }
 
 -- how many arrivals of each processor were cut off and not departed from: one, if anything was
-abbrev pub arrivals_cut : Base → ℕ
-arrivals_cut b = min b.cut 1
+abbrev pub base_arrivals_cut : Base → ℕ
+base_arrivals_cut b = min b.cut 1

@@ -12,7 +12,7 @@ use Rattle.journal.specs.FlatMemory.{Replays}
 use Rattle.journal.specs.PageImages.{Lawful}
 use Rattle.journal.specs.Base.{Base, no_base}
 use Rattle.journal.specs.HappensBeforeFrom.{HappensBeforeFrom, InPastFrom}
-use Rattle.journal.specs.WellFormedFrom.{IsAway, WellFormedFrom}
+use Rattle.journal.specs.WellFormedFrom.{IsAwayFrom, WellFormedFrom}
 use Rattle.journal.specs.ExplainedAnswersFrom.{ExplainedFrom}
 use Rattle.journal.specs.RacesFrom.{RaceFrom, IsFirstRaceFrom, RaceFreeFrom}
 use Rattle.journal.specs.PageImagesFrom.{LawfulFrom}
@@ -55,7 +55,7 @@ FlatLaw = (s : Sizes) (b : Base) (c j : List Event)
 -- is left
 abbrev pub CopyLaw : Type 0
 CopyLaw = (s : Sizes) (b : Base) (c j : List Event) (p n : ℕ) (page : List ℕ)
-    → WellFormed s (c ++ j) → IsBaseOf s.processors (addresses s) c b → ¬ IsAway j p → n < s.pages
+    → WellFormed s (c ++ j) → IsBaseOf s.processors (addresses s) c b → ¬ IsAwayFrom j p → n < s.pages
     → Lawful s (c ++ j) p n page → LawfulFrom s b j p n page
 
 -- if d, which follows what was cut off, is cut off in turn, the base after it is that of both

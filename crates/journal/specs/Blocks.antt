@@ -35,5 +35,5 @@ pub record BlockAnswers (s : Sizes) (j block : List Event) (p : ℕ) (base : ℕ
       → slice_get (block_done s (a / s.words) (base (a / s.words)) (take k block)) (a % s.words) ≡ Some v
 
 -- these pages, with another one at n
-abbrev pub with_page : ℕ → List ℕ → (ℕ → List ℕ) → ℕ → List ℕ
-with_page n page base m = cond (m == n) page (base m)
+abbrev pub block_with_page : ℕ → List ℕ → (ℕ → List ℕ) → ℕ → List ℕ
+block_with_page n page base m = cond (m == n) page (base m)

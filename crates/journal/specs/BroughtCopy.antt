@@ -4,11 +4,11 @@ use Rattle.journal.specs.declared.event.Event.{Event}
 use Rattle.journal.specs.Sizes.{Sizes}
 use Rattle.journal.specs.HappensBeforeEdges.{HappensBefore}
 use Rattle.journal.specs.Pasts.{InPast}
-use Rattle.journal.specs.PageImages.{StoresToPage, FetchesPage, IsImage, InGap, Mine}
+use Rattle.journal.specs.PageImages.{StoresToPage, FetchesPage, IsImage, InGap, IsOwnPlaceOfImage}
 
 -- what place i stores in page n is in p's copy: it is p's own, or a fetch of the page by p brought it
 abbrev pub Brought : List Event → ℕ → ℕ → ℕ → Type 0
-Brought j p n i = Mine j p i ⊎ ((k : ℕ) × FetchesPage j k p n × HappensBefore j i k)
+Brought j p n i = IsOwnPlaceOfImage j p i ⊎ ((k : ℕ) × FetchesPage j k p n × HappensBefore j i k)
 
 -- p's copy of page n has what was brought, and with each store of it those that happen before it
 pub record IsCopy (s : Sizes) (j : List Event) (p n : ℕ) (page : List ℕ) : Type 0 where
@@ -17,9 +17,9 @@ pub record IsCopy (s : Sizes) (j : List Event) (p n : ℕ) (page : List ℕ) : T
       → Brought j p n k
 
 -- the copy lacks nothing
-abbrev pub NoGap : Sizes → List Event → ℕ → ℕ → Type 0
-NoGap s j p n = (i : ℕ) → ¬ InGap s j p n i
+abbrev pub CopyHasNoGap : Sizes → List Event → ℕ → ℕ → Type 0
+CopyHasNoGap s j p n = (i : ℕ) → ¬ InGap s j p n i
 
 -- p's past of the page is in its copy, if that is one
-abbrev pub Complete : Sizes → List Event → ℕ → ℕ → Type 0
-Complete s j p n = (i : ℕ) → StoresToPage s j n i → InPast j p i → Brought j p n i
+abbrev pub IsCopyComplete : Sizes → List Event → ℕ → ℕ → Type 0
+IsCopyComplete s j p n = (i : ℕ) → StoresToPage s j n i → InPast j p i → Brought j p n i

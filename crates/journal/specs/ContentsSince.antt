@@ -10,12 +10,12 @@ use Rattle.journal.specs.WellFormed.{Does}
 use Rattle.journal.specs.PageImages.{page_write}
 
 -- processor p's events of its open interval, after one more event
-abbrev pub with_next : ℕ → List Event → Event → List Event
-with_next p es e = cond (e.processor == p) (cond (is_closing e.kind) [] (es ++ e ∷ [])) es
+abbrev pub contents_with_next : ℕ → List Event → Event → List Event
+contents_with_next p es e = cond (e.processor == p) (cond (is_closing e.kind) [] (es ++ e ∷ [])) es
 
 -- processor p's events since its last closing one
 abbrev pub since : List Event → ℕ → List Event
-since j p = fold (with_next p) [] j
+since j p = fold (contents_with_next p) [] j
 
 -- place i has a store to page n, in processor q's interval k
 abbrev pub StoresInInterval : Sizes → List Event → ℕ → ℕ → ℕ → ℕ → Type 0

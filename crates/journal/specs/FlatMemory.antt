@@ -20,6 +20,6 @@ abbrev pub Replays : List ℕ → List Event → Type 0
 Replays start j = (i p a v : ℕ) → Does j i p (Load a v) → slice_get (memory_after start (take i j)) a ≡ Some v
 
 -- a load's reply is its word of the memory
-abbrev pub AnswersWord : List ℕ → Kind → Type 0
-AnswersWord memory (Load a v) = slice_get memory a ≡ Some v
-AnswersWord memory _ = Unit {0}
+abbrev pub AnswersFlatWord : List ℕ → Kind → Type 0
+AnswersFlatWord memory (Load a v) = slice_get memory a ≡ Some v
+AnswersFlatWord memory _ = Unit {0}

@@ -13,7 +13,7 @@ LetsThrough _ _ = ⊥
 
 -- an arrival and a departure of one episode: as many arrivals of the one's processor stand before it as departures
 -- of the other's stand before that
-pub record MeetAt (j : List Event) (i k : ℕ) (e f : Event) : Type 0 where
+pub record EdgesMeetAt (j : List Event) (i k : ℕ) (e f : Event) : Type 0 where
   pub arrives : e.kind ≡ Arrive
   pub departs : f.kind ≡ Depart
   pub episode : count_of is_arrive (take i j) e.processor ≡ count_of is_depart (take k j) f.processor
@@ -22,7 +22,7 @@ pub record MeetAt (j : List Event) (i k : ℕ) (e f : Event) : Type 0 where
 pub data Link (j : List Event) (i k : ℕ) (e f : Event) : Type 0 where
   same : e.processor ≡ f.processor → Link j i k e f
   lets : LetsThrough e.kind f.kind → Link j i k e f
-  meets : MeetAt j i k e f → Link j i k e f
+  meets : EdgesMeetAt j i k e f → Link j i k e f
 
 pub record Edge (j : List Event) (i k : ℕ) : Type 0 where
   pub before : i < k

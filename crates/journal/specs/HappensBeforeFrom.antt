@@ -4,13 +4,13 @@ use Rattle.journal.specs.declared.event.Event.{Event}
 use Rattle.journal.specs.declared.event.Kind.TheVariants.{Arrive, Depart}
 use Rattle.journal.specs.Events.{At, count_of, is_arrive, is_depart}
 use Rattle.journal.specs.HappensBeforeEdges.{LetsThrough}
-use Rattle.journal.specs.Base.{Base, arrivals_cut}
+use Rattle.journal.specs.Base.{Base, base_arrivals_cut}
 
 -- an arrival and a departure of one episode
 pub record MeetAtFrom (b : Base) (j : List Event) (i k : ℕ) (e f : Event) : Type 0 where
   pub arrives : e.kind ≡ Arrive
   pub departs : f.kind ≡ Depart
-  pub episode : count_of is_arrive (take i j) e.processor + arrivals_cut b ≡ count_of is_depart (take k j) f.processor
+  pub episode : count_of is_arrive (take i j) e.processor + base_arrivals_cut b ≡ count_of is_depart (take k j) f.processor
 
 -- why the event e at place i comes before the event f at place k
 pub data LinkFrom (b : Base) (j : List Event) (i k : ℕ) (e f : Event) : Type 0 where

@@ -4,7 +4,7 @@ use Rattle.base.specs.Limits.{most_held, most_processors}
 use Rattle.journal.specs.declared.journal.Journal.TheInside.{Inside}
 use Rattle.journal.specs.Log.{Log}
 use Rattle.journal.specs.InRange.{AddressesInRange, ProcessorsInRange}
-use Rattle.journal.specs.Kept.{base_of, IsBaseState}
+use Rattle.journal.specs.Kept.{kept_base_of, IsKeptBaseState}
 use Rattle.journal.specs.Opening.{IsOpening}
 use Rattle.journal.specs.Episodes.{AreEpisodes, IsRaceOfEpisodes}
 
@@ -15,7 +15,7 @@ log_of j =
       addresses = j.addresses;
       events = drop j.processors j.events.items;
       room = j.room;
-      base = base_of j.kept;
+      base = kept_base_of j.kept;
     }
 
 -- the memory that is reserved is there, processors and events are few enough, the events' processors and addresses in
@@ -27,7 +27,7 @@ pub record JournalInvariant (j : Inside) : Type 0 where
   pub opening : IsOpening j.processors (take j.processors j.events.items)
   pub by_processors : ProcessorsInRange j.processors j.events.items
   pub in_range : AddressesInRange j.addresses j.events.items
-  pub kept : IsBaseState j.addresses j.kept
+  pub kept : IsKeptBaseState j.addresses j.kept
   pub episodes : AreEpisodes j.processors (drop j.processors j.events.items) j.episodes
   pub race : IfSome j.race
-      (λ r. IsRaceOfEpisodes j.processors (base_of j.kept) (drop j.processors j.events.items) r.0 r.1)
+      (λ r. IsRaceOfEpisodes j.processors (kept_base_of j.kept) (drop j.processors j.events.items) r.0 r.1)

@@ -9,11 +9,11 @@ use Rattle.journal.specs.declared.event.Kind.TheVariants.{Acquire, Release, Set}
 use Rattle.journal.specs.declared.traffic.Traffic.{Traffic}
 use Rattle.journal.specs.declared.base_state.Kept.{Kept}
 use Rattle.journal.specs.FlatMemory.{flat_write}
-use Rattle.journal.specs.Traffic.{messages_of, records_of, words_fetched}
+use Rattle.journal.specs.Traffic.{messages_of, traffic_records_of, traffic_words_fetched}
 use Rattle.journal.specs.Base.{Base}
 
-abbrev pub base_of : Kept → Base
-base_of k = record {
+abbrev pub kept_base_of : Kept → Base
+kept_base_of k = record {
   cut = k.cut;
   memory = k.memory.items;
   holders = k.holders.items;
@@ -22,36 +22,36 @@ base_of k = record {
 }
 
 -- that many events cost less than this each
-abbrev pub AreCosts : ℕ → Traffic → Type 0
-AreCosts n t = (t.messages ≤ n * 2 ^ 33) × (t.records ≤ n * 2 ^ 33) × (t.words ≤ n * 2 ^ 33)
+abbrev pub AreCostsKept : ℕ → Traffic → Type 0
+AreCostsKept n t = (t.messages ≤ n * 2 ^ 33) × (t.records ≤ n * 2 ^ 33) × (t.words ≤ n * 2 ^ 33)
 
 -- the memory has this many words, and few events were cut off
-pub record IsBaseState (addresses : ℕ) (k : Kept) : Type 0 where
+pub record IsKeptBaseState (addresses : ℕ) (k : Kept) : Type 0 where
   pub long : length k.memory.items ≡ addresses
   pub few : k.cut ≤ most_cut
-  pub spent : AreCosts k.cut k.spent
+  pub spent : AreCostsKept k.cut k.spent
 
 -- these without p's hold of l
-abbrev pub hold_released : List (ℕ × ℕ) → ℕ → ℕ → List (ℕ × ℕ)
-hold_released held p l = filter (λ (h : ℕ × ℕ). not ((h.0 == p) && (h.1 == l))) held
+abbrev pub kept_hold_released : List (ℕ × ℕ) → ℕ → ℕ → List (ℕ × ℕ)
+kept_hold_released held p l = filter (λ (h : ℕ × ℕ). not ((h.0 == p) && (h.1 == l))) held
 
 -- who holds which lock after p's event
-abbrev pub holders_after : List (ℕ × ℕ) → ℕ → Kind → List (ℕ × ℕ)
-holders_after held p (Acquire l) = held ++ (p, l) ∷ []
-holders_after held p (Release l) = hold_released held p l
-holders_after held p _ = held
+abbrev pub kept_holders_after : List (ℕ × ℕ) → ℕ → Kind → List (ℕ × ℕ)
+kept_holders_after held p (Acquire l) = held ++ (p, l) ∷ []
+kept_holders_after held p (Release l) = kept_hold_released held p l
+kept_holders_after held p _ = held
 
 -- which flags are set after an event
-abbrev pub flags_after : List ℕ → Kind → List ℕ
-flags_after flags (Set f) = cond (list_any (λ g. g == f) flags) flags (flags ++ f ∷ [])
-flags_after flags _ = flags
+abbrev pub kept_flags_after : List ℕ → Kind → List ℕ
+kept_flags_after flags (Set f) = cond (list_any (λ g. g == f) flags) flags (flags ++ f ∷ [])
+kept_flags_after flags _ = flags
 
 -- what is kept after one more event
 pub record IsKeptAfter (old : Kept) (e : Event) (new : Kept) : Type 0 where
   pub cut : new.cut ≡ old.cut + 1
   pub memory : new.memory.items ≡ wrote old.memory.items (flat_write e.kind)
-  pub holders : new.holders.items ≡ holders_after old.holders.items e.processor e.kind
-  pub flags : new.flags.items ≡ flags_after old.flags.items e.kind
+  pub holders : new.holders.items ≡ kept_holders_after old.holders.items e.processor e.kind
+  pub flags : new.flags.items ≡ kept_flags_after old.flags.items e.kind
   pub messages_are : new.spent.messages ≡ old.spent.messages + messages_of e.kind
-  pub records_are : new.spent.records ≡ old.spent.records + records_of e.kind
-  pub words_are : new.spent.words ≡ old.spent.words + words_fetched e.kind
+  pub records_are : new.spent.records ≡ old.spent.records + traffic_records_of e.kind
+  pub words_are : new.spent.words ≡ old.spent.words + traffic_words_fetched e.kind

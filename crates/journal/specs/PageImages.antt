@@ -50,29 +50,29 @@ abbrev pub FetchesPage : List Event → ℕ → ℕ → ℕ → Type 0
 FetchesPage j k p n = (writers : ℕ) × (records : ℕ) × (words : ℕ) × Does j k p (Fetch writers n records words)
 
 -- place i is p's own
-abbrev pub Mine : List Event → ℕ → ℕ → Type 0
-Mine j p i = (e : Event) × At j i e × (e.processor ≡ p)
+abbrev pub IsOwnPlaceOfImage : List Event → ℕ → ℕ → Type 0
+IsOwnPlaceOfImage j p i = (e : Event) × At j i e × (e.processor ≡ p)
 
 -- a store of another processor to page n, which p's past has and which no earlier fetch of the page brought
 pub record InGap (s : Sizes) (j : List Event) (p n i : ℕ) : Type 0 where
   pub store : StoresToPage s j n i
-  pub others : ¬ Mine j p i
+  pub others : ¬ IsOwnPlaceOfImage j p i
   pub past : InPast j p i
   pub new : (k : ℕ) → FetchesPage j k p n → ¬ HappensBefore j i k
 
 -- n is how many values there are
-pub record HasCount {A : Type 0} (values : A → Type 0) (n : ℕ) : Type 0 where
+pub record HasImageCount {A : Type 0} (values : A → Type 0) (n : ℕ) : Type 0 where
   pub list : List A
   pub each : (x : A) → Has list x ↔ values x
   pub once : IsOnce list
   pub length_is : length list ≡ n
 
 -- who stored in the gap, in which interval, at which address
-abbrev pub StoredInGap : Sizes → List Event → ℕ → ℕ → ℕ × ℕ × ℕ → Type 0
-StoredInGap s j p n x = (i v : ℕ) × Does j i x.0 (Store x.2 v) × InGap s j p n i × (interval_at j x.0 i ≡ x.1)
+abbrev pub StoredInGapOfImage : Sizes → List Event → ℕ → ℕ → ℕ × ℕ × ℕ → Type 0
+StoredInGapOfImage s j p n x = (i v : ℕ) × Does j i x.0 (Store x.2 v) × InGap s j p n i × (interval_at j x.0 i ≡ x.1)
 
 -- what a fetch of the page says of the gap
 pub record GapCounts (s : Sizes) (j : List Event) (p n writers records words : ℕ) : Type 0 where
-  pub writers_are : HasCount (λ q. (k : ℕ) × (a : ℕ) × StoredInGap s j p n (q, k, a)) writers
-  pub records_are : HasCount (λ (x : ℕ × ℕ). (a : ℕ) × StoredInGap s j p n (x.0, x.1, a)) records
-  pub words_are : HasCount (StoredInGap s j p n) words
+  pub writers_are : HasImageCount (λ q. (k : ℕ) × (a : ℕ) × StoredInGapOfImage s j p n (q, k, a)) writers
+  pub records_are : HasImageCount (λ (x : ℕ × ℕ). (a : ℕ) × StoredInGapOfImage s j p n (x.0, x.1, a)) records
+  pub words_are : HasImageCount (StoredInGapOfImage s j p n) words

@@ -12,19 +12,19 @@ messages_of Depart = 1
 messages_of (Fetch writers n records words) = 2 * writers
 messages_of _ = 0
 
-abbrev pub records_of : Kind → ℕ
-records_of (Fetch writers n records words) = records
-records_of _ = 0
+abbrev pub traffic_records_of : Kind → ℕ
+traffic_records_of (Fetch writers n records words) = records
+traffic_records_of _ = 0
 
-abbrev pub words_fetched : Kind → ℕ
-words_fetched (Fetch writers n records words) = words
-words_fetched _ = 0
+abbrev pub traffic_words_fetched : Kind → ℕ
+traffic_words_fetched (Fetch writers n records words) = words
+traffic_words_fetched _ = 0
 
 abbrev pub messages : List Event → ℕ
 messages j = sum_by (λ e. messages_of e.kind) j
 
 abbrev pub records : List Event → ℕ
-records j = sum_by (λ e. records_of e.kind) j
+records j = sum_by (λ e. traffic_records_of e.kind) j
 
 abbrev pub words : List Event → ℕ
-words j = sum_by (λ e. words_fetched e.kind) j
+words j = sum_by (λ e. traffic_words_fetched e.kind) j

@@ -13,5 +13,5 @@ awaited (Watch f) = Some (Await f)
 awaited _ = None
 
 -- p waits for nothing
-abbrev pub IsIdle : List Event → ℕ → Type 0
-IsIdle j p = (i : ℕ) (a : Kind) → LastIs j p i a → awaited a ≡ None
+abbrev pub WaitsForNothing : List Event → ℕ → Type 0
+WaitsForNothing j p = (i : ℕ) (a : Kind) → LastIs j p i a → awaited a ≡ None

@@ -8,11 +8,11 @@ use Rattle.base.specs.InOrderOnce.{Has}
 use Rattle.journal.specs.Sizes.{Sizes}
 use Rattle.journal.specs.Events.{At, count_of, is_arrive, is_depart}
 use Rattle.journal.specs.WellFormed.{KindInRange, Does, LastIs, Holds, AnswersCall}
-use Rattle.journal.specs.Base.{Base, arrivals_cut}
+use Rattle.journal.specs.Base.{Base, base_arrivals_cut}
 
 -- p has done nothing here
-abbrev pub IsAway : List Event → ℕ → Type 0
-IsAway j p = (m : ℕ) (e : Event) → At j m e → e.processor ≢ p
+abbrev pub IsAwayFrom : List Event → ℕ → Type 0
+IsAwayFrom j p = (m : ℕ) (e : Event) → At j m e → e.processor ≢ p
 
 -- p held l at the base, and has not released it since
 pub record StillHoldsFrom (b : Base) (j : List Event) (p l : ℕ) : Type 0 where
@@ -29,7 +29,7 @@ IsSetFrom b j f = Has b.flags f ⊎ ((k q : ℕ) × Does j k q (Set f))
 
 -- p's last event is this: one of these, or if it has done nothing here, its arrival that was cut off
 abbrev pub LastFrom : Base → List Event → ℕ → Kind → Type 0
-LastFrom b j p k = ((i : ℕ) × LastIs j p i k) ⊎ ((k ≡ Arrive) × (b.cut ≢ 0) × IsAway j p)
+LastFrom b j p k = ((i : ℕ) × LastIs j p i k) ⊎ ((k ≡ Arrive) × (b.cut ≢ 0) × IsAwayFrom j p)
 
 -- nobody holds l, and no ask of it before place i is open
 pub record MayBeGrantedFrom (b : Base) (j : List Event) (i l : ℕ) : Type 0 where
@@ -38,7 +38,7 @@ pub record MayBeGrantedFrom (b : Base) (j : List Event) (i l : ℕ) : Type 0 whe
 
 -- every processor has arrived at least that many times, with the arrival that was cut off
 abbrev pub AllArrivedFrom : Sizes → Base → List Event → ℕ → Type 0
-AllArrivedFrom s b j n = (q : ℕ) → q < s.processors → n ≤ count_of is_arrive j q + arrivals_cut b
+AllArrivedFrom s b j n = (q : ℕ) → q < s.processors → n ≤ count_of is_arrive j q + base_arrivals_cut b
 
 -- what has to hold for p to do this next
 abbrev pub AllowedFrom : Sizes → Base → List Event → ℕ → Kind → Type 0

@@ -1,9 +1,9 @@
 //! What a journal keeps of the events that were cut off.
 ghost use Rattle.std.specs.Prelude.{◌≡◌, ◌+◌, ◌*◌, ◌^◌, ◌<◌, ◌≤◌, [], IfOk, OnOk, length, vec_len};
 ghost use Rattle.base.specs.Prelude.{most_cut, wrote};
-ghost use Rattle.journal.specs.Prelude.{flat_write, AddressInRange, AddressesInRange, messages_of, records_of};
-ghost use Rattle.journal.specs.Prelude.{words_fetched, no_base, IsBaseAfter, base_of, AreCosts, IsBaseState, hold_released};
-ghost use Rattle.journal.specs.Prelude.{holders_after, flags_after, IsKeptAfter};
+ghost use Rattle.journal.specs.Prelude.{flat_write, AddressInRange, AddressesInRange, messages_of, traffic_records_of};
+ghost use Rattle.journal.specs.Prelude.{traffic_words_fetched, no_base, IsBaseAfter, kept_base_of, AreCostsKept, IsKeptBaseState, kept_hold_released};
+ghost use Rattle.journal.specs.Prelude.{kept_holders_after, kept_flags_after, IsKeptAfter};
 
 use crate::event::{Event, Kind};
 use crate::traffic::{Traffic, event_traffic};
@@ -33,7 +33,7 @@ fn store(memory: &mut [u32], kind: Kind)
 
 /// Takes the processor's hold of the lock out.
 fn let_go(holders: &mut Vec<(usize, usize)>, processor: usize, lock: usize)
-    ensures { holders.new.items ≡ hold_released holders.old.items processor lock }
+    ensures { holders.new.items ≡ kept_hold_released holders.old.items processor lock }
 {
     holders.retain(|held| !(held.0 == processor && held.1 == lock));
 }
@@ -41,7 +41,7 @@ fn let_go(holders: &mut Vec<(usize, usize)>, processor: usize, lock: usize)
 /// Takes note of who acquires or releases a lock. The only error is running out of memory.
 fn hold(holders: &mut Vec<(usize, usize)>, event: Event) -> Result<(), AllocError>
     ensures { OnOk result (holders.new.items
-        ≡ holders_after holders.old.items event.processor event.kind) }
+        ≡ kept_holders_after holders.old.items event.processor event.kind) }
 {
     match event.kind {
         Kind::Acquire(lock) => holders.push((event.processor, lock))?,
@@ -53,7 +53,7 @@ fn hold(holders: &mut Vec<(usize, usize)>, event: Event) -> Result<(), AllocErro
 
 /// Takes note of a flag that is set. The only error is running out of memory.
 fn set(flags: &mut Vec<usize>, kind: Kind) -> Result<(), AllocError>
-    ensures { OnOk result (flags.new.items ≡ flags_after flags.old.items kind) }
+    ensures { OnOk result (flags.new.items ≡ kept_flags_after flags.old.items kind) }
 {
     match kind {
         Kind::Set(flag) => {
@@ -69,8 +69,8 @@ fn set(flags: &mut Vec<usize>, kind: Kind) -> Result<(), AllocError>
 impl Kept {
     /// The base while nothing is cut off. The only error is running out of memory.
     pub(crate) fn new(alloc: Global, addresses: usize) -> Result<Kept, AllocError>
-        ensures base { IfOk result (λ k. base_of k ≡ no_base addresses) }
-        ensures kept { IfOk result (λ k. IsBaseState addresses k) }
+        ensures base { IfOk result (λ k. kept_base_of k ≡ no_base addresses) }
+        ensures kept { IfOk result (λ k. IsKeptBaseState addresses k) }
     {
         Ok(Kept {
             cut: 0,
@@ -83,7 +83,7 @@ impl Kept {
 
     /// The same in memory of its own. The only error is running out of memory.
     pub(crate) fn copy(&self) -> Result<Kept, AllocError>
-        ensures { IfOk result (λ k. base_of k ≡ base_of self.now) }
+        ensures { IfOk result (λ k. kept_base_of k ≡ kept_base_of self.now) }
     {
         let alloc = *self.memory.allocator();
         Ok(Kept {
@@ -98,10 +98,10 @@ impl Kept {
     /// Takes note of one more event. The only error is running out of memory.
     fn note(&mut self, event: Event) -> Result<(), AllocError>
         requires few { self.old.cut < most_cut }
-        requires spent { AreCosts self.old.cut self.old.spent }
+        requires spent { AreCostsKept self.old.cut self.old.spent }
         requires address { AddressInRange (length self.old.memory.items) event.kind }
         ensures after { OnOk result (IsKeptAfter self.old event self.new) }
-        ensures spent { OnOk result (AreCosts self.new.cut self.new.spent) }
+        ensures spent { OnOk result (AreCostsKept self.new.cut self.new.spent) }
     {
         hold(&mut self.holders, event)?;
         set(&mut self.flags, event.kind)?;
@@ -117,10 +117,10 @@ impl Kept {
     /// What is kept after these events too. The only error is running out of memory.
     pub(crate) fn after(&self, events: &[Event]) -> Result<Kept, AllocError>
         requires few { self.now.cut + length events.now ≤ most_cut }
-        requires spent { AreCosts self.now.cut self.now.spent }
+        requires spent { AreCostsKept self.now.cut self.now.spent }
         requires addresses { AddressesInRange (length self.now.memory.items) events.now }
-        ensures after { IfOk result (λ k. IsBaseAfter (base_of self.now) events.now (base_of k)) }
-        ensures kept { IfOk result (λ k. IsBaseState (length self.now.memory.items) k) }
+        ensures after { IfOk result (λ k. IsBaseAfter (kept_base_of self.now) events.now (kept_base_of k)) }
+        ensures kept { IfOk result (λ k. IsKeptBaseState (length self.now.memory.items) k) }
     {
         let mut kept = self.copy()?;
         for event in events {

@@ -5,7 +5,7 @@ ghost use Rattle.std.specs.Prelude.{max, option_copied, slice_get, take};
 ghost use Rattle.base.specs.Prelude.{most_held, most_processors, most_cut};
 ghost use Rattle.journal.specs.Prelude.{AddressInRange, AddressesInRange, new_log, ExplainedFrom, Replays};
 ghost use Rattle.journal.specs.Prelude.{memory_after, RaceFreeFrom, IsFirstRaceFrom, WasCut, IsCutFault, messages};
-ghost use Rattle.journal.specs.Prelude.{records, words, IsOpening, IsEpisodeCut, NoEpisodeCut, IsBaseState, base_of};
+ghost use Rattle.journal.specs.Prelude.{records, words, IsOpening, IsEpisodeCut, NoEpisodeCut, IsKeptBaseState, kept_base_of};
 
 use crate::base_state::Kept;
 use crate::cut::CutFault;
@@ -297,8 +297,8 @@ impl Journal {
     /// Takes the first events off, of which this is kept.
     fn take_off(&mut self, taken: usize, kept: Kept)
         requires taken { taken ≤ length self.old.events }
-        requires kept { IsBaseState self.old.addresses kept }
-        ensures { self.new ≡ record self.old { events = drop taken self.old.events; base = base_of kept } }
+        requires kept { IsKeptBaseState self.old.addresses kept }
+        ensures { self.new ≡ record self.old { events = drop taken self.old.events; base = kept_base_of kept } }
     {
         take_out(&mut self.events, self.processors, taken);
         self.kept = kept;

@@ -5,7 +5,7 @@ ghost use Rattle.std.specs.Prelude.{cond, Some, length, take, slice_get, slice_i
 ghost use Rattle.base.specs.Prelude.{most_held, most_processors};
 ghost use Rattle.journal.specs.Prelude.{address_of, is_closing, IsTimeOf, Conflict, Race, IsFirstRace, RaceFree};
 ghost use Rattle.journal.specs.Prelude.{AddressInRange, AddressesInRange, ProcessorsInRange, entry, epoch_entry};
-ghost use Rattle.journal.specs.Prelude.{loads_entry, AreWithin, AreLoadsAfter, AreAccessEntries, ConflictsAreCounted};
+ghost use Rattle.journal.specs.Prelude.{loads_entry, AreAccessEntriesWithin, AreLoadEntriesAfter, AreAccessEntries, ConflictEntriesAreCounted};
 ghost use Rattle.journal.specs.Prelude.{AccessNoted};
 
 use crate::clock::{Clock, others_are_within_clock, tick, zeros};
@@ -39,7 +39,7 @@ impl Epoch {
 
     /// Whether the access is the processor's own, or the timestamp counts its interval.
     fn is_within(self, time: &Clock, processor: usize) -> bool
-        ensures { IsTrue result ↔ AreWithin (epoch_entry self) (slice_index time.now) processor }
+        ensures { IsTrue result ↔ AreAccessEntriesWithin (epoch_entry self) (slice_index time.now) processor }
     {
         let by = self.processor();
         by == processor || self.number <= time[by]
@@ -65,7 +65,7 @@ struct Access {
 impl Access {
     /// Whether the loads are the processor's own, or the timestamp counts their intervals.
     fn loads_are_within(&self, several: &Clock, time: &Clock, processor: usize) -> bool
-        ensures { IsTrue result ↔ AreWithin (loads_entry self.now.loads several.now)
+        ensures { IsTrue result ↔ AreAccessEntriesWithin (loads_entry self.now.loads several.now)
             (slice_index time.now) processor }
     {
         match self.loads {
@@ -79,7 +79,7 @@ impl Access {
         requires processor { processor < most_processors }
         requires interval { slice_index time.now processor < 2 ^ 22 }
         ensures store { self.new.store ≡ self.old.store }
-        ensures loads { AreLoadsAfter (loads_entry self.old.loads several.old)
+        ensures loads { AreLoadEntriesAfter (loads_entry self.old.loads several.old)
             (loads_entry self.new.loads several.new) (slice_index time.now) processor }
     {
         let number = time[processor] + 1;
@@ -144,7 +144,7 @@ impl Accesses {
     fn are_counted(&self, event: Event, time: &Clock) -> bool
         requires last { AddressInRange (vec_len self.now.last) event.kind }
         requires loads { AddressInRange (vec_len self.now.loads) event.kind }
-        ensures { IsTrue result ↔ ConflictsAreCounted self.now event.processor
+        ensures { IsTrue result ↔ ConflictEntriesAreCounted self.now event.processor
             (slice_index time.now) event.kind }
     {
         let processor = event.processor;

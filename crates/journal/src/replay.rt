@@ -1,7 +1,7 @@
 //! Replay on one flat memory.
 ghost use Rattle.std.specs.Prelude.{◌≡◌, ◌↔◌, IfOk, IfSome, IsSome, IsTrue, length};
 ghost use Rattle.base.specs.Prelude.{wrote};
-ghost use Rattle.journal.specs.Prelude.{Replays, memory_after, flat_write, AnswersWord, AddressInRange};
+ghost use Rattle.journal.specs.Prelude.{Replays, memory_after, flat_write, AnswersFlatWord, AddressInRange};
 ghost use Rattle.journal.specs.Prelude.{AddressesInRange};
 
 use crate::event::{Event, Kind};
@@ -11,7 +11,7 @@ use std::alloc::{AllocError, Global};
 fn do_event(memory: &mut [u32], kind: Kind) -> bool
     requires { AddressInRange (length memory.old) kind }
     ensures memory { memory.new ≡ wrote memory.old (flat_write kind) }
-    ensures answers { IsTrue result ↔ AnswersWord memory.old kind }
+    ensures answers { IsTrue result ↔ AnswersFlatWord memory.old kind }
 {
     match kind {
         Kind::Store(address, value) => {

@@ -9,7 +9,7 @@ use Rattle.journal.specs.declared.event.Kind.{Kind}
 use Rattle.journal.specs.declared.event.Kind.TheVariants.{Ask}
 use Rattle.journal.specs.DidEvent.{event}
 use Rattle.journal.specs.WellFormed.{LastIs}
-use Rattle.journal.proofs.Order.CountedAndNumbered.{at_within}
+use Rattle.journal.proofs.Order.CountedAndNumbered.{numbered_at_within}
 use Rattle.journal.proofs.Journals.WellFormedLast.{last_unique}
 use Rattle.judge.specs.declared.front.LastEvent.{LastEvent}
 use Rattle.judge.specs.Tells.{IsFirstAsk, IsLastOf, NobodyAsks}
@@ -77,5 +77,5 @@ module _ (j : List Event) (last : List (Option LastEvent)) (l limit : ℕ)
   pub none_found : limit ≡ length j → NobodyAsks j l
   none_found end q k is =
       let le = all_from q k is in
-      let within = at_within j k (event q (Ask l)) is.does in
+      let within = numbered_at_within j k (event q (Ask l)) is.does in
       omega arith

@@ -2,12 +2,12 @@
 use Rattle.std.proofs.Common.{ℕ, ◌≡◌, ◌≢◌, ◌+◌, ◌<◌, ◌≤◌, ◌⊎◌, ◌↔◌, inl, inr, List, [], ◌∷◌, ◌++◌, Some, length, map, refl, sym, ap, ◌∙◌, subst, arith, length-append}
 use Rattle.std.proofs.lemmas.List.{length-map}
 use Rattle.std.proofs.lemmas.Option.{slice_get_within}
-use Rattle.journal.specs.PageImages.{HasCount}
+use Rattle.journal.specs.PageImages.{HasImageCount}
 use Rattle.base.specs.InOrderOnce.{Has}
 use Rattle.base.proofs.OnceWithout.{once_le, once-append}
-use Rattle.base.proofs.Joined.{has-nil, has-cons, has-append, in_order_single, has-map, in_order-map, in_order_weaker, in_order-nil}
+use Rattle.base.proofs.Joined.{has-nil, has-cons, has-append, joined_in_order_single, has-map, in_order-map, joined_in_weaker_order, in_order-nil}
 
-count_le : {A : Type 0} (P : A → Type 0) (a b : ℕ) → HasCount P a → HasCount P b → a ≤ b
+count_le : {A : Type 0} (P : A → Type 0) (a b : ℕ) → HasImageCount P a → HasImageCount P b → a ≤ b
 count_le P a b x y =
     let le = once_le x.list y.list x.once (λ z h. (y.each z).1 ((x.each z).0 h)) in
     let first = x.length_is in
@@ -15,11 +15,11 @@ count_le P a b x y =
     omega arith
 
 -- values have one count
-pub count_unique : {A : Type 0} (P : A → Type 0) (a b : ℕ) → HasCount P a → HasCount P b → a ≡ b
+pub count_unique : {A : Type 0} (P : A → Type 0) (a b : ℕ) → HasImageCount P a → HasImageCount P b → a ≡ b
 count_unique P a b x y = let le = count_le P a b x y in let ge = count_le P b a y x in omega arith
 
 -- no value
-pub count_none : {A : Type 0} (P : A → Type 0) → ((x : A) → ¬ P x) → HasCount P 0
+pub count_none : {A : Type 0} (P : A → Type 0) → ((x : A) → ¬ P x) → HasImageCount P 0
 count_none {A} P none =
     record {
       list = [];
@@ -30,7 +30,7 @@ count_none {A} P none =
 
 -- values that are some or others, but not both
 pub count_join : {A : Type 0} (P Q R : A → Type 0) (a b : ℕ) → ((x : A) → P x → Q x → ⊥)
-    → ((x : A) → R x ↔ (P x ⊎ Q x)) → HasCount P a → HasCount Q b → HasCount R (a + b)
+    → ((x : A) → R x ↔ (P x ⊎ Q x)) → HasImageCount P a → HasImageCount Q b → HasImageCount R (a + b)
 count_join P Q R a b apart is x y = record {
   list = x.list ++ y.list;
   each = λ z. (
@@ -55,13 +55,13 @@ count_join P Q R a b apart is x y = record {
 -- values that a function makes of others, each of another one
 pub count_map : {A B : Type 0} (P : A → Type 0) (Q : B → Type 0) (f : A → B) (c : ℕ)
     → ((a b : A) → f a ≡ f b → a ≡ b) → ((a : A) → P a → Q (f a)) → ((y : B) → Q y → (a : A) × P a × (f a ≡ y))
-    → HasCount P c → HasCount Q c
+    → HasImageCount P c → HasImageCount Q c
 count_map {A} {B} P Q f c apart to from x = record {
   list = map f x.list;
   each = λ y. (there y, back y);
   once =
       in_order-map (λ (a b : B). a ≢ b) f x.list
-      (in_order_weaker (λ (a b : A). a ≢ b) (λ (a b : A). f a ≢ f b) x.list (λ a b h g isnt is. isnt (apart a b is))
+      (joined_in_weaker_order (λ (a b : A). a ≢ b) (λ (a b : A). f a ≢ f b) x.list (λ a b h g isnt is. isnt (apart a b is))
       x.once);
   length_is = length-map x.list f ∙ x.length_is;
 }
@@ -73,7 +73,7 @@ count_map {A} {B} P Q f c apart to from x = record {
     back y h = let r = from y h in (has-map f x.list y).1 (r.0, (x.each r.0).1 r.1, r.2)
 
 -- there is a value where their count is not 0
-pub count_some : {A : Type 0} (P : A → Type 0) (c : ℕ) → HasCount P c → 0 < c → (x : A) × P x
+pub count_some : {A : Type 0} (P : A → Type 0) (c : ℕ) → HasImageCount P c → 0 < c → (x : A) × P x
 count_some {A} P c x some = go x.list refl
   where
     go : (xs : List A) → x.list ≡ xs → (y : A) × P y
@@ -81,7 +81,7 @@ count_some {A} P c x some = go x.list refl
     go (y ∷ ys) is = (y, (x.each y).0 (subst (λ (zs : List A). Has zs y) (sym is) (0, refl)))
 
 -- and none where it is
-pub count_zero : {A : Type 0} (P : A → Type 0) (x : A) → HasCount P 0 → ¬ P x
+pub count_zero : {A : Type 0} (P : A → Type 0) (x : A) → HasImageCount P 0 → ¬ P x
 count_zero {A} P x c h =
     let at = (c.each x).1 h in
     let within = slice_get_within c.list at.0 x at.1 in
@@ -89,13 +89,13 @@ count_zero {A} P x c h =
     omega arith
 
 -- a value that there is counts 1
-pub count_one : {A : Type 0} (P : A → Type 0) (x : A) → P x → ((y : A) → P y → x ≡ y) → HasCount P 1
+pub count_one : {A : Type 0} (P : A → Type 0) (x : A) → P x → ((y : A) → P y → x ≡ y) → HasImageCount P 1
 count_one {A} P x h only = record {
   list = x ∷ [];
   each = λ y. (
     λ g. elim ((has-cons x [] y).0 g) [ inl is ↦ subst P is h | inr none ↦ absurd (has-nil y none) ],
     λ g. (0, ap Some (only y g)),
   );
-  once = in_order_single (λ (a b : A). a ≢ b) x;
+  once = joined_in_order_single (λ (a b : A). a ≢ b) x;
   length_is = refl;
 }

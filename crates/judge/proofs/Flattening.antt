@@ -5,7 +5,7 @@ use Rattle.std.proofs.lemmas.Bool.{cases_eq}
 use Rattle.std.proofs.lemmas.Option.{none-some}
 use Rattle.base.specs.LastWritten.{wrote}
 use Rattle.base.proofs.LastWritten.{written-append}
-use Rattle.base.proofs.SlicesAndCounts.{push_cases}
+use Rattle.base.proofs.SlicesAndCounts.{slice_push_cases}
 use Rattle.base.proofs.SliceSets.{slice_get-set_found, slice_get-set_other}
 use Rattle.journal.specs.declared.event.Event.{Event}
 use Rattle.journal.specs.declared.event.Kind.{Kind}
@@ -13,7 +13,7 @@ use Rattle.journal.specs.declared.event.Kind.TheVariants.{Load, Store}
 use Rattle.journal.specs.DidEvent.{did, event}
 use Rattle.journal.specs.WellFormed.{Does}
 use Rattle.journal.specs.FlatMemory.{flat_write, memory_after}
-use Rattle.journal.proofs.Order.CountedAndNumbered.{at_last, at_longer, at_within}
+use Rattle.journal.proofs.Order.CountedAndNumbered.{numbered_at_last, numbered_at_longer, numbered_at_within}
 use Rattle.judge.specs.FlatMemory.{IsLastStoreTo, IsMemoryAfter, LastStoreTo}
 
 -- the memory after one more event
@@ -29,15 +29,15 @@ no_write _ isnt = refl
 -- an event that is no store to a leaves the last one
 pub last_store_other : (j : List Event) (e : Event) (a : ℕ) (o : Option ℕ) → ((v : ℕ) → e.kind ≢ Store a v)
     → IsLastStoreTo j a o → IsLastStoreTo (j ++ e ∷ []) a o
-last_store_other j e a None away none = λ m q w does. elim (push_cases j e m (event q (Store a w)) does) [
+last_store_other j e a None away none = λ m q w does. elim (slice_push_cases j e m (event q (Store a w)) does) [
   | inl old ↦ none m q w old.1
   | inr new ↦ away w (ap (λ (x : Event). x.kind) new.1)
 ]
 last_store_other j e a (Some i) away last = record {
   by = last.by;
   value = last.value;
-  stores = at_longer j (e ∷ []) i (event last.by (Store a last.value)) last.stores;
-  last = λ m q w does. elim (push_cases j e m (event q (Store a w)) does) [
+  stores = numbered_at_longer j (e ∷ []) i (event last.by (Store a last.value)) last.stores;
+  last = λ m q w does. elim (slice_push_cases j e m (event q (Store a w)) does) [
     | inl old ↦ last.last m q w old.1
     | inr new ↦ absurd (away w (ap (λ (x : Event). x.kind) new.1))
   ];
@@ -48,9 +48,9 @@ pub last_store_next : (j : List Event) (p a v : ℕ) → LastStoreTo (did j p (S
 last_store_next j p a v = record {
   by = p;
   value = v;
-  stores = at_last j (event p (Store a v));
+  stores = numbered_at_last j (event p (Store a v));
   last = λ m q w does.
-      (let lt = at_within (did j p (Store a v)) m (event q (Store a w)) does in
+      (let lt = numbered_at_within (did j p (Store a v)) m (event q (Store a w)) does in
       let long = length-append j (event p (Store a v) ∷ []) in
       omega arith);
 }

@@ -6,7 +6,7 @@ use Rattle.base.proofs.SlicesAndCounts.{slice_get-take_within, slice_get-from_ta
 use Rattle.journal.specs.declared.event.Event.{Event}
 use Rattle.journal.specs.Sizes.{Sizes}
 use Rattle.journal.specs.Events.{At}
-use Rattle.journal.proofs.Order.CountedAndNumbered.{at_same}
+use Rattle.journal.proofs.Order.CountedAndNumbered.{numbered_at_same}
 use Rattle.judge.specs.Lax.{MayFollowIn, MayFollowLax, WellFormedIn}
 use Rattle.judge.proofs.Refusing.{may_lax}
 
@@ -41,7 +41,7 @@ pub may_next : (lax : Bool) (s : Sizes) (j : List Event) (n : ℕ) (e : Event) �
 may_next lax s j n e here all may k f lt at = elim (cases_eq k n) [
   | inl is ↦
       subst (λ x. MayFollowIn lax s (take x j) f) (sym is)
-      (subst (MayFollowIn lax s (take n j)) (at_same j n e f here (subst (λ x. At j x f) is at)) may)
+      (subst (MayFollowIn lax s (take n j)) (numbered_at_same j n e f here (subst (λ x. At j x f) is at)) may)
   | inr isnt ↦ all k f (omega arith) at
 ]
 

@@ -3,7 +3,7 @@ use Rattle.std.proofs.Common.{ℕ, ◌≡◌, ◌≢◌, ◌<◌, ◌≤◌, ◌
 use Rattle.std.proofs.lemmas.Bool.{cases_lt}
 use Rattle.std.proofs.lemmas.Option.{none-some}
 use Rattle.std.proofs.Math.Seq.{take-append_seam}
-use Rattle.base.proofs.SlicesAndCounts.{push_cases}
+use Rattle.base.proofs.SlicesAndCounts.{slice_push_cases}
 use Rattle.journal.specs.declared.event.Event.{Event}
 use Rattle.journal.specs.declared.event.Kind.TheVariants.{Store, Fetch}
 use Rattle.journal.specs.DidEvent.{did, event}
@@ -13,26 +13,26 @@ use Rattle.journal.specs.HappensBeforeEdges.{HappensBefore}
 use Rattle.journal.specs.Pasts.{InPast}
 use Rattle.journal.specs.Times.{IsTimeOf}
 use Rattle.journal.specs.WellFormed.{Does}
-use Rattle.journal.specs.PageImages.{StoredInGap}
+use Rattle.journal.specs.PageImages.{StoredInGapOfImage}
 use Rattle.journal.specs.BroughtCopy.{Brought}
-use Rattle.journal.proofs.Order.CountedAndNumbered.{at_within, at_longer, at_last, count_of-append, count_of-front, count_of-take-le}
+use Rattle.journal.proofs.Order.CountedAndNumbered.{numbered_at_within, numbered_at_longer, numbered_at_last, count_of-append, count_of-front, count_of-take-le}
 use Rattle.journal.proofs.Order.HappensBefore.{before_shorter}
-use Rattle.journal.proofs.Order.EdgesIntoPast.{past_back, past_within, own_in_past, reaches_new}
-use Rattle.journal.proofs.Times.Times.{interval_behind}
+use Rattle.journal.proofs.Order.EdgesIntoPast.{past_back, past_within, own_in_past, past_reaches_new}
+use Rattle.journal.proofs.Times.Times.{time_interval_behind}
 use Rattle.journal.proofs.Times.PushesCovered.{covered}
 use Rattle.journal.proofs.CopyOfPage.Stores.{store_same, stores_to}
-use Rattle.journal.proofs.CopyOfPage.Brought.{brought_longer, brought_past, brought_push, gap_is}
-use Rattle.journal.proofs.Missing.GapsTaken.{gaps_apart, not_mine}
+use Rattle.journal.proofs.CopyOfPage.Brought.{brought_longer, brought_past, brought_push, brought_gap_is}
+use Rattle.journal.proofs.Missing.GapsTaken.{gaps_apart, gap_not_mine}
 use Rattle.judge.specs.Gaps.{StoresAt, StoresInPage, StoresWord, FetchedUpTo}
 use Rattle.judge.proofs.Rows.{IsMore}
 
 -- a store stays in its interval as the history goes on
 pub stores_on : (j : List Event) (e : Event) (a q k : ℕ) → StoresAt j a q k → StoresAt (j ++ e ∷ []) a q k
 stores_on j e a q k x =
-    let within = le_of_lt (at_within j x.0 (event q (Store a x.1)) x.2) in (
+    let within = le_of_lt (numbered_at_within j x.0 (event q (Store a x.1)) x.2) in (
       x.0,
       x.1,
-      at_longer j (e ∷ []) x.0 (event q (Store a x.1)) x.2,
+      numbered_at_longer j (e ∷ []) x.0 (event q (Store a x.1)) x.2,
       count_of-front is_closing j (e ∷ []) x.0 q within
           ∙ x.3,
     )
@@ -40,7 +40,7 @@ stores_on j e a q k x =
 -- after one more event a store is an old one, or the event itself, in its processor's open interval
 pub stores_push : (j : List Event) (e : Event) (a q k : ℕ) → StoresAt (j ++ e ∷ []) a q k
     → StoresAt j a q k ⊎ ((v : ℕ) × (e ≡ event q (Store a v)) × (k ≡ count_of is_closing j q))
-stores_push j e a q k x = elim (push_cases j e x.0 (event q (Store a x.1)) x.2) [
+stores_push j e a q k x = elim (slice_push_cases j e x.0 (event q (Store a x.1)) x.2) [
   | inl old ↦
       inl (x.0, x.1, old.1, sym (count_of-front is_closing j (e ∷ []) x.0 q (le_of_lt old.0)) ∙ x.3)
   | inr new ↦
@@ -90,7 +90,7 @@ stores_next j q a v = record {
   now = (
     length j,
     v,
-    at_last j (event q (Store a v)),
+    numbered_at_last j (event q (Store a v)),
     ap (λ (xs : List Event). count_of is_closing xs q) (take-append_seam j (event q (Store a v) ∷ [])),
   );
   others = λ b r k x. elim (stores_push j (event q (Store a v)) b r k x) [
@@ -143,7 +143,7 @@ fetched_other s j e p n m none is = record { brought = brought; within = within 
 
     brought : (q i a v : ℕ) → q ≢ p → Does (j ++ e ∷ []) i q (Store a v) → a / s.words ≡ n
         → Brought (j ++ e ∷ []) p n i ↔ (interval_at (j ++ e ∷ []) q i < m q)
-    brought q i a v apart does page = elim (push_cases j e i (event q (Store a v)) does) [
+    brought q i a v apart does page = elim (slice_push_cases j e i (event q (Store a v)) does) [
       | inl old ↦
           (let number = count_of-front is_closing j (e ∷ []) i q (le_of_lt old.0) in
           let was = is.brought q i a v apart old.1 page in (
@@ -161,7 +161,7 @@ fetched_other s j e p n m none is = record { brought = brought; within = within 
           | inr last ↦ apart (sym (ap (λ (f : Event). f.processor) new.1) ∙ last.1)
         ]),
         λ less.
-            absurd (let behind = interval_behind j (e ∷ []) q i (let at = new.0 in omega arith) in
+            absurd (let behind = time_interval_behind j (e ∷ []) q i (let at = new.0 in omega arith) in
             let few = is.within q in omega arith),
       )
     ]
@@ -178,23 +178,23 @@ fetched_now s j p n w r d t time = record { brought = brought; within = within }
     within q = let old = time.within q in let sum = count_of-append is_closing j (e ∷ []) q in omega arith
 
     past : (q i a v : ℕ) → q ≢ p → Does (j ++ e ∷ []) i q (Store a v) → Brought (j ++ e ∷ []) p n i → InPast j p i
-    past q i a v apart does (inl mine) = absurd (not_mine (j ++ e ∷ []) p q i (Store a v) does apart mine)
+    past q i a v apart does (inl mine) = absurd (gap_not_mine (j ++ e ∷ []) p q i (Store a v) does apart mine)
     past q i a v apart does (inr x) =
         let f = x.1 in
         let fetch : Event = event p (Fetch f.0 n f.1 f.2) in
-        elim (push_cases j e x.0 fetch f.3) [
+        elim (slice_push_cases j e x.0 fetch f.3) [
           | inl old ↦ past_back j p i x.0 (before_shorter j (e ∷ []) old.0 x.2) (own_in_past j p x.0 fetch old.1 refl)
-          | inr new ↦ (reaches_new j e i refl).0 (subst (HappensBefore (j ++ e ∷ []) i) new.0 x.2)
+          | inr new ↦ (past_reaches_new j e i refl).0 (subst (HappensBefore (j ++ e ∷ []) i) new.0 x.2)
         ]
 
     brought : (q i a v : ℕ) → q ≢ p → Does (j ++ e ∷ []) i q (Store a v) → a / s.words ≡ n
         → Brought (j ++ e ∷ []) p n i ↔ (interval_at (j ++ e ∷ []) q i < t q)
-    brought q i a v apart does page = elim (push_cases j e i (event q (Store a v)) does) [
+    brought q i a v apart does page = elim (slice_push_cases j e i (event q (Store a v)) does) [
       | inl old ↦
           (let number = count_of-front is_closing j (e ∷ []) i q (le_of_lt old.0) in
           let covers = covered j p q i (Store a v) t time old.1 apart in (
             λ b. (let less = covers.0 (past q i a v apart does b) in omega arith),
-            λ less. inr (length j, (w, r, d, at_last j e), (reaches_new j e i refl).1 (covers.1 (omega arith))),
+            λ less. inr (length j, (w, r, d, numbered_at_last j e), (past_reaches_new j e i refl).1 (covers.1 (omega arith))),
           ))
       | inr new ↦ absurd (apart (sym (ap (λ (f : Event). f.processor) new.1)))
     ]
@@ -208,10 +208,10 @@ fetched_none s p n m none = record {
 
 -- what is in the gap, by intervals: what p's timestamp counts and its last fetch of the page didn't bring
 pub stored_is : (s : Sizes) (j : List Event) (p n q k a : ℕ) (m t : ℕ → ℕ) → FetchedUpTo s j p n m → IsTimeOf j p t
-    → q ≢ p → StoredInGap s j p n (q, k, a) ↔ (StoresWord s j n q (k, a) × (m q ≤ k) × (k < t q))
+    → q ≢ p → StoredInGapOfImage s j p n (q, k, a) ↔ (StoresWord s j n q (k, a) × (m q ≤ k) × (k < t q))
 stored_is s j p n q k a m t fetched time apart = (there, back)
   where
-    there : StoredInGap s j p n (q, k, a) → StoresWord s j n q (k, a) × (m q ≤ k) × (k < t q)
+    there : StoredInGapOfImage s j p n (q, k, a) → StoresWord s j n q (k, a) × (m q ≤ k) × (k < t q)
     there g =
         let x = g.3.store in
         let address = (store_same j g.0 q x.by a x.address g.1 x.value g.2 x.does).1 in
@@ -220,13 +220,13 @@ stored_is s j p n q k a m t fetched time apart = (there, back)
         let is = g.4 in (
           ((g.0, g.1, g.2, g.4), page),
           elim (cases_lt (interval_at j q g.0) (m q)) [
-            | inl lt ↦ absurd (((gap_is s j p n g.0).0 g.3).2 ((fetched.brought q g.0 a g.1 apart g.2 page).1 lt))
+            | inl lt ↦ absurd (((brought_gap_is s j p n g.0).0 g.3).2 ((fetched.brought q g.0 a g.1 apart g.2 page).1 lt))
             | inr le ↦ omega arith
           ],
           omega arith,
         )
 
-    back : StoresWord s j n q (k, a) × (m q ≤ k) × (k < t q) → StoredInGap s j p n (q, k, a)
+    back : StoresWord s j n q (k, a) × (m q ≤ k) × (k < t q) → StoredInGapOfImage s j p n (q, k, a)
     back h =
         let x = h.0.0 in
         let page = h.0.1 in
@@ -236,7 +236,7 @@ stored_is s j p n q k a m t fetched time apart = (there, back)
           x.0,
           x.1,
           x.2,
-          (gap_is s j p n x.0).1 (
+          (brought_gap_is s j p n x.0).1 (
             (covered j p q x.0 (Store a x.1) t time x.2 apart).1 (omega arith),
             stores_to s j n x.0 q a x.1 x.2 page,
             λ b. let less = (fetched.brought q x.0 a x.1 apart x.2 page).0 b in omega arith,
@@ -245,5 +245,5 @@ stored_is s j p n q k a m t fetched time apart = (there, back)
         )
 
 -- one's own stores are in no gap of one's
-pub own_none : (s : Sizes) (j : List Event) (p n k a : ℕ) → ¬ StoredInGap s j p n (p, k, a)
+pub own_none : (s : Sizes) (j : List Event) (p n k a : ℕ) → ¬ StoredInGapOfImage s j p n (p, k, a)
 own_none s j p n k a g = gaps_apart s j p n p g.0 a g.1 g.3 g.2 refl

@@ -11,16 +11,16 @@ use Rattle.journal.specs.DidEvent.{event}
 use Rattle.journal.specs.Sizes.{Sizes}
 use Rattle.journal.specs.Events.{At, count_of}
 use Rattle.journal.specs.WellFormed.{Holds, LastIs}
-use Rattle.base.proofs.SlicesAndCounts.{push_cases}
-use Rattle.journal.proofs.Order.CountedAndNumbered.{at_last, at_longer, count_of-append}
-use Rattle.journal.proofs.Journals.WellFormedLast.{last_now, last_longer, holds_now, holds_longer, holds_cases}
+use Rattle.base.proofs.SlicesAndCounts.{slice_push_cases}
+use Rattle.journal.proofs.Order.CountedAndNumbered.{numbered_at_last, numbered_at_longer, count_of-append}
+use Rattle.journal.proofs.Journals.WellFormedLast.{last_now, last_longer, well_formed_holds_now, well_formed_holds_longer, well_formed_holds_cases}
 use Rattle.judge.specs.declared.front.LastEvent.{LastEvent}
 use Rattle.judge.specs.Lax.{AllowedLax}
 use Rattle.judge.specs.Tells.{IsLastOf, IsSet, holder_after, is_set_after}
 
 -- one event and no other
 one_away : (e : Event) (p : ℕ) → e.processor ≢ p → (m : ℕ) (f : Event) → At (e ∷ []) m f → f.processor ≢ p
-one_away e p isnt m f at is = elim (push_cases [] e m f at) [
+one_away e p isnt m f at is = elim (slice_push_cases [] e m f at) [
   | inl none ↦ absurd (omega (arith, none.0))
   | inr same ↦ isnt (ap (λ (x : Event). x.processor) same.1 ∙ is)
 ]
@@ -28,7 +28,7 @@ one_away e p isnt m f at is = elim (push_cases [] e m f at) [
 -- another processor's event leaves the last one
 last_other : (j : List Event) (e : Event) (p : ℕ) (o : Option LastEvent) → e.processor ≢ p → IsLastOf j p o
     → IsLastOf (j ++ e ∷ []) p o
-last_other j e p None apart none = λ m f at is. elim (push_cases j e m f at) [
+last_other j e p None apart none = λ m f at is. elim (slice_push_cases j e m f at) [
   | inl old ↦ none m f old.1 is
   | inr new ↦ apart (ap (λ (x : Event). x.processor) new.1 ∙ is)
 ]
@@ -76,8 +76,8 @@ count_small is j q = count_by-le-length (λ (e : Event). (e.processor == q) && i
 holder_kept : (j : List Event) (e : Event) (q l : ℕ) (o : Option ℕ) → e.kind ≢ Acquire l → e.kind ≢ Release l
     → (o ≡ Some q) ↔ Holds j q l → (o ≡ Some q) ↔ Holds (j ++ e ∷ []) q l
 holder_kept j e q l o acquires releases was = (
-  λ is. holds_longer j e q l (λ same. releases (ap (λ (x : Event). x.kind) same)) (was.0 is),
-  λ holds. elim (holds_cases j e q l holds) [
+  λ is. well_formed_holds_longer j e q l (λ same. releases (ap (λ (x : Event). x.kind) same)) (was.0 is),
+  λ holds. elim (well_formed_holds_cases j e q l holds) [
     | inl old ↦ was.1 old.0
     | inr new ↦ absurd (acquires (ap (λ (x : Event). x.kind) new))
   ],
@@ -87,8 +87,8 @@ holder_kept j e q l o acquires releases was = (
 holder_acquired : (j : List Event) (p q l : ℕ) → ((r : ℕ) → ¬ Holds j r l)
     → (Some p ≡ Some q) ↔ Holds (j ++ event p (Acquire l) ∷ []) q l
 holder_acquired j p q l free = (
-  λ is. subst (λ r. Holds (j ++ event p (Acquire l) ∷ []) r l) (same_Some p q is) (holds_now j p l),
-  λ holds. elim (holds_cases j (event p (Acquire l)) q l holds) [
+  λ is. subst (λ r. Holds (j ++ event p (Acquire l) ∷ []) r l) (same_Some p q is) (well_formed_holds_now j p l),
+  λ holds. elim (well_formed_holds_cases j (event p (Acquire l)) q l holds) [
     | inl old ↦ absurd (free q old.0)
     | inr new ↦ ap (λ (x : Event). Some x.processor) new
   ],
@@ -99,7 +99,7 @@ holder_released : (j : List Event) (p q l : ℕ) (o : Option ℕ) → ((r : ℕ)
     → (None ≡ Some q) ↔ Holds (j ++ event p (Release l) ∷ []) q l
 holder_released j p q l o was mine = (
   λ is. absurd (none-some q is),
-  λ holds. elim (holds_cases j (event p (Release l)) q l holds) [
+  λ holds. elim (well_formed_holds_cases j (event p (Release l)) q l holds) [
     | inl old ↦
         (let one = same_Some p q (sym ((was p).1 mine) ∙ (was q).1 old.0) in
         absurd (old.1 (ap (λ r. event r (Release l)) one)))
@@ -140,8 +140,8 @@ holders_next s j p k l o allowed was q =
 set_kept : (j : List Event) (e : Event) (f : ℕ) (b : Bool) → e.kind ≢ Set f → IsTrue b ↔ IsSet j f
     → IsTrue b ↔ IsSet (j ++ e ∷ []) f
 set_kept j e f b isnt was = (
-  λ is. (let old = was.0 is in (old.0, old.1, at_longer j (e ∷ []) old.0 (event old.1 (Set f)) old.2)),
-  λ is. elim (push_cases j e is.0 (event is.1 (Set f)) is.2) [
+  λ is. (let old = was.0 is in (old.0, old.1, numbered_at_longer j (e ∷ []) old.0 (event old.1 (Set f)) old.2)),
+  λ is. elim (slice_push_cases j e is.0 (event is.1 (Set f)) is.2) [
     | inl old ↦ was.1 (is.0, is.1, old.1)
     | inr new ↦ absurd (isnt (ap (λ (x : Event). x.kind) new.1))
   ],
@@ -151,7 +151,7 @@ pub sets_next : (j : List Event) (p : ℕ) (k : Kind) (f : ℕ) (b : Bool) → I
     → IsTrue (is_set_after b f k) ↔ IsSet (j ++ event p k ∷ []) f
 sets_next j p (Set g) f b was = elim (cases_eq g f) [
   | inl is ↦ subst (λ x. IsTrue (x || b) ↔ IsSet (j ++ event p (Set g) ∷ []) f) (sym (eq-eqb g f is)) (
-    λ _. subst (IsSet (j ++ event p (Set g) ∷ [])) is (length j, p, at_last j (event p (Set g))),
+    λ _. subst (IsSet (j ++ event p (Set g) ∷ [])) is (length j, p, numbered_at_last j (event p (Set g))),
     λ _. refl,
   )
   | inr isnt ↦ subst (λ x. IsTrue (x || b) ↔ IsSet (j ++ event p (Set g) ∷ []) f) (sym (ne_eqb g f isnt))

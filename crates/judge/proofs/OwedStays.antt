@@ -8,7 +8,7 @@ use Rattle.journal.specs.Sizes.{Sizes, addresses}
 use Rattle.journal.specs.ExplainedAnswers.{IsAnswer}
 use Rattle.journal.specs.Races.{RaceFree}
 use Rattle.journal.specs.FlatMemory.{memory_after}
-use Rattle.journal.proofs.Order.CountedAndNumbered.{at_longer, at_shorter}
+use Rattle.journal.proofs.Order.CountedAndNumbered.{numbered_at_longer, numbered_at_shorter}
 use Rattle.journal.proofs.Order.HappensBefore.{before_longer, before_shorter}
 use Rattle.judge.specs.declared.models.MemoryModel.{MemoryModel}
 use Rattle.judge.specs.declared.models.MemoryModel.TheVariants as model
@@ -21,7 +21,7 @@ unordered_longer : (j es : List Event) (k a v : ℕ) → k < length j → Unorde
 unordered_longer j es k a v lt x = record {
   place = x.place;
   by = x.by;
-  stores = at_longer j es x.place (event x.by (Store a v)) x.stores;
+  stores = numbered_at_longer j es x.place (event x.by (Store a v)) x.stores;
   before = x.before;
   unordered = λ h. x.unordered (before_shorter j es lt h);
 }
@@ -32,7 +32,7 @@ unordered_shorter j es k a v lt x = record {
   place = x.place;
   by = x.by;
   stores =
-      (let before = x.before in at_shorter j es x.place (event x.by (Store a v)) (omega arith) x.stores);
+      (let before = x.before in numbered_at_shorter j es x.place (event x.by (Store a v)) (omega arith) x.stores);
   before = x.before;
   unordered = λ h. x.unordered (before_longer j es h);
 }

@@ -4,7 +4,7 @@ use Rattle.std.specs.Prelude.{None, MatchOption, IfSome, slice_index_or}
 use Rattle.std.proofs.lemmas.Bool.{cases_eq, cases_lt, eq-eqb, eqb-true}
 use Rattle.std.proofs.lemmas.Option.{same_Some, none-some, slice_get-get_or}
 use Rattle.std.proofs.Math.Seq.{take-append_seam}
-use Rattle.base.proofs.SlicesAndCounts.{push_cases}
+use Rattle.base.proofs.SlicesAndCounts.{slice_push_cases}
 use Rattle.base.proofs.SliceSets.{slice_get-set_found, slice_get-set_other, slice_get-replicate_found}
 use Rattle.journal.specs.declared.event.Event.{Event}
 use Rattle.journal.specs.declared.event.Kind.{Kind}
@@ -15,7 +15,7 @@ use Rattle.journal.specs.WellFormed.{Does}
 use Rattle.journal.specs.InRange.{ProcessorsInRange}
 use Rattle.journal.specs.Times.{IsTimeOf}
 use Rattle.journal.specs.Races.{Conflict, Race, RaceFree}
-use Rattle.journal.proofs.Order.CountedAndNumbered.{at_within, at_longer, at_shorter, at_last, at_same, does_at, count_of-front, count_of-mono}
+use Rattle.journal.proofs.Order.CountedAndNumbered.{numbered_at_within, numbered_at_longer, numbered_at_shorter, numbered_at_last, numbered_at_same, numbered_does_at, count_of-front, count_of-mono}
 use Rattle.journal.proofs.Order.HappensBefore.{before_longer, before_shorter}
 use Rattle.journal.proofs.Passes.ReachedNextRaces.{race_by_time, race_events}
 use Rattle.judge.specs.declared.races.Access.{Access}
@@ -25,19 +25,19 @@ use Rattle.judge.specs.Sources.Tells.{row_of}
 -- an event of another processor or kind leaves the last access
 pub last_access_other : (j : List Event) (e : Event) (is : Kind → Bool) (q : ℕ) (o : Option Access)
     → (e.processor ≡ q → ¬ IsTrue (is e.kind)) → IsLastAccessOf j is q o → IsLastAccessOf (j ++ e ∷ []) is q o
-last_access_other j e is q None away none = λ i k does counts. elim (push_cases j e i (event q k) does) [
+last_access_other j e is q None away none = λ i k does counts. elim (slice_push_cases j e i (event q k) does) [
   | inl old ↦ none i k old.1 counts
   | inr new ↦ away (ap (λ (x : Event). x.processor) new.1)
       (subst (λ z. IsTrue (is z)) (sym (ap (λ (x : Event). x.kind) new.1)) counts)
 ]
 last_access_other j e is q (Some x) away last = record {
   kind = last.kind;
-  does = at_longer j (e ∷ []) x.place (event q last.kind) last.does;
+  does = numbered_at_longer j (e ∷ []) x.place (event q last.kind) last.does;
   counts = last.counts;
   interval =
-      (let lt = at_within j x.place (event q last.kind) last.does in
+      (let lt = numbered_at_within j x.place (event q last.kind) last.does in
       last.interval ∙ sym (count_of-front is_closing j (e ∷ []) x.place q (omega arith)));
-  last = λ i k does counts. elim (push_cases j e i (event q k) does) [
+  last = λ i k does counts. elim (slice_push_cases j e i (event q k) does) [
     | inl old ↦ last.last i k old.1 counts
     | inr new ↦ absurd (away (ap (λ (z : Event). z.processor) new.1)
         (subst (λ z. IsTrue (is z)) (sym (ap (λ (y : Event). y.kind) new.1)) counts))
@@ -49,11 +49,11 @@ pub last_access_next : (j : List Event) (p : ℕ) (k : Kind) (is : Kind → Bool
     → x.place ≡ length j → x.interval ≡ count_of is_closing j p → IsLastAccess (did j p k) is p x
 last_access_next j p k is x counts place interval = record {
   kind = k;
-  does = subst (λ n. Does (did j p k) n p k) (sym place) (at_last j (event p k));
+  does = subst (λ n. Does (did j p k) n p k) (sym place) (numbered_at_last j (event p k));
   counts = counts;
   interval = interval ∙ sym (ap (λ (xs : List Event). count_of is_closing xs p) front);
   last = λ i b does here.
-      (let lt = at_within (did j p k) i (event p b) does in
+      (let lt = numbered_at_within (did j p k) i (event p b) does in
       let long = length-append j (event p k ∷ []) in
       omega arith);
 }
@@ -236,9 +236,9 @@ pub record IsRowFor (j : List Event) (e : Event) (is : Kind → Bool) (t : ℕ �
 race_tells : (j : List Event) (e f : Event) (t : ℕ → ℕ) (i : ℕ) → At j i f → f.processor ≢ e.processor → Conflict f e
     → IsTimeOf j e.processor t → Race (j ++ e ∷ []) i (length j) ↔ (t f.processor ≤ interval_at j f.processor i)
 race_tells j e f t i at apart conflict time =
-    let lt = at_within j i f at in
+    let lt = numbered_at_within j i f at in
     let front = take-append_seam j (e ∷ []) in
-    let tells = race_by_time (j ++ e ∷ []) (length j) i e f t (at_last j e) (at_longer j (e ∷ []) i f at) lt apart conflict
+    let tells = race_by_time (j ++ e ∷ []) (length j) i e f t (numbered_at_last j e) (numbered_at_longer j (e ∷ []) i f at) lt apart conflict
     (subst (λ xs. IsTimeOf xs e.processor t) (sym front) time) in
     let same = count_of-front is_closing j (e ∷ []) i f.processor (omega arith) in
     ((λ r. (let le = tells.0 r in omega arith)), (λ le. tells.1 (omega arith)))
@@ -271,10 +271,10 @@ races_up_to j e is t rows row n i given r = go (slice_index_or rows (row + f.pro
     before = r.before
 
     at : At j i f
-    at = at_shorter j (e ∷ []) i f before r.first_at
+    at = numbered_at_shorter j (e ∷ []) i f before r.first_at
 
     both : (f.processor ≢ e.processor) × Conflict f e
-    both = race_events (j ++ e ∷ []) (length j) i e f (at_last j e) r.first_at r
+    both = race_events (j ++ e ∷ []) (length j) i e f (numbered_at_last j e) r.first_at r
 
     few : f.processor < n
     few = given.range i f at
@@ -322,11 +322,11 @@ race_longer j es m n r = record {
   before = r.before;
   first = r.first;
   second = r.second;
-  first_at = at_longer j es m r.first r.first_at;
-  second_at = at_longer j es n r.second r.second_at;
+  first_at = numbered_at_longer j es m r.first r.first_at;
+  second_at = numbered_at_longer j es n r.second r.second_at;
   apart = r.apart;
   conflict = r.conflict;
-  unordered = λ h. r.unordered (before_shorter j es (at_within j n r.second r.second_at) h);
+  unordered = λ h. r.unordered (before_shorter j es (numbered_at_within j n r.second r.second_at) h);
 }
 
 pub race_shorter : (j es : List Event) (m n : ℕ) → n < length j → Race (j ++ es) m n → Race j m n
@@ -334,8 +334,8 @@ race_shorter j es m n lt r = record {
   before = r.before;
   first = r.first;
   second = r.second;
-  first_at = (let before = r.before in at_shorter j es m r.first (omega arith) r.first_at);
-  second_at = at_shorter j es n r.second lt r.second_at;
+  first_at = (let before = r.before in numbered_at_shorter j es m r.first (omega arith) r.first_at);
+  second_at = numbered_at_shorter j es n r.second lt r.second_at;
   apart = r.apart;
   conflict = r.conflict;
   unordered = λ h. r.unordered (before_longer j es h);
@@ -344,7 +344,7 @@ race_shorter j es m n lt r = record {
 -- a race with one event more is one of before, or ends with it
 pub race_cases : (j : List Event) (e : Event) (m n : ℕ) → Race (j ++ e ∷ []) m n → Race j m n ⊎ (n ≡ length j)
 race_cases j e m n r =
-    let within = at_within (j ++ e ∷ []) n r.second r.second_at in
+    let within = numbered_at_within (j ++ e ∷ []) n r.second r.second_at in
     let long = length-append j (e ∷ []) in
     elim (cases_lt n (length j)) [
       | inl lt ↦ inl (race_shorter j (e ∷ []) m n lt r)
@@ -354,7 +354,7 @@ race_cases j e m n r =
 -- the nearest race stays
 pub nearest_longer : (j : List Event) (e : Event) (i k : ℕ) → IsNearestRace j i k → IsNearestRace (j ++ e ∷ []) i k
 nearest_longer j e i k x =
-    let lt = at_within j k x.race.second x.race.second_at in
+    let lt = numbered_at_within j k x.race.second x.race.second_at in
     record {
       race = race_longer j (e ∷ []) i k x.race;
       least_second = λ m n r. elim (race_cases j e m n r) [

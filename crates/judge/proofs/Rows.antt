@@ -3,9 +3,9 @@ use Rattle.std.proofs.Common.{ℕ, suc, zero, ◌≡◌, ◌≢◌, ◌+◌, ◌
 use Rattle.std.proofs.lemmas.Bool.{cases_eq, cases_lt, ltb-true, lt-ltb, le-ltb, and_parts, and_from}
 use Rattle.std.proofs.lemmas.Option.{none-some}
 use Rattle.std.proofs.lemmas.List.Sums.{sum_by-cons, length-filter}
-use Rattle.journal.specs.PageImages.{HasCount}
+use Rattle.journal.specs.PageImages.{HasImageCount}
 use Rattle.base.specs.InOrderOnce.{Has}
-use Rattle.base.proofs.Joined.{has-nil, has-cons, has-append, has-map, in_order-append, in_order_single}
+use Rattle.base.proofs.Joined.{has-nil, has-cons, has-append, has-map, in_order-append, joined_in_order_single}
 use Rattle.base.proofs.OnceWithout.{once-append}
 use Rattle.base.proofs.FilteredInOrder.{has-filter, in_order-filter}
 use Rattle.judge.specs.declared.tally.Tally.{Tally}
@@ -100,7 +100,7 @@ between_is from to k = (there (cases_lt k from), back)
 
 -- so many values have an interval between
 pub row_counts : {A : Type 0} (values : A → Type 0) (f : A → ℕ) (row : List ℕ) (from to : ℕ) → IsTallyRow values f row
-    → HasCount (λ x. values x × (from ≤ f x) × (f x < to)) (count_by (is_between from to) row)
+    → HasImageCount (λ x. values x × (from ≤ f x) × (f x < to)) (count_by (is_between from to) row)
 row_counts {A} values f row from to is = record {
   list = filter pick is.list;
   each = λ x. (
@@ -147,13 +147,13 @@ row_next {A} P Q f row y one fresh past is = record {
     ]),
   );
   once =
-      once-append is.list (y ∷ []) is.once (in_order_single (λ (a b : A). a ≢ b) y)
+      once-append is.list (y ∷ []) is.once (joined_in_order_single (λ (a b : A). a ≢ b) y)
       (λ x h g. fresh (elim ((has-cons y [] x).0 g) [
         | inl same ↦ subst P (sym same) ((is.each x).0 h)
         | inr none ↦ absurd (has-nil x none)
       ]));
   are = ap (λ (ks : List ℕ). ks ++ f y ∷ []) is.are ∙ sym (map_append f is.list y);
-  rising = in_order-append (λ (k m : ℕ). k ≤ m) row (f y ∷ []) is.rising (in_order_single (λ (k m : ℕ). k ≤ m) (f y)) last;
+  rising = in_order-append (λ (k m : ℕ). k ≤ m) row (f y ∷ []) is.rising (joined_in_order_single (λ (k m : ℕ). k ≤ m) (f y)) last;
 }
   where
     last : (k m : ℕ) → Has row k → Has (f y ∷ []) m → k ≤ m

@@ -10,7 +10,7 @@ use Rattle.journal.specs.Sizes.{Sizes}
 use Rattle.journal.specs.Events.{count_of, is_arrive, is_depart, is_taking}
 use Rattle.journal.specs.WellFormed.{Allowed, AnswersCall, Does, Holds, KindInRange, LastIs}
 use Rattle.journal.specs.Waits.{awaited}
-use Rattle.journal.proofs.Order.CountedAndNumbered.{does_same}
+use Rattle.journal.proofs.Order.CountedAndNumbered.{numbered_does_same}
 use Rattle.journal.proofs.Journals.WellFormedLast.{last_unique}
 use Rattle.judge.specs.declared.why.Why.{Why}
 use Rattle.judge.specs.declared.why.Why.TheVariants.{NoSuchProcessor, OutOfRange, Waits, AsksWhatItHolds, NotAsked}
@@ -274,7 +274,7 @@ module _ (s : Sizes) (j : List Event) (p l : ℕ) (turn : IsInTurn s j (event p 
     where
       before : i < waits.place
       before = elim (cases_eq i waits.place) [
-        | inl is ↦ absurd (isnt (does_same j waits.place q p (Ask l) (Ask l)
+        | inl is ↦ absurd (isnt (numbered_does_same j waits.place q p (Ask l) (Ask l)
             (subst (λ n. Does j n q (Ask l)) is x.asks.does) last_ask.does).0)
         | inr apart ↦ (let le = x.first p waits.place last_ask in omega arith)
       ]

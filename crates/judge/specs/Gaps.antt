@@ -9,7 +9,7 @@ use Rattle.journal.specs.InRange.{ProcessorsInRange}
 use Rattle.journal.specs.Clocks.{AreClocks}
 use Rattle.journal.specs.ClockEntry.{entry}
 use Rattle.journal.specs.BroughtCopy.{Brought}
-use Rattle.journal.specs.PageImages.{HasCount, StoredInGap}
+use Rattle.journal.specs.PageImages.{HasImageCount, StoredInGapOfImage}
 use Rattle.judge.specs.declared.gaps.CountedGap.{CountedGap}
 use Rattle.judge.specs.declared.gaps.Gaps.{Gaps}
 use Rattle.judge.specs.Sizes.{AreSmall, sizes_of}
@@ -66,6 +66,6 @@ pub record TellsGaps (j : List Event) (g : Gaps) : Type 0 where
 -- what a fetch of the page says of those of the gap's stores whose processor is among these
 pub record CountsAmong (s : Sizes) (j : List Event) (p n : ℕ) (among : ℕ → Type 0) (writers records words : ℕ) : Type 0
   where
-    pub writers_are : HasCount (λ (q : ℕ). among q × ((k : ℕ) × (a : ℕ) × StoredInGap s j p n (q, k, a))) writers
-    pub records_are : HasCount (λ (x : ℕ × ℕ). among x.0 × ((a : ℕ) × StoredInGap s j p n (x.0, x.1, a))) records
-    pub words_are : HasCount (λ (x : ℕ × ℕ × ℕ). among x.0 × StoredInGap s j p n x) words
+    pub writers_are : HasImageCount (λ (q : ℕ). among q × ((k : ℕ) × (a : ℕ) × StoredInGapOfImage s j p n (q, k, a))) writers
+    pub records_are : HasImageCount (λ (x : ℕ × ℕ). among x.0 × ((a : ℕ) × StoredInGapOfImage s j p n (x.0, x.1, a))) records
+    pub words_are : HasImageCount (λ (x : ℕ × ℕ × ℕ). among x.0 × StoredInGapOfImage s j p n x) words

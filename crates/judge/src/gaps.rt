@@ -5,7 +5,7 @@ ghost use Rattle.base.specs.Prelude.{most_held};
 ghost use Rattle.journal.specs.declared.event.Event.{Event};
 ghost use Rattle.journal.specs.PageImages.{GapCounts};
 ghost use Rattle.journal.specs.declared.event.Kind.TheVariants.{Fetch, Store};
-ghost use Rattle.journal.specs.Prelude.{HasCount, IsTimeOf, did};
+ghost use Rattle.journal.specs.Prelude.{HasImageCount, IsTimeOf, did};
 ghost use Rattle.judge.specs.Prelude.{AreFew, AreGapsOf, AreLong, AreSmall, CountsAmong, IsWithin, TellsGaps, sizes_of};
 ghost use Rattle.judge.specs.Prelude.{FetchedUpTo, StoresInPage, row_index};
 
@@ -140,7 +140,7 @@ impl Gaps {
         requires page { page < self.now.sizes.pages }
         requires by { by < 16 }
         ensures { (j : List Event) → TellsGaps j self.now
-            → HasCount (λ k. StoresInPage (sizes_of self.now.sizes) j page by k × (from ≤ k) × (k < to)) result }
+            → HasImageCount (λ k. StoresInPage (sizes_of self.now.sizes) j page by k × (from ≤ k) × (k < to)) result }
     {
         self.intervals.count(row_at(page, by), from, to)
     }

@@ -6,7 +6,7 @@ use Rattle.std.proofs.lemmas.List.{length-append, get_or-set_same}
 use Rattle.std.proofs.lemmas.List.FromFn.{length-range_with_len, get_or-range_with_len}
 use Rattle.std.proofs.lemmas.Option.{slice_get-get_or}
 use Rattle.base.specs.InOrderOnce.{Has, IsOnce}
-use Rattle.base.proofs.Joined.{has-append, has-cons, has-nil, in_order-nil, in_order-cons, in_order_tail}
+use Rattle.base.proofs.Joined.{has-append, has-cons, has-nil, in_order-nil, in_order-cons, joined_in_order_tail}
 use Rattle.base.proofs.OnceWithout.{once_le, once-append}
 use Rattle.lockq.specs.LockQueues.{Lock, Locks, lock_at, with_lock, unheld_lock, lock_line, asked_lock, queued, IsOrderlyLock}
 
@@ -47,7 +47,7 @@ length-once n xs once within =
 -- what stands behind the holder
 once-queue : (holder : Option ℕ) (queue : List ℕ) → IsOnce (option_to_list holder ++ queue) → IsOnce queue
 once-queue None queue once = once
-once-queue (Some q) queue once = in_order_tail (λ (a b : ℕ). a ≢ b) q queue once
+once-queue (Some q) queue once = joined_in_order_tail (λ (a b : ℕ). a ≢ b) q queue once
 
 -- who asks while the lock is held waits last
 pub orderly-queued : (n : ℕ) (k : Lock) (p : ℕ) → IsOrderlyLock n k → k.holder ≢ None → ¬ Has (lock_line k) p → p < n

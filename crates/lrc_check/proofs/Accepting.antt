@@ -2,7 +2,7 @@
 use Rattle.std.proofs.Common.{◌≡◌, ℕ, ◌+◌, ◌<◌, ◌≤◌, ◌⊎◌, inl, inr, suc, ◌↔◌, Bool, true, false, List, [], ◌∷◌, ◌++◌, Some, length, take, subst, sym, refl, ap, ◌∙◌, take-take, arith, length-append}
 use Rattle.std.proofs.lemmas.List.{take-append-le, take_all}
 use Rattle.std.proofs.Math.Seq.{take-append_seam}
-use Rattle.base.proofs.SlicesAndCounts.{push_cases}
+use Rattle.base.proofs.SlicesAndCounts.{slice_push_cases}
 use Rattle.journal.specs.declared.event.Event.{Event}
 use Rattle.journal.specs.declared.event.Kind.{Kind}
 use Rattle.journal.specs.declared.event.Kind.TheVariants.{Fetch, Load}
@@ -12,7 +12,7 @@ use Rattle.journal.specs.Events.{At}
 use Rattle.journal.specs.WellFormed.{Does}
 use Rattle.journal.specs.PageImages.{GapCounts}
 use Rattle.journal.specs.Counted.{AreCounted}
-use Rattle.journal.proofs.Order.CountedAndNumbered.{at_last, at_longer, at_within}
+use Rattle.journal.proofs.Order.CountedAndNumbered.{numbered_at_last, numbered_at_longer, numbered_at_within}
 use Rattle.judge.specs.declared.miscounted.Miscounted.{Miscounted}
 use Rattle.judge.specs.declared.models.MemoryModel.{MemoryModel}
 use Rattle.judge.specs.declared.models.MemoryModel.TheVariants.{LazyRelease}
@@ -39,7 +39,7 @@ well_next : (lax : Bool) (s : Sizes) (j : List Event) (e : Event) → WellFormed
 well_next lax s j e well may = well_of_each lax s (j ++ e ∷ []) each
   where
     each : (k : ℕ) (f : Event) → At (j ++ e ∷ []) k f → MayFollowIn lax s (take k (j ++ e ∷ [])) f
-    each k f at = elim (push_cases j e k f at) [
+    each k f at = elim (slice_push_cases j e k f at) [
       | inl old ↦
           (let le : k ≤ length j = omega (arith, old.0) in
           subst (λ xs. MayFollowIn lax s xs f) (sym (take-append-le k j (e ∷ []) le))
@@ -52,13 +52,13 @@ well_next lax s j e well may = well_of_each lax s (j ++ e ∷ []) each
 explained_next : (m : MemoryModel) (s : Sizes) (j : List Event) (e : Event) → ExplainedUnder m s j
     → ((a v : ℕ) → e.kind ≡ Load a v → IsOwed m s (j ++ e ∷ []) (length j) a v)
     → ExplainedUnder m s (j ++ e ∷ [])
-explained_next m s j e all now k p a v does = elim (push_cases j e k (event p (Load a v)) does) [
+explained_next m s j e all now k p a v does = elim (slice_push_cases j e k (event p (Load a v)) does) [
   | inl old ↦ (owed_stays_law m s j (e ∷ []) k a v old.0).1 (all k p a v old.1)
   | inr new ↦ subst (λ n. IsOwed m s (j ++ e ∷ []) n a v) (sym new.0) (now a v (ap (λ (x : Event). x.kind) new.1))
 ]
 
 counted_next : (s : Sizes) (j : List Event) (e : Event) → AreCounted s j → CountsGap s j e → AreCounted s (j ++ e ∷ [])
-counted_next s j e all now k p n w r d does = elim (push_cases j e k (event p (Fetch w n r d)) does) [
+counted_next s j e all now k p n w r d does = elim (slice_push_cases j e k (event p (Fetch w n r d)) does) [
   | inl old ↦
       (let le : k ≤ length j = omega (arith, old.0) in
       subst (λ xs. GapCounts s xs p n w r d) (sym (take-append-le k j (e ∷ []) le)) (all k p n w r d old.1))
@@ -97,7 +97,7 @@ front_of_more j es e =
     take-append-le (length j) (j ++ e ∷ []) es le ∙ take-append_seam j (e ∷ [])
 
 at_more : (j es : List Event) (e : Event) → At ((j ++ e ∷ []) ++ es) (length j) e
-at_more j es e = at_longer (j ++ e ∷ []) es (length j) e (at_last j e)
+at_more j es e = numbered_at_longer (j ++ e ∷ []) es (length j) e (numbered_at_last j e)
 
 -- an event that is never faithful behind a faithful history is the first that isn't
 first_lie : (m : MemoryModel) (lax : Bool) (s : Sizes) (j : List Event) (e : Event) → IsAccepted m lax s j
@@ -147,9 +147,9 @@ pub first_miscounted_here : (s : Sizes) (j : List Event) (e : Event) (x : Miscou
     → x.place ≡ length j → Miscounts s j e x → IsFirstMiscounted s (j ++ e ∷ []) x
 first_miscounted_here s j e x all place w = record {
   event = e;
-  at = subst (λ n. At (j ++ e ∷ []) n e) (sym place) (at_last j e);
+  at = subst (λ n. At (j ++ e ∷ []) n e) (sym place) (numbered_at_last j e);
   wrong = subst (λ xs. Miscounts s xs e x) (sym front) w;
-  first = λ k f lt at. elim (push_cases j e k f at) [
+  first = λ k f lt at. elim (slice_push_cases j e k f at) [
     | inl old ↦
         (let le : k ≤ length j = omega (arith, old.0) in
         subst (λ xs. CountsGap s xs f) (sym (take-append-le k j (e ∷ []) le))

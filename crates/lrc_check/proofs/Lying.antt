@@ -9,7 +9,7 @@ use Rattle.journal.specs.DidEvent.{did, event}
 use Rattle.journal.specs.Sizes.{Sizes}
 use Rattle.journal.specs.Events.{At}
 use Rattle.journal.specs.WellFormed.{Does}
-use Rattle.journal.proofs.Order.CountedAndNumbered.{at_last}
+use Rattle.journal.proofs.Order.CountedAndNumbered.{numbered_at_last}
 use Rattle.judge.specs.declared.judge.IllFormed.{IllFormed}
 use Rattle.judge.specs.declared.miscounted.Miscounted.{Miscounted}
 use Rattle.judge.specs.declared.models.MemoryModel.{MemoryModel}
@@ -40,7 +40,7 @@ front_at : (j : List Event) (e : Event) (n : ℕ) → n ≡ length j → take n 
 front_at j e n is = ap (λ m. take m (j ++ e ∷ [])) is ∙ take-append_seam j (e ∷ [])
 
 at_place : (j : List Event) (e : Event) (n : ℕ) → n ≡ length j → At (j ++ e ∷ []) n e
-at_place j e n is = subst (λ m. At (j ++ e ∷ []) m e) (sym is) (at_last j e)
+at_place j e n is = subst (λ m. At (j ++ e ∷ []) m e) (sym is) (numbered_at_last j e)
 
 -- a load that isn't paid is one of a value that it may not answer
 pub record IsUnpaid (m : MemoryModel) (s : Sizes) (j : List Event) (e : Event) : Type 0 where

@@ -11,7 +11,7 @@ use Rattle.journal.specs.declared.event.Event.{Event}
 use Rattle.journal.specs.Base.{Base}
 use Rattle.journal.specs.InRange.{ProcessorsInRange}
 use Rattle.journal.specs.RacesFrom.{IsFirstRaceFrom, RaceFreeFrom}
-use Rattle.journal.proofs.Order.CountedAndNumbered.{at_within}
+use Rattle.journal.proofs.Order.CountedAndNumbered.{numbered_at_within}
 use Rattle.lrc_picture.specs.Arrows.{ArePlaces}
 use Rattle.lrc_picture.specs.Layout.{CanBeDrawn, ArrowInside}
 use Rattle.causes.specs.News.{AreIncoming}
@@ -28,7 +28,7 @@ picture_news_within j rows long news = record {
   long = refl;
   within = λ k row at. all_of (λ i. i < length rows) row.items (λ i has.
       let edge = (((news k row at).has i).0 has).leads.edge in
-      rw long (at_within j i edge.from edge.from_at));
+      rw long (numbered_at_within j i edge.from edge.from_at));
 }
 
 -- each place of the first rows lies below n
@@ -58,6 +58,6 @@ pub picture_race_within : (b : Base) (j : List Event) (race : Option (ℕ × ℕ
     → MatchOption race (RaceFreeFrom b j) (λ r. IsFirstRaceFrom b j r.0 r.1) → ArrowInside (length j) race
 picture_race_within b j None free = tt
 picture_race_within b j (Some r) first = (
-  at_within j r.0 first.race.first first.race.first_at,
-  at_within j r.1 first.race.second first.race.second_at,
+  numbered_at_within j r.0 first.race.first first.race.first_at,
+  numbered_at_within j r.1 first.race.second first.race.second_at,
 )

@@ -7,17 +7,17 @@ use Rattle.journal.specs.declared.event.Kind.{Kind}
 use Rattle.journal.specs.declared.event.Kind.TheVariants.{Load, Store, Fetch}
 use Rattle.journal.specs.DidEvent.{event}
 use Rattle.journal.specs.Events.{events_of}
-use Rattle.conformance.specs.Follows.{is_fetch, call_kinds}
-use Rattle.conformance.proofs.Calls.{call_kinds-append, call_kinds-one}
+use Rattle.conformance.specs.Follows.{is_followed_fetch, followed_call_kinds}
+use Rattle.conformance.proofs.Calls.{followed_call_kinds-append, followed_call_kinds-one}
 use Rattle.book.specs.declared.refused.Refused.{Refused}
 use Rattle.book.specs.declared.refused.Refused.TheVariants.{OutOfRange, Invalid, Waiting, BlockFull}
-use Rattle.cluster.specs.Copies.Local.{Local, calls, noted}
-use Rattle.cluster.specs.Accesses.{StoreDone, FetchDone}
-use Rattle.cluster.specs.Calls.{IsSameProcessor, IsHandingCall}
-use Rattle.cluster.specs.Refusals.{access_refusal, first_refusal_due, has_valid, block_full, is_waiting}
+use Rattle.cluster.specs.Copies.Local.{Local, calls, local_noted}
+use Rattle.cluster.specs.Accesses.{StoreAccessDone, FetchDone}
+use Rattle.cluster.specs.Calls.{IsSameProcessorOfCall, IsHandingCall}
+use Rattle.cluster.specs.Refusals.{access_refusal, first_refusal_due, refusal_has_valid, refusal_block_full, refusal_is_waiting}
 use Rattle.conformance.specs.WantedFetches.{IsWantedAccess}
 use Rattle.conformance.proofs.WantedFetches.{wanted_access}
-use Rattle.lrc_run.specs.MakesCalls.{AddsCalls, AddsCallsBy, AddsFetchBy, calls_made, MakesNone, TriesCalls}
+use Rattle.lrc_run.specs.MakesCalls.{AddsCalls, AddsCallsBy, MakesFetchBy, calls_made, MakesNone, TriesCalls}
 use Rattle.lrc_run.proofs.SeesAndMakes.{makes_one, sees_same_processor, sees_call, sees_handed, sees_same, sees_then, makes_more_wanted}
 
 -- a processor that is as it was has no call more
@@ -72,21 +72,21 @@ adds_after l m n (Err e) kinds first next = adds_then l m n [] [] first next
 
 -- and a fetch
 pub adds_fetch_after : {A : Type 0} (l m n : Local) (r : Result A Refused) (page : ℕ) → AddsCalls l m []
-    → AddsFetchBy m n r page → AddsFetchBy l n r page
+    → MakesFetchBy m n r page → MakesFetchBy l n r page
 adds_fetch_after l m n (Ok x) page first next =
     (next.0, next.1, next.2, adds_then l m n [] (Fetch next.0 page next.1 next.2 ∷ []) first next.3)
 adds_fetch_after l m n (Err e) page first next = adds_then l m n [] [] first next
 
 -- a processor whose block or copies alone changed is the same
-same_but : (m n l : Local) → n ≡ l → IsSameProcessor m l → IsSameProcessor m n
-same_but m n l e same = subst (IsSameProcessor m) (sym e) same
+adding_same_but : (m n l : Local) → n ≡ l → IsSameProcessorOfCall m l → IsSameProcessorOfCall m n
+adding_same_but m n l e same = subst (IsSameProcessorOfCall m) (sym e) same
 
 -- a load
 pub adds_load : (m n : Local) (a : ℕ) (r : Result ℕ Refused) → OnErr r (n ≡ m)
-    → IfOk r (λ v. n ≡ noted m (Load a v)) → IfOk r (λ v. calls n ≡ calls m ++ event m.number (Load a v) ∷ [])
+    → IfOk r (λ v. n ≡ local_noted m (Load a v)) → IfOk r (λ v. calls n ≡ calls m ++ event m.number (Load a v) ∷ [])
     → AddsCallsBy m n r (λ v. Load a v ∷ [])
 adds_load m n a (Ok v) err ok more = record {
-  same = same_but m n _ ok (record { lock = refl; number = refl; sizes = refl });
+  same = adding_same_but m n _ ok (record { lock = refl; number = refl; sizes = refl });
   sees = sees_same m n (ap (λ (x : Local). x.seen) ok);
   calls_are = more;
   uncut = ap (λ (x : Local). x.own_cut) ok;
@@ -95,10 +95,10 @@ adds_load m n a (Err e) err ok more = adds_none m n err
 
 -- a store
 pub adds_store : {A : Type 0} (m n : Local) (a v : ℕ) (r : Result A Refused) → OnErr r (n ≡ m)
-    → OnOk r (StoreDone m a v n) → OnOk r (calls n ≡ calls m ++ event m.number (Store a v) ∷ [])
+    → OnOk r (StoreAccessDone m a v n) → OnOk r (calls n ≡ calls m ++ event m.number (Store a v) ∷ [])
     → AddsCallsBy m n r (λ _. Store a v ∷ [])
 adds_store m n a v (Ok x) err ok more = record {
-  same = same_but m n _ ok.after (record { lock = refl; number = refl; sizes = refl });
+  same = adding_same_but m n _ ok.after (record { lock = refl; number = refl; sizes = refl });
   sees = sees_same m n (ap (λ (x : Local). x.seen) ok.after);
   calls_are = more;
   uncut = ap (λ (x : Local). x.own_cut) ok.after;
@@ -107,13 +107,13 @@ adds_store m n a v (Err e) err ok more = adds_none m n err
 
 -- a fetch
 pub adds_fetch_by : {A : Type 0} (m n : Local) (page : ℕ) (r : Result A Refused) → OnErr r (n ≡ m)
-    → OnOk r (FetchDone m page n) → AddsFetchBy m n r page
+    → OnOk r (FetchDone m page n) → MakesFetchBy m n r page
 adds_fetch_by m n page (Ok x) err ok = (
   ok.counts.writers,
   ok.counts.records,
   ok.counts.words,
   record {
-    same = same_but m n _ ok.after (record { lock = refl; number = refl; sizes = refl });
+    same = adding_same_but m n _ ok.after (record { lock = refl; number = refl; sizes = refl });
     sees = sees_same m n (ap (λ (x : Local). x.seen) ok.after);
     calls_are = ap calls ok.after ∙ sym (append_assoc (events_of m.seen m.number) m.block _);
     uncut = ap (λ (x : Local). x.own_cut) ok.after;
@@ -123,7 +123,7 @@ adds_fetch_by m n page (Err e) err ok = adds_none m n err
 
 -- why an access is refused as Invalid is a copy of its page
 pub adds_access_page : (m : Local) (a page : ℕ) → access_refusal m a ≡ Some (Invalid page) → page ≡ a / m.sizes.words
-adds_access_page m a page is = by _ (has_valid m (a / m.sizes.words)) (is_waiting m) (block_full m) is
+adds_access_page m a page is = by _ (refusal_has_valid m (a / m.sizes.words)) (refusal_is_waiting m) (refusal_block_full m) is
   where
     by : (past valid waits full : Bool) → first_refusal_due ((past, OutOfRange) ∷ (not valid, Invalid (a / m.sizes.words))
         ∷ (waits, Waiting) ∷ (full, BlockFull) ∷ []) ≡ Some (Invalid page) → page ≡ a / m.sizes.words
@@ -137,28 +137,28 @@ adds_access_page m a page is = by _ (has_valid m (a / m.sizes.words)) (is_waitin
 pub none_adds : (m n : Local) → AddsCalls m n [] → MakesNone m n
 none_adds m n adds = record {
   same = adds.same;
-  none = ap call_kinds (adds.calls_are ∙ append-nil (calls m));
+  none = ap followed_call_kinds (adds.calls_are ∙ append-nil (calls m));
   uncut = adds.uncut;
 }
 
 -- one call that is no fetch
-pub tries_adds : {A : Type 0} (m n : Local) (r : Result A Refused) (k : A → Kind) → ((x : A) → is_fetch (k x) ≡ false)
+pub tries_adds : {A : Type 0} (m n : Local) (r : Result A Refused) (k : A → Kind) → ((x : A) → is_followed_fetch (k x) ≡ false)
     → AddsCallsBy m n r (λ x. k x ∷ []) → TriesCalls m n r (λ x. k x ∷ [])
 tries_adds m n (Ok x) k plain adds = makes_one m n (k x) (plain x) adds.same adds.sees adds.calls_are adds.uncut
 tries_adds m n (Err e) k plain adds = none_adds m n adds
 
 -- a fetch that was refused
 pub none_adds_fetch : {A : Type 0} (l m n : Local) (r : Result A Refused) (page : ℕ) (e : Refused) → AddsCalls l m []
-    → r ≡ Err e → AddsFetchBy m n r page → MakesNone l n
+    → r ≡ Err e → MakesFetchBy m n r page → MakesNone l n
 none_adds_fetch {A} l m n r page e first is fetches =
-    none_adds l n (adds_then l m n [] [] first (subst (λ (x : Result A Refused). AddsFetchBy m n x page) is fetches))
+    none_adds l n (adds_then l m n [] [] first (subst (λ (x : Result A Refused). MakesFetchBy m n x page) is fetches))
 
 -- a fetch, and the access that wants it
 pub tries_adds_fetch : {A B : Type 0} (l m n : Local) (page : ℕ) (f : Result B Refused) {b : B} (r : Result A Refused)
-    (k : A → Kind) → f ≡ Ok b → AddsFetchBy l m f page → ((x : A) → is_fetch (k x) ≡ false)
+    (k : A → Kind) → f ≡ Ok b → MakesFetchBy l m f page → ((x : A) → is_followed_fetch (k x) ≡ false)
     → ((x : A) → IsWantedAccess l.sizes.words page (k x)) → AddsCallsBy m n r (λ x. k x ∷ []) → TriesCalls l n r (λ x. k x ∷ [])
 tries_adds_fetch {A} {B} l m n page f r k is fetches plain wants adds =
-    by r (subst (λ (x : Result B Refused). AddsFetchBy l m x page) is fetches) adds
+    by r (subst (λ (x : Result B Refused). MakesFetchBy l m x page) is fetches) adds
   where
     by : (r : Result A Refused) → (writers records words : ℕ) × AddsCalls l m (Fetch writers page records words ∷ [])
         → AddsCallsBy m n r (λ x. k x ∷ []) → TriesCalls l n r (λ x. k x ∷ [])
@@ -169,8 +169,8 @@ tries_adds_fetch {A} {B} l m n page f r k is fetches plain wants adds =
         record {
           same = both.same;
           sees = both.sees;
-          more = ap call_kinds both.calls_are ∙ call_kinds-append (calls l) (one ∷ two ∷ [])
-              ∙ ap (λ ks. calls_made l ++ ks) (call_kinds-one two (plain x));
+          more = ap followed_call_kinds both.calls_are ∙ followed_call_kinds-append (calls l) (one ∷ two ∷ [])
+              ∙ ap (λ ks. calls_made l ++ ks) (followed_call_kinds-one two (plain x));
           wanted = makes_more_wanted l n (one ∷ two ∷ []) both.same both.calls_are
               (wanted_access l.sizes.words page writers records words one two refl (wants x));
           uncut = both.uncut;
@@ -180,6 +180,6 @@ tries_adds_fetch {A} {B} l m n page f r k is fetches plain wants adds =
         let one = event l.number (Fetch writers page records words) in
         record {
           same = both.same;
-          none = ap call_kinds both.calls_are ∙ call_kinds-append (calls l) (one ∷ []) ∙ append-nil (calls_made l);
+          none = ap followed_call_kinds both.calls_are ∙ followed_call_kinds-append (calls l) (one ∷ []) ∙ append-nil (calls_made l);
           uncut = both.uncut;
         }

@@ -32,8 +32,8 @@ exchanging_rising_below n xs is =
         omega (arith, within, get_or-range_with_len 0 n k d within)
 
 -- one more of them
-pub rising_more : (a n : ℕ) → range_with_len a (suc n) ≡ range_with_len a n ++ (a + n) ∷ []
-rising_more a zero = let same : a ≡ a + 0 = omega arith in ap (λ x. x ∷ []) same
-rising_more a (suc n) =
+pub exchanging_rising_more : (a n : ℕ) → range_with_len a (suc n) ≡ range_with_len a n ++ (a + n) ∷ []
+exchanging_rising_more a zero = let same : a ≡ a + 0 = omega arith in ap (λ x. x ∷ []) same
+exchanging_rising_more a (suc n) =
     let same : a + 1 + n ≡ a + suc n = omega arith in
-    ap (λ xs. a ∷ xs) (rising_more (a + 1) n ∙ ap (λ x. range_with_len (a + 1) n ++ x ∷ []) same)
+    ap (λ xs. a ∷ xs) (exchanging_rising_more (a + 1) n ∙ ap (λ x. range_with_len (a + 1) n ++ x ∷ []) same)

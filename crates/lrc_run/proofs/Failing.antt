@@ -4,21 +4,21 @@ use Rattle.std.specs.Result.{IfErr, IfOk, MatchResult, is_ok}
 use Rattle.std.proofs.lemmas.Bool.{cases_lt}
 use Rattle.std.proofs.lemmas.List.{map-append}
 use Rattle.conformance.specs.declared.cause.Cause.{Cause}
-use Rattle.lrc_run.specs.FailedOutcomes.{is_stuck_cause, FailedOutcome, IsFirstFailedOutcome}
+use Rattle.lrc_run.specs.FailedOutcomes.{is_stuck_outcome_cause, FailedOutcome, IsFirstFailedOutcome}
 
 -- none below a place failed so
 abbrev pub NoneFailedBelow : {X : Type 0} → List (Result X Cause) → Bool → ℕ → Type 0
-NoneFailedBelow outcomes stuck k = (p : ℕ) (cause : Cause) → p < k → FailedOutcome outcomes p cause → is_stuck_cause cause ≢ stuck
+NoneFailedBelow outcomes stuck k = (p : ℕ) (cause : Cause) → p < k → FailedOutcome outcomes p cause → is_stuck_outcome_cause cause ≢ stuck
 
 pub none_failed_more : {X : Type 0} (outcomes : List (Result X Cause)) (stuck : Bool) (k : ℕ) → NoneFailedBelow outcomes stuck k
-    → ((cause : Cause) → FailedOutcome outcomes k cause → is_stuck_cause cause ≢ stuck) → NoneFailedBelow outcomes stuck (k + 1)
+    → ((cause : Cause) → FailedOutcome outcomes k cause → is_stuck_outcome_cause cause ≢ stuck) → NoneFailedBelow outcomes stuck (k + 1)
 none_failed_more outcomes stuck k below here p cause less failed = elim (cases_lt p k) [
   | inl lower ↦ below p cause lower failed
   | inr not ↦ here cause (subst (λ q. FailedOutcome outcomes q cause) (omega arith) failed)
 ]
 
 pub first_failed_so : {X : Type 0} (outcomes : List (Result X Cause)) (stuck : Bool) (k : ℕ) (cause : Cause)
-    → NoneFailedBelow outcomes stuck k → FailedOutcome outcomes k cause → is_stuck_cause cause ≡ stuck
+    → NoneFailedBelow outcomes stuck k → FailedOutcome outcomes k cause → is_stuck_outcome_cause cause ≡ stuck
     → IsFirstFailedOutcome outcomes stuck (record { processor = k; cause = cause })
 first_failed_so outcomes stuck k cause below failed so = record {
   failed = failed;
@@ -28,29 +28,29 @@ first_failed_so outcomes stuck k cause below failed so = record {
 }
 
 -- one outcome more that is no fault
-pub taken_more : {X : Type 0} (all : List X) (outcomes : List (Result X Cause)) (x : X) (outcome : Result X Cause)
+pub failing_taken_more : {X : Type 0} (all : List X) (outcomes : List (Result X Cause)) (x : X) (outcome : Result X Cause)
     → map Ok all ≡ outcomes → outcome ≡ Ok x → map Ok (all ++ x ∷ []) ≡ outcomes ++ outcome ∷ []
-taken_more all outcomes x outcome same is = map-append Ok all (x ∷ []) ∙ ap (λ os. os ++ Ok x ∷ []) same
+failing_taken_more all outcomes x outcome same is = map-append Ok all (x ∷ []) ∙ ap (λ os. os ++ Ok x ∷ []) same
     ∙ ap (λ o. outcomes ++ o ∷ []) (sym is)
 
 -- nothing is left of a list without a length
-pub none_left : {A : Type 0} (xs : List A) → length xs ≡ 0 → xs ≡ []
-none_left [] none = refl
-none_left (x ∷ xs) none = absurd (omega arith)
+pub failing_none_left : {A : Type 0} (xs : List A) → length xs ≡ 0 → xs ≡ []
+failing_none_left [] none = refl
+failing_none_left (x ∷ xs) none = absurd (omega arith)
 
 -- a result whose error is told in another way
-pub told_ok : {A E F : Type 0} (r : Result A E) (told : Result A F) (P : A → Type 0) (Q : E → Type 0)
+pub failing_told_ok : {A E F : Type 0} (r : Result A E) (told : Result A F) (P : A → Type 0) (Q : E → Type 0)
     → MatchResult r (λ x. told ≡ Ok x) Q → is_ok told ≡ is_ok r → IfOk r P → IfOk told P
-told_ok (Ok x) told P Q is same holds = subst (λ t. IfOk t P) (sym is) holds
-told_ok (Err e) (Ok x) P Q is same holds = absurd (cc)
-told_ok (Err e) (Err f) P Q is same holds = tt
+failing_told_ok (Ok x) told P Q is same holds = subst (λ t. IfOk t P) (sym is) holds
+failing_told_ok (Err e) (Ok x) P Q is same holds = absurd (cc)
+failing_told_ok (Err e) (Err f) P Q is same holds = tt
 
 -- what holds whatever the error is
-pub each_error : {A E : Type 0} (r : Result A E) (Q : E → Type 0) → ((e : E) → Q e) → IfErr r Q
-each_error (Ok x) Q all = tt
-each_error (Err e) Q all = all e
+pub failing_each_error : {A E : Type 0} (r : Result A E) (Q : E → Type 0) → ((e : E) → Q e) → IfErr r Q
+failing_each_error (Ok x) Q all = tt
+failing_each_error (Err e) Q all = all e
 
 -- what holds of an answer holds of it in weaker words
-pub ok_as : {A E : Type 0} (r : Result A E) (P Q : A → Type 0) → ((x : A) → P x → Q x) → IfOk r P → IfOk r Q
-ok_as (Ok x) P Q less holds = less x holds
-ok_as (Err e) P Q less holds = tt
+pub failing_ok_as : {A E : Type 0} (r : Result A E) (P Q : A → Type 0) → ((x : A) → P x → Q x) → IfOk r P → IfOk r Q
+failing_ok_as (Ok x) P Q less holds = less x holds
+failing_ok_as (Err e) P Q less holds = tt

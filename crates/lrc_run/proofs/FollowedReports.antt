@@ -17,36 +17,36 @@ use Rattle.journal.specs.Counted.{AreCounted}
 use Rattle.journal.specs.Events.{events_of}
 use Rattle.journal.specs.RacesFrom.{IsFirstRaceFrom, RaceFreeFrom}
 use Rattle.journal.specs.Sizes.{Sizes, addresses}
-use Rattle.journal.specs.Traffic.{messages, messages_of, records, records_of, words, words_fetched}
+use Rattle.journal.specs.Traffic.{messages, messages_of, records, traffic_records_of, words, traffic_words_fetched}
 use Rattle.journal.specs.WellFormed.{WellFormed}
 use Rattle.journal.proofs.FromBase.Whole.{same_law}
 use Rattle.lrc_script.specs.declared.script.Instruction.{Instruction}
 use Rattle.lrc_script.specs.Lawful.{IsLawful}
 use Rattle.lrc_script.specs.Plan.{Plan}
-use Rattle.conformance.specs.Follows.{Follows, calls_of, call_kinds, load_of, plan_sizes}
+use Rattle.conformance.specs.Follows.{Follows, followed_calls, followed_call_kinds, followed_load, followed_plan_sizes}
 use Rattle.conformance.proofs.Recomputing.Recomputed.{recomputed_law, race_free_law}
 use Rattle.cluster.specs.Copies.Local.{Local}
 use Rattle.cluster.specs.Clusters.{SharedCluster}
-use Rattle.cluster.specs.Finishing.{AreAllToFinish, HasCallsOf, IsFinished, IsProcessorOf}
+use Rattle.cluster.specs.Finishing.{AreAllToFinish, HasCallsToFinish, IsFinished, IsFinishingProcessor}
 use Rattle.lrc_report.specs.declared.report.Report.{Report}
 use Rattle.conformance.specs.CutInstructions.{HasNoCutInstruction}
-use Rattle.lrc_run.specs.FollowedReports.{HasFollowed, HaveFollowed, IsBeginning, IsReportAfter, IsReportWith}
+use Rattle.lrc_run.specs.FollowedReports.{HasFollowed, HaveFollowed, IsFollowedBeginning, IsReportAfter, IsReportWith}
 use Rattle.lrc_run.specs.Laws.{RaceFreeReportLaw}
 use Rattle.conformance.specs.WantedFetches.{FetchesAreWanted}
-use Rattle.conformance.specs.Reports.{FetchesAreNeeded, HasRace}
-use Rattle.lrc_run.specs.MakesCalls.{AreWalked, AreCallsWanted, MakesLoads, SeesMoreCalls, Walks, calls_made, new_at}
+use Rattle.conformance.specs.Reports.{FetchesAreNeeded, ReportHasRace}
+use Rattle.lrc_run.specs.MakesCalls.{HaveMadeWalks, AreCallsWanted, MakesLoads, SeesMoreCalls, MakesWalk, calls_made, new_at_making_calls}
 
 -- one that walked is its cluster's
-pub walked_of : (c : SharedCluster) (p : ℕ) (m : Local) (section : List Instruction) → Walks (new_at c p) m section
-    → IsProcessorOf c p m
-walked_of c p m section walks = record {
+pub followed_walked_of : (c : SharedCluster) (p : ℕ) (m : Local) (section : List Instruction) → MakesWalk (new_at_making_calls c p) m section
+    → IsFinishingProcessor c p m
+followed_walked_of c p m section walks = record {
   lock = walks.makes.same.lock;
   number = walks.makes.same.number;
   sizes = walks.makes.same.sizes;
 }
 
 -- it made its section and the closing barrier
-pub walk_followed : (c : SharedCluster) (p : ℕ) (m : Local) (section : List Instruction) → Walks (new_at c p) m section
+pub walk_followed : (c : SharedCluster) (p : ℕ) (m : Local) (section : List Instruction) → MakesWalk (new_at_making_calls c p) m section
     → HasFollowed section [] m
 walk_followed c p m section walks = record {
   own = walks.kinds;
@@ -63,15 +63,15 @@ pub loads_followed : (section : List Instruction) (m n : Local) (shown : List (�
 loads_followed section m n shown walked loads = record {
   own = walked.own;
   are = walked.are;
-  made_is = loads.more ∙ ap (λ ks. ks ++ map load_of shown) walked.made_is
-      ∙ append_assoc walked.own (Arrive ∷ Depart ∷ []) (map load_of shown);
+  made_is = loads.more ∙ ap (λ ks. ks ++ map followed_load shown) walked.made_is
+      ∙ append_assoc walked.own (Arrive ∷ Depart ∷ []) (map followed_load shown);
   wanted = loads.wanted walked.wanted;
   uncut = λ none. loads.uncut ∙ walked.uncut none;
 }
 
 -- a script's processor has a section
-pub walks_followed_at : (s : Plan) (c : SharedCluster) (ms : List Local) → IsLawful s → c.sizes ≡ plan_sizes s → AreWalked c s.sections ms
-    → (p : ℕ) (m : Local) → slice_get ms p ≡ Some m → (section : List Instruction) × Walks (new_at c p) m section
+pub walks_followed_at : (s : Plan) (c : SharedCluster) (ms : List Local) → IsLawful s → c.sizes ≡ followed_plan_sizes s → HaveMadeWalks c s.sections ms
+    → (p : ℕ) (m : Local) → slice_get ms p ≡ Some m → (section : List Instruction) × MakesWalk (new_at_making_calls c p) m section
 walks_followed_at s c ms lawful sizes walked p m here =
     let within = slice_get_within ms p m here in
     let one_each = lawful.but_uneven.one_each in
@@ -82,8 +82,8 @@ walks_followed_at s c ms lawful sizes walked p m here =
     (section, walked.each p section m (slice_get-get_or s.sections p [] below) here)
 
 -- a script has a processor 0
-pub first_followed_at : (s : Plan) (c : SharedCluster) (ms : List Local) (m : Local) → IsLawful s → c.sizes ≡ plan_sizes s
-    → AreWalked c s.sections ms → m ≡ get_or ms 0 m → slice_get ms 0 ≡ Some m
+pub first_followed_at : (s : Plan) (c : SharedCluster) (ms : List Local) (m : Local) → IsLawful s → c.sizes ≡ followed_plan_sizes s
+    → HaveMadeWalks c s.sections ms → m ≡ get_or ms 0 m → slice_get ms 0 ≡ Some m
 first_followed_at s c ms m lawful sizes walked is =
     let some = lawful.but_uneven.sizes.some_processors in
     let same = ap (λ (x : Sizes). x.processors) sizes in
@@ -92,7 +92,7 @@ first_followed_at s c ms m lawful sizes walked is =
 
 -- all have walked, and processor 0 has loaded what is shown
 pub have_followed : (s : Plan) (c : SharedCluster) (ms : List Local) (m n : Local) (shown : List (ℕ × ℕ)) → IsLawful s
-    → c.sizes ≡ plan_sizes s → AreWalked c s.sections ms → slice_get ms 0 ≡ Some m → MakesLoads m n shown
+    → c.sizes ≡ followed_plan_sizes s → HaveMadeWalks c s.sections ms → slice_get ms 0 ≡ Some m → MakesLoads m n shown
     → map (λ (x : ℕ × ℕ). x.0) shown ≡ s.shown → HaveFollowed s c (slice_set ms 0 n) shown
 have_followed s c ms m n shown lawful sizes walked at loads shows = record {
   lawful = lawful;
@@ -102,20 +102,20 @@ have_followed s c ms m n shown lawful sizes walked at loads shows = record {
   addresses_are = shows;
 }
   where
-    own : (p : ℕ) (x : Local) → slice_get (slice_set ms 0 n) p ≡ Some x → IsProcessorOf c p x
+    own : (p : ℕ) (x : Local) → slice_get (slice_set ms 0 n) p ≡ Some x → IsFinishingProcessor c p x
     own p x here = elim (cases_eq p 0) [
       | inl is ↦ (let P : ℕ → Type 0 = λ q. slice_get (slice_set ms 0 n) q ≡ Some x in
           let w = walks_followed_at s c ms lawful sizes walked 0 m at in
-          let first = walked_of c 0 m w.0 w.1 in
-          let last : IsProcessorOf c 0 n = record {
+          let first = followed_walked_of c 0 m w.0 w.1 in
+          let last : IsFinishingProcessor c 0 n = record {
             lock = loads.same.lock ∙ first.lock;
             number = loads.same.number ∙ first.number;
             sizes = loads.same.sizes ∙ first.sizes;
           } in
-          let Q : ℕ → Type 0 = λ q. IsProcessorOf c q x in
-          subst Q (sym is) (subst (IsProcessorOf c 0) (slice_get-set_found ms 0 n x (subst P is here)) last))
+          let Q : ℕ → Type 0 = λ q. IsFinishingProcessor c q x in
+          subst Q (sym is) (subst (IsFinishingProcessor c 0) (slice_get-set_found ms 0 n x (subst P is here)) last))
       | inr isnt ↦ (let w = walks_followed_at s c ms lawful sizes walked p x
-          (sym (slice_get-set_other ms 0 p n isnt) ∙ here) in walked_of c p x w.0 w.1)
+          (sym (slice_get-set_other ms 0 p n isnt) ∙ here) in followed_walked_of c p x w.0 w.1)
     ]
 
     each : (p : ℕ) (section : List Instruction) (x : Local) → slice_get s.sections p ≡ Some section
@@ -136,11 +136,11 @@ have_followed s c ms m n shown lawful sizes walked at loads shows = record {
 -- a history with these processors' calls follows the script
 pub follows_all : (s : Plan) (c : SharedCluster) (ms : List Local) (shown : List (ℕ × ℕ)) (h : List Event)
     → HaveFollowed s c ms shown
-    → ((p : ℕ) (m : Local) → slice_get ms p ≡ Some m → HasCallsOf h m) → Follows s h
+    → ((p : ℕ) (m : Local) → slice_get ms p ≡ Some m → HasCallsToFinish h m) → Follows s h
 follows_all s c ms shown h all has p section at = record {
   own = its.own;
   loads = cond (p == 0) shown [];
-  kinds_are = ap call_kinds (ap (events_of h) (sym (all.all.each p m here).number) ∙ (has p m here).calls_are) ∙ its.made_is;
+  kinds_are = ap followed_call_kinds (ap (events_of h) (sym (all.all.each p m here).number) ∙ (has p m here).calls_are) ∙ its.made_is;
   follows = its.are;
   addresses_are = shows (p == 0);
 }
@@ -154,10 +154,10 @@ follows_all s c ms shown h all has p section at = record {
         omega arith
 
     m : Local
-    m = get_or ms p (new_at c p)
+    m = get_or ms p (new_at_making_calls c p)
 
     here : slice_get ms p ≡ Some m
-    here = slice_get-get_or ms p (new_at c p) within
+    here = slice_get-get_or ms p (new_at_making_calls c p) within
 
     its : HasFollowed section (cond (p == 0) shown []) m
     its = all.each p section m at here
@@ -167,22 +167,22 @@ follows_all s c ms shown h all has p section at = record {
     shows false = refl
 
 -- a history with the calls of processors whose fetches are wanted fetches only what accesses want
-pub followed_needed_all : (s : Plan) (c : SharedCluster) (ms : List Local) (h : List Event) → c.sizes ≡ plan_sizes s → AreAllToFinish c ms
-    → ((p : ℕ) (m : Local) → slice_get ms p ≡ Some m → HasCallsOf h m)
+pub followed_needed_all : (s : Plan) (c : SharedCluster) (ms : List Local) (h : List Event) → c.sizes ≡ followed_plan_sizes s → AreAllToFinish c ms
+    → ((p : ℕ) (m : Local) → slice_get ms p ≡ Some m → HasCallsToFinish h m)
     → ((p : ℕ) (m : Local) → slice_get ms p ≡ Some m → AreCallsWanted m) → FetchesAreNeeded s h
 followed_needed_all s c ms h sizes all has wanted p less =
     let many = all.all in
     let same = ap (λ (x : Sizes). x.processors) sizes in
     let within : p < length ms = omega arith in
-    let m = get_or ms p (new_at c p) in
-    let here = slice_get-get_or ms p (new_at c p) within in
+    let m = get_or ms p (new_at_making_calls c p) in
+    let here = slice_get-get_or ms p (new_at_making_calls c p) within in
     let its = all.each p m here in
     subst₂ FetchesAreWanted (ap (λ (x : Sizes). x.words) (its.sizes ∙ sizes))
     (sym (has p m here).calls_are ∙ ap (events_of h) its.number) (wanted p m here)
 
 -- and so it is of processors that followed the script
 needed_followed : (s : Plan) (c : SharedCluster) (ms : List Local) (shown : List (ℕ × ℕ)) (h : List Event)
-    → HaveFollowed s c ms shown → ((p : ℕ) (m : Local) → slice_get ms p ≡ Some m → HasCallsOf h m)
+    → HaveFollowed s c ms shown → ((p : ℕ) (m : Local) → slice_get ms p ≡ Some m → HasCallsToFinish h m)
     → FetchesAreNeeded s h
 needed_followed s c ms shown h all has = followed_needed_all s c ms h all.sizes all.all has each
   where
@@ -198,8 +198,8 @@ needed_followed s c ms shown h all has = followed_needed_all s c ms h all.sizes 
 -- what processor 0 called
 pub first_followed_calls : (s : Plan) (c : SharedCluster) (ms : List Local) (shown : List (ℕ × ℕ)) (h : List Event)
     → HaveFollowed s c ms shown
-    → ((p : ℕ) (m : Local) → slice_get ms p ≡ Some m → HasCallsOf h m)
-    → (own : List Kind) × (calls_of h 0 ≡ own ++ Arrive ∷ Depart ∷ map load_of shown)
+    → ((p : ℕ) (m : Local) → slice_get ms p ≡ Some m → HasCallsToFinish h m)
+    → (own : List Kind) × (followed_calls h 0 ≡ own ++ Arrive ∷ Depart ∷ map followed_load shown)
 first_followed_calls s c ms shown h all has =
     let sizes = all.lawful.but_uneven.sizes.some_processors in
     let same = ap (λ (x : Sizes). x.processors) all.sizes in
@@ -207,16 +207,16 @@ first_followed_calls s c ms shown h all has =
     let one_each = all.lawful.but_uneven.one_each in
     let some : 0 < length ms = omega arith in
     let listed : 0 < length s.sections = omega arith in
-    let m = get_or ms 0 (new_at c 0) in
-    let here = slice_get-get_or ms 0 (new_at c 0) some in
+    let m = get_or ms 0 (new_at_making_calls c 0) in
+    let here = slice_get-get_or ms 0 (new_at_making_calls c 0) some in
     let section = get_or s.sections 0 [] in
     let its = all.each 0 section m (slice_get-get_or s.sections 0 [] listed) here in
-    (its.own, ap call_kinds (ap (events_of h) (sym (all.all.each 0 m here).number) ∙ (has 0 m here).calls_are) ∙ its.made_is)
+    (its.own, ap followed_call_kinds (ap (events_of h) (sym (all.all.each 0 m here).number) ∙ (has 0 m here).calls_are) ∙ its.made_is)
 
 -- by the first race of what is left from its base, if there is one, the history has a race
 report_has_race : (s : Sizes) (b : Base) (c j : List Event) (o : Option (ℕ × ℕ)) → BaseSaysTheSame s b c j
     → MatchOption o (RaceFreeFrom b j) (λ r. IsFirstRaceFrom b j r.0 r.1)
-    → IsTrue (is_some o) ↔ HasRace (c ++ j)
+    → IsTrue (is_some o) ↔ ReportHasRace (c ++ j)
 report_has_race s b c j None same free = ((λ t. absurd (cc)), λ r. absurd (same.race_free.1 free r.0 r.1 r.2))
 report_has_race s b c j (Some x) same first =
     ((λ t. (length c + x.0, length c + x.1, ((same.first_race x.0 x.1).1 first).race)), λ r. refl)
@@ -229,23 +229,23 @@ counts f c j told spent is before =
     is ∙ ap (λ n. n + sum_by f j) (before ∙ zero-add (sum_by f c)) ∙ sym both
 
 -- a list of no items
-pub nothing_of : (xs : List Event) → length xs ≡ 0 → xs ≡ []
-nothing_of [] none = refl
-nothing_of (x ∷ xs) none = absurd (omega arith)
+pub followed_nothing_of : (xs : List Event) → length xs ≡ 0 → xs ≡ []
+followed_nothing_of [] none = refl
+followed_nothing_of (x ∷ xs) none = absurd (omega arith)
 
 -- processors of which each cut nothing off cut nothing off together
-pub no_sum : (ms : List Local) → ((p : ℕ) (m : Local) → slice_get ms p ≡ Some m → m.own_cut ≡ 0)
+pub followed_no_sum : (ms : List Local) → ((p : ℕ) (m : Local) → slice_get ms p ≡ Some m → m.own_cut ≡ 0)
     → sum_by (λ (m : Local). m.own_cut) ms ≡ 0
-no_sum [] each = refl
-no_sum (m ∷ ms) each =
-    let rest = no_sum ms (λ p n at. each (suc p) n at) in
+followed_no_sum [] each = refl
+followed_no_sum (m ∷ ms) each =
+    let rest = followed_no_sum ms (λ p n at. each (suc p) n at) in
     let first = each 0 m refl in
     sum_by-cons (λ (n : Local). n.own_cut) m ms ∙ omega arith
 
 -- and so it is where no section has a cut
 followed_uncut : (s : Plan) (c : SharedCluster) (ms : List Local) (shown : List (ℕ × ℕ)) → HaveFollowed s c ms shown → HasNoCutInstruction s
     → sum_by (λ (m : Local). m.own_cut) ms ≡ 0
-followed_uncut s c ms shown all none = no_sum ms each
+followed_uncut s c ms shown all none = followed_no_sum ms each
   where
     each : (p : ℕ) (m : Local) → slice_get ms p ≡ Some m → m.own_cut ≡ 0
     each p m here =
@@ -275,7 +275,7 @@ report_is s c ms r o all finished race racy messages_are records_are words_are =
     history = h;
     taken = taken;
     holds = finished.journal.holds;
-    uncut = λ none. nothing_of taken (finished.cuts ∙ followed_uncut s c ms r.shown.items all none);
+    uncut = λ none. followed_nothing_of taken (finished.cuts ∙ followed_uncut s c ms r.shown.items all none);
     tells = record {
       well_formed = well_formed;
       explained = finished.faithful.explained;
@@ -283,19 +283,19 @@ report_is s c ms r o all finished race racy messages_are records_are words_are =
       fetches = needed_followed s c ms r.shown.items h all finished.each;
       follows = follows;
       recomputed = recomputed_law s h well_formed follows;
-      racy = let P : Bool → List Event → Type 0 = λ b h. IsTrue b ↔ HasRace h in
+      racy = let P : Bool → List Event → Type 0 = λ b h. IsTrue b ↔ ReportHasRace h in
           subst₂ P (sym racy) (sym whole) (report_has_race c.sizes r.journal.base taken left o same race);
       shown_addresses = all.addresses_are;
       replies = record {
         front = first.0 ++ Arrive ∷ Depart ∷ [];
-        ends = first.1 ∙ sym (append_assoc first.0 (Arrive ∷ Depart ∷ []) (map load_of r.shown.items));
+        ends = first.1 ∙ sym (append_assoc first.0 (Arrive ∷ Depart ∷ []) (map followed_load r.shown.items));
       };
       messages_are = counts (λ e. messages_of e.kind) taken left r.traffic.messages r.journal.base.spent.messages
           messages_are
           base.after.messages_are ∙ ap messages (sym whole);
-      records_are = counts (λ e. records_of e.kind) taken left r.traffic.records r.journal.base.spent.records records_are
+      records_are = counts (λ e. traffic_records_of e.kind) taken left r.traffic.records r.journal.base.spent.records records_are
           base.after.records_are ∙ ap records (sym whole);
-      words_are = counts (λ e. words_fetched e.kind) taken left r.traffic.words r.journal.base.spent.words words_are
+      words_are = counts (λ e. traffic_words_fetched e.kind) taken left r.traffic.words r.journal.base.spent.words words_are
           base.after.words_are ∙ ap words (sym whole);
     };
   };
@@ -317,7 +317,7 @@ report_is s c ms r o all finished race racy messages_are records_are words_are =
     base : IsBaseOf r.journal.processors r.journal.addresses taken r.journal.base
     base = finished.journal.holds.base
 
-    well_formed : WellFormed (plan_sizes s) h
+    well_formed : WellFormed (followed_plan_sizes s) h
     well_formed = subst (λ (x : Sizes). WellFormed x h) all.sizes finished.faithful.well_formed
 
     same : BaseSaysTheSame c.sizes r.journal.base taken left
@@ -328,19 +328,19 @@ report_is s c ms r o all finished race racy messages_are records_are words_are =
     follows : Follows s h
     follows = follows_all s c ms r.shown.items h all finished.each
 
-    first : (own : List Kind) × (calls_of h 0 ≡ own ++ Arrive ∷ Depart ∷ map load_of r.shown.items)
+    first : (own : List Kind) × (followed_calls h 0 ≡ own ++ Arrive ∷ Depart ∷ map followed_load r.shown.items)
     first = first_followed_calls s c ms r.shown.items h all finished.each
 
 -- what goes on from more goes on from less
-pub begins_less : (m x : Local) (h : List Event) → SeesMoreCalls m x → IsBeginning x.seen h → IsBeginning m.seen h
-begins_less m x h sees begins = (
+pub followed_begins_less : (m x : Local) (h : List Event) → SeesMoreCalls m x → IsFollowedBeginning x.seen h → IsFollowedBeginning m.seen h
+followed_begins_less m x h sees begins = (
   sees.0 ++ begins.0,
   begins.1 ∙ ap (λ es. es ++ begins.0) sees.1 ∙ append_assoc m.seen sees.0 begins.0,
 )
 
 -- of the processors as they were before processor 0 loaded what is shown
 pub report_after : (s : Plan) (c : SharedCluster) (ms : List Local) (m n : Local) (r : Report) → IsLawful s
-    → c.sizes ≡ plan_sizes s → AreWalked c s.sections ms → slice_get ms 0 ≡ Some m → MakesLoads m n r.shown.items
+    → c.sizes ≡ followed_plan_sizes s → HaveMadeWalks c s.sections ms → slice_get ms 0 ≡ Some m → MakesLoads m n r.shown.items
     → IsReportWith s r (slice_set ms 0 n) → IsReportAfter s r ms
 report_after s c ms m n r lawful sizes walked at loads told =
     record { is = told.is; begin = begin; calls_are = calls_are }
@@ -348,36 +348,36 @@ report_after s c ms m n r lawful sizes walked at loads told =
     h : List Event
     h = told.is.history
 
-    last : HasCallsOf h n
+    last : HasCallsToFinish h n
     last = told.each 0 n (slice_get-set_same ms 0 n (slice_get_within ms 0 m at))
 
-    begin : (p : ℕ) (x : Local) → slice_get ms p ≡ Some x → IsBeginning x.seen h
+    begin : (p : ℕ) (x : Local) → slice_get ms p ≡ Some x → IsFollowedBeginning x.seen h
     begin p x here = elim (cases_eq p 0) [
       | inl is ↦ (let Q : ℕ → Type 0 = λ q. slice_get ms q ≡ Some x in
-          let P : Local → Type 0 = λ y. IsBeginning y.seen h in
-          subst P (same_Some m x (sym at ∙ subst Q is here)) (begins_less m n h loads.sees last.begins))
+          let P : Local → Type 0 = λ y. IsFollowedBeginning y.seen h in
+          subst P (same_Some m x (sym at ∙ subst Q is here)) (followed_begins_less m n h loads.sees last.begins))
       | inr isnt ↦ (told.each p x (slice_get-set_other ms 0 p n isnt ∙ here)).begins
     ]
 
-    first_are : calls_of h 0 ≡ calls_made m ++ map load_of r.shown.items
+    first_are : followed_calls h 0 ≡ calls_made m ++ map followed_load r.shown.items
     first_are =
         let w = walks_followed_at s c ms lawful sizes walked 0 m at in
-        let number = loads.same.number ∙ (walked_of c 0 m w.0 w.1).number in
-        ap call_kinds (ap (events_of h) (sym number) ∙ last.calls_are) ∙ loads.more
+        let number = loads.same.number ∙ (followed_walked_of c 0 m w.0 w.1).number in
+        ap followed_call_kinds (ap (events_of h) (sym number) ∙ last.calls_are) ∙ loads.more
 
     calls_are : (p : ℕ) (x : Local) → slice_get ms p ≡ Some x
-        → calls_of h p ≡ calls_made x ++ cond (p == 0) (map load_of r.shown.items) []
+        → followed_calls h p ≡ calls_made x ++ cond (p == 0) (map followed_load r.shown.items) []
     calls_are p x here = elim (cases_eq p 0) [
       | inl is ↦ (let Q : ℕ → Type 0 = λ q. slice_get ms q ≡ Some x in
           let same = same_Some m x (sym at ∙ subst Q is here) in
-          let P : ℕ → Type 0 = λ q. calls_of h q ≡ calls_made x ++ cond (q == 0) (map load_of r.shown.items) [] in
-          let R : Local → Type 0 = λ y. calls_of h 0 ≡ calls_made y ++ map load_of r.shown.items in
+          let P : ℕ → Type 0 = λ q. followed_calls h q ≡ calls_made x ++ cond (q == 0) (map followed_load r.shown.items) [] in
+          let R : Local → Type 0 = λ y. followed_calls h 0 ≡ calls_made y ++ map followed_load r.shown.items in
           subst P (sym is) (subst R same first_are))
       | inr isnt ↦ (let w = walks_followed_at s c ms lawful sizes walked p x here in
-          let number = (walked_of c p x w.0 w.1).number in
+          let number = (followed_walked_of c p x w.0 w.1).number in
           let own = told.each p x (slice_get-set_other ms 0 p n isnt ∙ here) in
-          let none = cond-false (p == 0) (map load_of r.shown.items) [] (ne_eqb p 0 isnt) in
-          ap call_kinds (ap (events_of h) (sym number) ∙ own.calls_are) ∙ sym (append-nil (calls_made x))
+          let none = cond-false (p == 0) (map followed_load r.shown.items) [] (ne_eqb p 0 isnt) in
+          ap followed_call_kinds (ap (events_of h) (sym number) ∙ own.calls_are) ∙ sym (append-nil (calls_made x))
           ∙ ap (λ ks. calls_made x ++ ks) (sym none))
     ]
 

@@ -2,13 +2,13 @@
 use Rattle.std.proofs.Common.{ℕ, IfSome, zero, suc, map, ◌≡◌, inl, inr, Option, Some, None, List, [], ◌∷◌, ◌++◌, Result, Ok, length, slice_get, refl, sym, ap, subst, subst₂, ◌∙◌, arith}
 use Rattle.std.proofs.lemmas.List.{length_push}
 use Rattle.std.proofs.lemmas.Option.{none-some, slice_get_cases, slice_get_within, same_Some}
-use Rattle.base.proofs.SlicesAndCounts.{push_cases, slice_get-append_left, slice_get-last}
+use Rattle.base.proofs.SlicesAndCounts.{slice_push_cases, slice_get-append_left, slice_get-last}
 use Rattle.lrc_script.specs.declared.script.Instruction.{Instruction}
 use Rattle.cluster.specs.Copies.Local.{Local}
 use Rattle.cluster.specs.Clusters.{SharedCluster, IsNewCluster}
 use Rattle.conformance.specs.declared.cause.Cause.{Cause}
 use Rattle.lrc_run.specs.Threads.{ThreadErrand, AreThreadResults, AreThreadResultsOf, AreThreadsStarted, IsThreadResultOf}
-use Rattle.lrc_run.specs.MakesCalls.{AreWalked, Walks, new_at}
+use Rattle.lrc_run.specs.MakesCalls.{HaveMadeWalks, MakesWalk, new_at_making_calls}
 
 -- the item behind a front
 pub behind : {A : Type 0} (front rest all : List A) (x : A) → front ++ x ∷ rest ≡ all
@@ -25,12 +25,12 @@ pub joined_outcomes_more : (threads : List (Option ThreadErrand)) (outcomes : Li
     → AreThreadResultsOf (threads ++ thread ∷ []) (outcomes ++ outcome ∷ [])
 joined_outcomes_more threads outcomes thread outcome were is = record {
   all = let a = length_push outcomes outcome in let b = length_push threads thread in let c = were.all in omega arith;
-  each = λ p t o at there. elim (push_cases threads thread p t at) [
-    | inl old ↦ elim (push_cases outcomes outcome p o there) [
+  each = λ p t o at there. elim (slice_push_cases threads thread p t at) [
+    | inl old ↦ elim (slice_push_cases outcomes outcome p o there) [
       | inl was ↦ were.each p t o old.1 was.1
       | inr new ↦ absurd (let a = were.all in omega (arith, old.0, new.0))
     ]
-    | inr last ↦ elim (push_cases outcomes outcome p o there) [
+    | inr last ↦ elim (slice_push_cases outcomes outcome p o there) [
       | inl was ↦ absurd (let a = were.all in omega (arith, last.0, was.0))
       | inr new ↦ subst₂ IsThreadResultOf last.1 new.1 is
     ]
@@ -45,13 +45,13 @@ pub threads_started_more : (ms : List Local) (sections : List (List Instruction)
     → AreThreadsStarted (ms ++ m ∷ []) sections (threads ++ thread ∷ [])
 threads_started_more ms sections threads m section thread were at is = record {
   all = let a = length_push ms m in let b = length_push threads thread in let c = were.all in omega arith;
-  processors = λ p e there. elim (push_cases threads thread p (Some e) there) [
+  processors = λ p e there. elim (slice_push_cases threads thread p (Some e) there) [
     | inl old ↦ slice_get-append_left ms (m ∷ []) p (slice_get_within ms p e.processor (were.processors p e old.1))
         ∙ were.processors p e old.1
     | inr new ↦ subst (λ k. slice_get (ms ++ m ∷ []) k ≡ Some e.processor) (sym were.all ∙ sym new.0)
         (slice_get-last ms m ∙ ap Some (sym (are e new.1).0))
   ];
-  sections_are = λ p e there. elim (push_cases threads thread p (Some e) there) [
+  sections_are = λ p e there. elim (slice_push_cases threads thread p (Some e) there) [
     | inl old ↦ were.sections_are p e old.1
     | inr new ↦ subst (λ k. slice_get sections k ≡ Some e.section) (sym were.all ∙ sym new.0)
         (at ∙ ap Some (sym (are e new.1).1))
@@ -76,30 +76,30 @@ joined_outcomes_of c ms sections threads outcomes new started are = record {
   where
     walks : (p : ℕ) (section : List Instruction) (m : Local) → slice_get sections p ≡ Some section
         → slice_get outcomes p ≡ Some (Ok m) → (thread : Option ThreadErrand) → slice_get threads p ≡ Some thread
-        → Walks (new_at c p) m section
+        → MakesWalk (new_at_making_calls c p) m section
     walks p section m at there None is = absurd (are.each p None (Ok m) is there)
     walks p section m at there (Some e) is =
-        subst₂ (λ old s. Walks old m s) (new.each p e.processor (started.processors p e is))
+        subst₂ (λ old s. MakesWalk old m s) (new.each p e.processor (started.processors p e is))
         (same_Some e.section section (sym (started.sections_are p e is) ∙ at)) (are.each p (Some e) (Ok m) is there)
 
-abbrev oks : List Local → List (Result Local Cause)
-oks ms = map Ok ms
+abbrev joined_all_ok : List Local → List (Result Local Cause)
+joined_all_ok ms = map Ok ms
 
 -- where none failed, all have walked
 pub joined_all_walked : (c : SharedCluster) (sections : List (List Instruction)) (outcomes : List (Result Local Cause))
     (ms : List Local)
-    → AreThreadResults c sections outcomes → map Ok ms ≡ outcomes → AreWalked c sections ms
+    → AreThreadResults c sections outcomes → map Ok ms ≡ outcomes → HaveMadeWalks c sections ms
 joined_all_walked c sections outcomes ms are is = record {
   all = sym (oks_length ms) ∙ ap (λ (os : List (Result Local Cause)). length os) is ∙ are.all;
   each = λ p section m at there. are.each p section m at
       (subst (λ (os : List (Result Local Cause)). slice_get os p ≡ Some (Ok m)) is (mapped ms p m there));
 }
   where
-    oks_length : (xs : List Local) → length (oks xs) ≡ length xs
+    oks_length : (xs : List Local) → length (joined_all_ok xs) ≡ length xs
     oks_length [] = refl
     oks_length (x ∷ xs) = ap suc (oks_length xs)
 
-    mapped : (xs : List Local) (p : ℕ) (m : Local) → slice_get xs p ≡ Some m → slice_get (oks xs) p ≡ Some (Ok m)
+    mapped : (xs : List Local) (p : ℕ) (m : Local) → slice_get xs p ≡ Some m → slice_get (joined_all_ok xs) p ≡ Some (Ok m)
     mapped [] p m at = absurd (none-some m at)
     mapped (x ∷ xs) zero m at = ap (λ (y : Local). Some (Ok y)) (same_Some x m at)
     mapped (x ∷ xs) (suc p) m at = mapped xs p m at

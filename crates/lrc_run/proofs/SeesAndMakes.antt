@@ -12,28 +12,28 @@ use Rattle.journal.specs.Waits.{awaited}
 use Rattle.lrc_script.specs.declared.script.Instruction.{Instruction}
 use Rattle.lrc_script.specs.declared.script.Instruction.TheVariants.{Barrier, Cut}
 use Rattle.conformance.specs.Instructions.{AreEventsOfInstruction}
-use Rattle.conformance.specs.Follows.{is_fetch, call_kinds}
-use Rattle.conformance.proofs.Calls.{call_kinds-append, call_kinds-one}
-use Rattle.conformance.proofs.Instructions.{NoFetch, instructions-push, instruction_no_fetch}
+use Rattle.conformance.specs.Follows.{is_followed_fetch, followed_call_kinds}
+use Rattle.conformance.proofs.Calls.{followed_call_kinds-append, followed_call_kinds-one}
+use Rattle.conformance.proofs.Instructions.{NoInstructionFetches, instructions-push, instruction_no_fetch}
 use Rattle.book.specs.declared.refused.Refused.{Refused}
 use Rattle.book.specs.declared.refused.Refused.TheVariants.{NoMemory, NotYet, NothingAwaited, SeatSpent}
 use Rattle.cluster.specs.Copies.Local.{Local, calls}
-use Rattle.cluster.specs.Calls.{IsSameAfterCall, IsSameProcessor, IsCall, IsHandedByCall, IsCallRefusedInside}
+use Rattle.cluster.specs.Calls.{IsSameAfterCall, IsSameProcessorOfCall, IsCall, IsHandedByCall, IsCallRefusedInside}
 use Rattle.cluster.specs.Closing.{IsClosedBy}
 use Rattle.cluster.specs.Entering.{EnteredAndDid, entered}
-use Rattle.cluster.specs.Refusals.{is_spent, is_waiting, refusal_or_spent, take_refusal}
-use Rattle.cluster.specs.Taking.{IsTakeLate, IsTakeDone, IsTakingCall, awaited_event}
+use Rattle.cluster.specs.Refusals.{refusal_is_spent, refusal_is_waiting, refusal_or_spent, take_refusal}
+use Rattle.cluster.specs.Taking.{IsTakeLate, IsTakeDone, IsTakingCall, taking_awaited_event}
 use Rattle.conformance.specs.CutInstructions.{HasCutInstruction}
 use Rattle.conformance.specs.WantedFetches.{FetchesAreWanted}
 use Rattle.conformance.proofs.WantedFetches.{wanted-append, wanted_one}
-use Rattle.lrc_run.specs.MakesCalls.{AreCallsWanted, calls_made, MadeCalls, MakesBut, SeesMoreCalls, TriesCalls, DidInstruction, BeginsCall, IsOnItsWay, TriedTake, MakesAll, Walks}
+use Rattle.lrc_run.specs.MakesCalls.{AreCallsWanted, calls_made, MadeCalls, MakesBut, SeesMoreCalls, TriesCalls, MadeInstruction, BeginsCall, MakesItsWay, TriedToMakeTake, MakesAll, MakesWalk}
 
-pub sees_same_processor : (l m n : Local) → IsSameProcessor l m → IsSameProcessor m n → IsSameProcessor l n
+pub sees_same_processor : (l m n : Local) → IsSameProcessorOfCall l m → IsSameProcessorOfCall m n → IsSameProcessorOfCall l n
 sees_same_processor l m n a b = record { lock = b.lock ∙ a.lock; number = b.number ∙ a.number; sizes = b.sizes ∙ a.sizes }
 
 -- a processor that is as it was is the same
-same_none : (m n : Local) → n ≡ m → IsSameProcessor m n
-same_none m n e = record {
+makes_same_none : (m n : Local) → n ≡ m → IsSameProcessorOfCall m n
+makes_same_none m n e = record {
   lock = ap (λ (x : Local). x.lock) e;
   number = ap (λ (x : Local). x.number) e;
   sizes = ap (λ (x : Local). x.sizes) e;
@@ -47,11 +47,11 @@ pub sees_then : (l m n : Local) → SeesMoreCalls l m → SeesMoreCalls m n → 
 sees_then l m n a b = (a.0 ++ b.0, b.1 ∙ ap (λ es. es ++ b.0) a.1 ∙ append_assoc l.seen a.0 b.0)
 
 -- its fetches are wanted still where its calls are as they were
-pub makes_same_wanted : (m n : Local) → IsSameProcessor m n → calls n ≡ calls m → AreCallsWanted m → AreCallsWanted n
+pub makes_same_wanted : (m n : Local) → IsSameProcessorOfCall m n → calls n ≡ calls m → AreCallsWanted m → AreCallsWanted n
 makes_same_wanted m n same e was = subst₂ FetchesAreWanted (sym (ap (λ (s : Sizes). s.words) same.sizes)) (sym e) was
 
 -- and where it has some more that are
-pub makes_more_wanted : (m n : Local) (es : List Event) → IsSameProcessor m n → calls n ≡ calls m ++ es
+pub makes_more_wanted : (m n : Local) (es : List Event) → IsSameProcessorOfCall m n → calls n ≡ calls m ++ es
     → FetchesAreWanted m.sizes.words es → AreCallsWanted m → AreCallsWanted n
 makes_more_wanted m n es same e more was =
     subst₂ FetchesAreWanted (sym (ap (λ (s : Sizes). s.words) same.sizes)) (sym e)
@@ -60,32 +60,32 @@ makes_more_wanted m n es same e more was =
 -- a processor that is as it was has made no call
 pub makes_none : (m n : Local) → n ≡ m → MadeCalls m n []
 makes_none m n e = record {
-  same = same_none m n e;
+  same = makes_same_none m n e;
   sees = sees_same m n (ap (λ (x : Local). x.seen) e);
   more = ap calls_made e ∙ sym (append-nil (calls_made m));
-  wanted = makes_same_wanted m n (same_none m n e) (ap calls e);
+  wanted = makes_same_wanted m n (makes_same_none m n e) (ap calls e);
   uncut = ap (λ (x : Local). x.own_cut) e;
 }
 
 -- nor one whose calls are as they were
-pub makes_same : (m n : Local) → IsSameProcessor m n → SeesMoreCalls m n → calls n ≡ calls m → n.own_cut ≡ m.own_cut
+pub makes_same : (m n : Local) → IsSameProcessorOfCall m n → SeesMoreCalls m n → calls n ≡ calls m → n.own_cut ≡ m.own_cut
     → MadeCalls m n []
 makes_same m n same sees e uncut = record {
   same = same;
   sees = sees;
-  more = ap call_kinds e ∙ sym (append-nil (calls_made m));
+  more = ap followed_call_kinds e ∙ sym (append-nil (calls_made m));
   wanted = makes_same_wanted m n same e;
   uncut = uncut;
 }
 
 -- one more event is one more call
-pub makes_one : (m n : Local) (k : Kind) → is_fetch k ≡ false → IsSameProcessor m n → SeesMoreCalls m n
+pub makes_one : (m n : Local) (k : Kind) → is_followed_fetch k ≡ false → IsSameProcessorOfCall m n → SeesMoreCalls m n
     → calls n ≡ calls m ++ event m.number k ∷ [] → n.own_cut ≡ m.own_cut → MadeCalls m n (k ∷ [])
 makes_one m n k is same sees e uncut = record {
   same = same;
   sees = sees;
-  more = ap call_kinds e ∙ call_kinds-append (calls m) (event m.number k ∷ [])
-      ∙ ap (λ ks. calls_made m ++ ks) (call_kinds-one (event m.number k) is);
+  more = ap followed_call_kinds e ∙ followed_call_kinds-append (calls m) (event m.number k ∷ [])
+      ∙ ap (λ ks. calls_made m ++ ks) (followed_call_kinds-one (event m.number k) is);
   wanted = makes_more_wanted m n (event m.number k ∷ []) same e (wanted_one m.sizes.words (event m.number k) is);
   uncut = uncut;
 }
@@ -162,16 +162,16 @@ sees_call {first} {many} {absent} {done} {added} {m} {n} {refused} sees call = b
 
 -- it is the same processor, whatever the answer
 pub sees_same_if_tried : {A : Type 0} (m n : Local) (r : Result A Refused) (kinds : A → List Kind) → TriesCalls m n r kinds
-    → IsSameProcessor m n
+    → IsSameProcessorOfCall m n
 sees_same_if_tried m n (Ok x) kinds h = h.same
 sees_same_if_tried m n (Err e) kinds h = h.same
 
 -- a call that closes the interval was made, the block is handed in, and what comes next is awaited
-pub closes : {A : Type 0} {first : Option Refused} {many : ℕ} {absent : Local → Type 0} (k : Kind)
-    (m n : Local) (r : Result A Refused) {x : A} → is_fetch k ≡ false → r ≡ Ok x
+pub makes_closing_call : {A : Type 0} {first : Option Refused} {many : ℕ} {absent : Local → Type 0} (k : Kind)
+    (m n : Local) (r : Result A Refused) {x : A} → is_followed_fetch k ≡ false → r ≡ Ok x
     → IsCall first many absent (IsClosedBy k) (event m.number k ∷ []) m n (result_err r)
     → MadeCalls m n (k ∷ []) × (n.block ≡ []) × (n.awaits ≡ awaited k)
-closes {A} {first} {many} {absent} k m n r {x} plain is call =
+makes_closing_call {A} {first} {many} {absent} k m n r {x} plain is call =
     let none : result_err r ≡ None = rw is refl in
     let done = call.ok none in
     let sees = sees_call (λ a b. sees_closed k a b) call in (
@@ -188,27 +188,27 @@ makes_beginning_by k last i m n are next calls_made =
 
 -- or done
 pub makes_instruction_by : (k : Kind) (i : Instruction) (m n : Local) → AreEventsOfInstruction i (k ∷ [])
-    → MadeCalls m n (k ∷ []) × (n.block ≡ []) × (n.awaits ≡ awaited k) → DidInstruction m n i
+    → MadeCalls m n (k ∷ []) × (n.block ≡ []) × (n.awaits ≡ awaited k) → MadeInstruction m n i
 makes_instruction_by k i m n are calls_made = record { kinds = k ∷ []; are = are; makes = makes_but calls_made.0 }
 
 -- of two kinds that are no fetches the last one isn't
-no_fetch_last : (first last : Kind) → NoFetch (first ∷ last ∷ []) → is_fetch last ≡ false
-no_fetch_last first last none = cases (is_fetch first) (is_fetch last) refl refl none
+makes_no_fetch_last : (first last : Kind) → NoInstructionFetches (first ∷ last ∷ []) → is_followed_fetch last ≡ false
+makes_no_fetch_last first last none = cases (is_followed_fetch first) (is_followed_fetch last) refl refl none
   where
-    cases : (f l : Bool) → is_fetch first ≡ f → is_fetch last ≡ l
+    cases : (f l : Bool) → is_followed_fetch first ≡ f → is_followed_fetch last ≡ l
         → cond (not f) (first ∷ cond (not l) (last ∷ []) []) (cond (not l) (last ∷ []) []) ≡ first ∷ last ∷ []
-        → is_fetch last ≡ false
+        → is_followed_fetch last ≡ false
     cases f false ef el e = el
     cases true true ef el e = absurd (cc)
     cases false true ef el e = absurd (cc)
 
 -- an instruction's events are no fetches, its last one too
-pub last_is_no_fetch : (i : Instruction) (first last : Kind) → AreEventsOfInstruction i (first ∷ last ∷ []) → is_fetch last ≡ false
-last_is_no_fetch i first last are = no_fetch_last first last (instruction_no_fetch i (first ∷ last ∷ []) are)
+pub makes_last_no_fetch : (i : Instruction) (first last : Kind) → AreEventsOfInstruction i (first ∷ last ∷ []) → is_followed_fetch last ≡ false
+makes_last_no_fetch i first last are = makes_no_fetch_last first last (instruction_no_fetch i (first ∷ last ∷ []) are)
 
 -- why a take is refused before it enters is never that it comes too early
-take_enters : (m : Local) → refusal_or_spent (take_refusal m) m ≡ Some NotYet → ⊥
-take_enters m = waits (not (is_waiting m))
+sees_take_enters : (m : Local) → refusal_or_spent (take_refusal m) m ≡ Some NotYet → ⊥
+sees_take_enters m = waits (not (refusal_is_waiting m))
   where
     spent : (b : Bool) → cond b (Some SeatSpent) None ≡ Some NotYet → ⊥
     spent true e = absurd (cc)
@@ -216,24 +216,24 @@ take_enters m = waits (not (is_waiting m))
 
     waits : (b : Bool) → refusal_or_spent (cond b (Some NothingAwaited) None) m ≡ Some NotYet → ⊥
     waits true e = absurd (cc)
-    waits false e = spent (is_spent m) e
+    waits false e = spent (refusal_is_spent m) e
 
 -- a take that comes too early entered, and left all as it found it
-take_inside : (m n : Local) (f : Option Refused) → refusal_or_spent (take_refusal m) m ≡ f → IsTakingCall m n (Some NotYet)
+sees_take_inside : (m n : Local) (f : Option Refused) → refusal_or_spent (take_refusal m) m ≡ f → IsTakingCall m n (Some NotYet)
     → IsCallRefusedInside 1 IsTakeLate m n NotYet
-take_inside m n (Some x) is call =
-    let out : Some NotYet ≡ Some x = (call.outside x is).0 in absurd (take_enters m (is ∙ sym out))
-take_inside m n None is call = elim (call.err NotYet is refl) [
+sees_take_inside m n (Some x) is call =
+    let out : Some NotYet ≡ Some x = (call.outside x is).0 in absurd (sees_take_enters m (is ∙ sym out))
+sees_take_inside m n None is call = elim (call.err NotYet is refl) [
   | inl inside ↦ inside
   | inr outside ↦ absurd (let other : NotYet ≡ NoMemory = outside.0 in cc)
 ]
 
 -- a take of what hasn't come
 pub sees_nothing_taken : {A : Type 0} (m n : Local) (r : Result A Refused) → r ≡ Err NotYet
-    → IsTakingCall m n (result_err r) → TriedTake m n false
+    → IsTakingCall m n (result_err r) → TriedToMakeTake m n false
 sees_nothing_taken {A} m n r is call =
     let refused = subst (λ (x : Result A Refused). IsTakingCall m n (result_err x)) is call in
-    let inside = take_inside m n (refusal_or_spent (take_refusal m) m) refl refused in
+    let inside = sees_take_inside m n (refusal_or_spent (take_refusal m) m) refl refused in
     record {
       same = refused.same;
       sees = sees_refused m n inside.entered;
@@ -249,7 +249,7 @@ sees_nothing_taken {A} m n r is call =
 
 -- and of what has
 pub sees_taken_all : {A : Type 0} (m n : Local) (r : Result A Refused) {x : A} → r ≡ Ok x
-    → IsTakingCall m n (result_err r) → TriedTake m n true
+    → IsTakingCall m n (result_err r) → TriedToMakeTake m n true
 sees_taken_all {A} m n r {x} is call =
     let done = call.ok (rw is refl) in
     record {
@@ -261,18 +261,18 @@ sees_taken_all {A} m n r {x} is call =
     }
 
 -- what was begun is done by the take that finds what it awaits, and begun still by one that doesn't
-pub makes_its_way : (l m n : Local) (i : Instruction) (taken : Bool) → BeginsCall l m i → TriedTake m n taken
-    → IsOnItsWay l n i taken
+pub makes_its_way : (l m n : Local) (i : Instruction) (taken : Bool) → BeginsCall l m i → TriedToMakeTake m n taken
+    → MakesItsWay l n i taken
 makes_its_way l m n i true begun took = record {
   kinds = begun.first ∷ begun.last ∷ [];
   are = begun.are;
   makes = makes_but (makes_then l m n (begun.first ∷ []) (begun.last ∷ []) begun.makes
-      (makes_one m n begun.last (last_is_no_fetch i begun.first begun.last begun.are) took.same took.sees last
+      (makes_one m n begun.last (makes_last_no_fetch i begun.first begun.last begun.are) took.same took.sees last
       took.uncut));
 }
   where
     last : calls n ≡ calls m ++ event m.number begun.last ∷ []
-    last = took.yes refl ∙ ap (λ ks. calls m ++ awaited_event m.number ks) begun.awaits
+    last = took.yes refl ∙ ap (λ ks. calls m ++ taking_awaited_event m.number ks) begun.awaits
 makes_its_way l m n i false begun took = record {
   first = begun.first;
   last = begun.last;
@@ -288,27 +288,27 @@ pub makes_all_none : (m n : Local) → n ≡ m → MakesAll m n []
 makes_all_none m n e = record { kinds = []; are = refl; makes = makes_but (makes_none m n e) }
 
 -- more instructions have the cut still
-has_cut_more : (is : List Instruction) (i : Instruction) → HasCutInstruction is → HasCutInstruction (is ++ i ∷ [])
-has_cut_more is i has =
+makes_cut_more : (is : List Instruction) (i : Instruction) → HasCutInstruction is → HasCutInstruction (is ++ i ∷ [])
+makes_cut_more is i has =
     let within = slice_get_within is has.0 Cut has.1 in
     (has.0, slice_get-append_left is (i ∷ []) has.0 within ∙ has.1)
 
 -- and one more may be one
-last_is_cut : (is : List Instruction) (i : Instruction) → i ≡ Cut → HasCutInstruction (is ++ i ∷ [])
-last_is_cut is i cut = (length is, slice_get-last is i ∙ ap Some cut)
+makes_last_cut : (is : List Instruction) (i : Instruction) → i ≡ Cut → HasCutInstruction (is ++ i ∷ [])
+makes_last_cut is i cut = (length is, slice_get-last is i ∙ ap Some cut)
 
 -- and one more
-pub makes_all_more : (l m n : Local) (is : List Instruction) (i : Instruction) → MakesAll l m is → DidInstruction m n i
+pub makes_all_more : (l m n : Local) (is : List Instruction) (i : Instruction) → MakesAll l m is → MadeInstruction m n i
     → MakesAll l n (is ++ i ∷ [])
 makes_all_more l m n is i all one = record {
   kinds = all.kinds ++ one.kinds;
   are = instructions-push is i all.kinds one.kinds all.are one.are;
-  makes = makes_but_then l m n all.kinds one.kinds (has_cut_more is i) (last_is_cut is i) all.makes one.makes;
+  makes = makes_but_then l m n all.kinds one.kinds (makes_cut_more is i) (makes_last_cut is i) all.makes one.makes;
 }
 
 -- a section and then a barrier
-pub walks_by : (l m n : Local) (section : List Instruction) → MakesAll l m section → DidInstruction m n Barrier → Walks l n section
-walks_by l m n section all last = record {
+pub makes_walk_by : (l m n : Local) (section : List Instruction) → MakesAll l m section → MadeInstruction m n Barrier → MakesWalk l n section
+makes_walk_by l m n section all last = record {
   kinds = all.kinds;
   are = all.are;
   makes = let P : List Kind → Type 0 = λ ks. MakesBut (HasCutInstruction section) l n (all.kinds ++ ks) in
@@ -316,7 +316,7 @@ walks_by l m n section all last = record {
       subst P last.are (makes_but_then l m n all.kinds last.kinds (λ has. has) last_cut all.makes last.makes);
 }
 
-pub walks_where : {A E : Type 0} (l m n : Local) (section : List Instruction) (r : Result A E) → MakesAll l m section
-    → OnOk r (DidInstruction m n Barrier) → OnOk r (Walks l n section)
-walks_where l m n section (Ok x) all last = walks_by l m n section all last
-walks_where l m n section (Err e) all last = tt
+pub makes_walk_where : {A E : Type 0} (l m n : Local) (section : List Instruction) (r : Result A E) → MakesAll l m section
+    → OnOk r (MadeInstruction m n Barrier) → OnOk r (MakesWalk l n section)
+makes_walk_where l m n section (Ok x) all last = makes_walk_by l m n section all last
+makes_walk_where l m n section (Err e) all last = tt

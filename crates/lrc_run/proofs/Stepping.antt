@@ -14,24 +14,24 @@ use Rattle.lrc_script.specs.declared.script.Instruction.{Instruction}
 use Rattle.lrc_script.specs.declared.script.Instruction.TheVariants.{Barrier}
 use Rattle.lrc_script.specs.Lawful.{IsLawful}
 use Rattle.lrc_script.specs.Plan.{Plan, plan_sections}
-use Rattle.conformance.specs.Follows.{plan_sizes}
+use Rattle.conformance.specs.Follows.{followed_plan_sizes}
 use Rattle.cluster.specs.Copies.Local.{Local}
-use Rattle.cluster.specs.Calls.{IsSameProcessor}
+use Rattle.cluster.specs.Calls.{IsSameProcessorOfCall}
 use Rattle.cluster.specs.Clusters.{IsNewCluster, SharedCluster}
 use Rattle.conformance.specs.declared.progress.TurnProgress.{TurnProgress}
 use Rattle.conformance.specs.declared.progress.TurnProgress.TheVariants.{Next, Waits, Passed}
 use Rattle.conformance.specs.Turns.{instruction_at_turn, progress_after_turn}
 use Rattle.lrc_run.specs.Steps.{AreAtSteps, IsAtStep}
-use Rattle.lrc_run.specs.MakesCalls.{AreWalked, MakesAll, DidInstruction, IsOnItsWay, TriedTake, Walks, new_at}
-use Rattle.lrc_run.proofs.SeesAndMakes.{makes_all_more, makes_all_none, makes_its_way, sees_same_processor, walks_by}
+use Rattle.lrc_run.specs.MakesCalls.{HaveMadeWalks, MakesAll, MadeInstruction, MakesItsWay, TriedToMakeTake, MakesWalk, new_at_making_calls}
+use Rattle.lrc_run.proofs.SeesAndMakes.{makes_all_more, makes_all_none, makes_its_way, sees_same_processor, makes_walk_by}
 
 -- after instruction k was done, or begun
-pub step_after_instruction : (l m n : Local) (section : List Instruction) (k : ℕ) (done : Bool)
+pub stepping_after_instruction : (l m n : Local) (section : List Instruction) (k : ℕ) (done : Bool)
     → MakesAll l m (take k section)
-    → k ≤ length section → IsOnItsWay m n (instruction_at_turn section k) done
+    → k ≤ length section → MakesItsWay m n (instruction_at_turn section k) done
     → IsAtStep l n section (progress_after_turn section k done)
-step_after_instruction l m n section k false all within way = (record { between = m; done = all; begins = way }, within)
-step_after_instruction l m n section k true all within way = cases (nat_lt k (length section)) refl
+stepping_after_instruction l m n section k false all within way = (record { between = m; done = all; begins = way }, within)
+stepping_after_instruction l m n section k true all within way = cases (nat_lt k (length section)) refl
   where
     cases : (b : Bool) → nat_lt k (length section) ≡ b → IsAtStep l n section (cond b (Next (k + 1)) Passed)
     cases true e =
@@ -46,57 +46,57 @@ step_after_instruction l m n section k true all within way = cases (nat_lt k (le
         let past : length section ≤ k = ltb-false k (length section) e in
         let same : k ≡ length section = omega arith in
         let P : List Instruction → Type 0 = λ is. MakesAll l m is in
-        let Q : Instruction → Type 0 = λ i. DidInstruction m n i in
-        walks_by l m n section (subst P (ap (λ j. take j section) same ∙ take-length section) all)
+        let Q : Instruction → Type 0 = λ i. MadeInstruction m n i in
+        makes_walk_by l m n section (subst P (ap (λ j. take j section) same ∙ take-length section) all)
         (subst Q (get_or_past section k Barrier past) way)
 
 -- and after a look for what it waits for
-pub step_after_look : (l m n : Local) (section : List Instruction) (k : ℕ) (taken : Bool) → IsAtStep l m section (Waits k)
-    → TriedTake m n taken → IsAtStep l n section (progress_after_turn section k taken)
-step_after_look l m n section k taken at took =
+pub stepping_after_look : (l m n : Local) (section : List Instruction) (k : ℕ) (taken : Bool) → IsAtStep l m section (Waits k)
+    → TriedToMakeTake m n taken → IsAtStep l n section (progress_after_turn section k taken)
+stepping_after_look l m n section k taken at took =
     let begun = at.0 in
-    step_after_instruction l begun.between n section k taken begun.done at.1
+    stepping_after_instruction l begun.between n section k taken begun.done at.1
     (makes_its_way begun.between m n (instruction_at_turn section k) taken begun.begins took)
 
 -- whoever is on its way is the same processor
-pub same_after_step : (m n : Local) (section : List Instruction) (at : TurnProgress) → IsAtStep m n section at
-    → IsSameProcessor m n
-same_after_step m n section (Next k) at = at.0.makes.same
-same_after_step m n section (Waits k) at =
+pub stepping_same_after : (m n : Local) (section : List Instruction) (at : TurnProgress) → IsAtStep m n section at
+    → IsSameProcessorOfCall m n
+stepping_same_after m n section (Next k) at = at.0.makes.same
+stepping_same_after m n section (Waits k) at =
     sees_same_processor m at.0.between n at.0.done.makes.same at.0.begins.makes.same
-same_after_step m n section Passed at = at.makes.same
+stepping_same_after m n section Passed at = at.makes.same
 
 -- at the start each processor's next instruction is its first
-pub steps_start : (c : SharedCluster) (sections : List (List Instruction)) (ms : List Local) (all : List TurnProgress) → IsNewCluster c ms
+pub stepping_start : (c : SharedCluster) (sections : List (List Instruction)) (ms : List Local) (all : List TurnProgress) → IsNewCluster c ms
     → length all ≡ c.sizes.processors → ((p : ℕ) (at : TurnProgress) → slice_get all p ≡ Some at → at ≡ Next 0)
     → AreAtSteps c sections ms all
-steps_start c sections ms all new long first = record { many = new.all; long = long; each = each }
+stepping_start c sections ms all new long first = record { many = new.all; long = long; each = each }
   where
     each : (p : ℕ) (section : List Instruction) (m : Local) (at : TurnProgress) → slice_get sections p ≡ Some section
-        → slice_get ms p ≡ Some m → slice_get all p ≡ Some at → IsAtStep (new_at c p) m section at
+        → slice_get ms p ≡ Some m → slice_get all p ≡ Some at → IsAtStep (new_at_making_calls c p) m section at
     each p section m at its here there =
-        let P : TurnProgress → Type 0 = λ x. IsAtStep (new_at c p) m section x in
-        let none : MakesAll (new_at c p) m (take 0 section) = makes_all_none (new_at c p) m (new.each p m here) in
+        let P : TurnProgress → Type 0 = λ x. IsAtStep (new_at_making_calls c p) m section x in
+        let none : MakesAll (new_at_making_calls c p) m (take 0 section) = makes_all_none (new_at_making_calls c p) m (new.each p m here) in
         subst P (sym (first p at there)) (none, omega arith)
 
 -- after the turn of one processor
-pub steps_turned : (c : SharedCluster) (sections : List (List Instruction)) (ms : List Local) (all : List TurnProgress) (p : ℕ)
+pub stepping_turned : (c : SharedCluster) (sections : List (List Instruction)) (ms : List Local) (all : List TurnProgress) (p : ℕ)
     (section : List Instruction) (m n : Local) (at to : TurnProgress) → AreAtSteps c sections ms all
     → slice_get sections p ≡ Some section → slice_get ms p ≡ Some m → slice_get all p ≡ Some at
     → ((start : Local) → IsAtStep start m section at → IsAtStep start n section to)
     → AreAtSteps c sections (slice_set ms p n) (slice_set all p to)
-steps_turned c sections ms all p section m n at to way its here there turned = record {
+stepping_turned c sections ms all p section m n at to way its here there turned = record {
   many = length-set ms p n ∙ way.many;
   long = length-set all p to ∙ way.long;
   each = each;
 }
   where
-    mine : IsAtStep (new_at c p) n section to
-    mine = turned (new_at c p) (way.each p section m at its here there)
+    mine : IsAtStep (new_at_making_calls c p) n section to
+    mine = turned (new_at_making_calls c p) (way.each p section m at its here there)
 
     each : (q : ℕ) (other : List Instruction) (x : Local) (y : TurnProgress) → slice_get sections q ≡ Some other
         → slice_get (slice_set ms p n) q ≡ Some x → slice_get (slice_set all p to) q ≡ Some y
-        → IsAtStep (new_at c q) x other y
+        → IsAtStep (new_at_making_calls c q) x other y
     each q other x y its_too before after = elim (cases_eq q p) [
       | inl is ↦ (let S : ℕ → Type 0 = λ k. slice_get sections k ≡ Some other in
           let M : ℕ → Type 0 = λ k. slice_get (slice_set ms p n) k ≡ Some x in
@@ -104,44 +104,44 @@ steps_turned c sections ms all p section m n at to way its here there turned = r
           let one = same_Some section other (sym its ∙ subst S is its_too) in
           let two = slice_get-set_found ms p n x (subst M is before) in
           let three = slice_get-set_found all p to y (subst A is after) in
-          let first : IsAtStep (new_at c p) n other to =
-          subst (λ (z : List Instruction). IsAtStep (new_at c p) n z to) one mine in
-          let second : IsAtStep (new_at c p) x other to = subst (λ (z : Local). IsAtStep (new_at c p) z other to) two first in
-          let third : IsAtStep (new_at c p) x other y =
-          subst (λ (z : TurnProgress). IsAtStep (new_at c p) x other z) three second in
-          subst (λ (k : ℕ). IsAtStep (new_at c k) x other y) (sym is) third)
+          let first : IsAtStep (new_at_making_calls c p) n other to =
+          subst (λ (z : List Instruction). IsAtStep (new_at_making_calls c p) n z to) one mine in
+          let second : IsAtStep (new_at_making_calls c p) x other to = subst (λ (z : Local). IsAtStep (new_at_making_calls c p) z other to) two first in
+          let third : IsAtStep (new_at_making_calls c p) x other y =
+          subst (λ (z : TurnProgress). IsAtStep (new_at_making_calls c p) x other z) three second in
+          subst (λ (k : ℕ). IsAtStep (new_at_making_calls c k) x other y) (sym is) third)
       | inr isnt ↦ way.each q other x y its_too (sym (slice_get-set_other ms p q n isnt) ∙ before)
           (sym (slice_get-set_other all p q to isnt) ∙ after)
     ]
 
 -- all have passed the closing barrier
-pub steps_passed : (c : SharedCluster) (sections : List (List Instruction)) (ms : List Local) (all : List TurnProgress)
-    → AreAtSteps c sections ms all → All (λ x. x ≡ Passed) all → AreWalked c sections ms
-steps_passed c sections ms all way passed = record { all = way.many; each = each }
+pub stepping_passed : (c : SharedCluster) (sections : List (List Instruction)) (ms : List Local) (all : List TurnProgress)
+    → AreAtSteps c sections ms all → All (λ x. x ≡ Passed) all → HaveMadeWalks c sections ms
+stepping_passed c sections ms all way passed = record { all = way.many; each = each }
   where
     each : (p : ℕ) (section : List Instruction) (m : Local) → slice_get sections p ≡ Some section
-        → slice_get ms p ≡ Some m → Walks (new_at c p) m section
+        → slice_get ms p ≡ Some m → MakesWalk (new_at_making_calls c p) m section
     each p section m its here =
         let within = slice_get_within ms p m here in
         let many = way.many in
         let long = way.long in
         let below : p < length all = omega arith in
         let there = slice_get-get_or all p Passed below in
-        let P : TurnProgress → Type 0 = λ x. IsAtStep (new_at c p) m section x in
+        let P : TurnProgress → Type 0 = λ x. IsAtStep (new_at_making_calls c p) m section x in
         subst P (passed p Passed below) (way.each p section m (get_or all p Passed) its here there)
 
 -- the same, where the list has it over and over
-pub steps_begin : (c : SharedCluster) (sections : List (List Instruction)) (ms : List Local) (all : List TurnProgress) (n : ℕ)
+pub stepping_begin : (c : SharedCluster) (sections : List (List Instruction)) (ms : List Local) (all : List TurnProgress) (n : ℕ)
     → IsNewCluster c ms
     → n ≡ length ms → all ≡ replicate n (Next 0) → AreAtSteps c sections ms all
-steps_begin c sections ms all n new many are = steps_start c sections ms all new
+stepping_begin c sections ms all n new many are = stepping_start c sections ms all new
     (ap length are ∙ length-replicate n (Next 0) ∙ many ∙ new.all)
     (λ p at here. sym (slice_get-replicate_found n (Next 0) at p (ap (λ xs. slice_get xs p) (sym are) ∙ here)))
 
 -- each that is on its way is the cluster's
-pub steps_own_at : (s : Plan) (c : SharedCluster) (ms : List Local) (all : List TurnProgress) (p : ℕ) (m : Local) → IsLawful s
-    → c.sizes ≡ plan_sizes s → AreAtSteps c s.sections ms all → slice_get ms p ≡ Some m → m.lock ≡ c.lock
-steps_own_at s c ms all p m lawful sizes way here =
+pub stepping_own_at : (s : Plan) (c : SharedCluster) (ms : List Local) (all : List TurnProgress) (p : ℕ) (m : Local) → IsLawful s
+    → c.sizes ≡ followed_plan_sizes s → AreAtSteps c s.sections ms all → slice_get ms p ≡ Some m → m.lock ≡ c.lock
+stepping_own_at s c ms all p m lawful sizes way here =
     let inside = slice_get_within ms p m here in
     let one_each = lawful.but_uneven.one_each in
     let same = ap (λ (x : Sizes). x.processors) sizes in
@@ -151,17 +151,17 @@ steps_own_at s c ms all p m lawful sizes way here =
     let known : p < length all = omega arith in
     let section = get_or s.sections p [] in
     let at = get_or all p Passed in
-    (same_after_step (new_at c p) m section at
+    (stepping_same_after (new_at_making_calls c p) m section at
     (way.each p section m at (slice_get-get_or s.sections p [] listed) here (slice_get-get_or all p Passed known))).lock
 
 -- the section that is read at this place
-pub step_section_read : (s : Plan) (c : SharedCluster) (ms : List Local) (all : List TurnProgress)
+pub stepping_section_read : (s : Plan) (c : SharedCluster) (ms : List Local) (all : List TurnProgress)
     (sections : List (Vec Instruction)) (p : ℕ)
-    (v : Vec Instruction) (section : List Instruction) → IsLawful s → c.sizes ≡ plan_sizes s
+    (v : Vec Instruction) (section : List Instruction) → IsLawful s → c.sizes ≡ followed_plan_sizes s
     → s.sections ≡ plan_sections sections
     → AreAtSteps c s.sections ms all → p < length ms → v ≡ get_or sections p v → section ≡ v.items
     → slice_get (plan_sections sections) p ≡ Some section
-step_section_read s c ms all sections p v section lawful sizes are way inside read is =
+stepping_section_read s c ms all sections p v section lawful sizes are way inside read is =
     let one_each = lawful.but_uneven.one_each in
     let same = ap (λ (x : Sizes). x.processors) sizes in
     let many = way.many in
@@ -173,10 +173,10 @@ step_section_read s c ms all sections p v section lawful sizes are way inside re
     ∙ ap Some (sym is)
 
 -- where each processor is, as it is read
-pub step_progress_read : (c : SharedCluster) (sections : List (List Instruction)) (ms : List Local) (all : List TurnProgress)
+pub stepping_progress_read : (c : SharedCluster) (sections : List (List Instruction)) (ms : List Local) (all : List TurnProgress)
     (p : ℕ) (at : TurnProgress)
     → AreAtSteps c sections ms all → p < length ms → at ≡ get_or all p at → slice_get all p ≡ Some at
-step_progress_read c sections ms all p at way inside read =
+stepping_progress_read c sections ms all p at way inside read =
     let many = way.many in
     let long = way.long in
     slice_get_read all (length all) p at refl (omega arith) read

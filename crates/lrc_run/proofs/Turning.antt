@@ -13,25 +13,25 @@ use Rattle.journal.specs.WellFormed.{Ready}
 use Rattle.lrc_script.specs.declared.script.Instruction.{Instruction}
 use Rattle.lrc_script.specs.Lawful.{IsLawful}
 use Rattle.lrc_script.specs.Plan.{Plan}
-use Rattle.conformance.specs.Follows.{call_kinds, plan_sizes}
-use Rattle.conformance.proofs.Calls.{call_kinds-append, call_kinds-one}
+use Rattle.conformance.specs.Follows.{followed_call_kinds, followed_plan_sizes}
+use Rattle.conformance.proofs.Calls.{followed_call_kinds-append, followed_call_kinds-one}
 use Rattle.cluster.specs.Copies.Local.{Local, calls}
-use Rattle.cluster.specs.Calls.{IsSameProcessor}
+use Rattle.cluster.specs.Calls.{IsSameProcessorOfCall}
 use Rattle.cluster.specs.Clusters.{IsNewCluster, SharedCluster}
-use Rattle.cluster.specs.Taking.{IsTakeLate, awaited_event}
+use Rattle.cluster.specs.Taking.{IsTakeLate, taking_awaited_event}
 use Rattle.conformance.specs.declared.progress.TurnProgress.{TurnProgress}
 use Rattle.conformance.specs.declared.progress.TurnProgress.TheVariants.{Next, Passed, Waits}
 use Rattle.rand_pcg.specs.Lcg.{Lcg}
 use Rattle.conformance.specs.ByTurns.{turn_orders}
 use Rattle.conformance.specs.Orders.{order_drawn, order_generator_after, order_generator}
 use Rattle.conformance.specs.Turns.{AreScriptTurns, IsScriptTurn, TurnLooksInVain, TurnStage, instruction_at_turn, progress_after_turn, turn_stage, turns_of}
-use Rattle.lrc_run.specs.FollowedReports.{IsBeginning}
+use Rattle.lrc_run.specs.FollowedReports.{IsFollowedBeginning}
 use Rattle.lrc_run.specs.Steps.{AreAtSteps, IsAtStep}
-use Rattle.lrc_run.specs.Turns.{AreTurnRounds, AreSeenAfterTurns, AreTaken, AreTurned, HaveGoneRound, IsTurnOfRun, SeesOnlyMore, TakesTurn}
-use Rattle.lrc_run.specs.MakesCalls.{IsOnItsWay, MakesBut, SeesMoreCalls, TriedTake, calls_made, new_at}
-use Rattle.lrc_run.proofs.FollowedReports.{begins_less}
-use Rattle.lrc_run.proofs.SeesAndMakes.{last_is_no_fetch, sees_same_processor, sees_same, sees_then, makes_same_wanted}
-use Rattle.lrc_run.proofs.Stepping.{step_after_instruction, step_after_look, steps_turned, same_after_step}
+use Rattle.lrc_run.specs.Turns.{AreTurnRounds, AreSeenAfterTurns, AreTaken, AreTurned, HaveTakenTurnsRound, IsTurnOfRun, SeesOnlyMore, TakesTurn}
+use Rattle.lrc_run.specs.MakesCalls.{MakesItsWay, MakesBut, SeesMoreCalls, TriedToMakeTake, calls_made, new_at_making_calls}
+use Rattle.lrc_run.proofs.FollowedReports.{followed_begins_less}
+use Rattle.lrc_run.proofs.SeesAndMakes.{makes_last_no_fetch, sees_same_processor, sees_same, sees_then, makes_same_wanted}
+use Rattle.lrc_run.proofs.Stepping.{stepping_after_instruction, stepping_after_look, stepping_turned, stepping_same_after}
 
 -- one turn more
 pub turned_more : (sections : List (List Instruction)) (ps : List ℕ) (p : ℕ) (ms ns os : List Local)
@@ -44,16 +44,16 @@ turned_more sections (q ∷ ps) p ms ns os all to end first next =
     (first.0, first.1, first.2, turned_more sections ps p first.0 ns os first.1 to end first.3 next)
 
 -- whoever goes on is the same processor
-turn_way_same : (m x : Local) (i : Instruction) (done : Bool) → IsOnItsWay m x i done → IsSameProcessor m x
+turn_way_same : (m x : Local) (i : Instruction) (done : Bool) → MakesItsWay m x i done → IsSameProcessorOfCall m x
 turn_way_same m x i true way = way.makes.same
 turn_way_same m x i false way = way.makes.same
 
-turn_way_sees : (m x : Local) (i : Instruction) (done : Bool) → IsOnItsWay m x i done → SeesMoreCalls m x
+turn_way_sees : (m x : Local) (i : Instruction) (done : Bool) → MakesItsWay m x i done → SeesMoreCalls m x
 turn_way_sees m x i true way = way.makes.sees
 turn_way_sees m x i false way = way.makes.sees
 
 turn_same : (section : List Instruction) (m x : Local) (at to : TurnProgress) → TakesTurn section m at x to
-    → IsSameProcessor m x
+    → IsSameProcessorOfCall m x
 turn_same section m x (Next n) to turn = turn_way_same m x (instruction_at_turn section n) turn.done turn.way
 turn_same section m x (Waits n) to turn = turn.takes.same
 turn_same section m x Passed to turn = record {
@@ -72,9 +72,9 @@ turn_sees section m x Passed to turn = ([], ap (λ (l : Local). l.seen) turn.0 �
 pub at_turned : (l m x : Local) (section : List Instruction) (at to : TurnProgress) → IsAtStep l m section at
     → TakesTurn section m at x to → IsAtStep l x section to
 at_turned l m x section (Next n) to at turn = subst (λ (y : TurnProgress). IsAtStep l x section y) (sym turn.to_is)
-    (step_after_instruction l m x section n turn.done at.0 at.1 turn.way)
+    (stepping_after_instruction l m x section n turn.done at.0 at.1 turn.way)
 at_turned l m x section (Waits n) to at turn = subst (λ (y : TurnProgress). IsAtStep l x section y) (sym turn.to_is)
-    (step_after_look l m x section n turn.taken at turn.takes)
+    (stepping_after_look l m x section n turn.taken at turn.takes)
 at_turned l m x section Passed to at turn =
     let P : Local → TurnProgress → Type 0 = λ y z. IsAtStep l y section z in subst₂ P (sym turn.0) (sym turn.1) at
 
@@ -84,7 +84,7 @@ pub way_turned : (c : SharedCluster) (sections : List (List Instruction)) (p : �
 way_turned c sections p ms ns all to way turn =
     let P : List Local → List TurnProgress → Type 0 = λ xs ys. AreAtSteps c sections xs ys in
     subst₂ P (sym turn.new_is) (sym turn.to_is)
-    (steps_turned c sections ms all p turn.section turn.before turn.after turn.at turn.next way turn.section_is
+    (stepping_turned c sections ms all p turn.section turn.before turn.after turn.at turn.next way turn.section_is
     turn.before_is turn.at_is
     (λ start at. at_turned start turn.before turn.after turn.section turn.at turn.next at turn.takes))
 
@@ -158,29 +158,29 @@ turn_stages_start (m ∷ ms) (suc n) long each =
     ap (λ (x : TurnStage). x ∷ turn_stages ms (replicate n (Next 0))) first ∙ ap (λ xs. turn_stage (Next 0) [] ∷ xs) rest
 
 -- new processors have made nothing
-pub nothing_made : (c : SharedCluster) (ms : List Local) → IsNewCluster c ms → (p : ℕ) (m : Local) → slice_get ms p ≡ Some m
+pub turning_nothing_made : (c : SharedCluster) (ms : List Local) → IsNewCluster c ms → (p : ℕ) (m : Local) → slice_get ms p ≡ Some m
     → calls_made m ≡ []
-nothing_made c ms new p m here = ap calls_made (new.each p m here)
+turning_nothing_made c ms new p m here = ap calls_made (new.each p m here)
 
 -- one with an empty block that isn't ready by what it has seen looked in vain
-turn_in_vain : (s : Plan) (h : List Event) (p : ℕ) (x : Local) → x.number ≡ p → x.sizes ≡ plan_sizes s → x.block ≡ []
-    → IsTakeLate x → IsBeginning x.seen h → TurnLooksInVain s h p (calls_made x)
+turn_in_vain : (s : Plan) (h : List Event) (p : ℕ) (x : Local) → x.number ≡ p → x.sizes ≡ followed_plan_sizes s → x.block ≡ []
+    → IsTakeLate x → IsFollowedBeginning x.seen h → TurnLooksInVain s h p (calls_made x)
 turn_in_vain s h p x number sizes none late begins = record {
   found = x.seen;
   rest = begins.0;
   begins = begins.1;
-  calls_are = ap call_kinds (ap (events_of x.seen) (sym number) ∙ sym (append-nil (events_of x.seen x.number))
+  calls_are = ap followed_call_kinds (ap (events_of x.seen) (sym number) ∙ sym (append-nil (events_of x.seen x.number))
       ∙ ap (λ es. events_of x.seen x.number ++ es) (sym none));
   late = let P : Sizes → ℕ → Type 0 = λ sizes q. ¬ Ready sizes x.seen q in subst₂ P sizes number late;
 }
 
 -- what a turn does is told of a history that goes on from what the processor has seen then
 turn_told : (s : Plan) (h : List Event) (p : ℕ) (l m x : Local) (section : List Instruction) (at to : TurnProgress)
-    → x.number ≡ p → x.sizes ≡ plan_sizes s → IsAtStep l m section at → TakesTurn section m at x to → IsBeginning x.seen h
+    → x.number ≡ p → x.sizes ≡ followed_plan_sizes s → IsAtStep l m section at → TakesTurn section m at x to → IsFollowedBeginning x.seen h
     → IsScriptTurn s h p section at (calls_made m) (turn_stage to (calls_made x))
 turn_told s h p l m x section (Next n) to number sizes is turn begins = by turn.done turn.way turn.late turn.to_is
   where
-    by : (done : Bool) → IsOnItsWay m x (instruction_at_turn section n) done → (done ≡ false → IsTakeLate x)
+    by : (done : Bool) → MakesItsWay m x (instruction_at_turn section n) done → (done ≡ false → IsTakeLate x)
         → to ≡ progress_after_turn section n done → IsScriptTurn s h p section (Next n) (calls_made m) (turn_stage to (calls_made x))
     by true way late to_is = inl (record {
       kinds = way.kinds;
@@ -198,7 +198,7 @@ turn_told s h p l m x section (Next n) to number sizes is turn begins = by turn.
     })
 turn_told s h p l m x section (Waits n) to number sizes is turn begins = by turn.taken turn.takes turn.to_is
   where
-    by : (taken : Bool) → TriedTake m x taken → to ≡ progress_after_turn section n taken
+    by : (taken : Bool) → TriedToMakeTake m x taken → to ≡ progress_after_turn section n taken
         → IsScriptTurn s h p section (Waits n) (calls_made m) (turn_stage to (calls_made x))
     by true takes to_is = inl (record {
       first = is.0.begins.first;
@@ -206,14 +206,14 @@ turn_told s h p l m x section (Waits n) to number sizes is turn begins = by turn
       are = is.0.begins.are;
       new_is = let P : TurnProgress → List Kind → Type 0 = λ a b. turn_stage to (calls_made x) ≡ turn_stage a b in
           let last = event m.number is.0.begins.last in
-          let more = ap call_kinds (takes.yes refl ∙ ap (λ k. calls m ++ awaited_event m.number k) is.0.begins.awaits)
-          ∙ call_kinds-append (calls m) (last ∷ []) ∙ ap (λ ks. calls_made m ++ ks) (call_kinds-one last
-          (last_is_no_fetch (instruction_at_turn section n) is.0.begins.first is.0.begins.last is.0.begins.are)) in
+          let more = ap followed_call_kinds (takes.yes refl ∙ ap (λ k. calls m ++ taking_awaited_event m.number k) is.0.begins.awaits)
+          ∙ followed_call_kinds-append (calls m) (last ∷ []) ∙ ap (λ ks. calls_made m ++ ks) (followed_call_kinds-one last
+          (makes_last_no_fetch (instruction_at_turn section n) is.0.begins.first is.0.begins.last is.0.begins.are)) in
           subst₂ P to_is more refl;
     })
     by false takes to_is =
         let none = takes.no refl in
-        let same = ap call_kinds none.calls_are in
+        let same = ap followed_call_kinds none.calls_are in
         let P : List Kind → Type 0 = TurnLooksInVain s h p in
         inr (record {
           new_is = let P : TurnProgress → List Kind → Type 0 = λ a b. turn_stage to (calls_made x) ≡ turn_stage a b in
@@ -225,15 +225,15 @@ turn_told s h p l m x section Passed to number sizes is turn begins =
     subst₂ P turn.1 (ap calls_made turn.0) refl
 
 -- the history goes on from what each has seen
-abbrev pub AllBegin : List Local → List Event → Type 0
-AllBegin ms h = (p : ℕ) (m : Local) → slice_get ms p ≡ Some m → IsBeginning m.seen h
+abbrev pub AllBeginTurning : List Local → List Event → Type 0
+AllBeginTurning ms h = (p : ℕ) (m : Local) → slice_get ms p ≡ Some m → IsFollowedBeginning m.seen h
 
 -- turns are told of a history that goes on from what all have seen at their end
 pub turns_told : (s : Plan) (c : SharedCluster) (h : List Event) (ps : List ℕ) (ms ns : List Local) (all to : List TurnProgress)
-    → c.sizes ≡ plan_sizes s → AreAtSteps c s.sections ms all → AreTurned s.sections ps ms ns all to → AllBegin ns h
-    → AllBegin ms h × AreScriptTurns s h ps (turn_stages ms all) (turn_stages ns to)
+    → c.sizes ≡ followed_plan_sizes s → AreAtSteps c s.sections ms all → AreTurned s.sections ps ms ns all to → AllBeginTurning ns h
+    → AllBeginTurning ms h × AreScriptTurns s h ps (turn_stages ms all) (turn_stages ns to)
 turns_told s c h [] ms ns all to sizes way turned begin =
-    let P : List Local → Type 0 = λ xs. AllBegin xs h in
+    let P : List Local → Type 0 = λ xs. AllBeginTurning xs h in
     let Q : List Local → List TurnProgress → Type 0 = λ xs ys. turn_stages xs ys ≡ turn_stages ms all in
     (subst P turned.0 begin, subst₂ Q (sym turned.0) (sym turned.1) refl)
 turns_told s c h (p ∷ ps) ms ns all to sizes way turned begin =
@@ -243,12 +243,12 @@ turns_told s c h (p ∷ ps) ms ns all to sizes way turned begin =
     let m = turn.before in
     let x = turn.after in
     let is = way.each p turn.section m turn.at turn.section_is turn.before_is turn.at_is in
-    let same = sees_same_processor (new_at c p) m x (same_after_step (new_at c p) m turn.section turn.at is)
+    let same = sees_same_processor (new_at_making_calls c p) m x (stepping_same_after (new_at_making_calls c p) m turn.section turn.at is)
     (turn_same turn.section m x turn.at turn.next turn.takes) in
     let within = slice_get_within ms p m turn.before_is in
     let here : slice_get turned.0 p ≡ Some x = ap (λ xs. slice_get xs p) turn.new_is ∙ slice_get-set_same ms p x within in
     let begins = later.0 p x here in
-    let one : _ = turn_told s h p (new_at c p) m x turn.section turn.at turn.next same.number (same.sizes ∙ sizes) is
+    let one : _ = turn_told s h p (new_at_making_calls c p) m x turn.section turn.at turn.next same.number (same.sizes ∙ sizes) is
     turn.takes begins in
     let P : List Local → List TurnProgress → Type 0 =
     λ xs ys. turn_stages xs ys ≡ slice_set (turn_stages ms all) p (turn_stage turn.next (calls_made x)) in
@@ -269,13 +269,13 @@ turns_told s c h (p ∷ ps) ms ns all to sizes way turned begin =
       ),
     )
   where
-    first : (turn : IsTurnOfRun s.sections p ms turned.0 all turned.1) → AllBegin turned.0 h
-        → IsBeginning turn.after.seen h → AllBegin ms h
+    first : (turn : IsTurnOfRun s.sections p ms turned.0 all turned.1) → AllBeginTurning turned.0 h
+        → IsFollowedBeginning turn.after.seen h → AllBeginTurning ms h
     first turn others mine q y here = elim (cases_eq q p) [
       | inl is ↦ (let M : ℕ → Type 0 = λ k. slice_get ms k ≡ Some y in
           let same = same_Some turn.before y (sym turn.before_is ∙ subst M is here) in
-          let P : Local → Type 0 = λ z. IsBeginning z.seen h in
-          subst P same (begins_less turn.before turn.after h
+          let P : Local → Type 0 = λ z. IsFollowedBeginning z.seen h in
+          subst P same (followed_begins_less turn.before turn.after h
           (turn_sees turn.section turn.before turn.after turn.at turn.next turn.takes) mine))
       | inr isnt ↦ others q y (ap (λ xs. slice_get xs q) turn.new_is
           ∙ slice_get-set_other ms p q turn.after isnt ∙ here)
@@ -289,9 +289,9 @@ turns-append s h (p ∷ ps) qs xs ys zs first next =
     (first.0, first.1, turns-append s h ps qs first.0 ys zs first.2 next)
 
 -- who saw on was before
-pub before_at : (ms ns : List Local) (p : ℕ) (n : Local) → AreSeenAfterTurns ms ns → slice_get ns p ≡ Some n
+pub turning_before_at : (ms ns : List Local) (p : ℕ) (n : Local) → AreSeenAfterTurns ms ns → slice_get ns p ≡ Some n
     → (m : Local) × (slice_get ms p ≡ Some m)
-before_at ms ns p n on here =
+turning_before_at ms ns p n on here =
     let within = slice_get_within ns p n here in
     let same = on.all in
     (get_or ms p n, slice_get-get_or ms p n (omega arith))
@@ -307,24 +307,24 @@ turn_stages_seen (m ∷ ms) (n ∷ ns) (at ∷ all) on =
       all = let long = on.all in omega (arith, long);
       each = λ p x y here there. on.each (suc p) x y here there;
     } in
-    ap (λ ks. turn_stage at ks ∷ turn_stages ns all) (ap call_kinds (on.each 0 m n refl refl).calls_are)
+    ap (λ ks. turn_stage at ks ∷ turn_stages ns all) (ap followed_call_kinds (on.each 0 m n refl refl).calls_are)
     ∙ ap (λ xs. turn_stage at (calls_made m) ∷ xs) (turn_stages_seen ms ns all rest)
 
 -- what goes on from what they saw then goes on from what they saw before
-begin_before : (ms ns : List Local) (h : List Event) → AreSeenAfterTurns ms ns → AllBegin ns h → AllBegin ms h
-begin_before ms ns h on begin p m here =
+turning_begin_before : (ms ns : List Local) (h : List Event) → AreSeenAfterTurns ms ns → AllBeginTurning ns h → AllBeginTurning ms h
+turning_begin_before ms ns h on begin p m here =
     let within = slice_get_within ms p m here in
     let same = on.all in
     let n = get_or ns p m in
     let there = slice_get-get_or ns p m (omega arith) in
-    begins_less m n h (on.each p m n here there).sees (begin p n there)
+    followed_begins_less m n h (on.each p m n here there).sees (begin p n there)
 
 -- nothing else changed
-makes_seen : {C : Type 0} (l m n : Local) (kinds : List Kind) → MakesBut C l m kinds → SeesOnlyMore m n → MakesBut C l n kinds
-makes_seen l m n kinds makes on = record {
+turning_makes_seen : {C : Type 0} (l m n : Local) (kinds : List Kind) → MakesBut C l m kinds → SeesOnlyMore m n → MakesBut C l n kinds
+turning_makes_seen l m n kinds makes on = record {
   same = sees_same_processor l m n makes.same on.same;
   sees = sees_then l m n makes.sees on.sees;
-  more = ap call_kinds on.calls_are ∙ makes.more;
+  more = ap followed_call_kinds on.calls_are ∙ makes.more;
   wanted = λ was. makes_same_wanted m n on.same on.calls_are (makes.wanted was);
   uncut = λ none. on.uncut ∙ makes.uncut none;
 }
@@ -335,7 +335,7 @@ turn_seen_at l m n section (Next k) is on = (
   record {
     kinds = is.0.kinds;
     are = is.0.are;
-    makes = makes_seen l m n is.0.kinds is.0.makes on;
+    makes = turning_makes_seen l m n is.0.kinds is.0.makes on;
   },
   is.1,
 )
@@ -352,7 +352,7 @@ turn_seen_at l m n section (Waits k) is on =
           makes = record {
             same = sees_same_processor between m n begun.makes.same on.same;
             sees = sees_then between m n begun.makes.sees on.sees;
-            more = ap call_kinds on.calls_are ∙ begun.makes.more;
+            more = ap followed_call_kinds on.calls_are ∙ begun.makes.more;
             wanted = λ was. makes_same_wanted m n on.same on.calls_are (begun.makes.wanted was);
             uncut = on.uncut ∙ begun.makes.uncut;
           };
@@ -363,7 +363,7 @@ turn_seen_at l m n section (Waits k) is on =
       is.1,
     )
 turn_seen_at l m n section Passed is on =
-    record { kinds = is.kinds; are = is.are; makes = makes_seen l m n _ is.makes on }
+    record { kinds = is.kinds; are = is.are; makes = turning_makes_seen l m n _ is.makes on }
 
 turn_way_seen : (c : SharedCluster) (sections : List (List Instruction)) (ms ns : List Local) (all : List TurnProgress)
     → AreAtSteps c sections ms all → AreSeenAfterTurns ms ns → AreAtSteps c sections ns all
@@ -371,8 +371,8 @@ turn_way_seen c sections ms ns all way on = record {
   many = on.all ∙ way.many;
   long = way.long;
   each = λ p section n at its here there.
-      let before = before_at ms ns p n on here in
-      turn_seen_at (new_at c p) before.0 n section at (way.each p section before.0 at its before.1 there)
+      let before = turning_before_at ms ns p n on here in
+      turn_seen_at (new_at_making_calls c p) before.0 n section at (way.each p section before.0 at its before.1 there)
       (on.each p before.0 n before.1 here);
 }
 
@@ -389,18 +389,18 @@ turn_way_rounds c s orders (suc k) ms ns start all way rounds =
 
 -- rounds are told of a history that goes on from what all have seen at their end
 pub turn_rounds_told : (s : Plan) (c : SharedCluster) (h : List Event) (orders : ℕ → List ℕ) (k : ℕ) (ms ns : List Local)
-    (start all : List TurnProgress) → c.sizes ≡ plan_sizes s → AreAtSteps c s.sections ms start
-    → AreTurnRounds s orders k ms start ns all → AllBegin ns h
-    → AllBegin ms h × AreScriptTurns s h (turns_of orders k) (turn_stages ms start) (turn_stages ns all)
+    (start all : List TurnProgress) → c.sizes ≡ followed_plan_sizes s → AreAtSteps c s.sections ms start
+    → AreTurnRounds s orders k ms start ns all → AllBeginTurning ns h
+    → AllBeginTurning ms h × AreScriptTurns s h (turns_of orders k) (turn_stages ms start) (turn_stages ns all)
 turn_rounds_told s c h orders zero ms ns start all sizes way rounds begin =
-    let P : List Local → Type 0 = λ xs. AllBegin xs h in
+    let P : List Local → Type 0 = λ xs. AllBeginTurning xs h in
     let Q : List Local → List TurnProgress → Type 0 = λ xs ys. turn_stages xs ys ≡ turn_stages ms start in
     (subst P rounds.0 begin, subst₂ Q (sym rounds.0) (sym rounds.1) refl)
 turn_rounds_told s c h orders (suc k) ms ns start all sizes way rounds begin =
     let round = rounds.3 in
     let between = turn_way_rounds c s orders k ms rounds.0 start rounds.1 way rounds.2 in
     let told = turns_told s c h (orders k) rounds.0 round.turned rounds.1 all sizes between round.turns
-    (begin_before round.turned ns h round.seen begin) in
+    (turning_begin_before round.turned ns h round.seen begin) in
     let before = turn_rounds_told s c h orders k ms rounds.0 start rounds.1 sizes way rounds.2 told.0 in
     let P : List TurnStage → Type 0 = λ xs. AreScriptTurns s h (turns_of orders k ++ orders k) (turn_stages ms start) xs in (
       before.0,
@@ -412,7 +412,7 @@ turn_rounds_told s c h orders (suc k) ms ns start all sizes way rounds begin =
 -- where all are between two rounds, and the generator then
 pub record IsBetweenTurns (c : SharedCluster) (s : Plan) (seed : Option ℕ) (old new : List Local) (start all : List TurnProgress)
     (generator : Option Lcg) : Type 0 where
-  pub gone : HaveGoneRound c s seed old new start all
+  pub gone : HaveTakenTurnsRound c s seed old new start all
   pub drawn_is : generator ≡ order_generator_after seed s.processors gone.count
 
 -- before the first one
@@ -424,7 +424,7 @@ before_turn_rounds c s seed ms all generator way is =
 
 -- and after one more
 pub next_turn_round : (c : SharedCluster) (s : Plan) (seed : Option ℕ) (ms ns turned os : List Local) (start all to : List TurnProgress)
-    (old new : Option Lcg) (n : ℕ) (list : List ℕ) → c.sizes ≡ plan_sizes s → n ≡ c.sizes.processors
+    (old new : Option Lcg) (n : ℕ) (list : List ℕ) → c.sizes ≡ followed_plan_sizes s → n ≡ c.sizes.processors
     → IsBetweenTurns c s seed ms ns start all old → list ≡ (order_drawn old n).0 → new ≡ (order_drawn old n).1
     → AreTurned s.sections list ns turned all to → AreSeenAfterTurns turned os → IsBetweenTurns c s seed ms os start to new
 next_turn_round c s seed ms ns turned os start all to old new n list sizes many was order state turns seen =
@@ -445,8 +445,8 @@ next_turn_round c s seed ms ns turned os start all to old new n list sizes many 
     }
 
 -- who did nothing saw on
-pub sees_on : (m n : Local) → m ≡ n → SeesOnlyMore m n
-sees_on m n e = record {
+pub turning_sees_more : (m n : Local) → m ≡ n → SeesOnlyMore m n
+turning_sees_more m n e = record {
   same = record {
     lock = ap (λ (x : Local). x.lock) (sym e);
     number = ap (λ (x : Local). x.number) (sym e);
@@ -460,8 +460,8 @@ sees_on m n e = record {
 }
 
 -- and who saw on twice saw on
-sees_on_then : (l m n : Local) → SeesOnlyMore l m → SeesOnlyMore m n → SeesOnlyMore l n
-sees_on_then l m n first next = record {
+turning_sees_more_then : (l m n : Local) → SeesOnlyMore l m → SeesOnlyMore m n → SeesOnlyMore l n
+turning_sees_more_then l m n first next = record {
   same = sees_same_processor l m n first.same next.same;
   sees = sees_then l m n first.sees next.sees;
   calls_are = next.calls_are ∙ first.calls_are;
@@ -470,81 +470,81 @@ sees_on_then l m n first next = record {
   uncut = next.uncut ∙ first.uncut;
 }
 
-pub seen_same : (ms : List Local) → AreSeenAfterTurns ms ms
-seen_same ms = record {
+pub turning_seen_same : (ms : List Local) → AreSeenAfterTurns ms ms
+turning_seen_same ms = record {
   all = refl;
-  each = λ p m n here there. sees_on m n (same_Some m n (sym here ∙ there));
+  each = λ p m n here there. turning_sees_more m n (same_Some m n (sym here ∙ there));
 }
 
-pub seen_then : (ms ns os : List Local) → AreSeenAfterTurns ms ns → AreSeenAfterTurns ns os → AreSeenAfterTurns ms os
-seen_then ms ns os first next = record {
+pub turning_seen_then : (ms ns os : List Local) → AreSeenAfterTurns ms ns → AreSeenAfterTurns ns os → AreSeenAfterTurns ms os
+turning_seen_then ms ns os first next = record {
   all = next.all ∙ first.all;
   each = λ p m o here there.
-      let between = before_at ns os p o next there in
-      sees_on_then m between.0 o (first.each p m between.0 here between.1) (next.each p between.0 o between.1 there);
+      let between = turning_before_at ns os p o next there in
+      turning_sees_more_then m between.0 o (first.each p m between.0 here between.1) (next.each p between.0 o between.1 there);
 }
 
 -- a turn, told as one of those that are taken
-pub one_taken : (sections : List (List Instruction)) (p : ℕ) (ms ns os : List Local) (all to : List TurnProgress)
+pub one_turn_taken : (sections : List (List Instruction)) (p : ℕ) (ms ns os : List Local) (all to : List TurnProgress)
     → AreSeenAfterTurns ms ns → IsTurnOfRun sections p ns os all to → AreTaken sections (p ∷ []) ms os all to
-one_taken sections p ms ns os all to on turn = (ns, os, to, on, turn, (seen_same os, refl))
+one_turn_taken sections p ms ns os all to on turn = (ns, os, to, on, turn, (turning_seen_same os, refl))
 
 -- those who saw on first take the same turns
-taken_after : (sections : List (List Instruction)) (ps : List ℕ) (ms ns os : List Local) (all to : List TurnProgress)
+turns_taken_after : (sections : List (List Instruction)) (ps : List ℕ) (ms ns os : List Local) (all to : List TurnProgress)
     → AreSeenAfterTurns ms ns → AreTaken sections ps ns os all to → AreTaken sections ps ms os all to
-taken_after sections [] ms ns os all to on taken = (seen_then ms ns os on taken.0, taken.1)
-taken_after sections (p ∷ ps) ms ns os all to on taken =
-    (taken.0, taken.1, taken.2, seen_then ms ns taken.0 on taken.3, taken.4, taken.5)
+turns_taken_after sections [] ms ns os all to on taken = (turning_seen_then ms ns os on taken.0, taken.1)
+turns_taken_after sections (p ∷ ps) ms ns os all to on taken =
+    (taken.0, taken.1, taken.2, turning_seen_then ms ns taken.0 on taken.3, taken.4, taken.5)
 
 -- turns that are taken, and then more of them
-pub taken-append : (sections : List (List Instruction)) (ps qs : List ℕ) (ms ns os : List Local) (all to end : List TurnProgress)
+pub turns_taken-append : (sections : List (List Instruction)) (ps qs : List ℕ) (ms ns os : List Local) (all to end : List TurnProgress)
     → AreTaken sections ps ms ns all to → AreTaken sections qs ns os to end → AreTaken sections (ps ++ qs) ms os all end
-taken-append sections [] qs ms ns os all to end first next =
+turns_taken-append sections [] qs ms ns os all to end first next =
     let P : List TurnProgress → Type 0 = λ xs. AreTaken sections qs ms os xs end in
-    subst P first.1 (taken_after sections qs ms ns os to end first.0 next)
-taken-append sections (p ∷ ps) qs ms ns os all to end first next = (
+    subst P first.1 (turns_taken_after sections qs ms ns os to end first.0 next)
+turns_taken-append sections (p ∷ ps) qs ms ns os all to end first next = (
   first.0,
   first.1,
   first.2,
   first.3,
   first.4,
-  taken-append sections ps qs first.1 ns os first.2 to end first.5 next,
+  turns_taken-append sections ps qs first.1 ns os first.2 to end first.5 next,
 )
 
 -- where all are after turns that are taken
-pub way_taken : (c : SharedCluster) (sections : List (List Instruction)) (ps : List ℕ) (ms ns : List Local)
+pub turns_taken_way : (c : SharedCluster) (sections : List (List Instruction)) (ps : List ℕ) (ms ns : List Local)
     (all to : List TurnProgress) → AreAtSteps c sections ms all → AreTaken sections ps ms ns all to
     → AreAtSteps c sections ns to
-way_taken c sections [] ms ns all to way taken =
+turns_taken_way c sections [] ms ns all to way taken =
     let P : List TurnProgress → Type 0 = λ xs. AreAtSteps c sections ns xs in
     subst P (sym taken.1) (turn_way_seen c sections ms ns all way taken.0)
-way_taken c sections (p ∷ ps) ms ns all to way taken =
-    way_taken c sections ps taken.1 ns taken.2 to
+turns_taken_way c sections (p ∷ ps) ms ns all to way taken =
+    turns_taken_way c sections ps taken.1 ns taken.2 to
     (way_turned c sections p taken.0 taken.1 all taken.2 (turn_way_seen c sections ms taken.0 all way taken.3) taken.4) taken.5
 
 -- they are told of a history that goes on from what all have seen at their end
-pub taken_told : (s : Plan) (c : SharedCluster) (h : List Event) (ps : List ℕ) (ms ns : List Local) (all to : List TurnProgress)
-    → c.sizes ≡ plan_sizes s → AreAtSteps c s.sections ms all → AreTaken s.sections ps ms ns all to → AllBegin ns h
-    → AllBegin ms h × AreScriptTurns s h ps (turn_stages ms all) (turn_stages ns to)
-taken_told s c h [] ms ns all to sizes way taken begin =
-    (begin_before ms ns h taken.0 begin, ap (turn_stages ns) taken.1 ∙ turn_stages_seen ms ns all taken.0)
-taken_told s c h (p ∷ ps) ms ns all to sizes way taken begin =
+pub turns_taken_told : (s : Plan) (c : SharedCluster) (h : List Event) (ps : List ℕ) (ms ns : List Local) (all to : List TurnProgress)
+    → c.sizes ≡ followed_plan_sizes s → AreAtSteps c s.sections ms all → AreTaken s.sections ps ms ns all to → AllBeginTurning ns h
+    → AllBeginTurning ms h × AreScriptTurns s h ps (turn_stages ms all) (turn_stages ns to)
+turns_taken_told s c h [] ms ns all to sizes way taken begin =
+    (turning_begin_before ms ns h taken.0 begin, ap (turn_stages ns) taken.1 ∙ turn_stages_seen ms ns all taken.0)
+turns_taken_told s c h (p ∷ ps) ms ns all to sizes way taken begin =
     let seen = taken.0 in
     let between = taken.1 in
     let half = taken.2 in
     let on = turn_way_seen c s.sections ms seen all way taken.3 in
-    let later = taken_told s c h ps between ns half to sizes (way_turned c s.sections p seen between all half on taken.4)
+    let later = turns_taken_told s c h ps between ns half to sizes (way_turned c s.sections p seen between all half on taken.4)
     taken.5 begin in
     let one = turns_told s c h (p ∷ []) seen between all half sizes on (between, half, taken.4, (refl, refl)) later.0 in
     let P : List TurnStage → Type 0 = λ xs. AreScriptTurns s h (p ∷ ps) xs (turn_stages ns to) in (
-      begin_before ms seen h taken.3 one.0,
+      turning_begin_before ms seen h taken.3 one.0,
       subst P (turn_stages_seen ms seen all taken.3)
           (turns-append s h (p ∷ []) ps (turn_stages seen all) (turn_stages between half) (turn_stages ns to) one.1 later.1),
     )
 
 -- who looked in vain saw on
-pub look_seen : (m n : Local) (taken : Bool) → TriedTake m n taken → taken ≡ false → SeesOnlyMore m n
-look_seen m n taken took vain =
+pub turning_look_seen : (m n : Local) (taken : Bool) → TriedToMakeTake m n taken → taken ≡ false → SeesOnlyMore m n
+turning_look_seen m n taken took vain =
     let none = took.no vain in
     record {
       same = took.same;
@@ -556,9 +556,9 @@ look_seen m n taken took vain =
     }
 
 -- and so all did, if one of them
-pub one_seen : (ms : List Local) (p : ℕ) (m x : Local) → slice_get ms p ≡ Some m → SeesOnlyMore m x
+pub turning_one_seen : (ms : List Local) (p : ℕ) (m x : Local) → slice_get ms p ≡ Some m → SeesOnlyMore m x
     → AreSeenAfterTurns ms (slice_set ms p x)
-one_seen ms p m x here on = record { all = length-set ms p x; each = each }
+turning_one_seen ms p m x here on = record { all = length-set ms p x; each = each }
   where
     each : (q : ℕ) (y z : Local) → slice_get ms q ≡ Some y → slice_get (slice_set ms p x) q ≡ Some z → SeesOnlyMore y z
     each q y z before after = elim (cases_eq q p) [
@@ -568,19 +568,19 @@ one_seen ms p m x here on = record { all = length-set ms p x; each = each }
           let two = slice_get-set_found ms p x z (subst N is after) in
           let P : Local → Local → Type 0 = λ a b. SeesOnlyMore a b in
           subst₂ P one two on)
-      | inr isnt ↦ sees_on y z (same_Some y z (sym before ∙ sym (slice_get-set_other ms p q x isnt) ∙ after))
+      | inr isnt ↦ turning_sees_more y z (same_Some y z (sym before ∙ sym (slice_get-set_other ms p q x isnt) ∙ after))
     ]
 
 -- what is put where it was changes nothing
-pub set_same : {A : Type 0} (xs : List A) (p : ℕ) (x y : A) → slice_get xs p ≡ Some x → y ≡ x → slice_set xs p y ≡ xs
-set_same [] p x y here is = refl
-set_same (z ∷ xs) zero x y here is = ap (λ w. w ∷ xs) (is ∙ sym (same_Some z x here))
-set_same (z ∷ xs) (suc p) x y here is = ap (λ ws. z ∷ ws) (set_same xs p x y here is)
+pub turning_set_same : {A : Type 0} (xs : List A) (p : ℕ) (x y : A) → slice_get xs p ≡ Some x → y ≡ x → slice_set xs p y ≡ xs
+turning_set_same [] p x y here is = refl
+turning_set_same (z ∷ xs) zero x y here is = ap (λ w. w ∷ xs) (is ∙ sym (same_Some z x here))
+turning_set_same (z ∷ xs) (suc p) x y here is = ap (λ ws. z ∷ ws) (turning_set_same xs p x y here is)
 
 -- a script has some processor
-pub some_of : (s : Plan) (c : SharedCluster) (ms : List Local) (all : List TurnProgress) → IsLawful s → c.sizes ≡ plan_sizes s
+pub turning_some_of : (s : Plan) (c : SharedCluster) (ms : List Local) (all : List TurnProgress) → IsLawful s → c.sizes ≡ followed_plan_sizes s
     → AreAtSteps c s.sections ms all → 0 < length ms
-some_of s c ms all lawful sizes way =
+turning_some_of s c ms all lawful sizes way =
     let some = lawful.but_uneven.sizes.some_processors in
     let same = ap (λ (x : Sizes). x.processors) sizes in
     let many = way.many in

@@ -11,11 +11,11 @@ use Rattle.cluster.specs.declared.waited.Waited.{Waited}
 use Rattle.cluster.specs.declared.waited.Waited.TheVariants.{Stuck}
 use Rattle.cluster.specs.Refusals.{flush_refusal}
 use Rattle.cluster.specs.Waiting.{IsWaitingCall}
-use Rattle.cluster.specs.Taking.{awaited_event}
-use Rattle.lrc_run.specs.Turns.{AreSeenAfterTurns, SeesDeadlock, SeesOnlyMore}
-use Rattle.lrc_run.specs.MakesCalls.{SeesMoreCalls, TriedTake}
+use Rattle.cluster.specs.Taking.{taking_awaited_event}
+use Rattle.lrc_run.specs.Turns.{AreSeenAfterTurns, SeesDeadlockAtTurns, SeesOnlyMore}
+use Rattle.lrc_run.specs.MakesCalls.{SeesMoreCalls, TriedToMakeTake}
 use Rattle.lrc_run.proofs.SeesAndMakes.{sees_same_processor, sees_same, sees_then}
-use Rattle.lrc_run.proofs.Turning.{seen_same}
+use Rattle.lrc_run.proofs.Turning.{turning_seen_same}
 
 -- whoever waits has seen no less
 sees_waiting : (m n : Local) (r : Result Waited Refused) → IsWaitingCall m n r → SeesMoreCalls m n
@@ -45,13 +45,13 @@ waits_on m n r call = record {
 }
 
 -- a take after a wait is one after what came before
-pub waiting_takes_on : (l m n : Local) (taken : Bool) → SeesOnlyMore l m → TriedTake m n taken → TriedTake l n taken
+pub waiting_takes_on : (l m n : Local) (taken : Bool) → SeesOnlyMore l m → TriedToMakeTake m n taken → TriedToMakeTake l n taken
 waiting_takes_on l m n taken on took = record {
   same = sees_same_processor l m n on.same took.same;
   sees = sees_then l m n on.sees took.sees;
-  yes = λ yes. took.yes yes ∙ ap (λ es. es ++ awaited_event m.number m.awaits) on.calls_are
-      ∙ ap (λ p. calls l ++ awaited_event p m.awaits) on.same.number
-      ∙ ap (λ k. calls l ++ awaited_event l.number k) on.awaits_is;
+  yes = λ yes. took.yes yes ∙ ap (λ es. es ++ taking_awaited_event m.number m.awaits) on.calls_are
+      ∙ ap (λ p. calls l ++ taking_awaited_event p m.awaits) on.same.number
+      ∙ ap (λ k. calls l ++ taking_awaited_event l.number k) on.awaits_is;
   no = λ no.
       let none = took.no no in
       record {
@@ -72,11 +72,11 @@ waiting_seen_at ms m n at on = record { all = length-set ms 0 n; each = each }
       | inl is ↦ (let M : ℕ → Type 0 = λ k. slice_get ms k ≡ Some x in
           let N : ℕ → Type 0 = λ k. slice_get (slice_set ms 0 n) k ≡ Some y in
           subst₂ SeesOnlyMore (same_Some m x (sym at ∙ subst M is here)) (slice_get-set_found ms 0 n y (subst N is there)) on)
-      | inr isnt ↦ (seen_same ms).each p x y here (sym (slice_get-set_other ms 0 p n isnt) ∙ there)
+      | inr isnt ↦ (turning_seen_same ms).each p x y here (sym (slice_get-set_other ms 0 p n isnt) ∙ there)
     ]
 
 -- it sees a deadlock where it says so
 pub waiting_sees_deadlock : (ms : List Local) (m n : Local) (r : Result Waited Refused) → slice_get ms 0 ≡ Some m
-    → IsWaitingCall m n r → r ≡ Ok Stuck → SeesDeadlock (slice_set ms 0 n)
+    → IsWaitingCall m n r → r ≡ Ok Stuck → SeesDeadlockAtTurns (slice_set ms 0 n)
 waiting_sees_deadlock ms m n r at call is =
     (n, slice_get-set_same ms 0 n (slice_get_within ms 0 m at), call.stuck is)

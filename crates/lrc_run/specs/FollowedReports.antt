@@ -7,11 +7,11 @@ use Rattle.lrc_script.specs.declared.script.Instruction.{Instruction}
 use Rattle.lrc_script.specs.Lawful.{IsLawful}
 use Rattle.lrc_script.specs.Plan.{Plan}
 use Rattle.lrc_report.specs.declared.report.Report.{Report}
-use Rattle.conformance.specs.Follows.{calls_of, load_of, plan_sizes}
+use Rattle.conformance.specs.Follows.{followed_calls, followed_load, followed_plan_sizes}
 use Rattle.conformance.specs.Instructions.{AreEventsOfInstructions}
 use Rattle.cluster.specs.Copies.Local.{Local}
 use Rattle.cluster.specs.Clusters.{SharedCluster}
-use Rattle.cluster.specs.Finishing.{AreAllToFinish, HasCallsOf}
+use Rattle.cluster.specs.Finishing.{AreAllToFinish, HasCallsToFinish}
 use Rattle.conformance.specs.CutInstructions.{HasCutInstruction}
 use Rattle.conformance.specs.Ends.{IsJournalSoFar}
 use Rattle.conformance.specs.Reports.{IsReportOf}
@@ -27,14 +27,14 @@ use Rattle.lrc_run.specs.MakesCalls.{AreCallsWanted, calls_made}
 pub record HasFollowed (section : List Instruction) (loads : List (ℕ × ℕ)) (m : Local) : Type 0 where
   pub own : List Kind
   pub are : AreEventsOfInstructions section own
-  pub made_is : calls_made m ≡ own ++ Arrive ∷ Depart ∷ map load_of loads
+  pub made_is : calls_made m ≡ own ++ Arrive ∷ Depart ∷ map followed_load loads
   pub wanted : AreCallsWanted m
   pub uncut : ¬ HasCutInstruction section → m.own_cut ≡ 0
 
 -- all processors of the script's cluster, and processor 0 has loaded what is shown
 pub record HaveFollowed (s : Plan) (c : SharedCluster) (ms : List Local) (shown : List (ℕ × ℕ)) : Type 0 where
   pub lawful : IsLawful s
-  pub sizes : c.sizes ≡ plan_sizes s
+  pub sizes : c.sizes ≡ followed_plan_sizes s
   pub all : AreAllToFinish c ms
   pub each : (p : ℕ) (section : List Instruction) (m : Local) → slice_get s.sections p ≡ Some section
       → slice_get ms p ≡ Some m → HasFollowed section (cond (p == 0) shown []) m
@@ -43,26 +43,26 @@ pub record HaveFollowed (s : Plan) (c : SharedCluster) (ms : List Local) (shown 
 -- the report is of the script, and its history has the calls of these processors
 pub record IsReportWith (s : Plan) (r : Report) (ms : List Local) : Type 0 where
   pub is : IsReportOf s r
-  pub each : (p : ℕ) (m : Local) → slice_get ms p ≡ Some m → HasCallsOf is.history m
+  pub each : (p : ℕ) (m : Local) → slice_get ms p ≡ Some m → HasCallsToFinish is.history m
 
 -- the history goes on from these events
-abbrev pub IsBeginning : List Event → List Event → Type 0
-IsBeginning events h = (rest : List Event) × (h ≡ events ++ rest)
+abbrev pub IsFollowedBeginning : List Event → List Event → Type 0
+IsFollowedBeginning events h = (rest : List Event) × (h ≡ events ++ rest)
 
 -- the report is of the script, and its history goes on from what each of these processors has seen, with the calls that
 -- each has made, and then of processor 0 the loads of what is shown
 pub record IsReportAfter (s : Plan) (r : Report) (ms : List Local) : Type 0 where
   pub is : IsReportOf s r
-  pub begin : (p : ℕ) (m : Local) → slice_get ms p ≡ Some m → IsBeginning m.seen is.history
+  pub begin : (p : ℕ) (m : Local) → slice_get ms p ≡ Some m → IsFollowedBeginning m.seen is.history
   pub calls_are : (p : ℕ) (m : Local) → slice_get ms p ≡ Some m
-      → calls_of is.history p ≡ calls_made m ++ cond (p == 0) (map load_of r.shown.items) []
+      → followed_calls is.history p ≡ calls_made m ++ cond (p == 0) (map followed_load r.shown.items) []
 
 -- the journal so far is of the script, and its history has the calls of these processors
-pub record IsHaltJournalWith (s : Plan) (j : Log) (ms : List Local) : Type 0 where
+pub record IsHaltFollowedWith (s : Plan) (j : Log) (ms : List Local) : Type 0 where
   pub is : IsJournalSoFar s j
-  pub each : (p : ℕ) (m : Local) → slice_get ms p ≡ Some m → HasCallsOf is.history m
+  pub each : (p : ℕ) (m : Local) → slice_get ms p ≡ Some m → HasCallsToFinish is.history m
 
 -- how the run ended of which these processors have come so far: all have passed the closing barrier, or it can't go on
-abbrev pub IsEndAfter : Plan → List Local → List TurnProgress → Ended → Type 0
-IsEndAfter s ms all (Whole report) = IsReportAfter s report ms × All (λ x. x ≡ Passed) all
-IsEndAfter s ms all (Halted halt) = IsHaltJournalWith s halt.journal ms × (halt.processor ≡ 0)
+abbrev pub IsEndFollowedAfter : Plan → List Local → List TurnProgress → Ended → Type 0
+IsEndFollowedAfter s ms all (Whole report) = IsReportAfter s report ms × All (λ x. x ≡ Passed) all
+IsEndFollowedAfter s ms all (Halted halt) = IsHaltFollowedWith s halt.journal ms × (halt.processor ≡ 0)

@@ -8,17 +8,17 @@ use Rattle.journal.specs.declared.event.Event.{Event}
 use Rattle.lrc_script.specs.declared.script.Instruction.{Instruction}
 use Rattle.lrc_script.specs.declared.script.Instruction.TheVariants.{Cut}
 use Rattle.conformance.specs.Instructions.{AreEventsOfInstruction, AreEventsOfInstructions}
-use Rattle.conformance.specs.Follows.{call_kinds, load_of}
+use Rattle.conformance.specs.Follows.{followed_call_kinds, followed_load}
 use Rattle.cluster.specs.Copies.Local.{Local, calls, new_local}
-use Rattle.cluster.specs.Calls.{IsSameProcessor}
+use Rattle.cluster.specs.Calls.{IsSameProcessorOfCall}
 use Rattle.cluster.specs.Clusters.{SharedCluster}
-use Rattle.cluster.specs.Taking.{IsTakeLate, awaited_event}
+use Rattle.cluster.specs.Taking.{IsTakeLate, taking_awaited_event}
 use Rattle.conformance.specs.CutInstructions.{HasCutInstruction}
 use Rattle.conformance.specs.WantedFetches.{FetchesAreWanted}
 
 -- a processor's accepted calls, its fetches aside
 abbrev pub calls_made : Local → List Kind
-calls_made m = call_kinds (calls m)
+calls_made m = followed_call_kinds (calls m)
 
 -- each fetch among its calls comes right before an access to its page
 abbrev pub AreCallsWanted : Local → Type 0
@@ -30,7 +30,7 @@ SeesMoreCalls old new = (rest : List Event) × (new.seen ≡ old.seen ++ rest)
 
 -- it is the same processor, has just these calls besides, and has cut nothing off
 pub record AddsCalls (old new : Local) (kinds : List Kind) : Type 0 where
-  pub same : IsSameProcessor old new
+  pub same : IsSameProcessorOfCall old new
   pub sees : SeesMoreCalls old new
   pub calls_are : calls new ≡ calls old ++ map (event old.number) kinds
   pub uncut : new.own_cut ≡ old.own_cut
@@ -41,13 +41,13 @@ AddsCallsBy old new (Ok x) kinds = AddsCalls old new (kinds x)
 AddsCallsBy old new (Err e) kinds = AddsCalls old new []
 
 -- it has a fetch of this page, or no call if it was refused
-abbrev pub AddsFetchBy : {A : Type 0} → Local → Local → Result A Refused → ℕ → Type 0
-AddsFetchBy old new (Ok x) page = (writers records words : ℕ) × AddsCalls old new (Fetch writers page records words ∷ [])
-AddsFetchBy old new (Err e) page = AddsCalls old new []
+abbrev pub MakesFetchBy : {A : Type 0} → Local → Local → Result A Refused → ℕ → Type 0
+MakesFetchBy old new (Ok x) page = (writers records words : ℕ) × AddsCalls old new (Fetch writers page records words ∷ [])
+MakesFetchBy old new (Err e) page = AddsCalls old new []
 
 -- it is the same processor, has made these calls besides, and fetches that they want, and has cut nothing off
 pub record MadeCalls (old new : Local) (kinds : List Kind) : Type 0 where
-  pub same : IsSameProcessor old new
+  pub same : IsSameProcessorOfCall old new
   pub sees : SeesMoreCalls old new
   pub more : calls_made new ≡ calls_made old ++ kinds
   pub wanted : AreCallsWanted old → AreCallsWanted new
@@ -55,7 +55,7 @@ pub record MadeCalls (old new : Local) (kinds : List Kind) : Type 0 where
 
 -- the same, except that it may have cut something off if this is so
 pub record MakesBut (cuts : Type 0) (old new : Local) (kinds : List Kind) : Type 0 where
-  pub same : IsSameProcessor old new
+  pub same : IsSameProcessorOfCall old new
   pub sees : SeesMoreCalls old new
   pub more : calls_made new ≡ calls_made old ++ kinds
   pub wanted : AreCallsWanted old → AreCallsWanted new
@@ -63,7 +63,7 @@ pub record MakesBut (cuts : Type 0) (old new : Local) (kinds : List Kind) : Type
 
 -- it is the same processor, has made no calls besides but maybe fetches, and has cut nothing off
 pub record MakesNone (old new : Local) : Type 0 where
-  pub same : IsSameProcessor old new
+  pub same : IsSameProcessorOfCall old new
   pub none : calls_made new ≡ calls_made old
   pub uncut : new.own_cut ≡ old.own_cut
 
@@ -73,7 +73,7 @@ TriesCalls old new (Ok x) kinds = MadeCalls old new (kinds x)
 TriesCalls old new (Err e) kinds = MakesNone old new
 
 -- it has done this instruction, and cut nothing off but by a cut
-pub record DidInstruction (old new : Local) (i : Instruction) : Type 0 where
+pub record MadeInstruction (old new : Local) (i : Instruction) : Type 0 where
   pub kinds : List Kind
   pub are : AreEventsOfInstruction i kinds
   pub makes : MakesBut (i ≡ Cut) old new kinds
@@ -88,23 +88,23 @@ pub record BeginsCall (old new : Local) (i : Instruction) : Type 0 where
   pub awaits : new.awaits ≡ Some last
 
 -- it has done this instruction, or begun it
-abbrev pub IsOnItsWay : Local → Local → Instruction → Bool → Type 0
-IsOnItsWay old new i true = DidInstruction old new i
-IsOnItsWay old new i false = BeginsCall old new i
+abbrev pub MakesItsWay : Local → Local → Instruction → Bool → Type 0
+MakesItsWay old new i true = MadeInstruction old new i
+MakesItsWay old new i false = BeginsCall old new i
 
 -- it is as it was, and what it awaits hasn't come by what it has seen
-pub record FindsNothing (old new : Local) : Type 0 where
+pub record MakesNoneAndFindsNothing (old new : Local) : Type 0 where
   pub calls_are : calls new ≡ calls old
   pub block_is : new.block ≡ old.block
   pub awaits_is : new.awaits ≡ old.awaits
   pub late : IsTakeLate new
 
 -- it has taken what it awaited, or that hadn't come
-pub record TriedTake (old new : Local) (taken : Bool) : Type 0 where
-  pub same : IsSameProcessor old new
+pub record TriedToMakeTake (old new : Local) (taken : Bool) : Type 0 where
+  pub same : IsSameProcessorOfCall old new
   pub sees : SeesMoreCalls old new
-  pub yes : taken ≡ true → calls new ≡ calls old ++ awaited_event old.number old.awaits
-  pub no : taken ≡ false → FindsNothing old new
+  pub yes : taken ≡ true → calls new ≡ calls old ++ taking_awaited_event old.number old.awaits
+  pub no : taken ≡ false → MakesNoneAndFindsNothing old new
   pub uncut : new.own_cut ≡ old.own_cut
 
 -- it has done these instructions
@@ -114,21 +114,21 @@ pub record MakesAll (old new : Local) (is : List Instruction) : Type 0 where
   pub makes : MakesBut (HasCutInstruction is) old new kinds
 
 -- it has done its section, and passed the closing barrier
-pub record Walks (old new : Local) (section : List Instruction) : Type 0 where
+pub record MakesWalk (old new : Local) (section : List Instruction) : Type 0 where
   pub kinds : List Kind
   pub are : AreEventsOfInstructions section kinds
   pub makes : MakesBut (HasCutInstruction section) old new (kinds ++ Arrive ∷ Depart ∷ [])
 
 -- it has loaded these words
 abbrev pub MakesLoads : Local → Local → List (ℕ × ℕ) → Type 0
-MakesLoads old new words = MadeCalls old new (map load_of words)
+MakesLoads old new words = MadeCalls old new (map followed_load words)
 
 -- processor p of the cluster, before its first call
-abbrev pub new_at : SharedCluster → ℕ → Local
-new_at c p = new_local c.lock p c.sizes
+abbrev pub new_at_making_calls : SharedCluster → ℕ → Local
+new_at_making_calls c p = new_local c.lock p c.sizes
 
 -- each of the cluster's processors has walked its section
-pub record AreWalked (c : SharedCluster) (sections : List (List Instruction)) (ms : List Local) : Type 0 where
+pub record HaveMadeWalks (c : SharedCluster) (sections : List (List Instruction)) (ms : List Local) : Type 0 where
   pub all : length ms ≡ c.sizes.processors
   pub each : (p : ℕ) (section : List Instruction) (m : Local) → slice_get sections p ≡ Some section
-      → slice_get ms p ≡ Some m → Walks (new_at c p) m section
+      → slice_get ms p ≡ Some m → MakesWalk (new_at_making_calls c p) m section

@@ -6,6 +6,6 @@ abbrev pub AreOrderedProcessors : ℕ → List ℕ → Type 0
 AreOrderedProcessors n xs = All (λ p. p < n) xs
 
 -- whoever stands at this place, if there is one
-abbrev pub chosen : List ℕ → Option ℕ → List ℕ
-chosen order None = []
-chosen order (Some place) = slice_index_or order place 0 ∷ []
+abbrev pub chosen_order : List ℕ → Option ℕ → List ℕ
+chosen_order order None = []
+chosen_order order (Some place) = slice_index_or order place 0 ∷ []

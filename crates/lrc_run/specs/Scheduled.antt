@@ -7,6 +7,6 @@ use Rattle.conformance.specs.declared.schedule.ScheduleFault.TheVariants as faul
 
 -- why p didn't get on at this place of a schedule for n processors: it is none of them exactly if that is what is said; or
 -- what ends any run by turns
-abbrev pub IsTurnFault : ℕ → ℕ → ℕ → ScheduleFault → Type 0
-IsTurnFault n place p (fault.Run why) = why.cause ≢ Stuck
-IsTurnFault n place p (fault.Misfit turn misfit) = (turn ≡ place + 1) × ((misfit ≡ NoProcessor) ↔ (n ≤ p))
+abbrev pub IsScheduledTurnFault : ℕ → ℕ → ℕ → ScheduleFault → Type 0
+IsScheduledTurnFault n place p (fault.Run why) = why.cause ≢ Stuck
+IsScheduledTurnFault n place p (fault.Misfit turn misfit) = (turn ≡ place + 1) × ((misfit ≡ NoProcessor) ↔ (n ≤ p))

@@ -4,7 +4,7 @@ use Rattle.lrc_script.specs.declared.script.Instruction.{Instruction}
 use Rattle.journal.specs.Deadlocks.{IsDeadlock}
 use Rattle.lrc_script.specs.Plan.{Plan}
 use Rattle.cluster.specs.Copies.Local.{Local, calls}
-use Rattle.cluster.specs.Calls.{IsSameProcessor}
+use Rattle.cluster.specs.Calls.{IsSameProcessorOfCall}
 use Rattle.cluster.specs.Clusters.{SharedCluster}
 use Rattle.cluster.specs.Taking.{IsTakeLate}
 use Rattle.conformance.specs.declared.progress.TurnProgress.{TurnProgress}
@@ -12,19 +12,19 @@ use Rattle.conformance.specs.declared.progress.TurnProgress.TheVariants.{Next, W
 use Rattle.conformance.specs.ByTurns.{turn_orders}
 use Rattle.conformance.specs.Turns.{instruction_at_turn, progress_after_turn}
 use Rattle.lrc_run.specs.Steps.{AreAtSteps}
-use Rattle.lrc_run.specs.MakesCalls.{IsOnItsWay, SeesMoreCalls, TriedTake}
+use Rattle.lrc_run.specs.MakesCalls.{MakesItsWay, SeesMoreCalls, TriedToMakeTake}
 
 -- it has done instruction n, or begun it and looked in vain for what that waits for, and then is there
 pub record TurnGoesOn (section : List Instruction) (old : Local) (n : ℕ) (new : Local) (to : TurnProgress) : Type 0 where
   pub done : Bool
-  pub way : IsOnItsWay old new (instruction_at_turn section n) done
+  pub way : MakesItsWay old new (instruction_at_turn section n) done
   pub late : done ≡ false → IsTakeLate new
   pub to_is : to ≡ progress_after_turn section n done
 
 -- it has looked once for what instruction n waits for, and then is there
 pub record TurnLooks (section : List Instruction) (old : Local) (n : ℕ) (new : Local) (to : TurnProgress) : Type 0 where
   pub taken : Bool
-  pub takes : TriedTake old new taken
+  pub takes : TriedToMakeTake old new taken
   pub to_is : to ≡ progress_after_turn section n taken
 
 -- what a turn makes of a processor that is at this place, and where it is then
@@ -58,7 +58,7 @@ AreTurned sections (p ∷ ps) old new all to =
 
 -- it is as it was, except that it may have seen more of the history
 pub record SeesOnlyMore (old new : Local) : Type 0 where
-  pub same : IsSameProcessor old new
+  pub same : IsSameProcessorOfCall old new
   pub sees : SeesMoreCalls old new
   pub calls_are : calls new ≡ calls old
   pub block_is : new.block ≡ old.block
@@ -85,11 +85,11 @@ AreTurnRounds s orders (suc k) old start new all =
     × IsTurnRound s.sections (orders k) between new half all
 
 -- in what processor 0 has seen each processor waits, and none is ready
-abbrev pub SeesDeadlock : List Local → Type 0
-SeesDeadlock ms = (m : Local) × (slice_get ms 0 ≡ Some m) × IsDeadlock m.sizes m.seen
+abbrev pub SeesDeadlockAtTurns : List Local → Type 0
+SeesDeadlockAtTurns ms = (m : Local) × (slice_get ms 0 ≡ Some m) × IsDeadlock m.sizes m.seen
 
 -- processors that were on their way through the script have gone on, in rounds of this seed's orders
-pub record HaveGoneRound (c : SharedCluster) (s : Plan) (seed : Option ℕ) (old new : List Local) (start all : List TurnProgress)
+pub record HaveTakenTurnsRound (c : SharedCluster) (s : Plan) (seed : Option ℕ) (old new : List Local) (start all : List TurnProgress)
     : Type 0 where
   pub way : AreAtSteps c s.sections new all
   pub count : ℕ
@@ -109,4 +109,4 @@ pub record AreTurnedBy (c : SharedCluster) (s : Plan) (turns : List ℕ) (seed :
   pub between : List Local
   pub half : List TurnProgress
   pub first : AreTaken s.sections turns old between (replicate s.processors (Next 0)) half
-  pub gone : HaveGoneRound c s seed between new half all
+  pub gone : HaveTakenTurnsRound c s seed between new half all

@@ -1,13 +1,13 @@
 //! What came of all processors of a run.
 ghost use Rattle.std.specs.Prelude.{◌≡◌, ◌⊎◌, IfErr, IfNone, IfOk, IfSome, Ok, map};
-ghost use Rattle.lrc_run.specs.Prelude.{is_stuck_cause, IsFaultOfOutcome, IsFirstFailedOutcome, NoOutcomeFailed, NoOutcomeFailedSo};
+ghost use Rattle.lrc_run.specs.Prelude.{is_stuck_outcome_cause, IsFaultOfOutcome, IsFirstFailedOutcome, NoOutcomeFailed, NoOutcomeFailedSo};
 
 use conformance::{Cause, RunFault};
 use std::alloc::{AllocError, Global};
 
 /// Whether the processor only waited too long.
 fn is_stuck(cause: Cause) -> bool
-    ensures { result ≡ is_stuck_cause cause }
+    ensures { result ≡ is_stuck_outcome_cause cause }
 {
     matches!(cause, Cause::Stuck)
 }

@@ -1,6 +1,6 @@
 //! The loads of the addresses that a script shows.
 ghost use Rattle.std.specs.Prelude.{◌≡◌, IfOk, map};
-ghost use Rattle.cluster.specs.Prelude.{IsSameProcessor};
+ghost use Rattle.cluster.specs.Prelude.{IsSameProcessorOfCall};
 ghost use Rattle.lrc_run.specs.Prelude.{MakesLoads};
 
 use crate::walk::load;

@@ -3,13 +3,13 @@ ghost use Rattle.std.specs.Prelude.{◌≡◌, ◌≢◌, ◌≤◌, ◌<◌, �
 ghost use Rattle.cluster.specs.Copies.Prelude.{Local};
 ghost use Rattle.std.specs.List.{range_with_len};
 ghost use Rattle.lrc_script.specs.Prelude.{IsLawful, plan_of};
-ghost use Rattle.conformance.specs.Prelude.{plan_sizes};
+ghost use Rattle.conformance.specs.Prelude.{followed_plan_sizes};
 ghost use Rattle.cluster.specs.Prelude.{IsNewCluster};
 ghost use Rattle.conformance.specs.declared.cause.Cause.TheVariants as cause;
 ghost use Rattle.conformance.specs.declared.progress.TurnProgress.TheVariants as progress;
 ghost use Rattle.conformance.specs.Prelude.{IsEndByTurns, IsReportByTurns, IsStuckByTurns, order_drawn, order_generator, turn_orders};
-ghost use Rattle.lrc_run.specs.Prelude.{AreOrderedProcessors, AreAtSteps, AreSeenAfterTurns, AreTurned, HaveGoneRound, IsEndAfter};
-ghost use Rattle.lrc_run.specs.Prelude.{IsTurnOfRun, SeesDeadlock};
+ghost use Rattle.lrc_run.specs.Prelude.{AreOrderedProcessors, AreAtSteps, AreSeenAfterTurns, AreTurned, HaveTakenTurnsRound, IsEndFollowedAfter};
+ghost use Rattle.lrc_run.specs.Prelude.{IsTurnOfRun, SeesDeadlockAtTurns};
 
 mod drawn;
 mod pace;
@@ -115,11 +115,11 @@ fn end_run<T: BookTurn + Drop, R: Wait>(
     passed: bool,
 ) -> Result<Ended, RunFault>
     requires lawful { IsLawful (plan_of script.now) }
-    requires sizes { cluster.sizes ≡ plan_sizes (plan_of script.now) }
+    requires sizes { cluster.sizes ≡ followed_plan_sizes (plan_of script.now) }
     requires way { AreAtSteps cluster (plan_of script.now).sections processors.items all.now }
     requires whole { passed ≡ true → All (λ x. x ≡ progress.Passed) all.now }
-    requires stuck { passed ≡ false → SeesDeadlock processors.items }
-    ensures end { IfOk result (IsEndAfter (plan_of script.now) processors.items all.now) }
+    requires stuck { passed ≡ false → SeesDeadlockAtTurns processors.items }
+    ensures end { IfOk result (IsEndFollowedAfter (plan_of script.now) processors.items all.now) }
     ensures err { IfErr result (λ fault. fault.cause ≢ cause.Stuck) }
 {
     if passed {
@@ -152,7 +152,7 @@ fn new_cluster<T: BookTurn>(
     script: &Script,
 ) -> Result<(Cluster<T>, Vec<Processor<T>>), RunFault>
     requires { T.ENTRIES ≤ 2 ^ 40 }
-    ensures sizes { IfOk result (λ r. r.0.sizes ≡ plan_sizes (plan_of script.now)) }
+    ensures sizes { IfOk result (λ r. r.0.sizes ≡ followed_plan_sizes (plan_of script.now)) }
     ensures new { IfOk result (λ r. IsNewCluster r.0 r.1.items) }
     ensures err { IfErr result (λ fault. fault.cause ≢ cause.Stuck) }
 {
@@ -180,13 +180,13 @@ fn go_round<T: BookTurn, R: Wait>(
     seed: Option<u64>,
 ) -> Result<bool, RunFault>
     requires lawful { IsLawful (plan_of script.now) }
-    requires sizes { cluster.now.sizes ≡ plan_sizes (plan_of script.now) }
+    requires sizes { cluster.now.sizes ≡ followed_plan_sizes (plan_of script.now) }
     requires way { AreAtSteps cluster.now (plan_of script.now).sections processors.old.items
         all.old.items }
-    ensures gone { IfOk result (λ _. HaveGoneRound cluster.now (plan_of script.now) seed processors.old.items
+    ensures gone { IfOk result (λ _. HaveTakenTurnsRound cluster.now (plan_of script.now) seed processors.old.items
         processors.new.items all.old.items all.new.items) }
     ensures whole { IfOk result (λ passed. passed ≡ true → All (λ x. x ≡ progress.Passed) all.new.items) }
-    ensures stuck { IfOk result (λ passed. passed ≡ false → SeesDeadlock processors.new.items) }
+    ensures stuck { IfOk result (λ passed. passed ≡ false → SeesDeadlockAtTurns processors.new.items) }
     ensures err { IfErr result (λ fault. fault.cause ≢ cause.Stuck) }
 {
     let mut list = match new_list(alloc, processors.len()) {
@@ -252,7 +252,7 @@ fn is_stuck<T: BookTurn, R: Wait>(
     requires some { 0 < vec_len processors.old }
     requires own { (m : Local) → slice_get processors.old.items 0 ≡ Some m → m.lock ≡ cluster.now.lock }
     ensures seen { AreSeenAfterTurns processors.old.items processors.new.items }
-    ensures stuck { IfOk result (λ stuck. stuck ≡ true → SeesDeadlock processors.new.items) }
+    ensures stuck { IfOk result (λ stuck. stuck ≡ true → SeesDeadlockAtTurns processors.new.items) }
     ensures err { IfErr result (λ fault. fault.cause ≢ cause.Stuck) }
 {
     if moved {
@@ -296,7 +296,7 @@ fn round<T: BookTurn, R: Wait>(
     list: &[usize],
 ) -> Result<bool, RunFault>
     requires lawful { IsLawful (plan_of script.now) }
-    requires sizes { cluster.now.sizes ≡ plan_sizes (plan_of script.now) }
+    requires sizes { cluster.now.sizes ≡ followed_plan_sizes (plan_of script.now) }
     requires list { AreOrderedProcessors (vec_len processors.old) list.now }
     requires way { AreAtSteps cluster.now (plan_of script.now).sections processors.old.items
         all.old.items }
@@ -323,7 +323,7 @@ fn turn_at<T: BookTurn, R: Wait>(
     p: usize,
 ) -> Result<bool, RunFault>
     requires lawful { IsLawful (plan_of script.now) }
-    requires sizes { cluster.now.sizes ≡ plan_sizes (plan_of script.now) }
+    requires sizes { cluster.now.sizes ≡ followed_plan_sizes (plan_of script.now) }
     requires within { p < vec_len processors.old }
     requires way { AreAtSteps cluster.now (plan_of script.now).sections processors.old.items
         all.old.items }

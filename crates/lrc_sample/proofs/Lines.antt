@@ -3,8 +3,8 @@ use Rattle.std.proofs.Common.{◌≡◌, ◌≢◌, ◌∙◌, ◌+◌, ◌<◌,
 use Rattle.std.proofs.lemmas.Option.{same_Some, none-some, slice_get_within}
 use Rattle.std.proofs.lemmas.List.{length-append}
 use Rattle.base.specs.InOrderOnce.{Has}
-use Rattle.base.proofs.SlicesAndCounts.{push_cases, slice_get-append_left, slice_get-last}
-use Rattle.base.proofs.Joined.{in_order-append, in_order_single}
+use Rattle.base.proofs.SlicesAndCounts.{slice_push_cases, slice_get-append_left, slice_get-last}
+use Rattle.base.proofs.Joined.{in_order-append, joined_in_order_single}
 use Rattle.conformance.specs.declared.schedule.Schedule.{Schedule}
 use Rattle.lrc_sample.specs.declared.outcome.SampleOutcome.{SampleOutcome}
 use Rattle.lrc_sample.specs.declared.tally.TallyLine.{TallyLine}
@@ -27,7 +27,7 @@ line_other os o line isnt is = record {
   rising = is.rising;
   exactly = λ i. (
     λ has. stays os o i line.outcome ((is.exactly i).0 has),
-    λ at. elim (push_cases os o i line.outcome at)
+    λ at. elim (slice_push_cases os o i line.outcome at)
         [ inl old ↦ (is.exactly i).1 old.1 | inr new ↦ absurd (isnt (sym new.1)) ],
   );
   times_are = is.times_are;
@@ -44,7 +44,7 @@ pub line_again : (os : List SampleOutcome) (o : SampleOutcome) (line : TallyLine
 line_again os o line same is = record {
   runs = is.runs ++ length os ∷ [];
   rising = in_order-append (λ (i k : ℕ). i < k) is.runs (length os ∷ []) is.rising
-      (in_order_single (λ (i k : ℕ). i < k) (length os)) before;
+      (joined_in_order_single (λ (i k : ℕ). i < k) (length os)) before;
   exactly = λ i. (has_at i, at_has i);
   times_are = omega (arith, is.times_are, length-append is.runs (length os ∷ []));
   first = stays is.runs (length os) 0 (run_of line.seed) is.first;
@@ -57,14 +57,14 @@ line_again os o line same is = record {
     before a b has (suc k, at) = absurd (none-some b at)
 
     has_at : (i : ℕ) → Has (is.runs ++ length os ∷ []) i → slice_get (os ++ o ∷ []) i ≡ Some line.outcome
-    has_at i (k, at) = elim (push_cases is.runs (length os) k i at) [
+    has_at i (k, at) = elim (slice_push_cases is.runs (length os) k i at) [
       | inl old ↦ stays os o i line.outcome ((is.exactly i).0 (k, old.1))
       | inr new ↦
           ap (slice_get (os ++ o ∷ [])) (sym new.1) ∙ slice_get-last os o ∙ ap Some (sym same)
     ]
 
     at_has : (i : ℕ) → slice_get (os ++ o ∷ []) i ≡ Some line.outcome → Has (is.runs ++ length os ∷ []) i
-    at_has i at = elim (push_cases os o i line.outcome at) [
+    at_has i at = elim (slice_push_cases os o i line.outcome at) [
       | inl old ↦
           (let r = (is.exactly i).1 old.1 in (r.0, stays is.runs (length os) r.0 i r.1))
       | inr new ↦ (length is.runs, slice_get-last is.runs (length os) ∙ ap Some (sym new.0))
@@ -75,7 +75,7 @@ pub line_new : (os : List SampleOutcome) (o : SampleOutcome) (seed : Option ℕ)
     → run_of seed ≡ length os → IsLineOf (os ++ o ∷ []) record { outcome = o; times = 1; seed = seed; schedule = schedule }
 line_new os o seed schedule none place = record {
   runs = length os ∷ [];
-  rising = in_order_single (λ (i k : ℕ). i < k) (length os);
+  rising = joined_in_order_single (λ (i k : ℕ). i < k) (length os);
   exactly = λ i. (has_at i, at_has i);
   times_are = refl;
   first = ap Some (sym place);
@@ -87,5 +87,5 @@ line_new os o seed schedule none place = record {
     has_at i (suc k, at) = absurd (none-some i at)
 
     at_has : (i : ℕ) → slice_get (os ++ o ∷ []) i ≡ Some o → Has (length os ∷ []) i
-    at_has i at = elim (push_cases os o i o at)
+    at_has i at = elim (slice_push_cases os o i o at)
         [ inl old ↦ absurd (none (i, old.1)) | inr new ↦ (0, ap Some (sym new.0)) ]

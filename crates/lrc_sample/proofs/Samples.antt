@@ -3,7 +3,7 @@ use Rattle.std.proofs.Common.{◌≡◌, ◌+◌, ◌^◌, ◌<◌, ◌≤◌, �
 use Rattle.std.specs.List.{sum_by}
 use Rattle.std.proofs.lemmas.List.{length-append}
 use Rattle.std.proofs.lemmas.Option.{none-some}
-use Rattle.base.proofs.SlicesAndCounts.{push_cases}
+use Rattle.base.proofs.SlicesAndCounts.{slice_push_cases}
 use Rattle.lrc_script.specs.Plan.{Plan}
 use Rattle.lrc_sample.specs.declared.outcome.SampleOutcome.{SampleOutcome}
 use Rattle.lrc_sample.specs.declared.tally.TallyLine.{TallyLine}
@@ -41,7 +41,7 @@ made_next s n o turns old new is one noted shown = record {
   where
     each : (run : ℕ) (x : SampleOutcome) → slice_get (is.outcomes ++ o ∷ []) run ≡ Some x
         → (by : List ℕ) × Shows s by x
-    each run x at = elim (push_cases is.outcomes o run x at)
+    each run x at = elim (slice_push_cases is.outcomes o run x at)
         [ inl old ↦ is.are.each run x old.1 | inr new ↦ (turns, subst (Shows s turns) new.1 one) ]
 
 -- the counts fit

@@ -6,8 +6,8 @@ use Rattle.std.proofs.lemmas.Option.{none-some, same_Some, slice_get-get_or, sli
 use Rattle.std.proofs.lemmas.List.{length-append}
 use Rattle.std.proofs.lemmas.List.Sums.{sum_by-set, sum_by_push, get_or-le-sum_by}
 use Rattle.base.specs.InOrderOnce.{Has}
-use Rattle.base.proofs.SlicesAndCounts.{push_cases, slice_get-last}
-use Rattle.base.proofs.Joined.{in_order-append, in_order_single}
+use Rattle.base.proofs.SlicesAndCounts.{slice_push_cases, slice_get-last}
+use Rattle.base.proofs.Joined.{in_order-append, joined_in_order_single}
 use Rattle.base.proofs.SliceSets.{slice_get-set_found, slice_get-set_other, slice_get-set_same}
 use Rattle.conformance.specs.declared.schedule.Schedule.{Schedule}
 use Rattle.lrc_sample.specs.declared.outcome.SampleOutcome.{SampleOutcome}
@@ -92,7 +92,7 @@ tally_again os lines o k line at same is = record { each = each; once = once; al
 
     all : (x : SampleOutcome) → Has (os ++ o ∷ []) x
         → (b : TallyLine) × (Has (slice_set lines k (counted line)) b × (b.outcome ≡ x))
-    all x (i, has) = elim (push_cases os o i x has) [
+    all x (i, has) = elim (slice_push_cases os o i x has) [
       | inl old ↦
           (let r = is.all x (i, old.1) in
           let b = becomes lines k line at r.1.0.0 r.0 r.1.0.1 in
@@ -151,28 +151,28 @@ tally_new os lines o seed schedule none place is = record { each = each; once = 
     unseen has = let r = is.all o has in none r.1.0.0 r.0 r.1.0.1 r.1.1
 
     each : (a : TallyLine) → Has (lines ++ noted o seed schedule ∷ []) a → IsLineOf (os ++ o ∷ []) a
-    each a (j, has) = elim (push_cases lines (noted o seed schedule) j a has) [
+    each a (j, has) = elim (slice_push_cases lines (noted o seed schedule) j a has) [
       | inl old ↦ line_other os o a (none j a old.1) (is.each a (j, old.1))
       | inr last ↦ subst (IsLineOf (os ++ o ∷ [])) last.1 (line_new os o seed schedule unseen place)
     ]
 
     once : (i j : ℕ) (a b : TallyLine) → slice_get (lines ++ noted o seed schedule ∷ []) i ≡ Some a
         → slice_get (lines ++ noted o seed schedule ∷ []) j ≡ Some b → a.outcome ≡ b.outcome → i ≡ j
-    once i j a b first second e = elim (push_cases lines (noted o seed schedule) i a first) [
+    once i j a b first second e = elim (slice_push_cases lines (noted o seed schedule) i a first) [
       | inl x ↦
-          elim (push_cases lines (noted o seed schedule) j b second) [
+          elim (slice_push_cases lines (noted o seed schedule) j b second) [
             | inl y ↦ is.once i j a b x.1 y.1 e
             | inr y ↦ absurd (none i a x.1 (e ∙ sym (ap (λ (l : TallyLine). l.outcome) y.1)))
           ]
       | inr x ↦
-          elim (push_cases lines (noted o seed schedule) j b second) [
+          elim (slice_push_cases lines (noted o seed schedule) j b second) [
             | inl y ↦ absurd (none j b y.1 (sym e ∙ sym (ap (λ (l : TallyLine). l.outcome) x.1)))
             | inr y ↦ x.0 ∙ sym y.0
           ]
     ]
 
     all : (x : SampleOutcome) → Has (os ++ o ∷ []) x → (b : TallyLine) × (Has (lines ++ noted o seed schedule ∷ []) b × (b.outcome ≡ x))
-    all x (i, has) = elim (push_cases os o i x has) [
+    all x (i, has) = elim (slice_push_cases os o i x has) [
       | inl old ↦
           (let r = is.all x (i, old.1) in (r.0, ((r.1.0.0, stays lines (noted o seed schedule) r.1.0.0 r.0 r.1.0.1), r.1.1)))
       | inr last ↦ (noted o seed schedule, ((length lines, slice_get-last lines (noted o seed schedule)), last.1))
@@ -186,7 +186,7 @@ seen_new : (os : List SampleOutcome) (lines : List TallyLine) (new : TallyLine) 
     → AreSeenInOrder (lines ++ new ∷ [])
 seen_new os lines new place is =
     in_order-append (λ (a b : TallyLine). run_of a.seed < run_of b.seed) lines (new ∷ []) is.seen
-    (in_order_single (λ (a b : TallyLine). run_of a.seed < run_of b.seed) new) before
+    (joined_in_order_single (λ (a b : TallyLine). run_of a.seed < run_of b.seed) new) before
   where
     before : (a b : TallyLine) → Has lines a → Has (new ∷ []) b → run_of a.seed < run_of b.seed
     before a b has (zero, at) =
@@ -225,7 +225,7 @@ shown_again shows lines o k d now read found shown a (j, has) = elim (cases_eq j
 pub shown_new : (shows : List ℕ → SampleOutcome → Type 0) (lines : List TallyLine) (o : SampleOutcome) (seed : Option ℕ)
     (schedule : Schedule) → AreLinesShown shows lines → shows schedule.turns.items o
     → AreLinesShown shows (lines ++ noted o seed schedule ∷ [])
-shown_new shows lines o seed schedule shown new a (j, has) = elim (push_cases lines (noted o seed schedule) j a has) [
+shown_new shows lines o seed schedule shown new a (j, has) = elim (slice_push_cases lines (noted o seed schedule) j a has) [
   | inl old ↦ shown a (j, old.1)
   | inr last ↦
       (let P : TallyLine → Type 0 = λ l. shows l.schedule.turns.items l.outcome in

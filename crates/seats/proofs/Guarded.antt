@@ -14,7 +14,7 @@ use Rattle.journal.specs.Races.{Race}
 use Rattle.journal.specs.Sizes.{Sizes}
 use Rattle.journal.specs.WellFormed.{Does, Holds, WellFormed}
 use Rattle.journal.proofs.Order.HappensBefore.{before_goes_forward}
-use Rattle.journal.proofs.Order.CountedAndNumbered.{does_at}
+use Rattle.journal.proofs.Order.CountedAndNumbered.{numbered_does_at}
 use Rattle.seats.specs.declared.guard.Guard.{Guard}
 use Rattle.seats.specs.declared.guard.Guard.TheVariants.{Under, Of, Shared, Open}
 use Rattle.seats.specs.Deeds.{deeds, is_deed}
@@ -99,14 +99,14 @@ guarded_law s g h well keeps i k race = elim (cases_order (phase p i) (phase q k
     x : AccessAt h i p a
     x = record {
       kind = race.first.kind;
-      does = does_at h i p race.first race.first_at refl;
+      does = numbered_does_at h i p race.first race.first_at refl;
       address = race.conflict.first;
     }
 
     y : AccessAt h k q a
     y = record {
       kind = race.second.kind;
-      does = does_at h k q race.second race.second_at refl;
+      does = numbered_does_at h k q race.second race.second_at refl;
       address = race.conflict.second;
     }
 

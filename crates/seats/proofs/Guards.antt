@@ -4,7 +4,7 @@ use Rattle.std.specs.Prelude.{◌==◌, ◌&&◌, ◌||◌}
 use Rattle.std.proofs.lemmas.Bool.{cases_eq, eqb-true, eq-eqb, ne_eqb}
 use Rattle.std.proofs.lemmas.List.{length_push, take-append-le}
 use Rattle.std.proofs.Math.Seq.{take-append_seam}
-use Rattle.base.proofs.SlicesAndCounts.{count_by-append, push_induction, push_cases}
+use Rattle.base.proofs.SlicesAndCounts.{count_by-append, slice_push_induction, slice_push_cases}
 use Rattle.journal.proofs.Order.CountedAndNumbered.{count_of-append}
 use Rattle.journal.specs.declared.event.Event.{Event}
 use Rattle.journal.specs.declared.event.Kind.{Kind}
@@ -12,7 +12,7 @@ use Rattle.journal.specs.declared.event.Kind.TheVariants.{Acquire, Release, Fetc
 use Rattle.journal.specs.DidEvent.{event}
 use Rattle.journal.specs.Events.{count_of, is_depart, events_of}
 use Rattle.journal.specs.WellFormed.{Holds}
-use Rattle.journal.proofs.Journals.WellFormedLast.{holds_longer, holds_now}
+use Rattle.journal.proofs.Journals.WellFormedLast.{well_formed_holds_longer, well_formed_holds_now}
 use Rattle.seats.specs.Deeds.{deeds, is_deed}
 use Rattle.seats.specs.Guards.{Guards, KeepsTo, held_on, held_then, holds_after, may_do, phase_after}
 use Rattle.seats.proofs.Deeds.{no_deed, others_deed, own_deed, own_deeds-append}
@@ -21,7 +21,7 @@ use Rattle.seats.proofs.Deeds.{no_deed, others_deed, own_deed, own_deeds-append}
 pub keeps_more : (g : Guards) (p : ℕ) (ks : List Kind) (k : Kind) → KeepsTo g p ks → may_do g p ks k ≡ true
     → KeepsTo g p (ks ++ k ∷ [])
 keeps_more g p ks k keeps may = record {
-  each = λ i x at. elim (push_cases ks k i x at) [
+  each = λ i x at. elim (slice_push_cases ks k i x at) [
     | inl old ↦ (let same : take i (ks ++ k ∷ []) ≡ take i ks = take-append-le i ks (k ∷ []) (omega (arith, old.0)) in
         rw same (keeps.each i x old.1))
     | inr new ↦ (let same : take i (ks ++ k ∷ []) ≡ ks = rw new.0 (take-append_seam ks (k ∷ [])) in
@@ -43,7 +43,7 @@ phase_one _ e = absurd (cc)
 
 -- the phase is the departures of the history
 pub phase_is : (j : List Event) (p : ℕ) → phase_after (deeds (events_of j p)) ≡ count_of is_depart j p
-phase_is j p = push_induction (λ xs. phase_after (deeds (events_of xs p)) ≡ count_of is_depart xs p) refl step j
+phase_is j p = slice_push_induction (λ xs. phase_after (deeds (events_of xs p)) ≡ count_of is_depart xs p) refl step j
   where
     one : (e : Event) (own deed : Bool) → (e.processor == p) ≡ own → is_deed e.kind ≡ deed
         → phase_after (deeds (events_of (e ∷ []) p)) ≡ count_of is_depart (e ∷ []) p
@@ -97,15 +97,15 @@ fetch_holds l _ b none held = absurd (cc)
 
 -- who holds the lock after what it did holds it in the history
 pub holds_is : (l p : ℕ) (j : List Event) → holds_after (deeds (events_of j p)) l ≡ true → Holds j p l
-holds_is l p = push_induction (λ j. holds_after (deeds (events_of j p)) l ≡ true → Holds j p l) (λ e. absurd (cc)) step
+holds_is l p = slice_push_induction (λ j. holds_after (deeds (events_of j p)) l ≡ true → Holds j p l) (λ e. absurd (cc)) step
   where
     by_kind : (j : List Event) (k : Kind) → (holds_after (deeds (events_of j p)) l ≡ true → Holds j p l)
         → held_then k l (holds_after (deeds (events_of j p)) l) ≡ true → Holds (j ++ event p k ∷ []) p l
     by_kind j k ih held = elim (release_or (event p k) p l) [
       | inl is ↦ absurd (released k _ (ap (λ (x : Event). x.kind) is) held)
       | inr isnt ↦ elim (acquire_or k l) [
-        | inl is ↦ subst (λ n. Holds (j ++ event p n ∷ []) p l) (sym is) (holds_now j p l)
-        | inr other ↦ holds_longer j (event p k) p l isnt (ih (held_before l k _ other held))
+        | inl is ↦ subst (λ n. Holds (j ++ event p n ∷ []) p l) (sym is) (well_formed_holds_now j p l)
+        | inr other ↦ well_formed_holds_longer j (event p k) p l isnt (ih (held_before l k _ other held))
       ]
     ]
       where
@@ -125,7 +125,7 @@ holds_is l p = push_induction (λ j. holds_after (deeds (events_of j p)) l ≡ t
 
         by : (own deed : Bool) → (e.processor == p) ≡ own → is_deed e.kind ≡ deed → Holds (j ++ e ∷ []) p l
         by false deed is has =
-            holds_longer j e p l (λ same. let own : e.processor ≡ p = ap (λ (x : Event). x.processor) same in
+            well_formed_holds_longer j e p l (λ same. let own : e.processor ≡ p = ap (λ (x : Event). x.processor) same in
             absurd (let f = eq-eqb e.processor p own in cc)) (ih (rw (others_deed e p is) at after))
         by true deed is has =
             let own : e.processor ≡ p = eqb-true e.processor p is in

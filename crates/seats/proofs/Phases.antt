@@ -16,9 +16,9 @@ use Rattle.journal.specs.Sizes.{Sizes}
 use Rattle.journal.specs.WellFormed.{Does, Holds, LastIs, WellFormed}
 use Rattle.journal.proofs.Journals.Balance.{balanced}
 use Rattle.journal.proofs.Journals.HoldingReleases.{holds_alone}
-use Rattle.journal.proofs.Journals.WellFormedLast.{holds_longer, well_formed_take}
+use Rattle.journal.proofs.Journals.WellFormedLast.{well_formed_holds_longer, well_formed_take}
 use Rattle.journal.proofs.Order.HappensBefore.{before_goes_forward}
-use Rattle.journal.proofs.Order.CountedAndNumbered.{at_within, count_of-past, does_same, numbered}
+use Rattle.journal.proofs.Order.CountedAndNumbered.{numbered_at_within, count_of-past, numbered_does_same, numbered}
 use Rattle.seats.proofs.Guards.{release_or}
 
 -- processor p accesses address a at place i
@@ -30,7 +30,7 @@ pub record AccessAt (h : List Event) (i p a : ℕ) : Type 0 where
 -- an access is none of these
 other_kind : (h : List Event) (i p q a : ℕ) (x : AccessAt h i p a) (k : Kind) → address_of k ≡ None → Does h i q k → ⊥
 other_kind h i p q a x k none does =
-    let same = (does_same h i p q x.kind k x.does does).1 in
+    let same = (numbered_does_same h i p q x.kind k x.does does).1 in
     let e : Some a ≡ None = sym x.address ∙ ap address_of same ∙ none in
     absurd (cc)
 
@@ -151,7 +151,7 @@ holds_still h i p l holds (suc d) long =
         | inl released ↦ inr (i + d, omega arith, omega arith, at ∙ ap Some released)
         | inr kept ↦ inl (let f : take (i + suc d) h ≡ take (i + d) h ++ e ∷ [] =
             ap (λ n. take n h) (let g : i + suc d ≡ suc (i + d) = omega arith in g) ∙ take-suc_at h (i + d) e at in
-            rw f (holds_longer (take (i + d) h) e p l kept still))
+            rw f (well_formed_holds_longer (take (i + d) h) e p l kept still))
       ]
     ]
 
@@ -163,7 +163,7 @@ under_lock s h i k p q a b l well x y lt apart mine theirs = elim (cases_order t
   | inr order ↦ elim order [
     | inl before ↦ absurd (apart (holds_alone s (take i h) (well_formed_take s h i well) p q l mine (both before)))
     | inr after ↦ passed after (holds_still h i p l mine (theirs.place - i)
-        (let w = at_within h theirs.place (event q (Acquire l)) taken in omega arith))
+        (let w = numbered_at_within h theirs.place (event q (Acquire l)) taken in omega arith))
   ]
 ]
   where

@@ -12,60 +12,60 @@ use Rattle.turn.specs.declared.chair.ChairStage.{ChairStage}
 use Rattle.turn.specs.declared.chair.ChairStage.TheVariants.{Outside, Waiting, Inside}
 use Rattle.turn.specs.declared.chair.ChairState.{ChairState}
 use Rattle.turn.specs.declared.chair.ChairRun.{ChairRun}
-use Rattle.turn.specs.Chairs.{MayHandIn}
+use Rattle.turn.specs.Chairs.{ChairMayHandIn}
 use Rattle.turn.specs.ChairRuns.{one_chair, DealtChairs}
-use Rattle.turn.specs.Tickets.{shelf, chair_state, view_of, TicketTurns}
+use Rattle.turn.specs.Tickets.{ticket_shelf, ticket_chair_state, ticket_view_of, TicketTurns}
 use Rattle.turn.specs.Boards.{IsBoard}
 use Rattle.turn.specs.SeatSteps.{seat_with, seat_at_stage, IsSeatAtStage, DrawStep, StepsIn, LookStep, LeaveStep}
 use Rattle.turn.proofs.ListItems.{item_got, item_of_map, item_set_again}
 use Rattle.turn.proofs.Places.{at_place, place_moved}
 use Rattle.turn.proofs.NumbersServed.{draws_number, served_not_out, enters_served, leaves_number, served}
 
-waiting_once : {B : Type 0} (g : ChairStage B) (m k : ℕ) → g ≡ Waiting m → g ≡ Waiting k → m ≡ k
-waiting_once g m k d e = let both : Waiting m ≡ Waiting k = sym d ∙ e in cc
+look_waiting_once : {B : Type 0} (g : ChairStage B) (m k : ℕ) → g ≡ Waiting m → g ≡ Waiting k → m ≡ k
+look_waiting_once g m k d e = let both : Waiting m ≡ Waiting k = sym d ∙ e in cc
 
-inside_once : {B : Type 0} (g : ChairStage B) (m k : ℕ) (a b : B) → g ≡ Inside m a → g ≡ Inside k b → a ≡ b
-inside_once g m k a b d e = let both : Inside m a ≡ Inside k b = sym d ∙ e in cc
+look_inside_once : {B : Type 0} (g : ChairStage B) (m k : ℕ) (a b : B) → g ≡ Inside m a → g ≡ Inside k b → a ≡ b
+look_inside_once g m k a b d e = let both : Inside m a ≡ Inside k b = sym d ∙ e in cc
 
 -- what holds in both cases, case by case
-pub both_cases : (X Y : Type 0) (b : Bool) → MatchBool b X Y → OnTrue b X × OnFalse b Y
-both_cases X Y true x = (x, tt)
-both_cases X Y false y = (tt, y)
+pub look_both_cases : (X Y : Type 0) (b : Bool) → MatchBool b X Y → OnTrue b X × OnFalse b Y
+look_both_cases X Y true x = (x, tt)
+look_both_cases X Y false y = (tt, y)
 
 -- a slot taken alone is the one taken last
-pub taken_last : {S : Type 0} (xs : List (ℕ × S)) (x : S) → xs ≡ (0, x) ∷ [] → xs ≡ (0, x) ∷ rest xs
-taken_last {S = S} xs x e = e ∙ ap (λ (ys : List (ℕ × S)). (0, x) ∷ ys) (sym (ap rest e))
+pub look_taken_last : {S : Type 0} (xs : List (ℕ × S)) (x : S) → xs ≡ (0, x) ∷ [] → xs ≡ (0, x) ∷ rest xs
+look_taken_last {S = S} xs x e = e ∙ ap (λ (ys : List (ℕ × S)). (0, x) ∷ ys) (sym (ap rest e))
 
-book_or : {B : Type 0} → B → List (ℕ × Option B) → B
-book_or b [] = b
-book_or b (x ∷ xs) = unwrap_or x.1 b
+look_book_or : {B : Type 0} → B → List (ℕ × Option B) → B
+look_book_or b [] = b
+look_book_or b (x ∷ xs) = unwrap_or x.1 b
 
-pub slot_once : {B : Type 0} (xs : List (ℕ × Option B)) (a b : B) → xs ≡ (0, Some a) ∷ [] → xs ≡ (0, Some b) ∷ []
+pub look_slot_once : {B : Type 0} (xs : List (ℕ × Option B)) (a b : B) → xs ≡ (0, Some a) ∷ [] → xs ≡ (0, Some b) ∷ []
     → a ≡ b
-unfolding book_or
-slot_once xs a b d e = sym (ap (book_or a) d) ∙ ap (book_or a) e
+unfolding look_book_or
+look_slot_once xs a b d e = sym (ap (look_book_or a) d) ∙ ap (look_book_or a) e
 
 module _ (B V : Type 0) (fact : B → List V → Type 0) (width : ℕ) (shows : List ℕ → ℕ → Type 0) (at : ℕ → ℕ)
     (passed : ℕ → ℕ → ℕ) (board : IsBoard width shows at passed) (n limit slots id : ℕ) where
   abbrev Rule : State (Option B) (ChairRun (ChairState B V)) → Type 0
   Rule = DealtChairs n (TicketTurns fact shows limit)
 
-  abbrev Hold : Type 0
-  Hold = Me (Option B) (ChairRun (ChairState B V))
+  abbrev AllowedLookHold : Type 0
+  AllowedLookHold = Me (Option B) (ChairRun (ChairState B V))
 
-  pub draws_allowed : (me : Hold) → IsSeatAtStage Outside me → me.0.lead.entries < limit
+  pub draws_allowed : (me : AllowedLookHold) → IsSeatAtStage Outside me → me.0.lead.entries < limit
       → Allows Rule slots id me 0 (λ m. (m + 1) % 2 ^ 64) (DrawStep me)
   draws_allowed me sits less table dealt long seen fit =
       let place = me.0.place in
       let view = me.0.lead.view in
       let next = get_or table.words 0 0 in
-      let chair : ChairState B V = chair_state Outside me.0.lead.entries view in
-      let now : ChairState B V = chair_state (Waiting next) (me.0.lead.entries + 1) view in
+      let chair : ChairState B V = ticket_chair_state Outside me.0.lead.entries view in
+      let now : ChairState B V = ticket_chair_state (Waiting next) (me.0.lead.entries + 1) view in
       let mine : slice_get table.views id ≡ Some (one_chair place chair) =
-      item_got table.views id me.0 seen ∙ ap (λ (x : Hold). Some x.0) sits in
+      item_got table.views id me.0 seen ∙ ap (λ (x : AllowedLookHold). Some x.0) sits in
       let drawn = draws_number board dealt.keeps place chair (at_place dealt id place chair mine) refl less in
       let after : (one_chair place now, me.1) ≡ seat_with place (Waiting next) (me.0.lead.entries + 1) view =
-      ap (λ (x : Hold). (one_chair place now, x.1)) sits in (
+      ap (λ (x : AllowedLookHold). (one_chair place now, x.1)) sits in (
         one_chair place now,
         keeps,
         tt,
@@ -74,31 +74,31 @@ module _ (B V : Type 0) (fact : B → List V → Type 0) (width : ℕ) (shows : 
       )
 
   -- a look that finds the chair's own number
-  look_finds_own : (m : ℕ) (me : Hold) → IsSeatAtStage (Waiting m) me
+  allowed_look_finds_own : (m : ℕ) (me : AllowedLookHold) → IsSeatAtStage (Waiting m) me
       → (table : State (Option B) (ChairRun (ChairState B V))) → Rule table → slice_get table.views id ≡ Some me.0
       → get_or table.words (at m) 0 ≡ m
       → (w : ChairRun (ChairState B V)) × (a : Act (Option B)) × Valid table.homes me.1 a
       × Rule (stepped table (at m) (get_or table.words (at m) 0) id me.1 w a)
       × LookStep fact me (get_or table.words (at m) 0) (w, carried_after me.1 a)
-  look_finds_own m me sits table dealt seen found =
+  allowed_look_finds_own m me sits table dealt seen found =
       let place = me.0.place in
       let turns = dealt.keeps in
-      let chair : ChairState B V = chair_state (Waiting m) me.0.lead.entries me.0.lead.view in
-      let now : ChairState B V = chair_state (Inside m turns.book) me.0.lead.entries me.0.lead.view in
-      let mine : slice_get table.views id ≡ Some (one_chair place chair) = seen ∙ ap (λ (x : Hold). Some x.0) sits in
+      let chair : ChairState B V = ticket_chair_state (Waiting m) me.0.lead.entries me.0.lead.view in
+      let now : ChairState B V = ticket_chair_state (Inside m turns.book) me.0.lead.entries me.0.lead.view in
+      let mine : slice_get table.views id ≡ Some (one_chair place chair) = seen ∙ ap (λ (x : AllowedLookHold). Some x.0) sits in
       let here = at_place dealt id place chair mine in
       let low = (turns.fits place chair here).0 in
       let served = board.finds table.words turns.serving m turns.shown low found in
       let off = served_not_out board turns place chair here m refl served in
       let entered = enters_served board turns place chair here m refl served in
       let lies : table.homes ≡ some (Some turns.book) ∷ [] =
-      turns.lies ∙ ap (λ (o : Bool). shelf o turns.book) off in
+      turns.lies ∙ ap (λ (o : Bool). ticket_shelf o turns.book) off in
       let empty : set table.homes 0 none ≡ none ∷ [] =
       ap (λ (homes : List (maybe.Option (Option B))). set homes 0 none) lies in
-      let none_yet : me.1 ≡ [] = ap (λ (x : Hold). x.1) sits in
+      let none_yet : me.1 ≡ [] = ap (λ (x : AllowedLookHold). x.1) sits in
       let took : StepsIn fact m me (one_chair place now, (0, Some turns.book) ∷ me.1) = (
         turns.book,
-        (map view_of dealt.chairs, item_of_map view_of dealt.chairs place chair here, turns.kept),
+        (map ticket_view_of dealt.chairs, item_of_map ticket_view_of dealt.chairs place chair here, turns.kept),
         ap (λ (taken : List (ℕ × Option B)). (one_chair place now, (0, Some turns.book) ∷ taken)) none_yet,
       ) in (
         one_chair place now,
@@ -114,7 +114,7 @@ module _ (B V : Type 0) (fact : B → List V → Type 0) (width : ℕ) (shows : 
             (subst (λ (homes : List (maybe.Option (Option B))). TicketTurns fact shows limit table.words homes
             (set dealt.chairs place now)) (sym empty) entered)),
         λ k waits.
-            let same : m ≡ k = waiting_once me.0.lead.stage m k (ap (λ (x : Hold). x.0.lead.stage) sits) waits in
+            let same : m ≡ k = look_waiting_once me.0.lead.stage m k (ap (λ (x : AllowedLookHold). x.0.lead.stage) sits) waits in
             subst (λ (b : Bool). MatchBool b (StepsIn fact k me (one_chair place now, (0, Some turns.book) ∷ me.1))
             ((one_chair place now, (0, Some turns.book) ∷ me.1) ≡ me))
             (sym (eq-eqb (get_or table.words (at m) 0) k (found ∙ same)))
@@ -122,13 +122,13 @@ module _ (B V : Type 0) (fact : B → List V → Type 0) (width : ℕ) (shows : 
       )
 
   -- a look that finds another number
-  look_finds_other : (m : ℕ) (me : Hold) → IsSeatAtStage (Waiting m) me
+  allowed_look_finds_other : (m : ℕ) (me : AllowedLookHold) → IsSeatAtStage (Waiting m) me
       → (table : State (Option B) (ChairRun (ChairState B V))) → Rule table → slice_get table.views id ≡ Some me.0
       → get_or table.words (at m) 0 ≢ m
       → (w : ChairRun (ChairState B V)) × (a : Act (Option B)) × Valid table.homes me.1 a
       × Rule (stepped table (at m) (get_or table.words (at m) 0) id me.1 w a)
       × LookStep fact me (get_or table.words (at m) 0) (w, carried_after me.1 a)
-  look_finds_other m me sits table dealt seen found = (
+  allowed_look_finds_other m me sits table dealt seen found = (
     me.0,
     keeps,
     tt,
@@ -139,29 +139,29 @@ module _ (B V : Type 0) (fact : B → List V → Type 0) (width : ℕ) (shows : 
         (record { words = table.words; homes = table.homes; views = views }))
         (sym (item_set_again table.views id me.0 seen)) dealt),
     λ k waits.
-        let same : m ≡ k = waiting_once me.0.lead.stage m k (ap (λ (x : Hold). x.0.lead.stage) sits) waits in
+        let same : m ≡ k = look_waiting_once me.0.lead.stage m k (ap (λ (x : AllowedLookHold). x.0.lead.stage) sits) waits in
         subst (λ (b : Bool). MatchBool b (StepsIn fact k me me) (me ≡ me))
         (sym (ne_eqb (get_or table.words (at m) 0) k (λ e. found (e ∙ sym same)))) refl,
   )
 
-  pub looks_allowed : (m : ℕ) (me : Hold) → IsSeatAtStage (Waiting m) me
+  pub looks_allowed : (m : ℕ) (me : AllowedLookHold) → IsSeatAtStage (Waiting m) me
       → Allows Rule slots id me (at m) (λ k. k) (LookStep fact me)
   looks_allowed m me sits table dealt long seen fit =
       let mine = item_got table.views id me.0 seen in
       dite (ℕ_discrete (get_or table.words (at m) 0) m)
-      (look_finds_own m me sits table dealt mine) (look_finds_other m me sits table dealt mine)
+      (allowed_look_finds_own m me sits table dealt mine) (allowed_look_finds_other m me sits table dealt mine)
 
-  pub leaves_allowed : (then : B → B → ℕ → V → V → Type 0) (m : ℕ) (found book : B) (me : Hold)
+  pub leaves_allowed : (then : B → B → ℕ → V → V → Type 0) (m : ℕ) (found book : B) (me : AllowedLookHold)
       → me ≡ ((seat_at_stage (Inside m found) me).0, (0, Some book) ∷ [])
-      → MayHandIn fact then found book me.0.place me.0.lead.view
+      → ChairMayHandIn fact then found book me.0.place me.0.lead.view
       → Allows Rule slots id me (at (m + 1)) (passed m) (λ _ after. LeaveStep then me after)
   leaves_allowed then m found book me sits may table dealt long seen fit =
       let place = me.0.place in
       let view = me.0.lead.view in
       let turns = dealt.keeps in
-      let chair : ChairState B V = chair_state (Inside m found) me.0.lead.entries view in
+      let chair : ChairState B V = ticket_chair_state (Inside m found) me.0.lead.entries view in
       let mine : slice_get table.views id ≡ Some (one_chair place chair) =
-      item_got table.views id me.0 seen ∙ ap (λ (x : Hold). Some x.0) sits in
+      item_got table.views id me.0 seen ∙ ap (λ (x : AllowedLookHold). Some x.0) sits in
       let here = at_place dealt id place chair mine in
       let is = served board turns place chair here m found refl in
       let shown : shows table.words m = subst (λ (k : ℕ). shows table.words k) (sym is.number) turns.shown in
@@ -169,12 +169,12 @@ module _ (B V : Type 0) (fact : B → List V → Type 0) (width : ℕ) (shows : 
       let next : get_or words 0 0 ≡ get_or table.words 0 0 =
       get_or-set_other table.words (at (m + 1)) 0 (passed m (get_or table.words (at (m + 1)) 0)) 0
       (λ e. let beside = board.beside_next (m + 1) in omega arith) in
-      let handed = may (map view_of dealt.chairs) (item_of_map view_of dealt.chairs place chair here)
-      (subst (λ (b : B). fact b (map view_of dealt.chairs)) (sym is.book) turns.kept) in
+      let handed = may (map ticket_view_of dealt.chairs) (item_of_map ticket_view_of dealt.chairs place chair here)
+      (subst (λ (b : B). fact b (map ticket_view_of dealt.chairs)) (sym is.book) turns.kept) in
       let new_view = handed.0 in
       let told = handed.1 in
-      let now : ChairState B V = chair_state Outside me.0.lead.entries new_view in
-      let has_slot : me.1 ≡ (0, Some book) ∷ [] = ap (λ (x : Hold). x.1) sits in
+      let now : ChairState B V = ticket_chair_state Outside me.0.lead.entries new_view in
+      let has_slot : me.1 ≡ (0, Some book) ∷ [] = ap (λ (x : AllowedLookHold). x.1) sits in
       let left = leaves_number board turns place chair here m found book new_view words refl
       (board.passes table.words m shown is.fits) next handed.2 in
       let back : put_back table.homes me.1 ≡ some (Some book) ∷ [] =
@@ -189,20 +189,20 @@ module _ (B V : Type 0) (fact : B → List V → Type 0) (width : ℕ) (shows : 
         (
           ap (λ (taken : List (ℕ × Option B)). (one_chair place now, rest taken)) has_slot,
           λ k a b stands e.
-              let same : found ≡ a = inside_once me.0.lead.stage m k found a
-              (ap (λ (x : Hold). x.0.lead.stage) sits) stands in
-              subst₂ (λ (x y : B). then x y place view new_view) same (slot_once me.1 book b has_slot e) told,
+              let same : found ≡ a = look_inside_once me.0.lead.stage m k found a
+              (ap (λ (x : AllowedLookHold). x.0.lead.stage) sits) stands in
+              subst₂ (λ (x y : B). then x y place view new_view) same (look_slot_once me.1 book b has_slot e) told,
         ),
       )
 
   -- the same once the book was put back into the slot
-  pub leaving_allowed_after : (then : B → B → ℕ → V → V → Type 0) (m : ℕ) (found book : B) (was me : Hold)
+  pub leaving_allowed_after : (then : B → B → ℕ → V → V → Type 0) (m : ℕ) (found book : B) (was me : AllowedLookHold)
       → IsSeatAtStage (Inside m found) was → me ≡ (was.0, (0, Some book) ∷ rest was.1)
-      → MayHandIn fact then found book was.0.place was.0.lead.view
+      → ChairMayHandIn fact then found book was.0.place was.0.lead.view
       → Allows Rule slots id me (at (m + 1)) (passed m) (λ _ after. LeaveStep then me after)
   leaving_allowed_after then m found book was me sits put may =
-      let back : Hold = (was.0, (0, Some book) ∷ rest was.1) in
+      let back : AllowedLookHold = (was.0, (0, Some book) ∷ rest was.1) in
       let inside : back ≡ ((seat_at_stage (Inside m found) back).0, (0, Some book) ∷ []) =
-      ap (λ (x : Hold). (x.0, (0, Some book) ∷ rest x.1)) sits in
-      subst (λ (x : Hold). Allows Rule slots id x (at (m + 1)) (passed m) (λ _ after. LeaveStep then x after))
+      ap (λ (x : AllowedLookHold). (x.0, (0, Some book) ∷ rest x.1)) sits in
+      subst (λ (x : AllowedLookHold). Allows Rule slots id x (at (m + 1)) (passed m) (λ _ after. LeaveStep then x after))
       (sym put) (leaves_allowed then m found book back inside may)

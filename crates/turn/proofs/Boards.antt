@@ -28,8 +28,8 @@ counts = record {
       );
 }
 
-pub points : (n : ℕ) → 0 < n → IsBoard ((n + 1) * line_words) (Points n) (own_word n) (λ m _. m + 1)
-points n some = record {
+pub board_points : (n : ℕ) → 0 < n → IsBoard ((n + 1) * line_words) (Points n) (own_word n) (λ m _. m + 1)
+board_points n some = record {
   within = λ m. let h = mod-lt m some in omega arith;
   beside_next = λ m. omega arith;
   has_next = λ words k shown. let l = shown.0 in omega arith;

@@ -3,7 +3,7 @@ use Rattle.std.proofs.Common.{◌≡◌, ◌≢◌, ℕ, ◌<◌, ◌≤◌, Lis
 use Rattle.std.proofs.Math.ListN.{length-set}
 use Rattle.std.proofs.lemmas.Option.{slice_get_read}
 use Rattle.turn.specs.declared.chair.ChairToken.{ChairToken}
-use Rattle.turn.specs.Chairs.{LockId, lock, place, entries, IsOutside, IsSameChair, IsFreshChair, AreFreshChairs, AreAllChairs}
+use Rattle.turn.specs.Chairs.{ChairLockId, lock, chair_place, entries, IsChairOutside, IsSameChair, IsFreshChair, AreFreshChairs, AreAllChairs}
 use Rattle.turn.proofs.ListItems.{item_of_set, item_of_longer, item_last}
 
 -- a chair has entered at most as often as a chair of its lock may
@@ -11,7 +11,7 @@ pub chair_within_limit : {B V : Type 0} (c : ChairToken B V) → entries c ≤ (
 chair_within_limit c = let counted = c.counted in omega arith
 
 -- the last two chairs of a new lock, taken off one after the other
-pub popped_two_chairs : {B V : Type 0} (l : LockId) (v : V) (cs ds es : List (ChairToken B V)) (a b : ChairToken B V)
+pub popped_two_chairs : {B V : Type 0} (l : ChairLockId) (v : V) (cs ds es : List (ChairToken B V)) (a b : ChairToken B V)
     → AreFreshChairs l v cs → cs ≡ ds ++ b ∷ [] → ds ≡ es ++ a ∷ [] → IsFreshChair l (length es) v a × IsFreshChair l (length ds) v b
 popped_two_chairs {B = B} {V = V} l v cs ds es a b fresh last next =
     let before : slice_get ds (length es) ≡ Some a =
@@ -22,18 +22,18 @@ popped_two_chairs {B = B} {V = V} l v cs ds es a b fresh last next =
           ∙ item_last ds b (length ds) refl),
     )
 
-module _ {B V : Type 0} (l : LockId) (n : ℕ) (cs : List (ChairToken B V)) (all : AreAllChairs l n cs) (k : ℕ)
+module _ {B V : Type 0} (l : ChairLockId) (n : ℕ) (cs : List (ChairToken B V)) (all : AreAllChairs l n cs) (k : ℕ)
     (c : ChairToken B V) (less : k < n) (read : c ≡ get_or cs k c) where
   -- the chair at a place
-  pub chair_at : (lock c ≡ l) × (place c ≡ k) × IsOutside c
+  pub chair_at : (lock c ≡ l) × (chair_place c ≡ k) × IsChairOutside c
   chair_at = all.1 k c (slice_get_read cs n k c (sym all.0) less read)
 
   -- the chairs are all there again once it has left
-  pub all_chairs_again : (d : ChairToken B V) → IsSameChair c d → IsOutside d → AreAllChairs l n (set cs k d)
+  pub all_chairs_again : (d : ChairToken B V) → IsSameChair c d → IsChairOutside d → AreAllChairs l n (set cs k d)
   all_chairs_again d same outside = (
     length-set cs k d ∙ all.0,
     λ j x e. ⊎_elim
-        (λ (t : (j ≡ k) × (d ≡ x)). subst (λ (y : ChairToken B V). (lock y ≡ l) × (place y ≡ j) × IsOutside y) t.1
+        (λ (t : (j ≡ k) × (d ≡ x)). subst (λ (y : ChairToken B V). (lock y ≡ l) × (chair_place y ≡ j) × IsChairOutside y) t.1
         (same.0 ∙ chair_at.0, same.1 ∙ chair_at.1 ∙ sym t.0, outside))
         (λ (t : (j ≢ k) × (slice_get cs j ≡ Some x)). all.1 j x t.1)
         (item_of_set cs k j d x e),

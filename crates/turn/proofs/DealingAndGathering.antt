@@ -14,62 +14,62 @@ use Rattle.turn.specs.declared.chair.ChairState.{ChairState}
 use Rattle.turn.specs.declared.chair.ChairRun.{ChairRun}
 use Rattle.turn.specs.declared.chair.ChairToken.{ChairToken}
 use Rattle.turn.specs.Stages.{stage_carries}
-use Rattle.turn.specs.Chairs.{lock_id, lock, place, view, IsOutside, IsFreshChair, AreFreshChairs, chair_state_of}
+use Rattle.turn.specs.Chairs.{chair_lock_id, lock, chair_place, chair_view, IsChairOutside, IsFreshChair, AreFreshChairs, chair_state_of}
 use Rattle.turn.specs.ChairRuns.{chairs_of, rest_of_chairs, first_chair, both_chairs, DealtChairs}
-use Rattle.turn.specs.Tickets.{ticket_number, shelf, view_of, tickets_drawn, TicketTurns, FitsTickets}
-use Rattle.turn.specs.SeatSteps.{fresh, fresh_run, IsSeatAtStage}
-use Rattle.turn.proofs.ListItems.{item_got, item_at_end, item_of_longer, item_last, item_of_unmap, item_of_replicate, map_replicate, map_map}
+use Rattle.turn.specs.Tickets.{ticket_number, ticket_shelf, ticket_view_of, tickets_drawn, TicketTurns, FitsTickets}
+use Rattle.turn.specs.SeatSteps.{fresh_seat, fresh_seat_run, IsSeatAtStage}
+use Rattle.turn.proofs.ListItems.{item_got, item_at_end, item_of_longer, item_last, item_of_unmap, item_of_replicate, item_map_replicate, item_map_twice}
 use Rattle.turn.proofs.Places.{opens_places, gathered_places}
-use Rattle.turn.proofs.NumbersServed.{not_true, inside_outside}
+use Rattle.turn.proofs.NumbersServed.{served_not_true, served_inside_outside}
 
 module _ (B V : Type 0) (fact : B → List V → Type 0) (shows : List ℕ → ℕ → Type 0) (limit : ℕ) where
-  drawn_fresh : (n : ℕ) (v : V) → tickets_drawn (replicate n (fresh {B = B} v)) ≡ 0
-  drawn_fresh zero v = refl
-  drawn_fresh (suc n) v = let h = drawn_fresh n v in omega arith
+  dealing_drawn_fresh : (n : ℕ) (v : V) → tickets_drawn (replicate n (fresh_seat {B = B} v)) ≡ 0
+  dealing_drawn_fresh zero v = refl
+  dealing_drawn_fresh (suc n) v = let h = dealing_drawn_fresh n v in omega arith
 
-  first_turns : (n : ℕ) (words : List ℕ) (book : B) (v : V) → n * limit < 2 ^ 64 → get_or words 0 0 ≡ 0
+  dealing_first_turns : (n : ℕ) (words : List ℕ) (book : B) (v : V) → n * limit < 2 ^ 64 → get_or words 0 0 ≡ 0
       → shows words 0 → fact book (replicate n v)
-      → TicketTurns fact shows limit words (some (Some book) ∷ []) (replicate n (fresh v))
-  first_turns n words book v room next shown keeps =
-      let none_drawn = drawn_fresh n v in
-      let idle : (k : ℕ) (c : ChairState B V) → slice_get (replicate n (fresh v)) k ≡ Some c → fresh v ≡ c =
-      λ k c e. item_of_replicate n (fresh v) c k e in
+      → TicketTurns fact shows limit words (some (Some book) ∷ []) (replicate n (fresh_seat v))
+  dealing_first_turns n words book v room next shown keeps =
+      let none_drawn = dealing_drawn_fresh n v in
+      let idle : (k : ℕ) (c : ChairState B V) → slice_get (replicate n (fresh_seat v)) k ≡ Some c → fresh_seat v ≡ c =
+      λ k c e. item_of_replicate n (fresh_seat v) c k e in
       record {
         serving = 0;
         book = book;
         out = false;
-        room = subst (λ (m : ℕ). m * limit < 2 ^ 64) (sym (length-replicate n (fresh {B = B} v))) room;
+        room = subst (λ (m : ℕ). m * limit < 2 ^ 64) (sym (length-replicate n (fresh_seat {B = B} v))) room;
         within = λ k c e. subst (λ (x : ChairState B V). x.entries ≤ limit) (idle k c e) zero-le;
         next_is = next ∙ sym none_drawn;
         shown = shown;
         behind = zero-le;
-        fits = λ k c e. subst (λ (x : ChairState B V). FitsTickets 0 (tickets_drawn (replicate n (fresh {B = B} v))) false book
+        fits = λ k c e. subst (λ (x : ChairState B V). FitsTickets 0 (tickets_drawn (replicate n (fresh_seat {B = B} v))) false book
             x.stage) (idle k c e) tt;
         apart = λ k j m f g. absurd (none-some m (ap (λ (x : ChairState B V). ticket_number x.stage) (idle k f.0 f.1)
             ∙ f.2));
         queued = λ m low high. absurd (omega arith);
         lies = refl;
         taken = λ o. absurd (let no : false ≡ true = o in cc);
-        kept = subst (λ (vs : List V). fact book vs) (sym (map_replicate view_of n (fresh v))) keeps;
+        kept = subst (λ (vs : List V). fact book vs) (sym (item_map_replicate ticket_view_of n (fresh_seat v))) keeps;
       }
 
   -- the rule holds of the first table
   pub dealing_begins : (n : ℕ) (words : List ℕ) (book : B) (v : V) → 0 < n → n * limit < 2 ^ 64 → get_or words 0 0 ≡ 0
       → shows words 0 → fact book (replicate n v)
-      → DealtChairs n (TicketTurns fact shows limit) (opening words (Some book ∷ []) (fresh_run v 0 n))
+      → DealtChairs n (TicketTurns fact shows limit) (opening words (Some book ∷ []) (fresh_seat_run v 0 n))
   dealing_begins zero words book v any room next shown keeps = absurd (omega arith)
   dealing_begins (suc n) words book v any room next shown keeps =
       opens_places (Option B) (ChairState B V) (suc n) (TicketTurns fact shows limit) words (Some book ∷ [])
-      (fresh_run v 0 (suc n)) refl refl (length-replicate (suc n) (fresh {B = B} v))
-      (first_turns (suc n) words book v room next shown keeps)
+      (fresh_seat_run v 0 (suc n)) refl refl (length-replicate (suc n) (fresh_seat {B = B} v))
+      (dealing_first_turns (suc n) words book v room next shown keeps)
 
   -- the slot of the last table has the book, and the fact holds of it and the chairs' views
   pub gathering_ends : (n id : ℕ) (run : ChairRun (ChairState B V)) (tokens : List (ChairToken B V)) (words : List ℕ)
       (slots : List (Option B)) (slot : Option B) → run.live ≡ true → run.place ≡ 0
       → chairs_of run ≡ map chair_state_of tokens → length tokens ≡ n
-      → ((k : ℕ) (c : ChairToken B V) → slice_get tokens k ≡ Some c → IsOutside c)
+      → ((k : ℕ) (c : ChairToken B V) → slice_get tokens k ≡ Some c → IsChairOutside c)
       → Final (Seen (DealtChairs n (TicketTurns fact shows limit)) id run) words slots
-      → get_elem? slots 0 ≡ some slot → (book : B) × (slot ≡ Some book) × fact book (map view tokens)
+      → get_elem? slots 0 ≡ some slot → (book : B) × (slot ≡ Some book) × fact book (map chair_view tokens)
   gathering_ends n id run tokens words slots slot live first all long outside last found =
       let table = last.0 in
       let dealt = last.1.0 in
@@ -78,16 +78,16 @@ module _ (B V : Type 0) (fact : B → List V → Type 0) (shows : List ℕ → �
       let chairs : dealt.chairs ≡ map chair_state_of tokens =
       gathered_places (Option B) (ChairState B V) n (TicketTurns fact shows limit) table dealt id run
       (item_got table.views id run last.1.1) live first count ∙ all in
-      let off : turns.out ≡ false = not_true turns.out (λ o.
+      let off : turns.out ≡ false = served_not_true turns.out (λ o.
       let taker = turns.taken o in
       let token = item_of_unmap chair_state_of tokens taker.0 taker.2
       (subst (λ (l : List (ChairState B V)). slice_get l taker.0 ≡ Some taker.2) chairs taker.3) in
-      inside_outside taker.1 turns.book (sym taker.4 ∙ ap (λ (x : ChairState B V). x.stage) (sym token.2)
+      served_inside_outside taker.1 turns.book (sym taker.4 ∙ ap (λ (x : ChairState B V). x.stage) (sym token.2)
       ∙ outside taker.0 token.0 token.1)) in
       let lies : table.homes ≡ some (Some turns.book) ∷ [] =
-      turns.lies ∙ ap (λ (o : Bool). shelf o turns.book) off in
-      let views : map view_of dealt.chairs ≡ map view tokens =
-      ap (map view_of) chairs ∙ map_map view_of chair_state_of tokens in
+      turns.lies ∙ ap (λ (o : Bool). ticket_shelf o turns.book) off in
+      let views : map ticket_view_of dealt.chairs ≡ map chair_view tokens =
+      ap (map ticket_view_of) chairs ∙ item_map_twice ticket_view_of chair_state_of tokens in
       let full : get_elem? slots 0 ≡ some (Some turns.book) =
       last.4 0 (Some turns.book) (ap (λ (homes : List (maybe.Option (Option B))). get_elem? homes 0) lies) in (
         turns.book,
@@ -100,20 +100,20 @@ module _ {B V : Type 0} where
   pub record Dealing (first : V) (table : TableId) (limit n count : ℕ)
       (rest : Seat (Option B) (ChairRun (ChairState B V))) (chairs : List (ChairToken B V)) : Type 0 where
     pub own : rest.table_id ≡ table
-    pub whole : rest.me ≡ (fresh_run first count (n - count), [])
+    pub whole : rest.me ≡ (fresh_seat_run first count (n - count), [])
     pub long : length chairs ≡ count
-    pub fresh : AreFreshChairs (lock_id table limit) first chairs
+    pub fresh : AreFreshChairs (chair_lock_id table limit) first chairs
 
-  rest_fresh_run : (v : V) (p n : ℕ) → rest_of_chairs (fresh_run {B = B} v p (suc n)) ≡ fresh_run v (p + 1) n
-  rest_fresh_run v p zero = refl
-  rest_fresh_run v p (suc n) = refl
+  dealing_rest_fresh : (v : V) (p n : ℕ) → rest_of_chairs (fresh_seat_run {B = B} v p (suc n)) ≡ fresh_seat_run v (p + 1) n
+  dealing_rest_fresh v p zero = refl
+  dealing_rest_fresh v p (suc n) = refl
 
-  dealing_one_left : (v : V) (p n : ℕ) → p < n → fresh_run {B = B} v p (n - p) ≡ fresh_run v p (suc (n - (p + 1)))
-  dealing_one_left v p n less = let e : n - p ≡ suc (n - (p + 1)) = omega arith in ap (fresh_run v p) e
+  dealing_one_left : (v : V) (p n : ℕ) → p < n → fresh_seat_run {B = B} v p (n - p) ≡ fresh_seat_run v p (suc (n - (p + 1)))
+  dealing_one_left v p n less = let e : n - p ≡ suc (n - (p + 1)) = omega arith in ap (fresh_seat_run v p) e
 
   module _ (first : V) (table : TableId) (limit n count : ℕ) (rest : Seat (Option B) (ChairRun (ChairState B V)))
       (chairs : List (ChairToken B V)) (d : Dealing first table limit n count rest chairs) (less : count < n) where
-    dealing_has_more : rest.me ≡ (fresh_run first count (suc (n - (count + 1))), [])
+    dealing_has_more : rest.me ≡ (fresh_seat_run first count (suc (n - (count + 1))), [])
     dealing_has_more = d.whole ∙ ap (λ (h : ChairRun (ChairState B V)). (h, [])) (dealing_one_left first count n less)
 
     pub dealing_is_live : rest.me.0.live ≡ true
@@ -123,29 +123,29 @@ module _ {B V : Type 0} where
         → IsSeatAtStage Outside seat.me × (seat.me.0.lead.entries ≡ 0) × (seat.me.0.place ≡ count)
         × (seat.me.0.lead.view ≡ first)
     dealing_first_sits seat e =
-        let f : seat.me ≡ (first_chair (fresh_run first count (suc (n - (count + 1)))), []) =
+        let f : seat.me ≡ (first_chair (fresh_seat_run first count (suc (n - (count + 1)))), []) =
         e ∙ ap (λ (m : Me (Option B) (ChairRun (ChairState B V))). (first_chair m.0, [])) dealing_has_more in
         let P : Me (Option B) (ChairRun (ChairState B V)) → Type 0 =
         λ m. IsSeatAtStage Outside m × (m.0.lead.entries ≡ 0) × (m.0.place ≡ count) × (m.0.lead.view ≡ first) in
         subst P (sym f) (refl, refl, refl, refl)
 
-    pub deals_one : (rest' seat : Seat (Option B) (ChairRun (ChairState B V))) (chair : ChairToken B V)
+    pub dealing_deals_one : (rest' seat : Seat (Option B) (ChairRun (ChairState B V))) (chair : ChairToken B V)
         → rest'.table_id ≡ rest.table_id → rest'.me ≡ (rest_of_chairs rest.me.0, rest.me.1)
         → seat.table_id ≡ rest.table_id → seat.me ≡ (first_chair rest.me.0, [])
-        → IsFreshChair (lock_id seat.table_id limit) seat.me.0.place seat.me.0.lead.view chair
+        → IsFreshChair (chair_lock_id seat.table_id limit) seat.me.0.place seat.me.0.lead.view chair
         → Dealing first table limit n (count + 1) rest' (chairs ++ chair ∷ [])
-    deals_one rest' seat chair same left same' right new =
+    dealing_deals_one rest' seat chair same left same' right new =
         let at = dealing_first_sits seat right in
         record {
           own = same ∙ d.own;
           whole = left ∙ ap (λ (m : Me (Option B) (ChairRun (ChairState B V))). (rest_of_chairs m.0, m.1)) dealing_has_more
-              ∙ ap (λ (h : ChairRun (ChairState B V)). (h, [])) (rest_fresh_run first count (n - (count + 1)));
+              ∙ ap (λ (h : ChairRun (ChairState B V)). (h, [])) (dealing_rest_fresh first count (n - (count + 1)));
           long = let l = d.long in omega (arith, length-append chairs (chair ∷ []));
           fresh = λ k c e. ⊎_elim
               (λ (f : slice_get chairs k ≡ Some c). d.fresh k c f)
               (λ (f : (k ≡ length chairs) × (chair ≡ c)). subst
-              (λ (x : ChairToken B V). IsFreshChair (lock_id table limit) k first x) f.1 (
-                new.0 ∙ ap (λ (z : TableId). lock_id z limit) (same' ∙ d.own),
+              (λ (x : ChairToken B V). IsFreshChair (chair_lock_id table limit) k first x) f.1 (
+                new.0 ∙ ap (λ (z : TableId). chair_lock_id z limit) (same' ∙ d.own),
                 new.1 ∙ at.2 ∙ sym (f.0 ∙ d.long),
                 new.2 ∙ at.3,
                 new.3,
@@ -163,19 +163,19 @@ module _ {B V : Type 0} where
     pub next : whole.me.0.place ≡ length rest
     pub taken : map chair_state_of all ≡ map chair_state_of rest ++ chairs_of whole.me.0
     pub left : (k : ℕ) (c : ChairToken B V) → slice_get rest k ≡ Some c
-        → (lock c ≡ lock_id table limit) × (place c ≡ k) × IsOutside c
+        → (lock c ≡ chair_lock_id table limit) × (chair_place c ≡ k) × IsChairOutside c
 
-  gathering_carries_none : (c : ChairToken B V) → IsOutside c → c.seat.me.1 ≡ []
+  gathering_carries_none : (c : ChairToken B V) → IsChairOutside c → c.seat.me.1 ≡ []
   gathering_carries_none c outside = c.carries ∙ ap stage_carries outside
 
   module _ (table : TableId) (limit : ℕ) where
-    pub gathers_last : (all rest : List (ChairToken B V)) (c : ChairToken B V) → all ≡ rest ++ c ∷ []
+    pub gathering_last_chair : (all rest : List (ChairToken B V)) (c : ChairToken B V) → all ≡ rest ++ c ∷ []
         → ((k : ℕ) (x : ChairToken B V) → slice_get all k ≡ Some x
-        → (lock x ≡ lock_id table limit) × (place x ≡ k) × IsOutside x)
+        → (lock x ≡ chair_lock_id table limit) × (chair_place x ≡ k) × IsChairOutside x)
         → Gathering table limit all c.seat rest
-    gathers_last all rest c e each =
+    gathering_last_chair all rest c e each =
         let each' = subst (λ (l : List (ChairToken B V)). (k : ℕ) (x : ChairToken B V) → slice_get l k ≡ Some x
-        → (lock x ≡ lock_id table limit) × (place x ≡ k) × IsOutside x) e each in
+        → (lock x ≡ chair_lock_id table limit) × (chair_place x ≡ k) × IsChairOutside x) e each in
         let last = each' (length rest) c (item_last rest c (length rest) refl) in
         record {
           own = ap (λ z. z.table) last.0;
@@ -191,9 +191,9 @@ module _ {B V : Type 0} where
         (c : ChairToken B V) (seat : Seat (Option B) (ChairRun (ChairState B V)))
         (g : Gathering table limit all whole rest) (e : rest ≡ rest' ++ c ∷ []) (is : seat ≡ c.seat) where
       gathering_each_left : (k : ℕ) (x : ChairToken B V) → slice_get (rest' ++ c ∷ []) k ≡ Some x
-          → (lock x ≡ lock_id table limit) × (place x ≡ k) × IsOutside x
+          → (lock x ≡ chair_lock_id table limit) × (chair_place x ≡ k) × IsChairOutside x
       gathering_each_left = subst (λ (l : List (ChairToken B V)). (k : ℕ) (x : ChairToken B V) → slice_get l k ≡ Some x
-          → (lock x ≡ lock_id table limit) × (place x ≡ k) × IsOutside x) e g.left
+          → (lock x ≡ chair_lock_id table limit) × (chair_place x ≡ k) × IsChairOutside x) e g.left
 
       -- the chair that is taken in is of this lock, free, and has the place before
       pub gathering_is_before : (seat.table_id ≡ table) × (seat.me.1 ≡ []) × (whole.me.0.place ≡ seat.me.0.place + 1)
@@ -210,9 +210,9 @@ module _ {B V : Type 0} where
             c.single.0,
           )
 
-      pub gathers_one : (whole' : Seat (Option B) (ChairRun (ChairState B V))) → whole'.table_id ≡ whole.table_id
+      pub gathering_one_chair : (whole' : Seat (Option B) (ChairRun (ChairState B V))) → whole'.table_id ≡ whole.table_id
           → whole'.me ≡ (both_chairs whole.me.0 seat.me.0, whole.me.1) → Gathering table limit all whole' rest'
-      gathers_one whole' same merged =
+      gathering_one_chair whole' same merged =
           let joined : whole'.me ≡ (both_chairs whole.me.0 c.seat.me.0, whole.me.1) =
           merged ∙ ap (λ (s : Seat (Option B) (ChairRun (ChairState B V))). (
             both_chairs whole.me.0 s.me.0,

@@ -95,15 +95,15 @@ module _ {A B : Type 0} where
   item_of_unmap f (x ∷ xs) zero b e = (x, refl, same_Some (f x) b e)
   item_of_unmap f (x ∷ xs) (suc k) b e = item_of_unmap f xs k b e
 
-  pub map_replicate : (f : A → B) (n : ℕ) (a : A) → map f (replicate n a) ≡ replicate n (f a)
-  map_replicate f zero a = refl
-  map_replicate f (suc n) a = ap (λ t. f a ∷ t) (map_replicate f n a)
+  pub item_map_replicate : (f : A → B) (n : ℕ) (a : A) → map f (replicate n a) ≡ replicate n (f a)
+  item_map_replicate f zero a = refl
+  item_map_replicate f (suc n) a = ap (λ t. f a ∷ t) (item_map_replicate f n a)
 
 -- an image of images
-pub map_map : {A B C : Type 0} (g : B → C) (f : A → B) (l : List A) → map g (map f l) ≡ map (λ a. g (f a)) l
-map_map g f [] = refl
-map_map g f (x ∷ xs) = ap (λ t. g (f x) ∷ t) (map_map g f xs)
+pub item_map_twice : {A B C : Type 0} (g : B → C) (f : A → B) (l : List A) → map g (map f l) ≡ map (λ a. g (f a)) l
+item_map_twice g f [] = refl
+item_map_twice g f (x ∷ xs) = ap (λ t. g (f x) ∷ t) (item_map_twice g f xs)
 
 -- a list of one, pushed to an empty one
-pub pushed_one : {A : Type 0} (before after : List A) (a : A) → before ≡ [] → after ≡ before ++ a ∷ [] → after ≡ a ∷ []
-pushed_one {A = A} before after a empty e = e ∙ ap (λ (l : List A). l ++ a ∷ []) empty
+pub item_pushed_alone : {A : Type 0} (before after : List A) (a : A) → before ≡ [] → after ≡ before ++ a ∷ [] → after ≡ a ∷ []
+item_pushed_alone {A = A} before after a empty e = e ∙ ap (λ (l : List A). l ++ a ∷ []) empty

@@ -11,32 +11,32 @@ use mathlib.Core.Logic.{dite}
 use Rattle.turn.specs.declared.chair.ChairStage.{ChairStage}
 use Rattle.turn.specs.declared.chair.ChairStage.TheVariants.{Outside, Waiting, Inside}
 use Rattle.turn.specs.declared.chair.ChairState.{ChairState}
-use Rattle.turn.specs.Tickets.{ticket_number, shelf, FitsTickets, chair_state, view_of, tickets_drawn, HasTicket, TicketTurns}
+use Rattle.turn.specs.Tickets.{ticket_number, ticket_shelf, FitsTickets, ticket_chair_state, ticket_view_of, tickets_drawn, HasTicket, TicketTurns}
 use Rattle.turn.specs.Boards.{IsBoard}
 use Rattle.turn.proofs.ListItems.{item_of_set, item_set_here, item_set_else, item_set_again, item_of_map, item_once}
 
-pub not_true : (b : Bool) → (b ≡ true → ⊥) → b ≡ false
-not_true true h = absurd (h refl)
-not_true false h = refl
+pub served_not_true : (b : Bool) → (b ≡ true → ⊥) → b ≡ false
+served_not_true true h = absurd (h refl)
+served_not_true false h = refl
 
 module _ {B : Type 0} where
   -- who is inside doesn't wait and isn't outside
-  inside_waits : (m k : ℕ) (b : B) → Inside m b ≡ Waiting k → ⊥
-  inside_waits m k b e = cc
+  served_inside_waits : (m k : ℕ) (b : B) → Inside m b ≡ Waiting k → ⊥
+  served_inside_waits m k b e = cc
 
-  pub inside_outside : (m : ℕ) (b : B) → Inside m b ≡ Outside → ⊥
-  inside_outside m b e = cc
+  pub served_inside_outside : (m : ℕ) (b : B) → Inside m b ≡ Outside → ⊥
+  served_inside_outside m b e = cc
 
   fits_more_numbers : (s n n' : ℕ) (out : Bool) (book : B) (g : ChairStage B) → n ≤ n' → FitsTickets s n out book g → FitsTickets s n' out book g
   fits_more_numbers s n n' out book Outside h f = tt
   fits_more_numbers s n n' out book (Waiting m) h f = (f.0, omega arith)
   fits_more_numbers s n n' out book (Inside m b) h f = (f.0, omega arith, f.2, f.3)
 
-  fits_out : (s n : ℕ) (out : Bool) (book : B) (g : ChairStage B) → out ≡ false → FitsTickets s n out book g → FitsTickets s n true book
+  served_fits_out : (s n : ℕ) (out : Bool) (book : B) (g : ChairStage B) → out ≡ false → FitsTickets s n out book g → FitsTickets s n true book
       g
-  fits_out s n out book Outside h f = tt
-  fits_out s n out book (Waiting m) h f = f
-  fits_out s n out book (Inside m b) h f = (f.0, f.1, refl, f.3)
+  served_fits_out s n out book Outside h f = tt
+  served_fits_out s n out book (Waiting m) h f = f
+  served_fits_out s n out book (Inside m b) h f = (f.0, f.1, refl, f.3)
 
   fits_next_number : (m n : ℕ) (out : Bool) (book handed : B) (g : ChairStage B) → (ticket_number g ≡ Some m → ⊥)
       → FitsTickets m n out book g → FitsTickets (m + 1) n false handed g
@@ -53,26 +53,26 @@ module _ {B : Type 0} where
       (omega arith, omega arith)
 
 module _ {B V : Type 0} where
-  tickets_drawn-set : (cs : List (ChairState B V)) (k : ℕ) (c d : ChairState B V) → slice_get cs k ≡ Some c
+  tickets_drawn-set_served : (cs : List (ChairState B V)) (k : ℕ) (c d : ChairState B V) → slice_get cs k ≡ Some c
       → tickets_drawn (set cs k d) + c.entries ≡ tickets_drawn cs + d.entries
-  tickets_drawn-set [] k c d e = absurd (none-some c e)
-  tickets_drawn-set (x ∷ xs) zero c d e = let f : x.entries ≡ c.entries =
+  tickets_drawn-set_served [] k c d e = absurd (none-some c e)
+  tickets_drawn-set_served (x ∷ xs) zero c d e = let f : x.entries ≡ c.entries =
       ap (λ (y : ChairState B V). y.entries) (same_Some x c e) in omega arith
-  tickets_drawn-set (x ∷ xs) (suc k) c d e = let h = tickets_drawn-set xs k c d e in omega arith
+  tickets_drawn-set_served (x ∷ xs) (suc k) c d e = let h = tickets_drawn-set_served xs k c d e in omega arith
 
-  tickets_drawn-le : (limit : ℕ) (cs : List (ChairState B V))
+  tickets_drawn-le_served : (limit : ℕ) (cs : List (ChairState B V))
       → ((k : ℕ) (c : ChairState B V) → slice_get cs k ≡ Some c → c.entries ≤ limit) → tickets_drawn cs ≤ length cs * limit
-  tickets_drawn-le limit [] h = zero-le
-  tickets_drawn-le limit (x ∷ xs) h =
+  tickets_drawn-le_served limit [] h = zero-le
+  tickets_drawn-le_served limit (x ∷ xs) h =
       let a = h zero x refl in
-      let b = tickets_drawn-le limit xs (λ k. h (suc k)) in
+      let b = tickets_drawn-le_served limit xs (λ k. h (suc k)) in
       omega (arith, suc-mul (length xs) limit)
 
   -- each chair after one of them changed
-  each_set : (P : ℕ → ChairState B V → Type 0) (cs : List (ChairState B V)) (k : ℕ) (d : ChairState B V) → P k d
+  served_each_set : (P : ℕ → ChairState B V → Type 0) (cs : List (ChairState B V)) (k : ℕ) (d : ChairState B V) → P k d
       → ((j : ℕ) (x : ChairState B V) → j ≢ k → slice_get cs j ≡ Some x → P j x)
       → (j : ℕ) (x : ChairState B V) → slice_get (set cs k d) j ≡ Some x → P j x
-  each_set P cs k d here else j x e = ⊎_elim
+  served_each_set P cs k d here else j x e = ⊎_elim
       (λ (t : (j ≡ k) × (d ≡ x)). subst (λ (y : ChairState B V). P j y) t.1 (subst (λ (i : ℕ). P i d) (sym t.0) here))
       (λ (t : (j ≢ k) × (slice_get cs j ≡ Some x)). else j x t.0 t.1)
       (item_of_set cs k j d x e)
@@ -99,10 +99,10 @@ module _ {B V : Type 0} where
       ap (λ (y : ChairState B V). ticket_number y.stage)
       (item_once cs k c h.0 at (subst (λ (i : ℕ). slice_get cs i ≡ Some h.0) e h.1)) ∙ h.2
 
-  views_same : (cs : List (ChairState B V)) (k : ℕ) (c d : ChairState B V) → slice_get cs k ≡ Some c
-      → d.view ≡ c.view → map view_of (set cs k d) ≡ map view_of cs
-  views_same cs k c d at e = map-set view_of cs k d ∙ ap (λ (v : V). set (map view_of cs) k v) e
-      ∙ item_set_again (map view_of cs) k c.view (item_of_map view_of cs k c at)
+  served_views_same : (cs : List (ChairState B V)) (k : ℕ) (c d : ChairState B V) → slice_get cs k ≡ Some c
+      → d.view ≡ c.view → map ticket_view_of (set cs k d) ≡ map ticket_view_of cs
+  served_views_same cs k c d at e = map-set ticket_view_of cs k d ∙ ap (λ (v : V). set (map ticket_view_of cs) k v) e
+      ∙ item_set_again (map ticket_view_of cs) k c.view (item_of_map ticket_view_of cs k c at)
 
 -- a number that was drawn and not left
 pub between : {B V : Type 0} {fact : B → List V → Type 0} {shows : List ℕ → ℕ → Type 0} {limit : ℕ}
@@ -129,24 +129,24 @@ module _ {B V : Type 0} {fact : B → List V → Type 0} {width : ℕ} {shows : 
     (here : slice_get chairs place ≡ Some chair) where
   -- the numbers are below 2 ^ 64
   few_numbers : tickets_drawn chairs < 2 ^ 64
-  few_numbers = let a = tickets_drawn-le limit chairs turns.within in let b = turns.room in omega arith
+  few_numbers = let a = tickets_drawn-le_served limit chairs turns.within in let b = turns.room in omega arith
 
   pub draws_number : chair.stage ≡ Outside → chair.entries < limit
       → (get_or words 0 0 + 1 < 2 ^ 64) × TicketTurns fact shows limit (set words 0 ((get_or words 0 0 + 1) % 2 ^ 64)) homes
-      (set chairs place (chair_state (Waiting (get_or words 0 0)) (chair.entries + 1) chair.view))
+      (set chairs place (ticket_chair_state (Waiting (get_or words 0 0)) (chair.entries + 1) chair.view))
   draws_number out less =
       let next = get_or words 0 0 in
-      let now : ChairState B V = chair_state (Waiting next) (chair.entries + 1) chair.view in
+      let now : ChairState B V = ticket_chair_state (Waiting next) (chair.entries + 1) chair.view in
       let next_is : next ≡ tickets_drawn chairs = turns.next_is in
       let behind = turns.behind in
-      let sums = tickets_drawn-set chairs place chair now here in
+      let sums = tickets_drawn-set_served chairs place chair now here in
       let one_more : tickets_drawn (set chairs place now) ≡ tickets_drawn chairs + 1 = omega arith in
       let within : ((j : ℕ) (x : ChairState B V) → slice_get (set chairs place now) j ≡ Some x → x.entries ≤ limit) =
-      each_set (λ _ x. x.entries ≤ limit) chairs place now (omega arith) (λ j x _ e. turns.within j x e) in
+      served_each_set (λ _ x. x.entries ≤ limit) chairs place now (omega arith) (λ j x _ e. turns.within j x e) in
       let long = length-set chairs place now in
       let room : length (set chairs place now) * limit < 2 ^ 64 = subst (λ (n : ℕ). n * limit < 2 ^ 64) (sym long)
       turns.room in
-      let bound = tickets_drawn-le limit (set chairs place now) within in
+      let bound = tickets_drawn-le_served limit (set chairs place now) within in
       let small : next + 1 < 2 ^ 64 = omega arith in
       let none_yet : ticket_number chair.stage ≡ None = ap ticket_number out in (
         small,
@@ -160,7 +160,7 @@ module _ {B V : Type 0} {fact : B → List V → Type 0} {width : ℕ} {shows : 
               ∙ mod-eq_of_lt small ∙ ap (λ (n : ℕ). n + 1) next_is ∙ sym one_more;
           shown = board.draws words turns.serving ((next + 1) % 2 ^ 64) turns.shown;
           behind = omega arith;
-          fits = each_set (λ _ x. FitsTickets turns.serving (tickets_drawn (set chairs place now)) turns.out turns.book x.stage)
+          fits = served_each_set (λ _ x. FitsTickets turns.serving (tickets_drawn (set chairs place now)) turns.out turns.book x.stage)
               chairs place now
               (omega arith, omega arith)
               (λ j x _ e. fits_more_numbers turns.serving (tickets_drawn chairs) (tickets_drawn (set chairs place now)) turns.out turns.book
@@ -190,19 +190,19 @@ module _ {B V : Type 0} {fact : B → List V → Type 0} {width : ℕ} {shows : 
             q.0,
             q.1,
             q.2,
-            item_set_else chairs place q.0 now (λ z. inside_outside q.1 turns.book
+            item_set_else chairs place q.0 now (λ z. served_inside_outside q.1 turns.book
                 (sym q.4 ∙ ap (λ (y : ChairState B V). y.stage)
                 (item_once chairs place q.2 chair (subst (λ (i : ℕ). slice_get chairs i ≡ Some q.2) z q.3) here) ∙ out))
                 ∙ q.3,
             q.4,
           );
-          kept = subst (λ (vs : List V). fact turns.book vs) (sym (views_same chairs place chair now here refl))
+          kept = subst (λ (vs : List V). fact turns.book vs) (sym (served_views_same chairs place chair now here refl))
               turns.kept;
         },
       )
 
   pub served_not_out : (m : ℕ) → chair.stage ≡ Waiting m → m ≡ turns.serving → turns.out ≡ false
-  served_not_out m waits served = not_true turns.out (λ o.
+  served_not_out m waits served = served_not_true turns.out (λ o.
       let taker = turns.taken o in
       let fit = subst (λ (g : ChairStage B). FitsTickets turns.serving (tickets_drawn chairs) turns.out turns.book g) taker.4
       (turns.fits taker.0 taker.2 taker.3) in
@@ -210,16 +210,16 @@ module _ {B V : Type 0} {fact : B → List V → Type 0} {width : ℕ} {shows : 
       let same : taker.1 ≡ m = fit.0 ∙ sym served in
       let theirs : HasTicket chairs taker.0 m = (taker.2, taker.3, ap ticket_number taker.4 ∙ ap Some same) in
       let here_too = turns.apart taker.0 place m theirs mine in
-      inside_waits taker.1 m turns.book (sym taker.4 ∙ ap (λ (y : ChairState B V). y.stage)
+      served_inside_waits taker.1 m turns.book (sym taker.4 ∙ ap (λ (y : ChairState B V). y.stage)
       (item_once chairs place taker.2 chair
       (subst (λ (i : ℕ). slice_get chairs i ≡ Some taker.2) here_too taker.3) here) ∙ waits))
 
   pub enters_served : (m : ℕ) → chair.stage ≡ Waiting m → m ≡ turns.serving
       → TicketTurns fact shows limit words (none ∷ []) (set chairs place
-      (chair_state (Inside m turns.book) chair.entries chair.view))
+      (ticket_chair_state (Inside m turns.book) chair.entries chair.view))
   enters_served m waits served =
-      let now : ChairState B V = chair_state (Inside m turns.book) chair.entries chair.view in
-      let sums = tickets_drawn-set chairs place chair now here in
+      let now : ChairState B V = ticket_chair_state (Inside m turns.book) chair.entries chair.view in
+      let sums = tickets_drawn-set_served chairs place chair now here in
       let as_many : tickets_drawn (set chairs place now) ≡ tickets_drawn chairs = omega arith in
       let more : tickets_drawn chairs ≤ tickets_drawn (set chairs place now) = omega arith in
       let mine = subst (λ (g : ChairStage B). FitsTickets turns.serving (tickets_drawn chairs) turns.out turns.book g) waits
@@ -231,15 +231,15 @@ module _ {B V : Type 0} {fact : B → List V → Type 0} {width : ℕ} {shows : 
         book = turns.book;
         out = true;
         room = subst (λ (n : ℕ). n * limit < 2 ^ 64) (sym (length-set chairs place now)) turns.room;
-        within = each_set (λ _ x. x.entries ≤ limit) chairs place now (turns.within place chair here)
+        within = served_each_set (λ _ x. x.entries ≤ limit) chairs place now (turns.within place chair here)
             (λ j x _ e. turns.within j x e);
         next_is = turns.next_is ∙ sym as_many;
         shown = turns.shown;
         behind = let b = turns.behind in omega arith;
-        fits = each_set (λ _ x. FitsTickets turns.serving (tickets_drawn (set chairs place now)) true turns.book x.stage) chairs
+        fits = served_each_set (λ _ x. FitsTickets turns.serving (tickets_drawn (set chairs place now)) true turns.book x.stage) chairs
             place now
             (served, omega arith, refl, refl)
-            (λ j x _ e. fits_out turns.serving (tickets_drawn (set chairs place now)) turns.out turns.book x.stage off
+            (λ j x _ e. served_fits_out turns.serving (tickets_drawn (set chairs place now)) turns.out turns.book x.stage off
             (fits_more_numbers turns.serving (tickets_drawn chairs) (tickets_drawn (set chairs place now)) turns.out turns.book x.stage more
             (turns.fits j x e)));
         apart = λ i j n f g.
@@ -259,18 +259,18 @@ module _ {B V : Type 0} {fact : B → List V → Type 0} {width : ℕ} {shows : 
             (λ (e : q.0 ≢ place). (q.0, number_else chairs place now q.0 n e q.1));
         lies = refl;
         taken = λ _. (place, m, now, item_set_here chairs place now (slice_get_within chairs place chair here), refl);
-        kept = subst (λ (vs : List V). fact turns.book vs) (sym (views_same chairs place chair now here refl))
+        kept = subst (λ (vs : List V). fact turns.book vs) (sym (served_views_same chairs place chair now here refl))
             turns.kept;
       }
 
   pub leaves_number : (m : ℕ) (found handed : B) (w : V) (words' : List ℕ) → chair.stage ≡ Inside m found → shows words'
       (m + 1)
-      → get_or words' 0 0 ≡ get_or words 0 0 → fact handed (set (map view_of chairs) place w)
+      → get_or words' 0 0 ≡ get_or words 0 0 → fact handed (set (map ticket_view_of chairs) place w)
       → TicketTurns fact shows limit words' (some (Some handed) ∷ [])
-      (set chairs place (chair_state Outside chair.entries w))
+      (set chairs place (ticket_chair_state Outside chair.entries w))
   leaves_number m found handed w words' inside shown same keeps =
-      let now : ChairState B V = chair_state Outside chair.entries w in
-      let sums = tickets_drawn-set chairs place chair now here in
+      let now : ChairState B V = ticket_chair_state Outside chair.entries w in
+      let sums = tickets_drawn-set_served chairs place chair now here in
       let as_many : tickets_drawn (set chairs place now) ≡ tickets_drawn chairs = omega arith in
       let mine = subst (λ (g : ChairStage B). FitsTickets turns.serving (tickets_drawn chairs) turns.out turns.book g) inside
       (turns.fits place chair here) in
@@ -280,12 +280,12 @@ module _ {B V : Type 0} {fact : B → List V → Type 0} {width : ℕ} {shows : 
         book = handed;
         out = false;
         room = subst (λ (n : ℕ). n * limit < 2 ^ 64) (sym (length-set chairs place now)) turns.room;
-        within = each_set (λ _ x. x.entries ≤ limit) chairs place now (turns.within place chair here)
+        within = served_each_set (λ _ x. x.entries ≤ limit) chairs place now (turns.within place chair here)
             (λ j x _ e. turns.within j x e);
         next_is = same ∙ turns.next_is ∙ sym as_many;
         shown = shown;
         behind = let low = mine.1 in omega arith;
-        fits = each_set (λ _ x. FitsTickets (m + 1) (tickets_drawn (set chairs place now)) false handed x.stage) chairs place now tt
+        fits = served_each_set (λ _ x. FitsTickets (m + 1) (tickets_drawn (set chairs place now)) false handed x.stage) chairs place now tt
             (λ j x ne e.
             let other : ticket_number x.stage ≡ Some m → ⊥ = λ f. ne
             (turns.apart j place m (x, e, f) (chair, here, number_is)) in
@@ -308,7 +308,7 @@ module _ {B V : Type 0} {fact : B → List V → Type 0} {width : ℕ} {shows : 
             );
         lies = refl;
         taken = λ o. absurd (let no : false ≡ true = o in cc);
-        kept = subst (λ (vs : List V). fact handed vs) (sym (map-set view_of chairs place now)) keeps;
+        kept = subst (λ (vs : List V). fact handed vs) (sym (map-set ticket_view_of chairs place now)) keeps;
       }
 
   -- who is inside has the number that is served, and the book is out
@@ -322,5 +322,5 @@ module _ {B V : Type 0} {fact : B → List V → Type 0} {width : ℕ} {shows : 
         number = fit.0;
         fits = omega arith;
         book = fit.3;
-        out = turns.lies ∙ ap (λ (o : Bool). shelf o turns.book) fit.2;
+        out = turns.lies ∙ ap (λ (o : Bool). ticket_shelf o turns.book) fit.2;
       }

@@ -7,15 +7,15 @@ use Rattle.turn.specs.declared.chair.ChairStage.TheVariants.{Inside}
 use Rattle.turn.specs.declared.chair.ChairState.{ChairState}
 use Rattle.turn.specs.declared.chair.ChairRun.{ChairRun}
 use Rattle.turn.specs.ChairRuns.{DealtChairs}
-use Rattle.turn.specs.Tickets.{view_of, HasTicket, TicketTurns}
+use Rattle.turn.specs.Tickets.{ticket_view_of, HasTicket, TicketTurns}
 
 module _ {B V : Type 0} where
   -- the chair at this place is inside, with the number m and the book as it took it
-  abbrev pub InsideAt : List (ChairState B V) → ℕ → ℕ → B → Type 0
-  InsideAt chairs k m b = (c : ChairState B V) × (slice_get chairs k ≡ Some c) × (c.stage ≡ Inside m b)
+  abbrev pub IsInsideAtByLaw : List (ChairState B V) → ℕ → ℕ → B → Type 0
+  IsInsideAtByLaw chairs k m b = (c : ChairState B V) × (slice_get chairs k ≡ Some c) × (c.stage ≡ Inside m b)
 
   -- The chairs take turns. `at m` is the word at which the chair with the number m looks, word 0 the next number
-  pub record TakeTurns (fact : B → List V → Type 0) (at : ℕ → ℕ) (words : List ℕ)
+  pub record TakeTurnsByLaw (fact : B → List V → Type 0) (at : ℕ → ℕ) (words : List ℕ)
       (homes : List (maybe.Option (Option B))) (chairs : List (ChairState B V)) : Type 0 where
     -- the number of leaves
     pub serving : ℕ
@@ -25,13 +25,13 @@ module _ {B V : Type 0} where
     -- the chair with the number of leaves finds it where it looks
     pub shown : slice_index words (at serving) ≡ serving
     -- one chair at most is inside
-    pub alone : (k j m n : ℕ) (a b : B) → InsideAt chairs k m a → InsideAt chairs j n b → k ≡ j
+    pub alone : (k j m n : ℕ) (a b : B) → IsInsideAtByLaw chairs k m a → IsInsideAtByLaw chairs j n b → k ≡ j
     -- it has the least number that was drawn and not left
-    pub least : (k j m n : ℕ) (b : B) → InsideAt chairs k m b → HasTicket chairs j n → m ≤ n
+    pub least : (k j m n : ℕ) (b : B) → IsInsideAtByLaw chairs k m b → HasTicket chairs j n → m ≤ n
     -- the slot is empty only while a chair is inside
-    pub empty : homes ≡ none ∷ [] → (k m : ℕ) × (b : B) × InsideAt chairs k m b
+    pub empty : homes ≡ none ∷ [] → (k m : ℕ) × (b : B) × IsInsideAtByLaw chairs k m b
     -- the lock invariant holds of the book in the slot
-    pub kept : (b : B) → homes ≡ some (Some b) ∷ [] → fact b (map view_of chairs)
+    pub kept : (b : B) → homes ≡ some (Some b) ∷ [] → fact b (map ticket_view_of chairs)
 
 -- in each state that meets the rule of a lock with n chairs, of which each may enter `limit` times,
 -- the chairs take turns
@@ -39,4 +39,4 @@ abbrev pub TurnsLaw : {B V : Type 0} → (B → List V → Type 0) → (List ℕ
     → Type 0
 TurnsLaw {B = B} {V = V} fact shows at n limit =
     (s : State (Option B) (ChairRun (ChairState B V))) (d : DealtChairs n (TicketTurns fact shows limit) s)
-    → TakeTurns fact at s.words s.homes d.chairs
+    → TakeTurnsByLaw fact at s.words s.homes d.chairs

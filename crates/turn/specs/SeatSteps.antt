@@ -6,23 +6,23 @@ use Rattle.turn.specs.declared.chair.ChairStage.TheVariants.{Outside, Waiting, I
 use Rattle.turn.specs.declared.chair.ChairState.{ChairState}
 use Rattle.turn.specs.declared.chair.ChairRun.{ChairRun}
 use Rattle.turn.specs.Stages.{stage_carries}
-use Rattle.turn.specs.Chairs.{Stands}
+use Rattle.turn.specs.Chairs.{ChairStands}
 use Rattle.turn.specs.ChairRuns.{chair_run, one_chair}
-use Rattle.turn.specs.Tickets.{chair_state}
+use Rattle.turn.specs.Tickets.{ticket_chair_state}
 
 module _ {B V : Type 0} where
   -- a chair that never entered
-  abbrev pub fresh : V → ChairState B V
-  fresh v = chair_state Outside 0 v
+  abbrev pub fresh_seat : V → ChairState B V
+  fresh_seat v = ticket_chair_state Outside 0 v
 
   -- the run with n fresh chairs from the place p on
-  abbrev pub fresh_run : V → ℕ → ℕ → ChairRun (ChairState B V)
-  fresh_run v p zero = chair_run false p (fresh v) []
-  fresh_run v p (suc n) = chair_run true p (fresh v) (replicate n (fresh v))
+  abbrev pub fresh_seat_run : V → ℕ → ℕ → ChairRun (ChairState B V)
+  fresh_seat_run v p zero = chair_run false p (fresh_seat v) []
+  fresh_seat_run v p (suc n) = chair_run true p (fresh_seat v) (replicate n (fresh_seat v))
 
   -- a seat with one chair
   abbrev pub seat_with : ℕ → ChairStage B → ℕ → V → Me (Option B) (ChairRun (ChairState B V))
-  seat_with p g e v = (one_chair p (chair_state g e v), stage_carries g)
+  seat_with p g e v = (one_chair p (ticket_chair_state g e v), stage_carries g)
 
   -- the seat with its chair at another stage
   abbrev pub seat_at_stage : ChairStage B → Me (Option B) (ChairRun (ChairState B V))
@@ -41,7 +41,7 @@ module _ {B V : Type 0} where
   -- the chair that waited with the number m is inside, and its seat has the slot with the book, of which the fact holds
   abbrev pub StepsIn : (B → List V → Type 0) → ℕ → Me (Option B) (ChairRun (ChairState B V))
       → Me (Option B) (ChairRun (ChairState B V)) → Type 0
-  StepsIn fact m me after = (book : B) × Stands fact book me.0.place me.0.lead.view
+  StepsIn fact m me after = (book : B) × ChairStands fact book me.0.place me.0.lead.view
       × (after ≡ ((seat_at_stage (Inside m book) me).0, (0, Some book) ∷ []))
 
   -- a look: the number found is the chair's own, and it steps in, or nothing changes

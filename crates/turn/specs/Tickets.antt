@@ -15,9 +15,9 @@ module _ {B : Type 0} where
   ticket_number (Inside m b) = Some m
 
   -- the slot: empty while the book is out
-  abbrev pub shelf : Bool → B → List (maybe.Option (Option B))
-  shelf true b = none ∷ []
-  shelf false b = some (Some b) ∷ []
+  abbrev pub ticket_shelf : Bool → B → List (maybe.Option (Option B))
+  ticket_shelf true b = none ∷ []
+  ticket_shelf false b = some (Some b) ∷ []
 
   -- a number is one that was drawn and not yet left; who is inside is served, and has the book, which is out
   abbrev pub FitsTickets : ℕ → ℕ → Bool → B → ChairStage B → Type 0
@@ -26,11 +26,11 @@ module _ {B : Type 0} where
   FitsTickets serving next out book (Inside m b) = (m ≡ serving) × (m < next) × (out ≡ true) × (b ≡ book)
 
 module _ {B V : Type 0} where
-  abbrev pub chair_state : ChairStage B → ℕ → V → ChairState B V
-  chair_state g e v = record { stage = g; entries = e; view = v }
+  abbrev pub ticket_chair_state : ChairStage B → ℕ → V → ChairState B V
+  ticket_chair_state g e v = record { stage = g; entries = e; view = v }
 
-  abbrev pub view_of : ChairState B V → V
-  view_of c = c.view
+  abbrev pub ticket_view_of : ChairState B V → V
+  ticket_view_of c = c.view
 
   -- how many numbers the chairs have drawn
   abbrev pub tickets_drawn : List (ChairState B V) → ℕ
@@ -59,7 +59,7 @@ pub record TicketTurns {B V : Type 0} (fact : B → List V → Type 0) (shows : 
   pub apart : (k j m : ℕ) → HasTicket chairs k m → HasTicket chairs j m → k ≡ j
   pub queued : (m : ℕ) → serving ≤ m → m < tickets_drawn chairs → (k : ℕ) × HasTicket chairs k m
   -- the book is out only while a chair is inside
-  pub lies : homes ≡ shelf out book
+  pub lies : homes ≡ ticket_shelf out book
   pub taken : out ≡ true → (k m : ℕ) × (c : ChairState B V) × (slice_get chairs k ≡ Some c) × (c.stage ≡ Inside m book)
   -- the lock invariant holds of the book as it lies or was taken, and all views
-  pub kept : fact book (map view_of chairs)
+  pub kept : fact book (map ticket_view_of chairs)

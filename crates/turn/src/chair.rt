@@ -47,7 +47,7 @@ pub struct ChairToken<B, V> {
 }
 
 impl<B, V> ChairToken<B, V> {
-    ghost use Rattle.turn.specs.Chairs.{lock_id, lock, entries, IsFreshChair};
+    ghost use Rattle.turn.specs.Chairs.{chair_lock_id, lock, entries, IsFreshChair};
     ghost use Rattle.turn.specs.SeatSteps.{IsSeatAtStage};
 
     // A chair that never entered.
@@ -57,7 +57,7 @@ impl<B, V> ChairToken<B, V> {
     ) -> ChairToken<B, V>
         requires outside { IsSeatAtStage Outside seat.me }
         requires never { seat.me.0.lead.entries ≡ 0 }
-        ensures { IsFreshChair (lock_id seat.table_id limit) seat.me.0.place seat.me.0.lead.view result }
+        ensures { IsFreshChair (chair_lock_id seat.table_id limit) seat.me.0.place seat.me.0.lead.view result }
     {
         ChairToken {
             seat,

@@ -1,7 +1,7 @@
 //! The contract of the lock round the book.
 ghost use Rattle.std.specs.Prelude.{◌≡◌, ℕ, List, ◌+◌, ◌*◌, ◌^◌, ◌<◌, ◌≤◌, length, map, replicate, IfOk, IfErr};
-ghost use Rattle.turn.specs.Prelude.{LockId, lock, place, view, entries, IsOutside, IsInside, IsSameChair, AreFreshChairs};
-ghost use Rattle.turn.specs.Prelude.{AreAllChairs, Stands, MayHandIn};
+ghost use Rattle.turn.specs.Prelude.{ChairLockId, lock, chair_place, chair_view, entries, IsChairOutside, IsChairInside, IsSameChair, AreFreshChairs};
+ghost use Rattle.turn.specs.Prelude.{AreAllChairs, ChairStands, ChairMayHandIn};
 
 use crate::chair::{Chair, Held, Spent};
 use std::alloc::{AllocError, Global};
@@ -10,7 +10,7 @@ use std::sync::Wait;
 /// What the lock keeps. A view is plain data of one chair, which exists in proofs alone.
 pub trait Keeper<B> {
     ghost use Rattle.std.specs.Prelude.{List, ◌<◌};
-    ghost use Rattle.turn.specs.Chairs.{lock, place, view};
+    ghost use Rattle.turn.specs.Chairs.{lock, chair_place, chair_view};
 
     type View;
 
@@ -40,8 +40,8 @@ pub trait Outcome<B, V> {
 /// one of this crate's locks.
 pub trait Turn<B, K: Keeper<B>>: Sized + Sync {
     ghost use Rattle.std.specs.Prelude.{◌≡◌, ℕ, ◌+◌, ◌*◌, ◌^◌, ◌<◌, ◌≤◌, length, map, replicate, IfOk, IfErr};
-    ghost use Rattle.turn.specs.Chairs.{LockId, lock, place, view, entries, IsOutside, IsInside, IsSameChair};
-    ghost use Rattle.turn.specs.Chairs.{AreFreshChairs, AreAllChairs, Stands, MayHandIn};
+    ghost use Rattle.turn.specs.Chairs.{ChairLockId, lock, chair_place, chair_view, entries, IsChairOutside, IsChairInside, IsSameChair};
+    ghost use Rattle.turn.specs.Chairs.{AreFreshChairs, AreAllChairs, ChairStands, ChairMayHandIn};
 
     /// How often a chair may enter.
     const ENTRIES: u64;
@@ -49,7 +49,7 @@ pub trait Turn<B, K: Keeper<B>>: Sized + Sync {
     ghost ENTRIES: { ℕ };
 
     // Which lock it is. A chair fits the lock whose name it has.
-    ghost id: { Self → LockId };
+    ghost id: { Self → ChairLockId };
 
     // How many chairs it has.
     ghost size: { Self → ℕ };
@@ -70,28 +70,28 @@ pub trait Turn<B, K: Keeper<B>>: Sized + Sync {
     /// [`Spent`] if the chair has entered [`ENTRIES`](Turn::ENTRIES) times; then nothing has changed.
     fn enter<R: Wait>(&self, rt: &R, chair: &mut Chair<B, K>) -> Result<(Held, B), Spent>
         requires own { lock chair.old ≡ id self.now }
-        requires outside { IsOutside chair.old }
+        requires outside { IsChairOutside chair.old }
         ensures entered { IfOk result (λ r.
             (entries chair.old < ENTRIES) × (entries chair.new ≡ entries chair.old + 1)
-            × IsSameChair chair.old chair.new × (view chair.new ≡ view chair.old)
-            × IsInside chair.new r.0 r.1) }
-        ensures fact { IfOk result (λ r. Stands K.fact r.1 (place chair.old) (view chair.old)) }
+            × IsSameChair chair.old chair.new × (chair_view chair.new ≡ chair_view chair.old)
+            × IsChairInside chair.new r.0 r.1) }
+        ensures fact { IfOk result (λ r. ChairStands K.fact r.1 (chair_place chair.old) (chair_view chair.old)) }
         ensures spent { IfErr result (λ _. (entries chair.old ≡ ENTRIES) × (chair.new ≡ chair.old)) };
 
     /// Hands the book in and lets the next one enter. It waits for nothing and takes no memory.
     fn leave<M: Outcome<B, K::View>>(&self, chair: &mut Chair<B, K>, held: Held, book: B)
         requires own { lock chair.old ≡ id self.now }
-        requires inside { (found : B) × IsInside chair.old held found
-            × MayHandIn K.fact M.then found book (place chair.old) (view chair.old) }
+        requires inside { (found : B) × IsChairInside chair.old held found
+            × ChairMayHandIn K.fact M.then found book (chair_place chair.old) (chair_view chair.old) }
         ensures left { IsSameChair chair.old chair.new × (entries chair.new ≡ entries chair.old)
-            × IsOutside chair.new }
-        ensures then { (found : B) → IsInside chair.old held found
-            → M.then found book (place chair.old) (view chair.old) (view chair.new) };
+            × IsChairOutside chair.new }
+        ensures then { (found : B) → IsChairInside chair.old held found
+            → M.then found book (chair_place chair.old) (chair_view chair.old) (chair_view chair.new) };
 
     /// Takes the lock apart, with all its chairs in the order of their places. It waits for nothing and takes no memory.
     fn close(self, chairs: Vec<Chair<B, K>>) -> B
         requires { AreAllChairs (id self) (size self) chairs.items }
-        ensures { K.fact result (map view chairs.items) };
+        ensures { K.fact result (map chair_view chairs.items) };
 
     // How many times a chair of the lock may enter.
     ghost limits: { (l : Self) → (id l).limit ≡ ENTRIES };

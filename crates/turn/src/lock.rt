@@ -33,11 +33,11 @@ impl<B, K: Keeper<B>, W: Board> TableRule<Option<B>, ChairRun<ChairState<B, K::V
     for TicketRule<K, W> {
     ghost use Rattle.turn.specs.ChairRuns.{DealtChairs};
     ghost use Rattle.turn.specs.Tickets.{TicketTurns};
-    ghost use Rattle.turn.specs.SeatSteps.{fresh_run};
+    ghost use Rattle.turn.specs.SeatSteps.{fresh_seat_run};
 
     ghost holds = { λ z. DealtChairs z.seats (TicketTurns K.fact (W.shows z.seats) z.entries) };
 
-    ghost first = { λ z. fresh_run (K.first z.book.value) 0 z.seats };
+    ghost first = { λ z. fresh_seat_run (K.first z.book.value) 0 z.seats };
 }
 
 struct Draw;
@@ -77,11 +77,11 @@ struct Gather<K> {
 impl<B, K: Keeper<B>> Join<ChairRun<ChairState<B, K::View>>> for Gather<K> {
     ghost use Rattle.std.specs.Prelude.{false};
     ghost use Rattle.turn.specs.ChairRuns.{chair_run, both_chairs};
-    ghost use Rattle.turn.specs.SeatSteps.{fresh};
+    ghost use Rattle.turn.specs.SeatSteps.{fresh_seat};
 
     ghost both = { λ h g. both_chairs h g };
 
-    ghost spent = { chair_run false 0 (fresh K.nobody) [] };
+    ghost spent = { chair_run false 0 (fresh_seat K.nobody) [] };
 }
 
 struct StepOut<M> {
@@ -121,9 +121,9 @@ pub type TicketLock<B, K, const ENTRIES: u64> = TurnLock<B, K, TicketBoard, ENTR
 pub type ArrayLock<B, K, const ENTRIES: u64> = TurnLock<B, K, ArrayBoard, ENTRIES>;
 
 impl<B, K: Keeper<B>, W: Board, const ENTRIES: u64> TurnLock<B, K, W, ENTRIES> {
-    ghost use Rattle.turn.specs.SeatSteps.{fresh_run, seat_with, seat_at_stage, IsSeatAtStage, StepsIn};
+    ghost use Rattle.turn.specs.SeatSteps.{fresh_seat_run, seat_with, seat_at_stage, IsSeatAtStage, StepsIn};
     ghost use Rattle.turn.specs.ChairRuns.{chairs_of};
-    ghost use Rattle.turn.specs.Chairs.{lock_id, chair_state_of, AreFreshChairs, AreAllChairs, Stands, MayHandIn};
+    ghost use Rattle.turn.specs.Chairs.{chair_lock_id, chair_state_of, AreFreshChairs, AreAllChairs, ChairStands, ChairMayHandIn};
 
     // The step 'draw': one addition to the next number. The chair waits with the number found.
     fn draw(&self, seat: &mut LockSeat<B, K::View>) -> u64
@@ -236,7 +236,7 @@ impl<B, K: Keeper<B>, W: Board, const ENTRIES: u64> TurnLock<B, K, W, ENTRIES> {
         requires waits { IsSeatAtStage (Waiting number) seat.old.me }
         ensures own { seat.new.table_id ≡ seat.old.table_id }
         ensures inside { seat.new.me ≡ seat_at_stage (Inside number result) seat.old.me }
-        ensures fact { Stands K.fact result seat.old.me.0.place seat.old.me.0.lead.view }
+        ensures fact { ChairStands K.fact result seat.old.me.0.place seat.old.me.0.lead.view }
     {
         self.wait_for_turn(rt, seat, number);
         self.take_book(seat)
@@ -248,7 +248,7 @@ impl<B, K: Keeper<B>, W: Board, const ENTRIES: u64> TurnLock<B, K, W, ENTRIES> {
         requires own { seat.old.table_id ≡ self.now.table.shared.table_id }
         requires small { number + 1 < 2 ^ 64 }
         requires inside { (found : B) × IsSeatAtStage (Inside number found) seat.old.me
-            × MayHandIn K.fact M.then found book seat.old.me.0.place seat.old.me.0.lead.view }
+            × ChairMayHandIn K.fact M.then found book seat.old.me.0.place seat.old.me.0.lead.view }
         ensures own { seat.new.table_id ≡ seat.old.table_id }
         ensures outside { seat.new.me
             ≡ seat_with seat.old.me.0.place Outside seat.old.me.0.lead.entries
@@ -278,13 +278,13 @@ impl<B, K: Keeper<B>, W: Board, const ENTRIES: u64> TurnLock<B, K, W, ENTRIES> {
     fn deal(&self, mut rest: LockSeat<B, K::View>, mut chairs: Vec<Chair<B, K>>) -> Vec<Chair<B, K>>
         requires own { rest.table_id ≡ self.now.table.shared.table_id }
         requires whole { rest.me ≡ (
-          fresh_run (K.first self.now.table.shared.key.book.value) 0
+          fresh_seat_run (K.first self.now.table.shared.key.book.value) 0
               self.now.layout.seats,
           [],
         ) }
         requires room { (chairs.items ≡ []) × (self.now.layout.seats ≤ vec_capacity chairs) }
         ensures all { length result.items ≡ self.now.layout.seats }
-        ensures fresh { AreFreshChairs (lock_id self.now.table.shared.table_id ENTRIES)
+        ensures fresh { AreFreshChairs (chair_lock_id self.now.table.shared.table_id ENTRIES)
             (K.first self.now.table.shared.key.book.value) result.items }
     {
         for _ in 0..self.layout.seats {
@@ -296,7 +296,7 @@ impl<B, K: Keeper<B>, W: Board, const ENTRIES: u64> TurnLock<B, K, W, ENTRIES> {
 
     // Takes the chairs in, the last one first, so that one seat has all places.
     fn gather(&self, mut chairs: Vec<Chair<B, K>>) -> LockSeat<B, K::View>
-        requires { AreAllChairs (lock_id self.now.table.shared.table_id ENTRIES) self.now.layout.seats
+        requires { AreAllChairs (chair_lock_id self.now.table.shared.table_id ENTRIES) self.now.layout.seats
             chairs.items }
         ensures own { result.table_id ≡ self.now.table.shared.table_id }
         ensures free { result.me.1 ≡ [] }
@@ -318,13 +318,13 @@ impl<B, K: Keeper<B>, W: Board, const ENTRIES: u64> TurnLock<B, K, W, ENTRIES> {
 
 impl<B: Send, K: Keeper<B>, W: Board + Sync, const ENTRIES: u64> Turn<B, K>
     for TurnLock<B, K, W, ENTRIES> {
-    ghost use Rattle.turn.specs.Chairs.{lock_id, view, AreAllChairs};
+    ghost use Rattle.turn.specs.Chairs.{chair_lock_id, chair_view, AreAllChairs};
 
     const ENTRIES: u64 = ENTRIES;
 
     ghost ENTRIES = { ENTRIES };
 
-    ghost id = { λ l. lock_id l.table.shared.table_id ENTRIES };
+    ghost id = { λ l. chair_lock_id l.table.shared.table_id ENTRIES };
 
     ghost size = { λ l. l.layout.seats };
 
@@ -371,9 +371,9 @@ impl<B: Send, K: Keeper<B>, W: Board + Sync, const ENTRIES: u64> Turn<B, K>
     }
 
     fn close(self, chairs: Vec<Chair<B, K>>) -> B
-        requires { AreAllChairs (lock_id self.table.shared.table_id ENTRIES) self.layout.seats
+        requires { AreAllChairs (chair_lock_id self.table.shared.table_id ENTRIES) self.layout.seats
             chairs.items }
-        ensures { K.fact result (map view chairs.items) }
+        ensures { K.fact result (map chair_view chairs.items) }
     {
         let whole = self.gather(chairs);
         let TurnLock {

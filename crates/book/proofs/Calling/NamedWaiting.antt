@@ -13,31 +13,31 @@ use Rattle.journal.specs.Sizes.{Sizes}
 use Rattle.journal.specs.DidEvent.{event, did}
 use Rattle.journal.specs.WellFormed.{KindInRange, MayFollow}
 use Rattle.journal.specs.Deadlocks.{IsDeadlock}
-use Rattle.journal.proofs.Journals.WellFormedLast.{each_push}
+use Rattle.journal.proofs.Journals.WellFormedLast.{well_formed_push}
 use Rattle.lockq.specs.LockQueues.{lock_at, unheld_lock, lock_line}
 use Rattle.journal.specs.declared.closing.Awaited.{Awaited}
 use Rattle.journal.specs.declared.closing.Awaited.TheVariants.{Grant, Departure, Signal}
 use Rattle.journal.specs.Closing.{awaited_kind}
-use Rattle.book.specs.Lines.{IsLock}
+use Rattle.book.specs.Lines.{HasLineOfLock}
 use Rattle.book.specs.State.{State}
 use Rattle.book.specs.Messages.{message_has_come}
 use Rattle.book.specs.Told.{Represents, IsToldBySome}
-use Rattle.book.specs.Waiting.{IsDoneWaiting, HasClosed, IsNamed, WaitsInVain}
+use Rattle.book.specs.Waiting.{IsDoneWaiting, HasClosedBeforeWaiting, IsNamedWaiting, WaitsInVain}
 use Rattle.book.proofs.Parts.Each.{each_is_at}
 use Rattle.book.proofs.Told.Flags.{last_flag_watch}
 use Rattle.book.proofs.Told.NamedReady.{none_ready_deadlock, deadlock_none_ready}
 use Rattle.book.proofs.Calling.WaitingPlaces.{WaitsInVainAt, IsDoneWaitingAt, waits_map}
 
 -- numbers of the book after an event that closed p's interval
-pub record StandsAfter (b : State) (p : ℕ) (k : Kind) : Type 0 where
+pub record NamedStandsAfter (b : State) (p : ℕ) (k : Kind) : Type 0 where
   pub mail : length b.awaits ≡ length b.transit
   pub within : p < length b.transit
   pub lock : (l : ℕ) → k ≡ Release l → l < length b.locks.locks
   pub next : (l q : ℕ) → k ≡ Release l → (lock_at b.locks l).holder ≡ Some q → q < length b.awaits
   pub flag : (f : ℕ) → k ≡ Set f → f < length b.flags
 
-pub stands_after : (b : State) (p : ℕ) (k : Kind) → HasClosed b p k → StandsAfter b p k
-stands_after b p k closed =
+pub named_stands_after : (b : State) (p : ℕ) (k : Kind) → HasClosedBeforeWaiting b p k → NamedStandsAfter b p k
+named_stands_after b p k closed =
     let awaits_long = told.awaits.long in
     let transit_long = told.transit.long in
     let processor = may.processor in
@@ -57,7 +57,7 @@ stands_after b p k closed =
     told = closed.told
 
     may : MayFollow s closed.history (event p k)
-    may = ((each_push s closed.history (event p k)).0 told.well_formed).1
+    may = ((well_formed_push s closed.history (event p k)).0 told.well_formed).1
 
     range_lock : (l : ℕ) → k ≡ Release l → l < s.locks
     range_lock l is = subst (λ (x : Kind). KindInRange s x) is may.in_range
@@ -65,8 +65,8 @@ stands_after b p k closed =
     holder : (l q : ℕ) → l < s.locks → (lock_at b.locks l).holder ≡ Some q → q < length b.awaits
     holder l q lt holds =
         let h = did closed.history p k in
-        let is : IsLock s.processors h l (lock_at b.locks l) =
-        each_is_at s.locks (IsLock s.processors h) b.locks.locks l (unheld_lock b.locks.processors) told.locks lt in
+        let is : HasLineOfLock s.processors h l (lock_at b.locks l) =
+        each_is_at s.locks (HasLineOfLock s.processors h) b.locks.locks l (unheld_lock b.locks.processors) told.locks lt in
         let first : slice_get (lock_line (lock_at b.locks l)) 0 ≡ Some q =
         ap (λ (o : Option ℕ). slice_get (lock_line (record { holder = o; queue = (lock_at b.locks l).queue; time = [] })) 0)
         holds in
@@ -78,11 +78,11 @@ stands_after b p k closed =
         ]
 
 -- who holds the released lock next is among those whose waits the book keeps
-pub next_within : (b : State) (p : ℕ) (k : Kind) (l : ℕ) (awaits : List (Option Awaited)) → StandsAfter b p k → k ≡ Release l
+pub named_next_within : (b : State) (p : ℕ) (k : Kind) (l : ℕ) (awaits : List (Option Awaited)) → NamedStandsAfter b p k → k ≡ Release l
     → b.awaits ≡ map (option_map awaited_kind) awaits → (o : Option ℕ) → o ≡ (lock_at b.locks l).holder
     → IfSome o (λ q. q < length awaits)
-next_within b p k l awaits stands released are None is = tt
-next_within b p k l awaits stands released are (Some q) is =
+named_next_within b p k l awaits stands released are None is = tt
+named_next_within b p k l awaits stands released are (Some q) is =
     subst (λ (n : ℕ). q < n)
     (ap (λ (ws : List (Option Kind)). length ws) are ∙ length-map awaits (option_map awaited_kind))
     (stands.next l q released (sym is))
@@ -186,7 +186,7 @@ pub named_release : {b now : State} {awaits : List (Option Awaited)} {flags : Li
     → (found : List ℕ)
     → Has found q ↔ ((next ≡ Some q) × (q < most_processors) × (slice_get awaits q ≡ Some (Some (Grant l)))
     × (message_has_come flags b.transit q (Acquire l) ≡ true))
-    → Has found q ↔ IsNamed now p (Release l) q
+    → Has found q ↔ IsNamedWaiting now p (Release l) q
 named_release {b} {now} {awaits} {flags} read p l q next next_is found is = (
   (λ has. (let x = is.0 has in (sym holder ∙ x.0, x.1, (done_waiting_for read (Grant l) q).0 (x.2, x.3)))),
   (λ named. (let come = (done_waiting_for read (Grant l) q).1 named.2 in is.1 (holder ∙ named.0, named.1, come.0, come.1))),
@@ -201,7 +201,7 @@ pub named_arrival : {b now : State} {awaits : List (Option Awaited)} {flags : Li
     → ready ≡ true → (found : List ℕ)
     → Has found q ↔ ((q < most_processors) × (slice_get awaits q ≡ Some (Some Departure))
     × (message_has_come flags b.transit q Depart ≡ true))
-    → Has found q ↔ IsNamed now p Arrive q
+    → Has found q ↔ IsNamedWaiting now p Arrive q
 named_arrival {b} {now} {awaits} {flags} read p q ready is_ready may found is = (
   (λ has. (let x = is.0 has in (own, x.0, (done_waiting_for read Departure q).0 (x.1, x.2)))),
   (λ named. (let come = (done_waiting_for read Departure q).1 named.2 in is.1 (named.1, come.0, come.1))),
@@ -215,7 +215,7 @@ pub named_set : {b now : State} {awaits : List (Option Awaited)} {flags : List (
     → IsWaitingRead b now awaits flags → (p f q : ℕ) (found : List ℕ)
     → Has found q ↔ ((q < most_processors) × (slice_get awaits q ≡ Some (Some (Signal f)))
     × (message_has_come flags b.transit q (Await f) ≡ true))
-    → Has found q ↔ IsNamed now p (Set f) q
+    → Has found q ↔ IsNamedWaiting now p (Set f) q
 named_set {b} {now} {awaits} {flags} read p f q found is = (
   (λ has. (let x = is.0 has in (x.0, (done_waiting_for read (Signal f) q).0 (x.1, x.2)))),
   (λ named. (let come = (done_waiting_for read (Signal f) q).1 named.1 in is.1 (named.0, come.0, come.1))),

@@ -11,12 +11,12 @@ pub record IsPosting (all left : List Letter) (transit : List (Option Letter)) :
   pub posted : transit ≡ replicate (length left) None ++ map (λ (m : Letter). Some m) sent
 
 -- a list of one item over and over
-pub all_same : {A : Type 0} (xs : List A) (a : A) → ((i : ℕ) → i < length xs → slice_get xs i ≡ Some a)
+pub posting_all_same : {A : Type 0} (xs : List A) (a : A) → ((i : ℕ) → i < length xs → slice_get xs i ≡ Some a)
     → xs ≡ replicate (length xs) a
-all_same [] a same = refl
-all_same (x ∷ xs) a same =
+posting_all_same [] a same = refl
+posting_all_same (x ∷ xs) a same =
     ap (λ y. y ∷ xs) (same_Some x a (same 0 (omega arith)))
-    ∙ ap (λ ys. a ∷ ys) (all_same xs a (λ i lt. same (suc i) (omega arith)))
+    ∙ ap (λ ys. a ∷ ys) (posting_all_same xs a (λ i lt. same (suc i) (omega arith)))
 
 -- the last of the empty places is filled
 posting_fills : {A : Type 0} (n : ℕ) (ys : List (Option A)) (v : Option A)

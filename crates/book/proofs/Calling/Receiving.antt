@@ -27,17 +27,17 @@ use Rattle.journal.specs.Closing.{awaited_kind}
 use Rattle.book.specs.Flags.{IsFlag}
 use Rattle.book.specs.ClosedIntervals.{AreClosedFromFirst, IsTight}
 use Rattle.book.specs.BarrierStages.{IsAtBarrierStage}
-use Rattle.book.specs.State.{State, time_of}
-use Rattle.book.specs.Messages.{signal_message, message_among, message_for, message_has_come, sent_with_message, brought}
-use Rattle.book.specs.Transitions.{trimmed_by, book_barrier_left, book_taken}
+use Rattle.book.specs.State.{State, state_time_of}
+use Rattle.book.specs.Messages.{signal_message, message_among, message_for, message_has_come, sent_with_message, brought_by_message}
+use Rattle.book.specs.Transitions.{transition_trimmed_by, transition_barrier_left, transition_taken}
 use Rattle.book.specs.Told.{Represents}
-use Rattle.book.specs.Calls.{IsSignalled, AllowsSignal, AllowsTake, AllowsSomeTake, AllowsTrim}
+use Rattle.book.specs.Calls.{IsSignalledForCall, AllowsSignalOfCall, AllowsTakeCall, AllowsSomeTakeCall, AllowsTrimOfCall}
 use Rattle.book.proofs.Parts.Each.{each_is_at, each_item_at}
-use Rattle.book.proofs.Parts.BarrierStages.{stage_free}
+use Rattle.book.proofs.Parts.BarrierStages.{barrier_stage_free}
 use Rattle.book.proofs.Told.Flags.{last_flag_watch}
-use Rattle.book.proofs.Told.TakingMessages.{waits_taking, message_is, message_come, no_mail_waits}
-use Rattle.book.proofs.Calling.Closing.{own_read, same_default}
-use Rattle.book.proofs.Parts.TimesAndAwaits.{is_processor, own_time_stamp}
+use Rattle.book.proofs.Told.TakingMessages.{waits_taking, message_is, message_come, taking_no_mail_waits}
+use Rattle.book.proofs.Calling.Closing.{closing_own_read, closing_same_default}
+use Rattle.book.proofs.Parts.TimesAndAwaits.{times_is_processor, own_time_stamp}
 
 -- p waits for this
 pub record IsReceiving (b : State) (p : ℕ) (k : Kind) : Type 0 where
@@ -46,8 +46,8 @@ pub record IsReceiving (b : State) (p : ℕ) (k : Kind) : Type 0 where
   pub times : p < length b.times
   pub awaits : p < length b.awaits
   pub journal : p < b.journal.processors
-  pub own_long : length (time_of b p) ≡ length b.times
-  pub flag : (f : ℕ) → k ≡ Await f → AllowsSignal b.closed b.flags (time_of b p) f
+  pub own_long : length (state_time_of b p) ≡ length b.times
+  pub flag : (f : ℕ) → k ≡ Await f → AllowsSignalOfCall b.closed b.flags (state_time_of b p) f
   pub none : (f : ℕ) → k ≡ Await f → b.transit ≡ slice_set b.transit p None
   pub long : (m : Letter) → message_for b p k ≡ Some m → length m.time ≡ length b.times
   pub free : (m : Letter) → message_for b p k ≡ Some m → k ≡ Depart → slice_get b.barrier.stages p ≡ Some Free
@@ -61,7 +61,7 @@ pub record IsReceiving (b : State) (p : ℕ) (k : Kind) : Type 0 where
 receiving_by : (s : Sizes) (h : List Event) (b : State) (p : ℕ) (k : Kind) → Represents s h b
     → slice_get b.awaits p ≡ Some (Some k) → IsReceiving b p k
 receiving_by s h b p k told waits =
-    let lt = is_processor s h b p (Some k) told waits in
+    let lt = times_is_processor s h b p (Some k) told waits in
     let transit_long = told.transit.long in
     let times_long = told.times.long in
     let awaits_long = told.awaits.long in
@@ -76,7 +76,7 @@ receiving_by s h b p k told waits =
       journal = omega arith;
       own_long = omega arith;
       flag = λ f is. signals f (subst (λ a. slice_get b.awaits p ≡ Some (Some a)) is waits);
-      none = λ f is. no_mail_waits s h b p told f (subst (λ a. slice_get b.awaits p ≡ Some (Some a)) is waits);
+      none = λ f is. taking_no_mail_waits s h b p told f (subst (λ a. slice_get b.awaits p ≡ Some (Some a)) is waits);
       long = λ m is. (let long = (message_is s h b p told k m waits is).time.long in omega arith);
       free = λ m is departs. departing
           (subst (λ a. Allowed s h p a) departs (message_is s h b p told k m waits is).allowed) lt;
@@ -97,11 +97,11 @@ receiving_by s h b p k told waits =
         let stage = each_is_at s.processors (IsAtBarrierStage h x.complete) b.barrier.stages p Away x.stages less in
         each_item_at s.processors (IsAtBarrierStage h x.complete) b.barrier.stages p Away x.stages less
         ∙ ap (λ (y : Stage). Some y)
-        (sym (stage_free h x.complete p (slice_index_or b.barrier.stages p Away) more (omega arith) stage))
+        (sym (barrier_stage_free h x.complete p (slice_index_or b.barrier.stages p Away) more (omega arith) stage))
 
-    signals : (f : ℕ) → slice_get b.awaits p ≡ Some (Some (Await f)) → AllowsSignal b.closed b.flags (time_of b p) f
+    signals : (f : ℕ) → slice_get b.awaits p ≡ Some (Some (Await f)) → AllowsSignalOfCall b.closed b.flags (state_time_of b p) f
     signals f waits_f =
-        let lt = is_processor s h b p (Some k) told waits in
+        let lt = times_is_processor s h b p (Some k) told waits in
         let last = last_flag_watch h p f (told.awaits.each p (Some (Await f)) waits_f) in
         let range : f < s.flags = (told.well_formed last.0 (event p (Watch f)) last.1.does).in_range in
         let flags_long = told.flags.long in
@@ -117,16 +117,16 @@ receiving_by s h b p k told waits =
               record {
                 old_long = omega arith;
                 new_long = omega arith;
-                none_trimmed = λ q. told.within p q (time_of b p) (slice_get-get_or b.times p [] (omega arith));
+                none_trimmed = λ q. told.within p q (state_time_of b p) (slice_get-get_or b.times p [] (omega arith));
               };
         }
 
-pub receiving : (b : State) (p : ℕ) (k : Kind) → AllowsTake b p k → IsReceiving b p k
+pub receiving : (b : State) (p : ℕ) (k : Kind) → AllowsTakeCall b p k → IsReceiving b p k
 receiving b p k may = receiving_by may.by.sizes may.by.history b p k may.by.told may.waits
 
 -- what was read is the kind that p waits for
 pub receiving_waits_read : (b now : State) (all : List (Option Awaited)) (p : ℕ) (o : Option Awaited)
-    → b.awaits ≡ map (option_map awaited_kind) all → b ≡ now → (may : AllowsSomeTake now p) → o ≡ slice_index_or all p o
+    → b.awaits ≡ map (option_map awaited_kind) all → b ≡ now → (may : AllowsSomeTakeCall now p) → o ≡ slice_index_or all p o
     → option_map awaited_kind o ≡ Some may.kind
 receiving_waits_read b now all p o kept same may is =
     ap (option_map awaited_kind) is ∙ sym (get_or-map (option_map awaited_kind) all p o)
@@ -136,7 +136,7 @@ receiving_waits_read b now all p o kept same may is =
 
 -- so there was something to read
 pub receiving_not_idle : (b now : State) (all : List (Option Awaited)) (p : ℕ) (o : Option Awaited)
-    → b.awaits ≡ map (option_map awaited_kind) all → b ≡ now → AllowsSomeTake now p → o ≡ slice_index_or all p o → o ≡ None
+    → b.awaits ≡ map (option_map awaited_kind) all → b ≡ now → AllowsSomeTakeCall now p → o ≡ slice_index_or all p o → o ≡ None
     → ⊥
 receiving_not_idle b now all p o kept same may is none =
     let read = receiving_waits_read b now all p o kept same may is in
@@ -145,7 +145,7 @@ receiving_not_idle b now all p o kept same may is none =
 
 -- and p receives it
 pub reads_receiving : (b now : State) (all : List (Option Awaited)) (p : ℕ) (o : Option Awaited)
-    → b.awaits ≡ map (option_map awaited_kind) all → b ≡ now → AllowsSomeTake now p → o ≡ slice_index_or all p o
+    → b.awaits ≡ map (option_map awaited_kind) all → b ≡ now → AllowsSomeTakeCall now p → o ≡ slice_index_or all p o
     → (a : Awaited) → o ≡ Some a → IsReceiving b p (awaited_kind a)
 reads_receiving b now all p o kept same may is a some =
     let r = receiving now p may.kind may.take in
@@ -155,10 +155,10 @@ reads_receiving b now all p o kept same may is a some =
     (subst (λ x. IsReceiving x p may.kind) (sym same) r)
 
 -- a list of timestamps with another one of the same length
-pub all_long_set : (times : List (List ℕ)) (p : ℕ) (u : List ℕ) (n : ℕ) → length u ≡ n
+pub receiving_all_long_set : (times : List (List ℕ)) (p : ℕ) (u : List ℕ) (n : ℕ) → length u ≡ n
     → ((i : ℕ) (t : List ℕ) → slice_get times i ≡ Some t → length t ≡ n) → (i : ℕ) (t : List ℕ)
     → slice_get (slice_set times p u) i ≡ Some t → length t ≡ n
-all_long_set times p u n long all i t at = elim (cases_eq i p) [
+receiving_all_long_set times p u n long all i t at = elim (cases_eq i p) [
   | inl is ↦ (let P : ℕ → Type 0 = λ x. slice_get (slice_set times p u) x ≡ Some t in
       subst (λ (v : List ℕ). length v ≡ n) (slice_get-set_found times p u t (subst P is at)) long)
   | inr isnt ↦ all i t (sym (slice_get-set_other times p i u isnt) ∙ at)
@@ -166,18 +166,18 @@ all_long_set times p u n long all i t at = elim (cases_eq i p) [
 
 -- what may be trimmed once p's timestamp has risen
 pub receiving_allows_trim : (b : State) (p : ℕ) (k : Kind) (times : List (List ℕ)) (before u : List ℕ) → IsReceiving b p k
-    → times ≡ slice_set b.times p u → length u ≡ length b.times → before ≡ time_of b p
-    → AllowsTrim b.closed times p before
+    → times ≡ slice_set b.times p u → length u ≡ length b.times → before ≡ state_time_of b p
+    → AllowsTrimOfCall b.closed times p before
 receiving_allows_trim b p k times before u w is long old =
     let same = length-set b.times p u in
     let owners = w.owners in
     let within = w.times in
     let own_long = w.own_long in
-    let back = set-set b.times p u (time_of b p) ∙ set-get_or b.times p [] in
-    subst₂ (λ ts t. AllowsTrim b.closed ts p t) (sym is) (sym old) (record {
+    let back = set-set b.times p u (state_time_of b p) ∙ set-get_or b.times p [] in
+    subst₂ (λ ts t. AllowsTrimOfCall b.closed ts p t) (sym is) (sym old) (record {
       within = omega arith;
       owners = omega arith;
-      long = all_long_set b.times p u (length (slice_set b.times p u)) (long ∙ sym same)
+      long = receiving_all_long_set b.times p u (length (slice_set b.times p u)) (long ∙ sym same)
           (λ i t at. w.all_long i t at ∙ sym same);
       old_long = omega arith;
       from = w.from;
@@ -185,26 +185,26 @@ receiving_allows_trim b p k times before u w is long old =
     })
 
 -- the journal after one event
-pub log_is : (a b c : Log) (owing : ℕ) (e : Event) → b ≡ record a { room = b.room }
+pub receiving_log_is : (a b c : Log) (owing : ℕ) (e : Event) → b ≡ record a { room = b.room }
     → c ≡ record b { events = b.events ++ e ∷ []; room = b.room - 1 }
     → record c { room = owing } ≡ record a { events = a.events ++ e ∷ []; room = owing }
-log_is a b c owing e first second = cc
+receiving_log_is a b c owing e first second = cc
 
 -- an event that takes has no address
-pub taking_address : (n : ℕ) (k : Kind) → IsTrue (is_taking k) → AddressInRange n k
-taking_address n (Load a v) takes = absurd cc
-taking_address n (Store a v) takes = absurd cc
-taking_address n _ takes = tt
+pub receiving_address : (n : ℕ) (k : Kind) → IsTrue (is_taking k) → AddressInRange n k
+receiving_address n (Load a v) takes = absurd cc
+receiving_address n (Store a v) takes = absurd cc
+receiving_address n _ takes = tt
 
 -- the book after p took a message, for which it waited: each part that changes, and the others as they were
 pub record HasReceived (b : State) (p : ℕ) (k : Kind) (m : Letter) (new : State) : Type 0 where
   pub takes : IsTrue (is_taking k)
   pub journal : new.journal ≡ record b.journal { events = b.journal.events ++ event p k ∷ [] }
-  pub times : new.times ≡ slice_set b.times p (join (time_of b p) m.time)
-  pub closed : new.closed ≡ trimmed_by b.closed new.times (length new.times)
+  pub times : new.times ≡ slice_set b.times p (join (state_time_of b p) m.time)
+  pub closed : new.closed ≡ transition_trimmed_by b.closed new.times (length new.times)
   pub awaits : new.awaits ≡ slice_set b.awaits p None
   pub transit : new.transit ≡ slice_set b.transit p None
-  pub barrier : new.barrier ≡ book_barrier_left k b.barrier p
+  pub barrier : new.barrier ≡ transition_barrier_left k b.barrier p
   pub others : new ≡ record b {
     journal = new.journal;
     closed = new.closed;
@@ -215,7 +215,7 @@ pub record HasReceived (b : State) (p : ℕ) (k : Kind) (m : Letter) (new : Stat
   }
 
 pub received_book_is : (b : State) (p : ℕ) (k : Kind) (m : Letter) (new : State) → HasReceived b p k m new
-    → new ≡ book_taken b p k m
+    → new ≡ transition_taken b p k m
 received_book_is b p k m new is =
     let none = takes_on k is.takes in
     let journal = is.journal in
@@ -233,7 +233,7 @@ received_book_is b p k m new is =
     takes_on _ takes = absurd cc
 
 -- r is read of the book: whether what p waits for has come
-pub record IsComeRead (b now : State) (p : ℕ) (k : Kind) (r : Bool) : Type 0 where
+pub record IsReceivedComeRead (b now : State) (p : ℕ) (k : Kind) (r : Bool) : Type 0 where
   pub flags : List (Option (List ℕ))
   pub same : b ≡ now
   pub waits : IsReceiving b p k
@@ -241,9 +241,9 @@ pub record IsComeRead (b now : State) (p : ℕ) (k : Kind) (r : Bool) : Type 0 w
   pub is : r ≡ message_has_come flags b.transit p k
 
 -- what was read of what has come tells whether p is ready
-pub comes : {b now : State} {p : ℕ} {k : Kind} {r : Bool} → IsComeRead b now p k r → (s : Sizes) (h : List Event)
+pub receiving_comes : {b now : State} {p : ℕ} {k : Kind} {r : Bool} → IsReceivedComeRead b now p k r → (s : Sizes) (h : List Event)
     → Represents s h now → (r ≡ true) ↔ Ready s h p
-comes {b} {now} {p} {k} {r} read s h told =
+receiving_comes {b} {now} {p} {k} {r} read s h told =
     let come = read.waits.come s h (subst (λ x. Represents s h x) (sym read.same) told) in
     let all : r ≡ message_has_come b.flags b.transit p k =
     read.is ∙ ap (λ (fs : List (Option (List ℕ))). message_has_come fs b.transit p k) read.flags_are in
@@ -254,7 +254,7 @@ pub record IsFoundToReceive (b : State) (p : ℕ) (k : Kind) (m : Letter) : Type
   pub flags : List (Option (List ℕ))
   pub own : List ℕ
   pub flags_are : flags ≡ b.flags
-  pub own_is : own ≡ time_of b p
+  pub own_is : own ≡ state_time_of b p
   pub is : message_among b.closed flags b.transit own p k ≡ Some m
 
 -- the message that was received
@@ -267,36 +267,36 @@ received_is {b} {p} {k} {m} found =
 
 -- what a message brings is what was due
 pub received_brings : (b : State) (p : ℕ) (k : Kind) (m : Letter) → slice_get b.awaits p ≡ Some (Some k)
-    → message_for b p k ≡ Some m → m.notices ≡ brought b p
+    → message_for b p k ≡ Some m → m.notices ≡ brought_by_message b p
 received_brings b p k m waits is =
     sym (ap (λ (w : Option Kind). sent_with_message (option_and_then (message_for b p) w))
     (get_or_from_slice_get b.awaits p (Some k) None waits) ∙ ap sent_with_message is)
 
 -- what stands in the book of one who waits for a flag
-pub receiving_flag : (b now : State) (p f : ℕ) → b ≡ now → AllowsTake now p (Await f) → IsReceiving b p (Await f)
+pub receiving_flag : (b now : State) (p f : ℕ) → b ≡ now → AllowsTakeCall now p (Await f) → IsReceiving b p (Await f)
 receiving_flag b now p f same may = subst (λ x. IsReceiving x p (Await f)) (sym same) (receiving now p (Await f) may)
 
 -- of p, which waits for f, its timestamp own is read, and of f, which is set, its timestamp
-pub record IsSignalRead (b now : State) (p f : ℕ) (own time : List ℕ) : Type 0 where
+pub record IsReceivedSignalRead (b now : State) (p f : ℕ) (own time : List ℕ) : Type 0 where
   pub o : Option (List ℕ)
   pub same : b ≡ now
-  pub may : AllowsTake now p (Await f)
+  pub may : AllowsTakeCall now p (Await f)
   pub own_is : own ≡ slice_index_or b.times p own
   pub flag_is : o ≡ slice_index_or b.flags f o
   pub set : o ≡ Some time
 
 -- what was read of one who waits for a flag that is set
-pub signalled : {b now : State} {p f : ℕ} {own time : List ℕ} → IsSignalRead b now p f own time
-    → IsSignalled now p f own time
-signalled {b} {now} {p} {f} {own} {time} reads =
+pub receiving_signalled : {b now : State} {p f : ℕ} {own time : List ℕ} → IsReceivedSignalRead b now p f own time
+    → IsSignalledForCall now p f own time
+receiving_signalled {b} {now} {p} {f} {own} {time} reads =
     let w = receiving_flag b now p f reads.same reads.may in
     let flag = w.flag f refl in
-    let read = own_read b.times p own w.times reads.own_is in
+    let read = closing_own_read b.times p own w.times reads.own_is in
     let at : slice_index_or b.flags f None ≡ Some time =
-    sym (same_default b.flags f reads.o None flag.within) ∙ sym reads.flag_is ∙ reads.set in
-    subst (λ (x : State). IsSignalled x p f own time) reads.same (record {
+    sym (closing_same_default b.flags f reads.o None flag.within) ∙ sym reads.flag_is ∙ reads.set in
+    subst (λ (x : State). IsSignalledForCall x p f own time) reads.same (record {
       keeps = subst (λ (t : List ℕ). KeepsClosingsBetween b.closed t time) (sym read) (flag.keeps time at);
       brings = ap (λ (t : List ℕ). closings_between b.closed t time) read
           ∙ ap (λ (x : Option (List ℕ)). sent_with_message
-          (option_map (λ (t : List ℕ). signal_message b.closed t (time_of b p)) x)) (sym at);
+          (option_map (λ (t : List ℕ). signal_message b.closed t (state_time_of b p)) x)) (sym at);
     })

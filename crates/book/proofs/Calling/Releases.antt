@@ -15,35 +15,35 @@ use Rattle.interval.specs.SentIntervals.{ClosedInterval}
 use Rattle.interval.specs.Closings.{Closings, pushed}
 use Rattle.lockq.specs.LockQueues.{Locks, unheld_lock, lock_at, with_lock, lock_line, released_lock}
 use Rattle.transit.specs.Letters.{Letter}
-use Rattle.book.specs.Lines.{IsLock}
+use Rattle.book.specs.Lines.{HasLineOfLock}
 use Rattle.book.specs.Mail.{ComesByMail, IsMail}
-use Rattle.book.specs.State.{State, time_of}
-use Rattle.book.specs.Transitions.{addressed_grant, grant_to, book_handed_in, book_open_interval, book_closed_by, book_mail_passed, book_released}
-use Rattle.book.specs.Calls.{AllowsRelease, AllowsNotices}
+use Rattle.book.specs.State.{State, state_time_of}
+use Rattle.book.specs.Transitions.{transition_addressed_grant, transition_grant_to, transition_handed_in, transition_open_interval, transition_closed_by, transition_mail_passed, transition_released}
+use Rattle.book.specs.Calls.{AllowsReleaseCall, AllowsNoticesOfCall}
 use Rattle.book.specs.Told.{Represents}
 use Rattle.book.proofs.Parts.Each.{each_is_at}
 use Rattle.book.proofs.Parts.Mail.{no_mail}
-use Rattle.book.proofs.Parts.Lines.{idle_no_ask}
-use Rattle.book.proofs.Told.Locks.{lock_holder_first}
-use Rattle.book.proofs.Parts.TimesAndAwaits.{idle_awaits_none, is_processor, own_time_stamp}
+use Rattle.book.proofs.Parts.Lines.{line_idle_no_ask}
+use Rattle.book.proofs.Told.Locks.{told_lock_holder_first}
+use Rattle.book.proofs.Parts.TimesAndAwaits.{idle_awaits_none, times_is_processor, own_time_stamp}
 
 -- everyone with a timestamp may be sent what it lacks
-pub may_be_sent : (s : Sizes) (h : List Event) (b : State) (r : ℕ) → Represents s h b → r < s.processors
-    → AllowsNotices b.closed b.times r
-may_be_sent s h b r told lt =
+pub release_may_be_sent : (s : Sizes) (h : List Event) (b : State) (r : ℕ) → Represents s h b → r < s.processors
+    → AllowsNoticesOfCall b.closed b.times r
+release_may_be_sent s h b r told lt =
     let times_long = told.times.long in
     let own_long = (own_time_stamp s h b r told lt).long in
     let first_long = told.closed.first_long in
     record {
       within = omega arith;
       long = omega arith;
-      kept = λ q. told.within r q (time_of b r) (slice_get-get_or b.times r [] (omega arith));
+      kept = λ q. told.within r q (state_time_of b r) (slice_get-get_or b.times r [] (omega arith));
     }
 
 -- who asks for a lock that somebody holds has no message
-held_mail : (s : Sizes) (h : List Event) (p r i l : ℕ) (o : Option Letter) → Holds h p l → LastIs h r i (Ask l)
+release_held_mail : (s : Sizes) (h : List Event) (p r i l : ℕ) (o : Option Letter) → Holds h p l → LastIs h r i (Ask l)
     → IsMail s h r o → None ≡ o
-held_mail s h p r i l o held asks mail = no_mail s h r o never mail
+release_held_mail s h p r i l o held asks mail = no_mail s h r o never mail
   where
     never : (a : Kind) → ComesByMail a → ¬ Allowed s h r a
     never (Acquire m) posted (k, last, may) =
@@ -56,23 +56,23 @@ held_mail s h p r i l o held asks mail = no_mail s h r o never mail
     never _ posted allowed = absurd posted
 
 -- who gets the lock next
-pub record IsNextHolder (b : State) (p r : ℕ) : Type 0 where
+pub record IsNextHolderAfterRelease (b : State) (p r : ℕ) : Type 0 where
   pub apart : r ≢ p
-  pub sent : AllowsNotices b.closed b.times r
+  pub sent : AllowsNoticesOfCall b.closed b.times r
   pub none : slice_get b.transit r ≡ Some None
 
 -- what a release rests on
 pub record IsReleasing (b : State) (p l : ℕ) : Type 0 where
   pub lock : l < length b.locks.locks
   pub holder : (lock_at b.locks l).holder ≡ Some p
-  pub own_long : length (time_of b p) ≡ length b.closed.first
-  pub lock_long : length (time_of b p) ≡ b.locks.processors
-  pub next : (r : ℕ) → slice_get (lock_at b.locks l).queue 0 ≡ Some r → IsNextHolder b p r
+  pub own_long : length (state_time_of b p) ≡ length b.closed.first
+  pub lock_long : length (state_time_of b p) ≡ b.locks.processors
+  pub next : (r : ℕ) → slice_get (lock_at b.locks l).queue 0 ≡ Some r → IsNextHolderAfterRelease b p r
 
 releasing_by : (s : Sizes) (h : List Event) (b : State) (p l : ℕ) → Represents s h b → slice_get b.awaits p ≡ Some None
     → l < s.locks → Holds h p l → IsReleasing b p l
 releasing_by s h b p l told idle range held =
-    let lt = is_processor s h b p None told idle in
+    let lt = times_is_processor s h b p None told idle in
     let own_long = (own_time_stamp s h b p told lt).long in
     let first_long = told.closed.first_long in
     let locks_long = told.locks.long in
@@ -85,11 +85,11 @@ releasing_by s h b p l told idle range held =
       next = next;
     }
   where
-    lock : IsLock s.processors h l (lock_at b.locks l)
-    lock = each_is_at s.locks (IsLock s.processors h) b.locks.locks l (unheld_lock b.locks.processors) told.locks range
+    lock : HasLineOfLock s.processors h l (lock_at b.locks l)
+    lock = each_is_at s.locks (HasLineOfLock s.processors h) b.locks.locks l (unheld_lock b.locks.processors) told.locks range
 
     first : (lock_at b.locks l).holder ≡ Some p
-    first = lock_holder_first s.processors h p l (lock_at b.locks l).holder (lock_at b.locks l).queue
+    first = told_lock_holder_first s.processors h p l (lock_at b.locks l).holder (lock_at b.locks l).queue
         (lock_at b.locks l).time held lock
 
     asks : (r : ℕ) → slice_get (lock_at b.locks l).queue 0 ≡ Some r → (i : ℕ) × LastIs h r i (Ask l)
@@ -101,94 +101,94 @@ releasing_by s h b p l told idle range held =
           | inr zeroth ↦ absurd (cc (zeroth.0))
         ]
 
-    next : (r : ℕ) → slice_get (lock_at b.locks l).queue 0 ≡ Some r → IsNextHolder b p r
+    next : (r : ℕ) → slice_get (lock_at b.locks l).queue 0 ≡ Some r → IsNextHolderAfterRelease b p r
     next r at =
         let ask = asks r at in
         let lt = (told.well_formed ask.0 (record { processor = r; kind = Ask l }) ask.1.does).processor in
         let transit_long = told.transit.long in
         let read = slice_get-get_or b.transit r None (omega arith) in
         record {
-          apart = λ e. idle_no_ask h p l (idle_awaits_none s h b p told idle) ask.0
+          apart = λ e. line_idle_no_ask h p l (idle_awaits_none s h b p told idle) ask.0
               (subst (λ (x : ℕ). LastIs h x ask.0 (Ask l)) e ask.1);
-          sent = may_be_sent s h b r told lt;
+          sent = release_may_be_sent s h b r told lt;
           none = read ∙ ap (λ (x : Option Letter). Some x)
-              (sym (held_mail s h p r ask.0 l (slice_index_or b.transit r None) held ask.1
+              (sym (release_held_mail s h p r ask.0 l (slice_index_or b.transit r None) held ask.1
               (told.transit.each r (slice_index_or b.transit r None) read)));
         }
 
-pub releasing : (b : State) (p l : ℕ) (block : List Event) → AllowsRelease b p l block → IsReleasing b p l
+pub releasing : (b : State) (p l : ℕ) (block : List Event) → AllowsReleaseCall b p l block → IsReleasing b p l
 releasing b p l block may =
     let by = may.call.by in
     releasing_by by.sizes by.history b p l by.told may.call.hands_in.idle may.range may.held
 
-pub releases : (b now : State) (p l : ℕ) (block : List Event) → b ≡ now → AllowsRelease now p l block → IsReleasing b p l
+pub releases : (b now : State) (p l : ℕ) (block : List Event) → b ≡ now → AllowsReleaseCall now p l block → IsReleasing b p l
 releases b now p l block same may = subst (λ x. IsReleasing x p l) (sym same) (releasing now p l block may)
 
 -- the next one's grant is posted
 pub released_passes_some : (c : State) (queue t : List ℕ) (times : List (List ℕ)) (r : ℕ) (m : Letter)
-    → ((q : ℕ) → slice_get queue 0 ≡ Some q → slice_index_or times q [] ≡ time_of c q)
-    → Some (r, m) ≡ option_map (addressed_grant c.closed times t) (slice_get queue 0)
-    → slice_set c.transit r (Some m) ≡ book_mail_passed c queue t
+    → ((q : ℕ) → slice_get queue 0 ≡ Some q → slice_index_or times q [] ≡ state_time_of c q)
+    → Some (r, m) ≡ option_map (transition_addressed_grant c.closed times t) (slice_get queue 0)
+    → slice_set c.transit r (Some m) ≡ transition_mail_passed c queue t
 released_passes_some c [] t times r m same made = absurd (none-some (r, m) (sym made))
 released_passes_some c (q ∷ queue) t times r m same made =
-    let is = same_Some (r, m) (addressed_grant c.closed times t q) made in
+    let is = same_Some (r, m) (transition_addressed_grant c.closed times t q) made in
     ap (λ (x : ℕ × Letter). slice_set c.transit x.0 (Some x.1)) is
-    ∙ ap (λ (own : List ℕ). slice_set c.transit q (Some (grant_to c.closed t own))) (same q refl)
+    ∙ ap (λ (own : List ℕ). slice_set c.transit q (Some (transition_grant_to c.closed t own))) (same q refl)
 
 -- and where nobody is next there is no mail
 released_passes_none : (c : State) (queue t : List ℕ) (times : List (List ℕ))
-    → None ≡ option_map (addressed_grant c.closed times t) (slice_get queue 0) → c.transit ≡ book_mail_passed c queue t
+    → None ≡ option_map (transition_addressed_grant c.closed times t) (slice_get queue 0) → c.transit ≡ transition_mail_passed c queue t
 released_passes_none c [] t times made = refl
-released_passes_none c (q ∷ queue) t times made = absurd (none-some (addressed_grant c.closed times t q) made)
+released_passes_none c (q ∷ queue) t times made = absurd (none-some (transition_addressed_grant c.closed times t q) made)
 
 -- after p's closing event the others' timestamps are as before
-others_time : (b : State) (p r : ℕ) (u : List ℕ) → r ≢ p
+release_others_time : (b : State) (p r : ℕ) (u : List ℕ) → r ≢ p
     → slice_index_or b.times r [] ≡ slice_index_or (slice_set b.times p u) r []
-others_time b p r u apart = sym (get_or-set_other b.times p r u [] apart)
+release_others_time b p r u apart = sym (get_or-set_other b.times p r u [] apart)
 
 -- p's release of l: b is the book when the interval is closed, t the timestamp that stays with the lock
-pub record IsLeaving (old b : State) (p l : ℕ) (block : List Event) (records : List Changes) (t : List ℕ) : Type 0 where
-  pub may : AllowsRelease old p l block
-  pub closed : b ≡ book_closed_by (book_handed_in old block) p (Release l) records
-  pub time : t ≡ tick (time_of old p) p
+pub record IsReleaseLeaving (old b : State) (p l : ℕ) (block : List Event) (records : List Changes) (t : List ℕ) : Type 0 where
+  pub may : AllowsReleaseCall old p l block
+  pub closed : b ≡ transition_closed_by (transition_handed_in old block) p (Release l) records
+  pub time : t ≡ tick (state_time_of old p) p
 
 -- the grant of who is next, as it is made before the interval is closed
-abbrev pub grant_before : State → ℕ → ℕ → List Changes → List ℕ → Option (ℕ × Letter)
-grant_before old p l records t =
-    option_map (addressed_grant (pushed old.closed (book_open_interval old p records)) old.times t)
+abbrev pub grant_before_release : State → ℕ → ℕ → List Changes → List ℕ → Option (ℕ × Letter)
+grant_before_release old p l records t =
+    option_map (transition_addressed_grant (pushed old.closed (transition_open_interval old p records)) old.times t)
     (slice_get (lock_at old.locks l).queue 0)
 
 -- p releases the lock at this time
 module _ {old b : State} {p l : ℕ} {block : List Event} {records : List Changes} {t : List ℕ}
-    (leaving : IsLeaving old b p l block records t) where
+    (leaving : IsReleaseLeaving old b p l block records t) where
   released_is : (locks : Locks) (transit : List (Option Letter))
       → locks ≡ with_lock b.locks l (released_lock (lock_at b.locks l) t)
-      → transit ≡ book_mail_passed b (lock_at b.locks l).queue t
-      → record b { locks = locks; transit = transit } ≡ book_released (book_handed_in old block) p l records
+      → transit ≡ transition_mail_passed b (lock_at b.locks l).queue t
+      → record b { locks = locks; transit = transit } ≡ transition_released (transition_handed_in old block) p l records
   released_is locks transit lock_line mail =
       let is = leaving.closed in
       let time = leaving.time in
       rw is (let now = rw is at lock_line in let post = rw is at mail in cc)
 
   -- what stands of the grant when the interval is closed
-  released_grant_made : (o : Option (ℕ × Letter)) → o ≡ grant_before old p l records t
-      → (o ≡ option_map (addressed_grant b.closed old.times t) (slice_get (lock_at b.locks l).queue 0))
-      × ((q : ℕ) → slice_get (lock_at b.locks l).queue 0 ≡ Some q → slice_index_or old.times q [] ≡ time_of b q)
+  released_grant_made : (o : Option (ℕ × Letter)) → o ≡ grant_before_release old p l records t
+      → (o ≡ option_map (transition_addressed_grant b.closed old.times t) (slice_get (lock_at b.locks l).queue 0))
+      × ((q : ℕ) → slice_get (lock_at b.locks l).queue 0 ≡ Some q → slice_index_or old.times q [] ≡ state_time_of b q)
   released_grant_made o made =
       subst (λ (x : State).
-      (o ≡ option_map (addressed_grant x.closed old.times t) (slice_get (lock_at x.locks l).queue 0))
-      × ((q : ℕ) → slice_get (lock_at x.locks l).queue 0 ≡ Some q → slice_index_or old.times q [] ≡ time_of x q))
+      (o ≡ option_map (transition_addressed_grant x.closed old.times t) (slice_get (lock_at x.locks l).queue 0))
+      × ((q : ℕ) → slice_get (lock_at x.locks l).queue 0 ≡ Some q → slice_index_or old.times q [] ≡ state_time_of x q))
       (sym leaving.closed) (
         made,
-        λ q at. others_time old p q (tick (time_of old p) p)
+        λ q at. release_others_time old p q (tick (state_time_of old p) p)
             ((releasing old p l block leaving.may).next q at).apart,
       )
 
   -- a release whose grant is posted
   pub released_granted : (locks : Locks) (transit : List (Option Letter)) (r : ℕ) (m : Letter)
       → locks ≡ with_lock b.locks l (released_lock (lock_at b.locks l) t) → transit ≡ slice_set b.transit r (Some m)
-      → Some (r, m) ≡ grant_before old p l records t
-      → record b { locks = locks; transit = transit } ≡ book_released (book_handed_in old block) p l records
+      → Some (r, m) ≡ grant_before_release old p l records t
+      → record b { locks = locks; transit = transit } ≡ transition_released (transition_handed_in old block) p l records
   released_granted locks transit r m lock_line post made =
       let grant = released_grant_made (Some (r, m)) made in
       released_is locks transit lock_line
@@ -196,23 +196,23 @@ module _ {old b : State} {p l : ℕ} {block : List Event} {records : List Change
 
   -- a release that nobody waits for
   pub released_alone : (locks : Locks) → locks ≡ with_lock b.locks l (released_lock (lock_at b.locks l) t)
-      → None ≡ grant_before old p l records t
-      → record b { locks = locks } ≡ book_released (book_handed_in old block) p l records
+      → None ≡ grant_before_release old p l records t
+      → record b { locks = locks } ≡ transition_released (transition_handed_in old block) p l records
   released_alone locks lock_line made =
       let grant = released_grant_made None made in
       released_is locks b.transit lock_line (released_passes_none b (lock_at b.locks l).queue t old.times grant.0)
 
 pub releasing_sends_next : (b : State) (p l : ℕ) (o : Option ℕ) → IsReleasing b p l → o ≡ slice_get (lock_at b.locks l).queue 0
-    → IfSome o (λ r. AllowsNotices b.closed b.times r)
+    → IfSome o (λ r. AllowsNoticesOfCall b.closed b.times r)
 releasing_sends_next b p l None rel is = tt
 releasing_sends_next b p l (Some r) rel is = (rel.next r (sym is)).sent
 
 -- a grant is for the first of the queue
 pub released_to_whom : (c : Closings) (times : List (List ℕ)) (t queue : List ℕ) (r : ℕ) (m : Letter)
-    → Some (r, m) ≡ option_map (addressed_grant c times t) (slice_get queue 0) → slice_get queue 0 ≡ Some r
+    → Some (r, m) ≡ option_map (transition_addressed_grant c times t) (slice_get queue 0) → slice_get queue 0 ≡ Some r
 released_to_whom c times t [] r m made = absurd (none-some (r, m) (sym made))
 released_to_whom c times t (q ∷ queue) r m made =
-    ap (λ (x : ℕ × Letter). Some x.0) (sym (same_Some (r, m) (addressed_grant c times t q) made))
+    ap (λ (x : ℕ × Letter). Some x.0) (sym (same_Some (r, m) (transition_addressed_grant c times t q) made))
 
 -- a grant g, made of what a release reads before its interval is closed: the interval, who is next, the timestamps
 pub record IsReleaseGrantRead (b : State) (p l : ℕ) (records : List Changes) (t : List ℕ) (g : Option (ℕ × Letter))
@@ -220,14 +220,14 @@ pub record IsReleaseGrantRead (b : State) (p l : ℕ) (records : List Changes) (
   pub interval : ClosedInterval
   pub times : List (List ℕ)
   pub next : Option ℕ
-  pub opened : interval ≡ book_open_interval b p records
+  pub opened : interval ≡ transition_open_interval b p records
   pub all : times ≡ b.times
   pub first : next ≡ slice_get (lock_at b.locks l).queue 0
-  pub made : g ≡ option_map (addressed_grant (pushed b.closed interval) times t) next
+  pub made : g ≡ option_map (transition_addressed_grant (pushed b.closed interval) times t) next
 
 -- the grant as it was made, read off the book before the call
 pub release_grant_read : {b old : State} {p l : ℕ} {records : List Changes} {t : List ℕ} {g : Option (ℕ × Letter)}
-    → IsReleaseGrantRead b p l records t g → b ≡ old → g ≡ grant_before old p l records t
+    → IsReleaseGrantRead b p l records t g → b ≡ old → g ≡ grant_before_release old p l records t
 release_grant_read {b} {old} {p} {l} {records} {t} {g} read same =
     let opened = read.opened in
     let all = read.all in

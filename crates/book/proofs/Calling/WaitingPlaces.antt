@@ -26,14 +26,14 @@ IsDoneWaitingAt awaits flags mail a p =
     (slice_get awaits p ≡ Some (Some a)) × (message_has_come flags mail p (awaited_kind a) ≡ true)
 
 -- and is one of the first 16 processors
-abbrev pub MayBeNamed : List (Option Awaited) → List (Option (List ℕ)) → List (Option Letter) → Awaited → ℕ → Type 0
-MayBeNamed awaits flags mail a p =
+abbrev pub MayBeNamedWaitingPlace : List (Option Awaited) → List (Option (List ℕ)) → List (Option Letter) → Awaited → ℕ → Type 0
+MayBeNamedWaitingPlace awaits flags mail a p =
     (p < most_processors) × (slice_get awaits p ≡ Some (Some a)) × (message_has_come flags mail p (awaited_kind a) ≡ true)
 
 -- what is read at p's place stands there
-pub read_at : (awaits : List (Option Awaited)) (p : ℕ) (o : Option Awaited) → p < length awaits
+pub waiting_place_read_at : (awaits : List (Option Awaited)) (p : ℕ) (o : Option Awaited) → p < length awaits
     → slice_index_or awaits p None ≡ o → slice_get awaits p ≡ Some o
-read_at awaits p o lt is = slice_get-get_or awaits p None lt ∙ ap (λ (x : Option Awaited). Some x) is
+waiting_place_read_at awaits p o lt is = slice_get-get_or awaits p None lt ∙ ap (λ (x : Option Awaited). Some x) is
 
 -- where p waits for nothing, not all wait in vain
 pub idle_waits_not : (awaits : List (Option Awaited)) (flags : List (Option (List ℕ))) (mail : List (Option Letter)) (p : ℕ)
@@ -54,11 +54,11 @@ done_waiting_not_vain awaits flags mail p a lt at come = (
       absurd (true≢false (sym (subst (λ (x : Awaited). message_has_come flags mail p (awaited_kind x) ≡ true) same come) ∙ v.2)))),
 )
 
-kind_same : (x a : Awaited) → awaited_kind x ≡ awaited_kind a → x ≡ a
-kind_same (Grant l) (Grant m) e = cc
-kind_same Departure Departure e = refl
-kind_same (Signal f) (Signal g) e = cc
-kind_same _ _ e = absurd cc
+waiting_place_kind_same : (x a : Awaited) → awaited_kind x ≡ awaited_kind a → x ≡ a
+waiting_place_kind_same (Grant l) (Grant m) e = cc
+waiting_place_kind_same Departure Departure e = refl
+waiting_place_kind_same (Signal f) (Signal g) e = cc
+waiting_place_kind_same _ _ e = absurd cc
 
 -- p waits for this by the list of what all wait for, and by the list of the events that end the waits
 pub waits_map : (awaits : List (Option Awaited)) (p : ℕ) (a : Awaited)
@@ -74,23 +74,23 @@ waits_map awaits p a = (
     found (Some None) is at = absurd (none-some (awaited_kind a) (same_Some None (Some (awaited_kind a)) at))
     found (Some (Some x)) is at =
         is ∙ ap (λ (y : Awaited). Some (Some y))
-        (kind_same x a (same_Some (awaited_kind x) (awaited_kind a) (same_Some (Some (awaited_kind x)) (Some (awaited_kind a)) at)))
+        (waiting_place_kind_same x a (same_Some (awaited_kind x) (awaited_kind a) (same_Some (Some (awaited_kind x)) (Some (awaited_kind a)) at)))
 
 -- the numbers below n of which Q holds are found
-abbrev pub AreFound : (ℕ → Type 0) → ℕ → List ℕ → Type 0
-AreFound Q n found = (q : ℕ) → Has found q ↔ ((q < n) × Q q)
+abbrev pub AreWaitingPlacesFound : (ℕ → Type 0) → ℕ → List ℕ → Type 0
+AreWaitingPlacesFound Q n found = (q : ℕ) → Has found q ↔ ((q < n) × Q q)
 
-pub none_found : (Q : ℕ → Type 0) (found : List ℕ) → found ≡ [] → AreFound Q 0 found
-none_found Q found is q = (
+pub waiting_places_none_found : (Q : ℕ → Type 0) (found : List ℕ) → found ≡ [] → AreWaitingPlacesFound Q 0 found
+waiting_places_none_found Q found is q = (
   (λ has. absurd (has-nil q (subst (λ (xs : List ℕ). Has xs q) is has))),
   (λ both. absurd (omega (arith, both.0))),
 )
 
 -- one more is
-pub one_found : (Q : ℕ → Type 0) (n : ℕ) (old new : List ℕ) → ((q : ℕ) → Q q → q < most_processors) → AreFound Q n old
+pub waiting_places_one_found : (Q : ℕ → Type 0) (n : ℕ) (old new : List ℕ) → ((q : ℕ) → Q q → q < most_processors) → AreWaitingPlacesFound Q n old
     → ((q : ℕ) → Has new q ↔ (((q ≡ n) × (q < most_processors)) ⊎ Has old q)) → (n < most_processors → Q n)
-    → AreFound Q (n + 1) new
-one_found Q n old new few are added here q = (
+    → AreWaitingPlacesFound Q (n + 1) new
+waiting_places_one_found Q n old new few are added here q = (
   (λ has. elim ((added q).0 has) [
     | inl own ↦ (
       omega (arith, own.0),
@@ -105,9 +105,9 @@ one_found Q n old new few are added here q = (
 )
 
 -- one more is not
-pub not_found : (Q : ℕ → Type 0) (n : ℕ) (old new : List ℕ) → AreFound Q n old → new ≡ old → ¬ Q n
-    → AreFound Q (n + 1) new
-not_found Q n old new are same isnt q = (
+pub waiting_places_not_found : (Q : ℕ → Type 0) (n : ℕ) (old new : List ℕ) → AreWaitingPlacesFound Q n old → new ≡ old → ¬ Q n
+    → AreWaitingPlacesFound Q (n + 1) new
+waiting_places_not_found Q n old new are same isnt q = (
   (λ has. (let both = (are q).0 (subst (λ (xs : List ℕ). Has xs q) same has) in (omega (arith, both.0), both.1))),
   (λ both. elim (cases_eq q n) [
     | inl is ↦ absurd (isnt (subst Q is both.1))

@@ -11,26 +11,26 @@ use Rattle.base.specs.InOrderOnce.{Has, InOrder}
 use Rattle.journal.specs.Sizes.{Sizes}
 use Rattle.journal.specs.Events.{count_of, interval_at, is_closing}
 use Rattle.journal.specs.Times.{ClosesAt}
-use Rattle.base.proofs.SlicesAndCounts.{push_cases, slice_get-append_left, slice_get-last, count_by-append, count_by-within}
+use Rattle.base.proofs.SlicesAndCounts.{slice_push_cases, slice_get-append_left, slice_get-last, count_by-append, count_by-within}
 use Rattle.base.proofs.FilteredInOrder.{has-filter, in_order-filter}
 use Rattle.journal.proofs.Order.CountedAndNumbered.{count_of-front, count_of-within}
 use Rattle.journal.specs.declared.event.Kind.TheVariants.{Store}
 use Rattle.journal.specs.ContentsSince.{StoresInInterval}
 use Rattle.journal.proofs.Intervals.StoreContents.{stores_in_shorter, content_closing, content_closed}
-use Rattle.journal.specs.MissingWords.{closed_count, IsPlaced}
+use Rattle.journal.specs.MissingWords.{missing_closed_count, IsMissingPlaced}
 use Rattle.journal.proofs.Missing.Placed.{placed_longer, placed_now}
-use Rattle.journal.proofs.Times.Times.{closes_shorter, interval_behind}
+use Rattle.journal.proofs.Times.Times.{time_closes_shorter, time_interval_behind}
 use Rattle.page.specs.RisingChanges.{Changes}
 use Rattle.interval.specs.declared.kept_interval.KeptInterval.{KeptInterval}
-use Rattle.interval.specs.Closings.{Closings, pushed, trimmed, is_trimmed, is_news, closings_between, sent_interval}
+use Rattle.interval.specs.Closings.{Closings, pushed, closings_trimmed_below, is_trimmed_from_closings, is_news_of_closings, closings_between, closings_sent_interval}
 use Rattle.base.proofs.Filters.{filter_same}
 use Rattle.journal.specs.DidEvent.{event, did}
 use Rattle.book.specs.ClosedIntervals.{AreIntervalContents, AreClosedFromFirst, AreClosed, DropsOnlyCoveredIntervals}
-use Rattle.book.specs.Transitions.{lesser, least, trimmed_by}
+use Rattle.book.specs.Transitions.{transition_lesser, least, transition_trimmed_by}
 use Rattle.book.proofs.Parts.LastAndCounts.{count_did, count_others, count_kept}
 
 -- one more event, which closes an interval or doesn't
-closings_did : (h : List Event) (p : ℕ) (k : Kind) → closed_count (did h p k) ≡ closed_count h + cond (is_closing k) 1 0
+closings_did : (h : List Event) (p : ℕ) (k : Kind) → missing_closed_count (did h p k) ≡ missing_closed_count h + cond (is_closing k) 1 0
 closings_did h p k = let sum = count_by-append (λ (e : Event). is_closing e.kind) h (event p k ∷ []) in omega arith
 
 -- the contents of a closed interval stay
@@ -38,7 +38,7 @@ interval_stores_before : (s : Sizes) (h es : List Event) (q k n i : ℕ) → k <
     → StoresInInterval s (h ++ es) q k n i → StoresInInterval s h q k n i
 interval_stores_before s h es q k n i lt x = elim (cases_lt i (length h)) [
   | inl less ↦ stores_in_shorter s h es q k n i less x
-  | inr past ↦ (let behind = interval_behind h es q i past in let number = x.4 in absurd (omega arith))
+  | inr past ↦ (let behind = time_interval_behind h es q i past in let number = x.4 in absurd (omega arith))
 ]
 
 pub interval_contents_on : (s : Sizes) (h es : List Event) (q k : ℕ) (records : List Changes) → k < count_of is_closing h q
@@ -61,14 +61,14 @@ contents_closing s h p a q k records closes x = record {
 }
   where
     before : (n i : ℕ) → StoresInInterval s (did h p a) q k n i → StoresInInterval s h q k n i
-    before n i stores = elim (push_cases h (event p a) i (event q (Store stores.0 stores.1)) stores.2) [
+    before n i stores = elim (slice_push_cases h (event p a) i (event q (Store stores.0 stores.1)) stores.2) [
       | inl old ↦ stores_in_shorter s h (event p a ∷ []) q k n i old.0 stores
       | inr new ↦ (let none : is_closing a ≡ false = ap (λ (e : Event). is_closing e.kind) new.1 in
           absurd (true≢false (sym closes ∙ none)))
     ]
 
 -- a kept interval's number is one of a closed interval
-kept_interval_number : (h : List Event) (k : KeptInterval) → IsPlaced h k.interval.owner k.interval.number k.place
+kept_interval_number : (h : List Event) (k : KeptInterval) → IsMissingPlaced h k.interval.owner k.interval.number k.place
     → k.interval.number < count_of is_closing h k.interval.owner
 kept_interval_number h k x = let within =
     count_of-within is_closing h x.at k.interval.owner x.closes.kind x.closes.does x.closes.closes in let number =
@@ -77,8 +77,8 @@ kept_interval_number h k x = let within =
 -- what closes in a longer history closed before, or with its last event
 closes_cases : (h : List Event) (p : ℕ) (k : Kind) (q i : ℕ) → ClosesAt (did h p k) q i
     → ((i < length h) × ClosesAt h q i) ⊎ ((i ≡ length h) × (p ≡ q) × IsTrue (is_closing k))
-closes_cases h p k q i x = elim (push_cases h (event p k) i (event q x.kind) x.does) [
-  | inl old ↦ inl (old.0, closes_shorter h (event p k ∷ []) q i old.0 x)
+closes_cases h p k q i x = elim (slice_push_cases h (event p k) i (event q x.kind) x.does) [
+  | inl old ↦ inl (old.0, time_closes_shorter h (event p k ∷ []) q i old.0 x)
   | inr new ↦ inr (
     new.0,
     ap (λ e. e.processor) new.1,
@@ -160,19 +160,19 @@ closed_closing {s} {h} {p} {k} {c} {n} {records} now = record {
     front : interval_at (did h p k) p (length h) ≡ n
     front = ap (λ (xs : List Event). count_of is_closing xs p) (take-append_seam h (event p k ∷ [])) ∙ sym now.number
 
-    is_new : IsPlaced (did h p k) p n c.pushed
-    is_new = subst₂ (IsPlaced (did h p k) p) (sym now.number) (sym now.before.count) (placed_now h (event p k) now.closes)
+    is_new : IsMissingPlaced (did h p k) p n c.pushed
+    is_new = subst₂ (IsMissingPlaced (did h p k) p) (sym now.number) (sym now.before.count) (placed_now h (event p k) now.closes)
 
     from : (j : KeptInterval) → Has (c.kept ++ new ∷ []) j → slice_index c.first j.interval.owner ≤ j.interval.number
-    from j has = elim (push_cases c.kept new has.0 j has.1) [
+    from j has = elim (slice_push_cases c.kept new has.0 j has.1) [
       | inl old ↦ now.before.from j (has.0, old.1)
       | inr last ↦ subst (λ (y : KeptInterval). slice_index c.first y.interval.owner ≤ y.interval.number) last.1 now.covered
     ]
 
-    each : (j : KeptInterval) → Has (c.kept ++ new ∷ []) j → IsPlaced (did h p k) j.interval.owner j.interval.number j.place
-    each j has = elim (push_cases c.kept new has.0 j has.1) [
+    each : (j : KeptInterval) → Has (c.kept ++ new ∷ []) j → IsMissingPlaced (did h p k) j.interval.owner j.interval.number j.place
+    each j has = elim (slice_push_cases c.kept new has.0 j has.1) [
       | inl old ↦ placed_longer h (event p k ∷ []) j.interval.owner j.interval.number j.place (now.before.each j (has.0, old.1))
-      | inr last ↦ subst (λ (y : KeptInterval). IsPlaced (did h p k) y.interval.owner y.interval.number y.place) last.1 is_new
+      | inr last ↦ subst (λ (y : KeptInterval). IsMissingPlaced (did h p k) y.interval.owner y.interval.number y.place) last.1 is_new
     ]
 
     all : (q i : ℕ) → ClosesAt (did h p k) q i → slice_index c.first q ≤ interval_at (did h p k) q i
@@ -203,7 +203,7 @@ closed_closing {s} {h} {p} {k} {c} {n} {records} now = record {
 
     contents : (j : KeptInterval) → Has (c.kept ++ new ∷ []) j
         → AreIntervalContents s (did h p k) j.interval.owner j.interval.number j.interval.records
-    contents j has = elim (push_cases c.kept new has.0 j has.1) [
+    contents j has = elim (slice_push_cases c.kept new has.0 j has.1) [
       | inl old ↦ interval_contents_on s h (event p k ∷ []) j.interval.owner j.interval.number j.interval.records
           (kept_interval_number h j (now.before.each j (has.0, old.1))) (now.before.contents j (has.0, old.1))
       | inr last ↦ subst (λ (y : KeptInterval). AreIntervalContents s (did h p k)
@@ -221,12 +221,12 @@ closed_closing {s} {h} {p} {k} {c} {n} {records} now = record {
         omega arith
 
     rising : InOrder (λ (a b : KeptInterval). a.place < b.place) (c.kept ++ new ∷ [])
-    rising y z a b less at to = elim (push_cases c.kept new z b to) [
-      | inl two ↦ elim (push_cases c.kept new y a at) [
+    rising y z a b less at to = elim (slice_push_cases c.kept new z b to) [
+      | inl two ↦ elim (slice_push_cases c.kept new y a at) [
         | inl one ↦ now.before.rising y z a b less one.1 two.1
         | inr one ↦ absurd (omega (arith, one.0, two.0))
       ]
-      | inr two ↦ elim (push_cases c.kept new y a at) [
+      | inr two ↦ elim (slice_push_cases c.kept new y a at) [
         | inl one ↦ subst (λ (w : KeptInterval). a.place < w.place) two.1 (below a (y, one.1))
         | inr one ↦ absurd (omega (arith, one.0, two.0))
       ]
@@ -234,8 +234,8 @@ closed_closing {s} {h} {p} {k} {c} {n} {records} now = record {
 
 -- where nothing is news, nothing is news
 interval_not_news : (old new : List ℕ) (k : KeptInterval) → slice_index new k.interval.owner ≤ slice_index old k.interval.owner
-    → is_news old new k ≡ false
-interval_not_news old new k le = false_from_ne_true (is_news old new k) (λ e. (
+    → is_news_of_closings old new k ≡ false
+interval_not_news old new k le = false_from_ne_true (is_news_of_closings old new k) (λ e. (
     let parts = and_parts _ _ e in
     let from : slice_index old k.interval.owner ≤ k.interval.number = leb-true _ _ parts.0 in
     let below : k.interval.number < slice_index new k.interval.owner = ltb-true _ _ parts.1 in
@@ -246,10 +246,10 @@ pub intervals_between_same : (c : Closings) (one other new : List ℕ) (p : ℕ)
     → ((q : ℕ) → q ≢ p → slice_index one q ≡ slice_index other q) → slice_index new p ≤ slice_index one p
     → slice_index new p ≤ slice_index other p → closings_between c one new ≡ closings_between c other new
 intervals_between_same c one other new p same here there =
-    ap (λ (ks : List KeptInterval). flat_map sent_interval ks)
-    (filter_same (is_news one new) (is_news other new) c.kept (λ k has. each k))
+    ap (λ (ks : List KeptInterval). flat_map closings_sent_interval ks)
+    (filter_same (is_news_of_closings one new) (is_news_of_closings other new) c.kept (λ k has. each k))
   where
-    each : (k : KeptInterval) → is_news one new k ≡ is_news other new k
+    each : (k : KeptInterval) → is_news_of_closings one new k ≡ is_news_of_closings other new k
     each k = elim (cases_eq k.interval.owner p) [
       | inl is ↦ (
           let P : List ℕ → ℕ → Type 0 = λ t q. slice_index new q ≤ slice_index t q in
@@ -260,42 +260,42 @@ intervals_between_same c one other new p same here there =
     ]
 
 -- what is from its owner's first on isn't trimmed below that
-pub stays_from : (c : Closings) (owner to : ℕ) (k : KeptInterval) → to ≤ slice_index c.first owner
-    → slice_index c.first k.interval.owner ≤ k.interval.number → not (is_trimmed owner to k) ≡ true
-stays_from c owner to k le from = elim (cases_eq k.interval.owner owner) [
+pub closed_intervals_stay_from : (c : Closings) (owner to : ℕ) (k : KeptInterval) → to ≤ slice_index c.first owner
+    → slice_index c.first k.interval.owner ≤ k.interval.number → not (is_trimmed_from_closings owner to k) ≡ true
+closed_intervals_stay_from c owner to k le from = elim (cases_eq k.interval.owner owner) [
   | inl is ↦ (
       let P : ℕ → Type 0 = λ q. slice_index c.first q ≤ k.interval.number in
       let here = subst P is from in
-      not_from_false (is_trimmed owner to k) (and_right _ _ (le-ltb k.interval.number to (omega arith))))
-  | inr isnt ↦ not_from_false (is_trimmed owner to k) (and_left _ _ (ne_eqb k.interval.owner owner isnt))
+      not_from_false (is_trimmed_from_closings owner to k) (and_right _ _ (le-ltb k.interval.number to (omega arith))))
+  | inr isnt ↦ not_from_false (is_trimmed_from_closings owner to k) (and_left _ _ (ne_eqb k.interval.owner owner isnt))
 ]
 
 -- the first kept interval after a trim, of its owner and of others
 pub first_interval_own : (c : Closings) (owner to : ℕ) → owner < length c.first
-    → slice_index (trimmed c owner to).first owner ≡ max (slice_index c.first owner) (min to (slice_index c.next owner))
+    → slice_index (closings_trimmed_below c owner to).first owner ≡ max (slice_index c.first owner) (min to (slice_index c.next owner))
 first_interval_own c owner to lt =
     get_or-set_same c.first owner (max (slice_index c.first owner) (min to (slice_index c.next owner))) 0 lt
 
 pub first_interval_other : (c : Closings) (owner to q : ℕ) → q ≢ owner
-    → slice_index (trimmed c owner to).first q ≡ slice_index c.first q
+    → slice_index (closings_trimmed_below c owner to).first q ≡ slice_index c.first q
 first_interval_other c owner to q isnt =
     get_or-set_other c.first owner q (max (slice_index c.first owner) (min to (slice_index c.next owner))) 0 isnt
 
 -- a trim leaves nothing below what it says is dropped
 pub closed_from_first_trimmed : (c : Closings) (owner to : ℕ) → owner < length c.first → AreClosedFromFirst c
-    → AreClosedFromFirst (trimmed c owner to)
+    → AreClosedFromFirst (closings_trimmed_below c owner to)
 closed_from_first_trimmed c owner to lt from k has =
-    let was = (has-filter (λ k. not (is_trimmed owner to k)) c.kept k).0 has in
+    let was = (has-filter (λ k. not (is_trimmed_from_closings owner to k)) c.kept k).0 has in
     let old = from k was.0 in
     elim (cases_eq k.interval.owner owner) [
       | inl is ↦ (
-          let P : ℕ → Type 0 = λ q. slice_index (trimmed c owner to).first q ≤ k.interval.number in
+          let P : ℕ → Type 0 = λ q. slice_index (closings_trimmed_below c owner to).first q ≤ k.interval.number in
           let Q : ℕ → Type 0 = λ q. slice_index c.first q ≤ k.interval.number in
           let here = first_interval_own c owner to lt in
           let from_here = subst Q is old in
           let stays : to ≤ k.interval.number = elim (cases_lt k.interval.number to) [
             | inl less ↦ absurd
-                (both_ways (is_trimmed owner to k) (not-true (is_trimmed owner to k) was.1)
+                (both_ways (is_trimmed_from_closings owner to k) (not-true (is_trimmed_from_closings owner to k) was.1)
                 (ap (λ b. b && nat_lt k.interval.number to) (eq-eqb k.interval.owner owner is)
                 ∙ lt-ltb k.interval.number to less))
             | inr most ↦ most
@@ -306,7 +306,7 @@ closed_from_first_trimmed c owner to lt from k has =
 
 -- a trim keeps what the intervals are
 pub closed_trimmed : (s : Sizes) (h : List Event) (c : Closings) (owner to : ℕ) → owner < s.processors
-    → AreClosed s h c → AreClosed s h (trimmed c owner to)
+    → AreClosed s h c → AreClosed s h (closings_trimmed_below c owner to)
 closed_trimmed s h c owner to lt x = record {
   count = x.count;
   next_long = x.next_long;
@@ -317,22 +317,22 @@ closed_trimmed s h c owner to lt x = record {
   each = λ k has. x.each k (old k has);
   all = all;
   contents = λ k has. x.contents k (old k has);
-  rising = in_order-filter (λ (j k : KeptInterval). j.place < k.place) (λ k. not (is_trimmed owner to k)) c.kept x.rising;
+  rising = in_order-filter (λ (j k : KeptInterval). j.place < k.place) (λ k. not (is_trimmed_from_closings owner to k)) c.kept x.rising;
 }
   where
-    old : (k : KeptInterval) → Has (filter (λ k. not (is_trimmed owner to k)) c.kept) k → Has c.kept k
-    old k has = ((has-filter (λ k. not (is_trimmed owner to k)) c.kept k).0 has).0
+    old : (k : KeptInterval) → Has (filter (λ k. not (is_trimmed_from_closings owner to k)) c.kept) k → Has c.kept k
+    old k has = ((has-filter (λ k. not (is_trimmed_from_closings owner to k)) c.kept k).0 has).0
 
-    stays : (k : KeptInterval) → Has c.kept k → not (is_trimmed owner to k) ≡ true
-        → Has (filter (λ k. not (is_trimmed owner to k)) c.kept) k
-    stays k has not_trimmed = (has-filter (λ k. not (is_trimmed owner to k)) c.kept k).1 (has, not_trimmed)
+    stays : (k : KeptInterval) → Has c.kept k → not (is_trimmed_from_closings owner to k) ≡ true
+        → Has (filter (λ k. not (is_trimmed_from_closings owner to k)) c.kept) k
+    stays k has not_trimmed = (has-filter (λ k. not (is_trimmed_from_closings owner to k)) c.kept k).1 (has, not_trimmed)
 
-    all : (q i : ℕ) → ClosesAt h q i → slice_index (trimmed c owner to).first q ≤ interval_at h q i
-        → (k : KeptInterval) × Has (filter (λ k. not (is_trimmed owner to k)) c.kept) k × (k.interval.owner ≡ q)
+    all : (q i : ℕ) → ClosesAt h q i → slice_index (closings_trimmed_below c owner to).first q ≤ interval_at h q i
+        → (k : KeptInterval) × Has (filter (λ k. not (is_trimmed_from_closings owner to k)) c.kept) k × (k.interval.owner ≡ q)
         × (k.interval.number ≡ interval_at h q i)
     all q i closes from = elim (cases_eq q owner) [
       | inl is ↦ (
-          let P : ℕ → Type 0 = λ r. slice_index (trimmed c owner to).first r ≤ interval_at h q i in
+          let P : ℕ → Type 0 = λ r. slice_index (closings_trimmed_below c owner to).first r ≤ interval_at h q i in
           let long = x.first_long in
           let here = first_interval_own c owner to (omega arith) in
           let from_here = subst P is from in
@@ -345,7 +345,7 @@ closed_trimmed s h c owner to lt x = record {
           let number = k.3 in (
             k.0,
             stays k.0 k.1
-                (not_from_false (is_trimmed owner to k.0)
+                (not_from_false (is_trimmed_from_closings owner to k.0)
                 (and_right _ _ (le-ltb k.0.interval.number to (omega arith)))),
             k.2,
             k.3,
@@ -355,7 +355,7 @@ closed_trimmed s h c owner to lt x = record {
           let k = x.all q i closes (omega arith) in (
             k.0,
             stays k.0 k.1
-                (not_from_false (is_trimmed owner to k.0)
+                (not_from_false (is_trimmed_from_closings owner to k.0)
                 (and_left _ _ (ne_eqb k.0.interval.owner owner (λ e. isnt (sym k.2 ∙ e))))),
             k.2,
             k.3,
@@ -364,10 +364,10 @@ closed_trimmed s h c owner to lt x = record {
 
 pub covered_intervals_trimmed : (c : Closings) (owner to : ℕ) (times : List (List ℕ))
     → ((p : ℕ) (t : List ℕ) → slice_get times p ≡ Some t → to ≤ slice_index t owner) → owner < length c.first
-    → DropsOnlyCoveredIntervals c.first times → DropsOnlyCoveredIntervals (trimmed c owner to).first times
+    → DropsOnlyCoveredIntervals c.first times → DropsOnlyCoveredIntervals (closings_trimmed_below c owner to).first times
 covered_intervals_trimmed c owner to times covered lt within p q t at = elim (cases_eq q owner) [
   | inl is ↦ (
-      let P : ℕ → Type 0 = λ r. slice_index (trimmed c owner to).first r ≤ slice_index t r in
+      let P : ℕ → Type 0 = λ r. slice_index (closings_trimmed_below c owner to).first r ≤ slice_index t r in
       let here = first_interval_own c owner to lt in
       let one = covered p t at in
       let was = within p owner t at in
@@ -378,28 +378,28 @@ covered_intervals_trimmed c owner to times covered lt within p q t at = elim (ca
       omega arith)
 ]
 
-lesser_le : (times : List (List ℕ)) (q n : ℕ) → fold (lesser q) n times ≤ n
-lesser_le [] q n = omega arith
-lesser_le (t ∷ ts) q n = let rest = lesser_le ts q (lesser q n t) in omega arith
+closed_lesser_le : (times : List (List ℕ)) (q n : ℕ) → fold (transition_lesser q) n times ≤ n
+closed_lesser_le [] q n = omega arith
+closed_lesser_le (t ∷ ts) q n = let rest = closed_lesser_le ts q (transition_lesser q n t) in omega arith
 
-lesser_each : (times : List (List ℕ)) (q n p : ℕ) (t : List ℕ) → slice_get times p ≡ Some t
-    → fold (lesser q) n times ≤ slice_index t q
-lesser_each [] q n p t at = absurd (none-some t at)
-lesser_each (u ∷ ts) q n zero t at = let rest =
-    lesser_le ts q (lesser q n u) in
-    subst (λ v. fold (lesser q) (lesser q n u) ts ≤ slice_index v q) (same_Some u t at) (omega arith)
-lesser_each (u ∷ ts) q n (suc p) t at = lesser_each ts q (lesser q n u) p t at
+closed_lesser_each : (times : List (List ℕ)) (q n p : ℕ) (t : List ℕ) → slice_get times p ≡ Some t
+    → fold (transition_lesser q) n times ≤ slice_index t q
+closed_lesser_each [] q n p t at = absurd (none-some t at)
+closed_lesser_each (u ∷ ts) q n zero t at = let rest =
+    closed_lesser_le ts q (transition_lesser q n u) in
+    subst (λ v. fold (transition_lesser q) (transition_lesser q n u) ts ≤ slice_index v q) (same_Some u t at) (omega arith)
+closed_lesser_each (u ∷ ts) q n (suc p) t at = closed_lesser_each ts q (transition_lesser q n u) p t at
 
 -- the least entry is one that each covers
-pub least_le : (times : List (List ℕ)) (q p : ℕ) (t : List ℕ) → slice_get times p ≡ Some t
+pub closed_least_le : (times : List (List ℕ)) (q p : ℕ) (t : List ℕ) → slice_get times p ≡ Some t
     → least times q ≤ slice_index t q
-least_le times q p t at = lesser_each times q (slice_index (slice_index_or times 0 []) q) p t at
+closed_least_le times q p t at = closed_lesser_each times q (slice_index (slice_index_or times 0 []) q) p t at
 
 -- trims keep the number of owners
-pub length-trimmed_by : (c : Closings) (times : List (List ℕ)) (n : ℕ)
-    → length (trimmed_by c times n).first ≡ length c.first
-length-trimmed_by c times zero = refl
-length-trimmed_by c times (suc n) = let old =
-    trimmed_by c times n in
+pub length-transition_trimmed_by : (c : Closings) (times : List (List ℕ)) (n : ℕ)
+    → length (transition_trimmed_by c times n).first ≡ length c.first
+length-transition_trimmed_by c times zero = refl
+length-transition_trimmed_by c times (suc n) = let old =
+    transition_trimmed_by c times n in
     length-set old.first n (max (slice_index old.first n) (min (least times n) (slice_index old.next n)))
-    ∙ length-trimmed_by c times n
+    ∙ length-transition_trimmed_by c times n

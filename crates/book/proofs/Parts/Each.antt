@@ -4,11 +4,11 @@ use Rattle.std.proofs.lemmas.Bool.{cases_eq}
 use Rattle.std.proofs.lemmas.List.{length-set, length-replicate}
 use Rattle.std.proofs.lemmas.Option.{same_Some, slice_get-get_or}
 use Rattle.base.proofs.SliceSets.{slice_get-set_found, slice_get-set_other, slice_get-replicate_found}
-use Rattle.book.specs.Stamps.{EachAt}
+use Rattle.book.specs.Stamps.{EachStampedAt}
 
 -- one item is written, and each other keeps what it has to be
-pub each_set : {A : Type 0} (n : ℕ) (R Q : ℕ → A → Type 0) (xs : List A) (i : ℕ) (v : A) → EachAt n R xs
-    → ((k : ℕ) (x : A) → k ≢ i → slice_get xs k ≡ Some x → R k x → Q k x) → Q i v → EachAt n Q (slice_set xs i v)
+pub each_set : {A : Type 0} (n : ℕ) (R Q : ℕ → A → Type 0) (xs : List A) (i : ℕ) (v : A) → EachStampedAt n R xs
+    → ((k : ℕ) (x : A) → k ≢ i → slice_get xs k ≡ Some x → R k x → Q k x) → Q i v → EachStampedAt n Q (slice_set xs i v)
 each_set {A} n R Q xs i v all others own = record { long = length-set xs i v ∙ all.long; each = each }
   where
     each : (k : ℕ) (x : A) → slice_get (slice_set xs i v) k ≡ Some x → Q k x
@@ -20,14 +20,14 @@ each_set {A} n R Q xs i v all others own = record { long = length-set xs i v ∙
     ]
 
 -- nothing is written
-pub each_kept : {A : Type 0} (n : ℕ) (R Q : ℕ → A → Type 0) (xs : List A) → EachAt n R xs
-    → ((k : ℕ) (x : A) → slice_get xs k ≡ Some x → R k x → Q k x) → EachAt n Q xs
+pub each_kept : {A : Type 0} (n : ℕ) (R Q : ℕ → A → Type 0) (xs : List A) → EachStampedAt n R xs
+    → ((k : ℕ) (x : A) → slice_get xs k ≡ Some x → R k x → Q k x) → EachStampedAt n Q xs
 each_kept n R Q xs all on = record { long = all.long; each = λ k x at. on k x at (all.each k x at) }
 
 -- nothing is written, and one item has its own reason
-pub each_own : {A : Type 0} (n : ℕ) (R Q : ℕ → A → Type 0) (xs : List A) (i : ℕ) → EachAt n R xs
+pub each_own : {A : Type 0} (n : ℕ) (R Q : ℕ → A → Type 0) (xs : List A) (i : ℕ) → EachStampedAt n R xs
     → ((k : ℕ) (x : A) → k ≢ i → slice_get xs k ≡ Some x → R k x → Q k x)
-    → ((x : A) → slice_get xs i ≡ Some x → R i x → Q i x) → EachAt n Q xs
+    → ((x : A) → slice_get xs i ≡ Some x → R i x → Q i x) → EachStampedAt n Q xs
 each_own {A} n R Q xs i all others own = record { long = all.long; each = each }
   where
     each : (k : ℕ) (x : A) → slice_get xs k ≡ Some x → Q k x
@@ -38,7 +38,7 @@ each_own {A} n R Q xs i all others own = record { long = all.long; each = each }
     ]
 
 -- a list of one item over and over
-pub each_replicate : {A : Type 0} (n : ℕ) (Q : ℕ → A → Type 0) (v : A) → ((k : ℕ) → Q k v) → EachAt n Q (replicate n v)
+pub each_replicate : {A : Type 0} (n : ℕ) (Q : ℕ → A → Type 0) (v : A) → ((k : ℕ) → Q k v) → EachStampedAt n Q (replicate n v)
 each_replicate {A} n Q v all =
     record {
       long = length-replicate {A = A} n v;
@@ -46,16 +46,16 @@ each_replicate {A} n Q v all =
     }
 
 -- the item at a place within the list
-pub each_item_at : {A : Type 0} (n : ℕ) (R : ℕ → A → Type 0) (xs : List A) (i : ℕ) (d : A) → EachAt n R xs → i < n
+pub each_item_at : {A : Type 0} (n : ℕ) (R : ℕ → A → Type 0) (xs : List A) (i : ℕ) (d : A) → EachStampedAt n R xs → i < n
     → slice_get xs i ≡ Some (slice_index_or xs i d)
 each_item_at n R xs i d all lt = slice_get-get_or xs i d (subst (λ m. i < m) (sym all.long) lt)
 
-pub each_is_at : {A : Type 0} (n : ℕ) (R : ℕ → A → Type 0) (xs : List A) (i : ℕ) (d : A) → EachAt n R xs → i < n
+pub each_is_at : {A : Type 0} (n : ℕ) (R : ℕ → A → Type 0) (xs : List A) (i : ℕ) (d : A) → EachStampedAt n R xs → i < n
     → R i (slice_index_or xs i d)
 each_is_at n R xs i d all lt = all.each i (slice_index_or xs i d) (each_item_at n R xs i d all lt)
 
 -- what is there already is written without a change
-pub set_back : {A : Type 0} (xs : List A) (i : ℕ) (v : A) → slice_get xs i ≡ Some v → slice_set xs i v ≡ xs
-set_back [] i v at = refl
-set_back {A} (x ∷ xs) zero v at = ap (λ (y : A). y ∷ xs) (sym (same_Some x v at))
-set_back {A} (x ∷ xs) (suc i) v at = ap (λ (ys : List A). x ∷ ys) (set_back xs i v at)
+pub each_set_back : {A : Type 0} (xs : List A) (i : ℕ) (v : A) → slice_get xs i ≡ Some v → slice_set xs i v ≡ xs
+each_set_back [] i v at = refl
+each_set_back {A} (x ∷ xs) zero v at = ap (λ (y : A). y ∷ xs) (sym (same_Some x v at))
+each_set_back {A} (x ∷ xs) (suc i) v at = ap (λ (ys : List A). x ∷ ys) (each_set_back xs i v at)

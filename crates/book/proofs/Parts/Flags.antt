@@ -7,30 +7,30 @@ use Rattle.journal.specs.declared.event.Kind.TheVariants.{Set}
 use Rattle.journal.specs.Pasts.{InPast, UpToSome}
 use Rattle.journal.specs.Brings.{SomeDoes}
 use Rattle.journal.proofs.Times.Times.{time_none}
-use Rattle.journal.proofs.Order.CountedAndNumbered.{at_last}
-use Rattle.journal.proofs.Times.KeptArrives.{does_kept, kind_joins}
+use Rattle.journal.proofs.Order.CountedAndNumbered.{numbered_at_last}
+use Rattle.journal.proofs.Times.KeptArrives.{does_kept, kept_kind_joins}
 use Rattle.journal.specs.DidEvent.{event, did}
 use Rattle.journal.specs.Sizes.{Sizes}
-use Rattle.book.specs.Stamps.{EachAt, IsStamp}
+use Rattle.book.specs.Stamps.{EachStampedAt, IsStamp}
 use Rattle.book.specs.Flags.{IsFlag}
-use Rattle.book.specs.Transitions.{book_flag_joined}
+use Rattle.book.specs.Transitions.{transition_flag_joined}
 use Rattle.book.proofs.Parts.Each.{each_kept}
 use Rattle.book.proofs.Parts.Stamps.{stamp_equal, stamp_join}
-use Rattle.book.proofs.Parts.Mail.{other_kind, stamp_kept}
+use Rattle.book.proofs.Parts.Mail.{mail_other_kind, mail_stamp_kept}
 
 -- what is no set of the flag leaves it
 pub flag_kept : (n : ℕ) (h : List Event) (p : ℕ) (k : Kind) (f : ℕ) (o : Option (List ℕ)) → k ≢ Set f
     → IsFlag n h f o → IsFlag n (did h p k) f o
 flag_kept n h p k f None isnt none =
-    λ m does. none m ((does_kept h (event p k ∷ []) (Set f) m (other_kind p k (Set f) isnt)).1 does)
+    λ m does. none m ((does_kept h (event p k ∷ []) (Set f) m (mail_other_kind p k (Set f) isnt)).1 does)
 flag_kept n h p k f (Some t) isnt x = (
-  (x.0.0, (does_kept h (event p k ∷ []) (Set f) x.0.0 (other_kind p k (Set f) isnt)).0 x.0.1),
-  stamp_kept n h p k (Set f) t isnt x.1,
+  (x.0.0, (does_kept h (event p k ∷ []) (Set f) x.0.0 (mail_other_kind p k (Set f) isnt)).0 x.0.1),
+  mail_stamp_kept n h p k (Set f) t isnt x.1,
 )
 
 pub flags_kept : (s : Sizes) (h : List Event) (p : ℕ) (k : Kind) (flags : List (Option (List ℕ)))
-    → ((f : ℕ) → k ≢ Set f) → EachAt s.flags (IsFlag s.processors h) flags
-    → EachAt s.flags (IsFlag s.processors (did h p k)) flags
+    → ((f : ℕ) → k ≢ Set f) → EachStampedAt s.flags (IsFlag s.processors h) flags
+    → EachStampedAt s.flags (IsFlag s.processors (did h p k)) flags
 flags_kept s h p k flags isnt all =
     each_kept s.flags (IsFlag s.processors h) (IsFlag s.processors (did h p k)) flags all
     (λ f o at is. flag_kept s.processors h p k f o (isnt f) is)
@@ -38,16 +38,16 @@ flags_kept s h p k flags isnt all =
 -- a set joins its timestamp
 pub flag_set : (n : ℕ) (h : List Event) (p f : ℕ) (o : Option (List ℕ)) (t : List ℕ) → IsFlag n h f o
     → IsStamp n (did h p (Set f)) (InPast (did h p (Set f)) p) t
-    → IsFlag n (did h p (Set f)) f (Some (book_flag_joined o t))
+    → IsFlag n (did h p (Set f)) f (Some (transition_flag_joined o t))
 flag_set n h p f None t none x = (
-  (length h, (p, at_last h (event p (Set f)))),
+  (length h, (p, numbered_at_last h (event p (Set f)))),
   stamp_equal n (did h p (Set f)) (UpToSome (did h p (Set f)) (SomeDoes (did h p (Set f)) (Set f))) t
       (λ q. max 0 (slice_index t q)) x.long (λ q. zero-max (slice_index t q))
-      (kind_joins h (event p (Set f)) (λ _. 0) (slice_index t)
+      (kept_kind_joins h (event p (Set f)) (λ _. 0) (slice_index t)
       (time_none h (UpToSome h (SomeDoes h (Set f))) (λ i some. none some.0 some.1)) x.is),
 )
 flag_set n h p f (Some u) t old x = (
-  (length h, (p, at_last h (event p (Set f)))),
+  (length h, (p, numbered_at_last h (event p (Set f)))),
   stamp_join n (did h p (Set f)) (UpToSome (did h p (Set f)) (SomeDoes (did h p (Set f)) (Set f)))
-      u t old.1.long x.long (kind_joins h (event p (Set f)) (slice_index u) (slice_index t) old.1.is x.is),
+      u t old.1.long x.long (kept_kind_joins h (event p (Set f)) (slice_index u) (slice_index t) old.1.is x.is),
 )

@@ -8,20 +8,20 @@ use Rattle.journal.specs.WellFormed.{WellFormed}
 use Rattle.journal.specs.CutFaults.{WasCut}
 use Rattle.journal.specs.HistoryLaws.{HasHistorySizes}
 use Rattle.journal.proofs.Journals.History.{whole_law, history_law}
-use Rattle.book.specs.Transitions.{appended, new_book}
+use Rattle.book.specs.Transitions.{transition_appended, transition_new_book}
 use Rattle.book.specs.Told.{HoldsSome}
 
 -- the history has no more events than this: as many as may have been cut off, and the journal's
-abbrev pub happened : Log → ℕ
-happened log = most_cut + length log.events
+abbrev pub history_happened : Log → ℕ
+history_happened log = most_cut + length log.events
 
 -- the journal of an empty book holds the empty history
-pub history_new : (s : Sizes) → HoldsSome (new_book s).journal []
+pub history_new : (s : Sizes) → HoldsSome (transition_new_book s).journal []
 history_new s = record
-    { taken = []; rest = whole_law (new_book s).journal [] (record { whole = refl; history = refl }) }
+    { taken = []; rest = whole_law (transition_new_book s).journal [] (record { whole = refl; history = refl }) }
 
 -- a journal that goes on holds the history that goes on
-pub history_on : (log : Log) (h es : List Event) → HoldsSome log h → HoldsSome (appended log es) (h ++ es)
+pub history_on : (log : Log) (h es : List Event) → HoldsSome log h → HoldsSome (transition_appended log es) (h ++ es)
 history_on log h es holds = record {
   taken = holds.taken;
   rest = record {
@@ -46,7 +46,7 @@ history_cut s h old new of well holds was = record {
   rest = history_law s old new holds.taken h of well holds.rest was;
 }
 
-pub history_long : (log : Log) (h : List Event) → HoldsSome log h → length h ≤ happened log
+pub history_long : (log : Log) (h : List Event) → HoldsSome log h → length h ≤ history_happened log
 history_long log h holds =
     let long = ap (λ (es : List Event). length es) holds.rest.history ∙ length-append holds.taken log.events in
     let cut = holds.rest.base.after.cut in
@@ -54,6 +54,6 @@ history_long log h holds =
     omega arith
 
 -- where the journal has room within its limit, a number of events of the history is a number of 64 bits
-pub happened_fits : (log : Log) (owing : ℕ) → length log.events + owing ≤ most_events + 2 ^ 12
-    → happened log + 1 < 2 ^ 64
-happened_fits log owing few = omega arith
+pub history_happened_fits : (log : Log) (owing : ℕ) → length log.events + owing ≤ most_events + 2 ^ 12
+    → history_happened log + 1 < 2 ^ 64
+history_happened_fits log owing few = omega arith

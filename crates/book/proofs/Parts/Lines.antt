@@ -8,31 +8,31 @@ use Rattle.journal.specs.declared.event.Kind.{Kind}
 use Rattle.journal.specs.declared.event.Kind.TheVariants.{Ask, Acquire, Release}
 use Rattle.base.specs.InOrderOnce.{Has}
 use Rattle.journal.specs.WellFormed.{LastIs, Holds, MayBeGranted}
-use Rattle.journal.specs.Waits.{IsIdle}
-use Rattle.base.proofs.SlicesAndCounts.{push_cases, slice_get-append_left, slice_get-last}
-use Rattle.journal.proofs.Order.CountedAndNumbered.{at_within}
-use Rattle.journal.proofs.Journals.WellFormedLast.{last_cases, last_unique, holds_cases, holds_now}
+use Rattle.journal.specs.Waits.{WaitsForNothing}
+use Rattle.base.proofs.SlicesAndCounts.{slice_push_cases, slice_get-append_left, slice_get-last}
+use Rattle.journal.proofs.Order.CountedAndNumbered.{numbered_at_within}
+use Rattle.journal.proofs.Journals.WellFormedLast.{last_cases, last_unique, well_formed_holds_cases, well_formed_holds_now}
 use Rattle.journal.specs.DidEvent.{event, did}
 use Rattle.book.specs.Lines.{IsLine}
-use Rattle.book.proofs.Parts.LastAndCounts.{last_on, last_own, holds_last_on, holds_back}
+use Rattle.book.proofs.Parts.LastAndCounts.{last_on, last_own, holds_last_on, last_holds_back}
 
 -- p's last event is no ask of the lock
-abbrev pub NoAsk : List Event → ℕ → ℕ → Type 0
-NoAsk h p l = (i : ℕ) → ¬ LastIs h p i (Ask l)
+abbrev pub NoAskInLine : List Event → ℕ → ℕ → Type 0
+NoAskInLine h p l = (i : ℕ) → ¬ LastIs h p i (Ask l)
 
-pub idle_no_ask : (h : List Event) (p l : ℕ) → IsIdle h p → NoAsk h p l
-idle_no_ask h p l idle i last = absurd (cc (idle i (Ask l) last))
+pub line_idle_no_ask : (h : List Event) (p l : ℕ) → WaitsForNothing h p → NoAskInLine h p l
+line_idle_no_ask h p l idle i last = absurd (cc (idle i (Ask l) last))
 
 -- nobody else waits or holds: who is neither is not in the line
-pub not_in_line : (h : List Event) (p l : ℕ) (xs : List ℕ) → NoAsk h p l → ¬ Holds h p l → IsLine h l xs → ¬ Has xs p
+pub not_in_line : (h : List Event) (p l : ℕ) (xs : List ℕ) → NoAskInLine h p l → ¬ Holds h p l → IsLine h l xs → ¬ Has xs p
 not_in_line h p l xs none free x has = elim (x.asks has.0 p has.1) [ inl a ↦ none a.0 a.1 | inr b ↦ free b.1 ]
 
 -- the lines of other locks stay
 pub line_kept : (h : List Event) (p : ℕ) (k : Kind) (l : ℕ) (xs : List ℕ) → k ≢ Ask l → k ≢ Acquire l → k ≢ Release l
-    → NoAsk h p l → IsLine h l xs → IsLine (did h p k) l xs
+    → NoAskInLine h p l → IsLine h l xs → IsLine (did h p k) l xs
 line_kept h p k l xs ask acquire release none x = record {
   each = λ q i last. x.each q i (old q i last);
-  first = λ q held. x.first q (holds_back h p k q l acquire held);
+  first = λ q held. x.first q (last_holds_back h p k q l acquire held);
   asks = λ m q at. elim (x.asks m q at) [
     | inl a ↦ inl (a.0, last_on h p k q a.0 (Ask l) (apart q a.0 a.1) a.1)
     | inr b ↦ inr (b.0, holds_last_on h p k q l release b.1)
@@ -47,7 +47,7 @@ line_kept h p k l xs ask acquire release none x = record {
     apart q i last is = let P : ℕ → Type 0 = λ r. LastIs h r i (Ask l) in none i (subst P is last)
 
 -- who asks comes last
-pub line_asked : (h : List Event) (p l : ℕ) (xs : List ℕ) → NoAsk h p l → ¬ Holds h p l → IsLine h l xs
+pub line_asked : (h : List Event) (p l : ℕ) (xs : List ℕ) → NoAskInLine h p l → ¬ Holds h p l → IsLine h l xs
     → IsLine (did h p (Ask l)) l (xs ++ p ∷ [])
 line_asked h p l xs none free x = record { each = each; first = first; asks = asks; order = order }
   where
@@ -71,11 +71,11 @@ line_asked h p l xs none free x = record { each = each; first = first; asks = as
     ]
 
     first : (q : ℕ) → Holds (did h p (Ask l)) q l → slice_get (xs ++ p ∷ []) 0 ≡ Some q
-    first q held = longer 0 q (x.first q (holds_back h p (Ask l) q l (λ e. absurd cc) held))
+    first q held = longer 0 q (x.first q (last_holds_back h p (Ask l) q l (λ e. absurd cc) held))
 
     asks : (m q : ℕ) → slice_get (xs ++ p ∷ []) m ≡ Some q
         → ((i : ℕ) × LastIs (did h p (Ask l)) q i (Ask l)) ⊎ ((m ≡ 0) × Holds (did h p (Ask l)) q l)
-    asks m q at = elim (push_cases xs p m q at) [
+    asks m q at = elim (slice_push_cases xs p m q at) [
       | inl o ↦ elim (x.asks m q o.1) [
         | inl a ↦ inl (a.0, last_on h p (Ask l) q a.0 (Ask l) (apart m q o.1) a.1)
         | inr b ↦ inr (b.0, holds_last_on h p (Ask l) q l (λ e. absurd cc) b.1)
@@ -89,11 +89,11 @@ line_asked h p l xs none free x = record { each = each; first = first; asks = as
 
     order : (m n q r i j : ℕ) → m < n → slice_get (xs ++ p ∷ []) m ≡ Some q → slice_get (xs ++ p ∷ []) n ≡ Some r
         → LastIs (did h p (Ask l)) q i (Ask l) → LastIs (did h p (Ask l)) r j (Ask l) → i < j
-    order m n q r i j lt at to one two = elim (push_cases xs p m q at) [
-      | inl a ↦ elim (push_cases xs p n r to) [
+    order m n q r i j lt at to one two = elim (slice_push_cases xs p m q at) [
+      | inl a ↦ elim (slice_push_cases xs p n r to) [
         | inl b ↦ x.order m n q r i j lt a.1 b.1 (old q i (apart m q a.1) one) (old r j (apart n r b.1) two)
         | inr b ↦ (
-            let within = at_within h i (record { processor = q; kind = Ask l }) (old q i (apart m q a.1) one).does in
+            let within = numbered_at_within h i (record { processor = q; kind = Ask l }) (old q i (apart m q a.1) one).does in
             let P : ℕ → Type 0 = λ z. LastIs (did h p (Ask l)) z j (Ask l) in
             let last = (last_unique (did h p (Ask l)) p j (length h) (Ask l) (Ask l) (subst P (sym b.1) two)
             (last_own h p (Ask l))).0 in
@@ -104,7 +104,7 @@ line_asked h p l xs none free x = record { each = each; first = first; asks = as
     ]
 
 -- whose holder releases it, goes on with the next
-pub line_released : (h : List Event) (p l : ℕ) (xs : List ℕ) → NoAsk h p l → Holds h p l → IsLine h l (p ∷ xs)
+pub line_released : (h : List Event) (p l : ℕ) (xs : List ℕ) → NoAskInLine h p l → Holds h p l → IsLine h l (p ∷ xs)
     → IsLine (did h p (Release l)) l xs
 line_released h p l xs none held x = record {
   each = λ q i last. (let o = old q i last in shift q i o.0 o.1 (x.each q i o.1));
@@ -134,7 +134,7 @@ line_released h p l xs none held x = record {
     shift q i isnt last has = behind has.0 q isnt has.1
 
     nobody : (q : ℕ) → ¬ Holds (did h p (Release l)) q l
-    nobody q holds = elim (holds_cases h (event p (Release l)) q l holds) [
+    nobody q holds = elim (well_formed_holds_cases h (event p (Release l)) q l holds) [
       | inl o ↦ o.1 (ap (λ (r : ℕ). event r (Release l)) (same_Some p q (x.first q o.0)))
       | inr n ↦ absurd (cc (ap (λ e. e.kind) n))
     ]
@@ -180,7 +180,7 @@ pub line_taken : (h : List Event) (p l i : ℕ) (xs : List ℕ) → LastIs h p i
     → IsLine h l xs → IsLine (did h p (Acquire l)) l xs
 line_taken h p l i xs last may x = record {
   each = λ q m ask. x.each q m (old q m ask).1;
-  first = λ q holds. elim (holds_cases h (event p (Acquire l)) q l holds) [
+  first = λ q holds. elim (well_formed_holds_cases h (event p (Acquire l)) q l holds) [
     | inl o ↦ absurd (may.free q o.0)
     | inr n ↦ here ∙ ap (λ (e : Event). Some e.processor) n
   ];
@@ -207,7 +207,7 @@ line_taken h p l i xs last may x = record {
       | inl is ↦ (
           let P : ℕ → Type 0 = λ r. slice_get xs m ≡ Some r in
           let Q : ℕ → Type 0 = λ r. Holds (did h p (Acquire l)) r l in
-          inr (head m (subst P is at), subst Q (sym is) (holds_now h p l)))
+          inr (head m (subst P is at), subst Q (sym is) (well_formed_holds_now h p l)))
       | inr isnt ↦ elim (x.asks m q at)
           [ inl a ↦ inl (a.0, last_on h p (Acquire l) q a.0 (Ask l) isnt a.1) | inr b ↦ absurd (may.free q b.1) ]
     ]

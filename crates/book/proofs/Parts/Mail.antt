@@ -8,14 +8,14 @@ use Rattle.journal.specs.declared.event.Kind.TheVariants.{Ask, Acquire, Release,
 use Rattle.journal.specs.Sizes.{Sizes}
 use Rattle.journal.specs.Events.{At, count_of, is_arrive, is_depart}
 use Rattle.journal.specs.WellFormed.{LastIs, Holds, MayBeGranted, Allowed, MayFollow}
-use Rattle.journal.specs.Waits.{IsIdle}
+use Rattle.journal.specs.Waits.{WaitsForNothing}
 use Rattle.journal.specs.Pasts.{UpToSome}
 use Rattle.journal.specs.Times.{IsTimeIn}
 use Rattle.journal.specs.Brings.{Brings, SomeDoes, SomeArrives}
-use Rattle.base.proofs.SlicesAndCounts.{push_cases}
-use Rattle.journal.proofs.Order.CountedAndNumbered.{at_within, does_same}
-use Rattle.journal.proofs.Times.KeptArrives.{kind_kept, arrivals_others}
-use Rattle.journal.proofs.Journals.WellFormedLast.{last_cases, holds_cases, holds_now}
+use Rattle.base.proofs.SlicesAndCounts.{slice_push_cases}
+use Rattle.journal.proofs.Order.CountedAndNumbered.{numbered_at_within, numbered_does_same}
+use Rattle.journal.proofs.Times.KeptArrives.{kind_kept, arrives_others_time}
+use Rattle.journal.proofs.Journals.WellFormedLast.{last_cases, well_formed_holds_cases, well_formed_holds_now}
 use Rattle.transit.specs.Letters.{Letter, LetterKind}
 use Rattle.transit.specs.Letters.LetterKind.{grant, departure, signal}
 use Rattle.journal.specs.DidEvent.{event, did}
@@ -45,22 +45,22 @@ mail_news_cases _ (Acquire l) = inr (λ e. absurd cc)
 mail_news_cases _ Depart = inr (λ e. absurd cc)
 mail_news_cases _ _ = inr (λ e. e)
 
-arrives_not : (k : Kind) → k ≢ Arrive → is_arrive k ≡ false
-arrives_not Arrive isnt = absurd (isnt refl)
-arrives_not _ isnt = refl
+mail_arrives_not : (k : Kind) → k ≢ Arrive → is_arrive k ≡ false
+mail_arrives_not Arrive isnt = absurd (isnt refl)
+mail_arrives_not _ isnt = refl
 
 -- the one event is of another kind
-pub other_kind : (p : ℕ) (k a : Kind) → k ≢ a → (m : ℕ) (f : Event) → At (event p k ∷ []) m f → f.kind ≢ a
-other_kind p k a isnt m f at is =
-    elim (push_cases [] (event p k) m f at)
+pub mail_other_kind : (p : ℕ) (k a : Kind) → k ≢ a → (m : ℕ) (f : Event) → At (event p k ∷ []) m f → f.kind ≢ a
+mail_other_kind p k a isnt m f at is =
+    elim (slice_push_cases [] (event p k) m f at)
     [ inl old ↦ none-some f old.1 | inr new ↦ isnt (ap (λ x. x.kind) new.1 ∙ is) ]
 
 -- what is kept of the timestamps of events of a kind stays, where another kind is done
-pub stamp_kept : (n : ℕ) (h : List Event) (p : ℕ) (k a : Kind) (t : List ℕ) → k ≢ a
+pub mail_stamp_kept : (n : ℕ) (h : List Event) (p : ℕ) (k a : Kind) (t : List ℕ) → k ≢ a
     → IsStamp n h (UpToSome h (SomeDoes h a)) t
     → IsStamp n (did h p k) (UpToSome (did h p k) (SomeDoes (did h p k) a)) t
-stamp_kept n h p k a t isnt x =
-    record { long = x.long; is = kind_kept h (event p k ∷ []) a (slice_index t) (other_kind p k a isnt) x.is }
+mail_stamp_kept n h p k a t isnt x =
+    record { long = x.long; is = kind_kept h (event p k ∷ []) a (slice_index t) (mail_other_kind p k a isnt) x.is }
 
 -- what another does
 module _ (s : Sizes) (h : List Event) (p : ℕ) (k : Kind) (may : MayFollow s h (event p k)) (r : ℕ) (isnt : r ≢ p) where
@@ -72,7 +72,7 @@ module _ (s : Sizes) (h : List Event) (p : ℕ) (k : Kind) (may : MayFollow s h 
       both : (m : ℕ) → LastIs h p m (Ask l) → MayBeGranted h m l → ⊥
       both m mine too = elim (cases_order i m) [
         | inl is ↦ (let P : ℕ → Type 0 = λ x. At h x (event p (Ask l)) in
-            isnt (does_same h i r p (Ask l) (Ask l) last.does (subst P (sym is) mine.does)).0)
+            isnt (numbered_does_same h i r p (Ask l) (Ask l) last.does (subst P (sym is) mine.does)).0)
         | inr apart ↦ elim apart [ inl lt ↦ too.first i r lt last | inr lt ↦ granted.first m p lt mine ]
       ]
 
@@ -80,14 +80,14 @@ module _ (s : Sizes) (h : List Event) (p : ℕ) (k : Kind) (may : MayFollow s h 
       taken x = both x.0 x.1 x.2
 
       free : (q : ℕ) → ¬ Holds (did h p k) q l
-      free q held = elim (holds_cases h (event p k) q l held) [
+      free q held = elim (well_formed_holds_cases h (event p k) q l held) [
         | inl old ↦ granted.free q old.0
         | inr new ↦ taken (subst (λ b. Allowed s h p b) (ap (λ e. e.kind) new) may.allowed)
       ]
 
       first : (m q : ℕ) → m < i → ¬ LastIs (did h p k) q m (Ask l)
       first m q lt ask = elim (last_cases h (event p k) q m (Ask l) ask) [
-        | inl own ↦ (let within = at_within h i (record { processor = r; kind = Ask l }) last.does in
+        | inl own ↦ (let within = numbered_at_within h i (record { processor = r; kind = Ask l }) last.does in
             absurd (omega (arith, own.1)))
         | inr old ↦ granted.first m q lt old.1
       ]
@@ -103,14 +103,14 @@ module _ (s : Sizes) (h : List Event) (p : ℕ) (k : Kind) (may : MayFollow s h 
   mail_brings_on : (a : Kind) (t : List ℕ) → ComesByMail a → Allowed s h r a → IsStamp s.processors h (Brings h r a) t
       → IsStamp s.processors (did h p k) (Brings (did h p k) r a) t
   mail_brings_on (Acquire l) t posted (i, last, granted) x =
-      stamp_kept s.processors h p k (Release l) t
+      mail_stamp_kept s.processors h p k (Release l) t
       (λ e. granted.free p (subst (λ b. Allowed s h p b) e may.allowed)) x
   mail_brings_on Depart t posted (i, last, all) x =
       record {
         long = x.long;
         is = subst (λ n. IsTimeIn (did h p k) (UpToSome (did h p k) (SomeArrives (did h p k) n)) (slice_index t))
             (sym (count_others is_depart h p k r isnt))
-            (arrivals_others h (event p k) (count_of is_depart h r) (slice_index t)
+            (arrives_others_time h (event p k) (count_of is_depart h r) (slice_index t)
             (λ e. (let one = all p may.processor in absurd (omega arith))) x.is);
       }
   mail_brings_on _ t posted allowed x = absurd posted
@@ -128,7 +128,7 @@ module _ (s : Sizes) (h : List Event) (p : ℕ) (k : Kind) (may : MayFollow s h 
         | inl is ↦ (
             let P : ℕ → Type 0 = λ x. LastIs h x m (Ask l) in
             let acquires : k ≡ Acquire l = may.answers m (Ask l) (subst P is ask) in
-            granted.free p (subst (λ b. Holds (did h p b) p l) (sym acquires) (holds_now h p l)))
+            granted.free p (subst (λ b. Holds (did h p b) p l) (sym acquires) (well_formed_holds_now h p l)))
         | inr apart ↦ granted.first m q lt (last_on h p k q m (Ask l) apart ask)
       ]
   mail_allowed_back Depart posted none (i, last, all) = (
@@ -136,7 +136,7 @@ module _ (s : Sizes) (h : List Event) (p : ℕ) (k : Kind) (may : MayFollow s h 
     old,
     λ q lt.
         (let one = all q lt in let same = count_others is_depart h p k r isnt in
-        let too = count_kept is_arrive h p k q (arrives_not k none) in omega arith),
+        let too = count_kept is_arrive h p k q (mail_arrives_not k none) in omega arith),
   )
     where
       old : LastIs h r i Arrive
@@ -174,7 +174,7 @@ module _ (s : Sizes) (h : List Event) (p : ℕ) (k : Kind) (may : MayFollow s h 
       none _ posted news allowed = absurd posted
 
 -- who is idle has no message
-pub idle_allowed_no_mail : (s : Sizes) (h : List Event) (p : ℕ) (a : Kind) → IsIdle h p → ComesByMail a → ¬ Allowed s h p a
+pub idle_allowed_no_mail : (s : Sizes) (h : List Event) (p : ℕ) (a : Kind) → WaitsForNothing h p → ComesByMail a → ¬ Allowed s h p a
 idle_allowed_no_mail s h p (Acquire l) idle posted allowed = absurd (cc (idle allowed.0 (Ask l) allowed.1))
 idle_allowed_no_mail s h p Depart idle posted allowed = absurd (cc (idle allowed.0 Arrive allowed.1))
 idle_allowed_no_mail s h p _ idle posted allowed = absurd posted
@@ -185,7 +185,7 @@ pub no_mail : (s : Sizes) (h : List Event) (p : ℕ) (o : Option Letter)
 no_mail s h p None never mail = refl
 no_mail s h p (Some m) never mail = absurd (never mail.kind (mail_lets_posted m.kind mail.kind mail.lets) mail.allowed)
 
-pub idle_mail : (s : Sizes) (h : List Event) (p : ℕ) (o : Option Letter) → IsIdle h p → IsMail s h p o → None ≡ o
+pub idle_mail : (s : Sizes) (h : List Event) (p : ℕ) (o : Option Letter) → WaitsForNothing h p → IsMail s h p o → None ≡ o
 idle_mail s h p o idle mail = no_mail s h p o (λ a posted. idle_allowed_no_mail s h p a idle posted) mail
 
 -- who neither asked nor arrived last has none
@@ -195,7 +195,7 @@ own_mail_none s h p k ask arrive (Acquire l) posted allowed = last_none h p k al
 own_mail_none s h p k ask arrive Depart posted allowed = last_none h p k allowed.0 Arrive arrive allowed.1
 own_mail_none s h p k ask arrive _ posted allowed = absurd posted
 
-pub own_mail_idle : (s : Sizes) (h : List Event) (p : ℕ) (k : Kind) (o : Option Letter) → IsIdle h p
+pub own_mail_idle : (s : Sizes) (h : List Event) (p : ℕ) (k : Kind) (o : Option Letter) → WaitsForNothing h p
     → ((l : ℕ) → k ≢ Ask l) → k ≢ Arrive → IsMail s h p o → IsMail s (did h p k) p o
 own_mail_idle s h p k o idle ask arrive mail =
     subst (λ x. IsMail s (did h p k) p x) (idle_mail s h p o idle mail) (own_mail_none s h p k ask arrive)

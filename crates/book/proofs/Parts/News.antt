@@ -2,7 +2,7 @@
 use Rattle.std.proofs.Common.{ℕ, ◌≡◌, ◌≢◌, ◌<◌, ◌≤◌, ◌⊎◌, max, inl, inr, List, [], ◌∷◌, true, filter, slice_index, refl, sym, ap, subst, subst₂, ◌∙◌, eqb-true, eq-eqb, arith}
 use Rattle.std.proofs.lemmas.Bool.{and_from, and_parts, le-leb, leb-true, lt-ltb, ltb-true}
 use Rattle.base.specs.InOrderOnce.{Has, InOrder}
-use Rattle.base.proofs.Joined.{has-map, has-flat_map, in_order-map, in_order-flat_map, in_order_weaker}
+use Rattle.base.proofs.Joined.{has-map, has-flat_map, in_order-map, in_order-flat_map, joined_in_weaker_order}
 use Rattle.base.proofs.FilteredInOrder.{has-filter, in_order-filter}
 use Rattle.journal.specs.declared.event.Event.{Event}
 use Rattle.journal.specs.declared.event.Kind.{Kind}
@@ -10,7 +10,7 @@ use Rattle.journal.specs.Sizes.{Sizes}
 use Rattle.journal.specs.Events.{interval_at, is_closing}
 use Rattle.journal.specs.Brings.{Brings}
 use Rattle.journal.specs.ContentsSince.{StoresInInterval, IsContent}
-use Rattle.journal.specs.MissingWords.{IsPlaced, Missing, MissingInOrder, AreMissingNotices}
+use Rattle.journal.specs.MissingWords.{IsMissingPlaced, Missing, MissingInOrder, AreMissingNotices}
 use Rattle.journal.proofs.Order.CountedAndNumbered.{numbered}
 use Rattle.journal.proofs.Intervals.StoreContents.{content_some}
 use Rattle.page.specs.RisingChanges.{Changes}
@@ -18,10 +18,10 @@ use Rattle.vtime.specs.Times.{join}
 use Rattle.vtime.proofs.Joins.{get_or-join}
 use Rattle.interval.specs.declared.kept_interval.KeptInterval.{KeptInterval}
 use Rattle.interval.specs.SentIntervals.{SentRecord}
-use Rattle.interval.specs.Closings.{Closings, is_news, is_of_page, sent_record, sent_interval, closings_between}
+use Rattle.interval.specs.Closings.{Closings, is_news_of_closings, is_closing_of_page, closings_sent_record, closings_sent_interval, closings_between}
 use Rattle.book.specs.Stamps.{IsStamp}
 use Rattle.book.specs.ClosedIntervals.{AreClosed}
-use Rattle.book.specs.State.{State, time_of}
+use Rattle.book.specs.State.{State, state_time_of}
 use Rattle.book.specs.Told.{Represents}
 use Rattle.book.specs.News.{news_of_notice, news_of_page}
 use Rattle.book.proofs.Parts.Each.{each_item_at}
@@ -31,20 +31,20 @@ use Rattle.book.proofs.Parts.TimesAndAwaits.{own_time_number}
 record IsSentNews (c : Closings) (old new : List ℕ) (n : ℕ) (x : Missing) : Type 0 where
   kept : KeptInterval
   has : Has c.kept kept
-  news : is_news old new kept ≡ true
+  news : is_news_of_closings old new kept ≡ true
   changes : Changes
   among : Has kept.interval.records changes
   page : changes.page ≡ n
-  is : news_of_notice (sent_record kept changes) ≡ x
+  is : news_of_notice (closings_sent_record kept changes) ≡ x
 
 sent_news_of : (c : Closings) (old new : List ℕ) (n : ℕ) (x : Missing) → Has (news_of_page n (closings_between c old new)) x
     → IsSentNews c old new n x
 sent_news_of c old new n x h =
-    let y = (has-map news_of_notice (filter (is_of_page n) (closings_between c old new)) x).0 h in
-    let f = (has-filter (is_of_page n) (closings_between c old new) y.0).0 y.1 in
-    let k = (has-flat_map sent_interval (filter (is_news old new) c.kept) y.0).0 f.0 in
-    let g = (has-filter (is_news old new) c.kept k.0).0 k.1 in
-    let r = (has-map (sent_record k.0) k.0.interval.records y.0).0 k.2 in
+    let y = (has-map news_of_notice (filter (is_closing_of_page n) (closings_between c old new)) x).0 h in
+    let f = (has-filter (is_closing_of_page n) (closings_between c old new) y.0).0 y.1 in
+    let k = (has-flat_map closings_sent_interval (filter (is_news_of_closings old new) c.kept) y.0).0 f.0 in
+    let g = (has-filter (is_news_of_closings old new) c.kept k.0).0 k.1 in
+    let r = (has-map (closings_sent_record k.0) k.0.interval.records y.0).0 k.2 in
     record {
       kept = k.0;
       has = g.0;
@@ -55,69 +55,69 @@ sent_news_of c old new n x h =
       is = ap news_of_notice r.2 ∙ y.2;
     }
 
-has_sent_news : (c : Closings) (old new : List ℕ) (k : KeptInterval) (r : Changes) → Has c.kept k → is_news old new k ≡ true
-    → Has k.interval.records r → Has (news_of_page r.page (closings_between c old new)) (news_of_notice (sent_record k r))
+has_sent_news : (c : Closings) (old new : List ℕ) (k : KeptInterval) (r : Changes) → Has c.kept k → is_news_of_closings old new k ≡ true
+    → Has k.interval.records r → Has (news_of_page r.page (closings_between c old new)) (news_of_notice (closings_sent_record k r))
 has_sent_news c old new k r has news among =
-    let own = (has-map (sent_record k) k.interval.records (sent_record k r)).1 (r, among, refl) in
-    let picked = (has-filter (is_news old new) c.kept k).1 (has, news) in
-    let sent = (has-flat_map sent_interval (filter (is_news old new) c.kept) (sent_record k r)).1 (k, picked, own) in
-    let there = (has-filter (is_of_page r.page) (closings_between c old new) (sent_record k r)).1
+    let own = (has-map (closings_sent_record k) k.interval.records (closings_sent_record k r)).1 (r, among, refl) in
+    let picked = (has-filter (is_news_of_closings old new) c.kept k).1 (has, news) in
+    let sent = (has-flat_map closings_sent_interval (filter (is_news_of_closings old new) c.kept) (closings_sent_record k r)).1 (k, picked, own) in
+    let there = (has-filter (is_closing_of_page r.page) (closings_between c old new) (closings_sent_record k r)).1
     (sent, eq-eqb r.page r.page refl) in
-    (has-map news_of_notice (filter (is_of_page r.page) (closings_between c old new)) (news_of_notice (sent_record k r))).1
-    (sent_record k r, there, refl)
+    (has-map news_of_notice (filter (is_closing_of_page r.page) (closings_between c old new)) (news_of_notice (closings_sent_record k r))).1
+    (closings_sent_record k r, there, refl)
 
 -- of two records of one page the first sent is of an interval that was closed before
 pub sent_news_in_order : (s : Sizes) (h : List Event) (c : Closings) (n : ℕ) (old new : List ℕ) → AreClosed s h c
     → MissingInOrder (news_of_page n (closings_between c old new))
 sent_news_in_order s h c n old new x =
-    in_order-map (λ (y z : Missing). y.place < z.place) news_of_notice (filter (is_of_page n) (closings_between c old new))
-    (in_order_weaker Before (λ (y z : SentRecord). y.place < z.place) (filter (is_of_page n) (closings_between c old new))
+    in_order-map (λ (y z : Missing). y.place < z.place) news_of_notice (filter (is_closing_of_page n) (closings_between c old new))
+    (joined_in_weaker_order Before (λ (y z : SentRecord). y.place < z.place) (filter (is_closing_of_page n) (closings_between c old new))
     earlier
-    (in_order-filter Before (is_of_page n) (closings_between c old new)
-    (in_order-flat_map Before sent_interval (filter (is_news old new) c.kept) within across)))
+    (in_order-filter Before (is_closing_of_page n) (closings_between c old new)
+    (in_order-flat_map Before closings_sent_interval (filter (is_news_of_closings old new) c.kept) within across)))
   where
     Before : SentRecord → SentRecord → Type 0
     Before y z = (y.place < z.place) ⊎ (y.notice.page < z.notice.page)
 
-    kept_of : (k : KeptInterval) → Has (filter (is_news old new) c.kept) k → Has c.kept k
-    kept_of k h = ((has-filter (is_news old new) c.kept k).0 h).0
+    kept_of : (k : KeptInterval) → Has (filter (is_news_of_closings old new) c.kept) k → Has c.kept k
+    kept_of k h = ((has-filter (is_news_of_closings old new) c.kept k).0 h).0
 
-    within : (k : KeptInterval) → Has (filter (is_news old new) c.kept) k → InOrder Before (sent_interval k)
-    within k h = in_order-map Before (sent_record k) k.interval.records
-        (in_order_weaker (λ (a b : Changes). a.page < b.page) (λ a b. Before (sent_record k a) (sent_record k b))
+    within : (k : KeptInterval) → Has (filter (is_news_of_closings old new) c.kept) k → InOrder Before (closings_sent_interval k)
+    within k h = in_order-map Before (closings_sent_record k) k.interval.records
+        (joined_in_weaker_order (λ (a b : Changes). a.page < b.page) (λ a b. Before (closings_sent_record k a) (closings_sent_record k b))
         k.interval.records (λ a b _ _ less. inr less) (x.contents k (kept_of k h)).rising)
 
-    place_of : (k : KeptInterval) (y : SentRecord) → Has (sent_interval k) y → k.place ≡ y.place
-    place_of k y h = let r = (has-map (sent_record k) k.interval.records y).0 h in ap (λ (z : SentRecord). z.place) r.2
+    place_of : (k : KeptInterval) (y : SentRecord) → Has (closings_sent_interval k) y → k.place ≡ y.place
+    place_of k y h = let r = (has-map (closings_sent_record k) k.interval.records y).0 h in ap (λ (z : SentRecord). z.place) r.2
 
-    across : InOrder (λ (j k : KeptInterval). (a b : SentRecord) → Has (sent_interval j) a → Has (sent_interval k) b
-        → Before a b) (filter (is_news old new) c.kept)
-    across = in_order_weaker (λ (j k : KeptInterval). j.place < k.place)
-        (λ (j k : KeptInterval). (a b : SentRecord) → Has (sent_interval j) a → Has (sent_interval k) b → Before a b)
-        (filter (is_news old new) c.kept)
+    across : InOrder (λ (j k : KeptInterval). (a b : SentRecord) → Has (closings_sent_interval j) a → Has (closings_sent_interval k) b
+        → Before a b) (filter (is_news_of_closings old new) c.kept)
+    across = joined_in_weaker_order (λ (j k : KeptInterval). j.place < k.place)
+        (λ (j k : KeptInterval). (a b : SentRecord) → Has (closings_sent_interval j) a → Has (closings_sent_interval k) b → Before a b)
+        (filter (is_news_of_closings old new) c.kept)
         (λ j k _ _ less a b in_j in_k. let here = place_of j a in_j in let there = place_of k b in_k in
         inl (omega arith))
-        (in_order-filter (λ (j k : KeptInterval). j.place < k.place) (is_news old new) c.kept x.rising)
+        (in_order-filter (λ (j k : KeptInterval). j.place < k.place) (is_news_of_closings old new) c.kept x.rising)
 
-    page_of : (y : SentRecord) → Has (filter (is_of_page n) (closings_between c old new)) y → y.notice.page ≡ n
-    page_of y h = eqb-true y.notice.page n ((has-filter (is_of_page n) (closings_between c old new) y).0 h).1
+    page_of : (y : SentRecord) → Has (filter (is_closing_of_page n) (closings_between c old new)) y → y.notice.page ≡ n
+    page_of y h = eqb-true y.notice.page n ((has-filter (is_closing_of_page n) (closings_between c old new) y).0 h).1
 
-    earlier : (y z : SentRecord) → Has (filter (is_of_page n) (closings_between c old new)) y
-        → Has (filter (is_of_page n) (closings_between c old new)) z → Before y z → y.place < z.place
+    earlier : (y z : SentRecord) → Has (filter (is_closing_of_page n) (closings_between c old new)) y
+        → Has (filter (is_closing_of_page n) (closings_between c old new)) z → Before y z → y.place < z.place
     earlier y z in_y in_z (inl less) = less
     earlier y z in_y in_z (inr less) = let here = page_of y in_y in let there = page_of z in_z in absurd (omega arith)
 
 -- a record has words, so its interval stores in the page
-stores_of : (s : Sizes) (h : List Event) (q k n : ℕ) (words : List (ℕ × ℕ)) → words ≢ [] → IsContent s h q k n words
+news_stores_of : (s : Sizes) (h : List Event) (q k n : ℕ) (words : List (ℕ × ℕ)) → words ≢ [] → IsContent s h q k n words
     → (i : ℕ) × StoresInInterval s h q k n i
-stores_of s h q k n [] some content = absurd (some refl)
-stores_of s h q k n (w ∷ words) some content = content_some s h q k n w words content
+news_stores_of s h q k n [] some content = absurd (some refl)
+news_stores_of s h q k n (w ∷ words) some content = content_some s h q k n w words content
 
 -- what a taking brings of a page is news of it
 pub news_are : (s : Sizes) (h : List Event) (b : State) (p n : ℕ) (k : Kind) (u : List ℕ) → Represents s h b
     → p < s.processors → IsStamp s.processors h (Brings h p k) u
-    → AreMissingNotices s h p n (slice_index (time_of b p)) (slice_index (join (time_of b p) u))
-    (news_of_page n (closings_between b.closed (time_of b p) u))
+    → AreMissingNotices s h p n (slice_index (state_time_of b p)) (slice_index (join (state_time_of b p) u))
+    (news_of_page n (closings_between b.closed (state_time_of b p) u))
 news_are s h b p n k u told lt brings = record {
   each = λ q m. (there q m, back q m);
   placed = λ x has. (let y = read x has in subst Placed y.is (told.closed.each y.kept y.has));
@@ -125,10 +125,10 @@ news_are s h b p n k u told lt brings = record {
 }
   where
     own : List ℕ
-    own = time_of b p
+    own = state_time_of b p
 
     Placed : Missing → Type 0
-    Placed x = IsPlaced h x.owner x.number x.place
+    Placed x = IsMissingPlaced h x.owner x.number x.place
 
     Content : Missing → Type 0
     Content x = IsContent s h x.owner x.number n x.words
@@ -157,19 +157,19 @@ news_are s h b p n k u told lt brings = record {
     Is : ℕ → ℕ → Type 0
     Is q m = (i : ℕ) × StoresInInterval s h q m n i × (q ≢ p) × (slice_index own q ≤ m) × (m < slice_index (join own u) q)
 
-    sent : (j : KeptInterval) (r : Changes) → Has b.closed.kept j → is_news own u j ≡ true → Has j.interval.records r
+    sent : (j : KeptInterval) (r : Changes) → Has b.closed.kept j → is_news_of_closings own u j ≡ true → Has j.interval.records r
         → r.page ≡ n → Is j.interval.owner j.interval.number
     sent j r has news among page =
         let parts = and_parts _ _ news in
         let from = leb-true _ _ parts.0 in
         let below = ltb-true _ _ parts.1 in
         let most = later j.interval.owner in
-        let stores = stores_of s h j.interval.owner j.interval.number n r.words
+        let stores = news_stores_of s h j.interval.owner j.interval.number n r.words
         ((told.closed.contents j has).some r among) (content j r has among page) in
         (stores.0, stores.1, mine j.interval.owner (omega arith), from, omega arith)
 
     fresh : (k : KeptInterval) → slice_index own k.interval.owner ≤ k.interval.number
-        → k.interval.number < slice_index u k.interval.owner → is_news own u k ≡ true
+        → k.interval.number < slice_index u k.interval.owner → is_news_of_closings own u k ≡ true
     fresh k from below = and_from _ _
         (le-leb (slice_index own k.interval.owner) k.interval.number from)
         (lt-ltb k.interval.number (slice_index u k.interval.owner) below)
@@ -195,11 +195,11 @@ news_are s h b p n k u told lt brings = record {
         (omega (arith, number, first, x.3))) number x.0 x.1 x.3 covered
       where
         sends : (k : KeptInterval) → Has b.closed.kept k → k.interval.owner ≡ q → k.interval.number ≡ m
-            → is_news own u k ≡ true → (r : Changes) → Has k.interval.records r → r.page ≡ n
+            → is_news_of_closings own u k ≡ true → (r : Changes) → Has k.interval.records r → r.page ≡ n
             → (x : Missing) × Has (news_of_page n (closings_between b.closed own u)) x × (x.owner ≡ q) × (x.number ≡ m)
         sends k kept owner number news r among page =
-            let R : ℕ → Type 0 = λ a. Has (news_of_page a (closings_between b.closed own u)) (news_of_notice (sent_record k r)) in
-            (news_of_notice (sent_record k r), subst R page (has_sent_news b.closed own u k r kept news among), owner, number)
+            let R : ℕ → Type 0 = λ a. Has (news_of_page a (closings_between b.closed own u)) (news_of_notice (closings_sent_record k r)) in
+            (news_of_notice (closings_sent_record k r), subst R page (has_sent_news b.closed own u k r kept news among), owner, number)
 
         found : (k : KeptInterval) → Has b.closed.kept k → k.interval.owner ≡ q → k.interval.number ≡ m → (i : ℕ)
             → StoresInInterval s h q m n i → slice_index own q ≤ m → m < slice_index u q

@@ -19,12 +19,12 @@ use Rattle.vtime.specs.Times.{tick, join}
 use Rattle.vtime.proofs.Joins.{length-join, get_or-join}
 use Rattle.journal.specs.DidEvent.{event, did}
 use Rattle.book.specs.Stamps.{IsStamp}
-use Rattle.book.proofs.Parts.LastAndCounts.{away, count_did, count_others}
+use Rattle.book.proofs.Parts.LastAndCounts.{last_event_away, count_did, count_others}
 
 -- an entry of a tick, as a count of the one event
-tick_index : (t : List ℕ) (p : ℕ) (k : Kind) (q : ℕ) → is_closing k ≡ true → p < length t
+stamp_tick_index : (t : List ℕ) (p : ℕ) (k : Kind) (q : ℕ) → is_closing k ≡ true → p < length t
     → slice_index t q + count_of is_closing (event p k ∷ []) q ≡ slice_index (tick t p) q
-tick_index t p k q closes lt = elim (cases_eq q p) [
+stamp_tick_index t p k q closes lt = elim (cases_eq q p) [
   | inl is ↦ (let P : ℕ
       → Type 0 = λ x. slice_index t x + count_of is_closing (event p k ∷ []) x ≡ slice_index (tick t p) x in
       subst P (sym is) here)
@@ -54,7 +54,7 @@ stamp_none n h some none =
 pub stamp_others : (n : ℕ) (h : List Event) (p : ℕ) (k : Kind) (q : ℕ) (t : List ℕ) → q ≢ p
     → IsStamp n h (InPast h q) t → IsStamp n (did h p k) (InPast (did h p k) q) t
 stamp_others n h p k q t isnt x =
-    record { long = x.long; is = others_keep_time h (event p k ∷ []) q (slice_index t) (away p q k isnt) x.is }
+    record { long = x.long; is = others_keep_time h (event p k ∷ []) q (slice_index t) (last_event_away p q k isnt) x.is }
 
 -- a closing event ticks
 pub stamp_closing : (n : ℕ) (h : List Event) (p : ℕ) (k : Kind) (t : List ℕ) → p < n → is_taking k ≡ false
@@ -63,7 +63,7 @@ stamp_closing n h p k t lt quiet closes x =
     let long = x.long in
     stamp_equal n (did h p k) (InPast (did h p k) p) (tick t p)
     (λ q. slice_index t q + count_of is_closing (event p k ∷ []) q)
-    (length-set t p (slice_index t p + 1) ∙ x.long) (λ q. tick_index t p k q closes (omega arith))
+    (length-set t p (slice_index t p + 1) ∙ x.long) (λ q. stamp_tick_index t p k q closes (omega arith))
     (own_time_closing h (event p k) (slice_index t) quiet x.is)
 
 -- a joined time

@@ -8,11 +8,11 @@ use Rattle.journal.specs.declared.event.Kind.{Kind}
 use Rattle.journal.specs.Sizes.{Sizes}
 use Rattle.journal.specs.Events.{count_of, is_closing, is_taking}
 use Rattle.journal.specs.WellFormed.{KindInRange, Allowed, MayFollow, WellFormed}
-use Rattle.journal.specs.Waits.{awaited, IsIdle}
+use Rattle.journal.specs.Waits.{awaited, WaitsForNothing}
 use Rattle.journal.specs.Pasts.{InPast}
 use Rattle.journal.specs.Brings.{Brings}
 use Rattle.base.proofs.SliceSets.{slice_get-set_found, slice_get-set_other, slice_get-set_same}
-use Rattle.journal.proofs.Journals.WellFormedLast.{each_push}
+use Rattle.journal.proofs.Journals.WellFormedLast.{well_formed_push}
 use Rattle.journal.proofs.Times.PushesCovered.{own_time_entry}
 use Rattle.journal.proofs.Journals.ReadyIdleWaits.{idle_follows}
 use Rattle.page.specs.RisingChanges.{Changes}
@@ -21,33 +21,33 @@ use Rattle.vtime.proofs.Joins.{get_or-join}
 use Rattle.interval.specs.Closings.{pushed, closings_between}
 use Rattle.transit.specs.Letters.{Letter}
 use Rattle.journal.specs.DidEvent.{event, did}
-use Rattle.book.specs.Stamps.{EachAt, IsStamp, IsAwaited}
+use Rattle.book.specs.Stamps.{EachStampedAt, IsStamp, IsAwaitedByStamps}
 use Rattle.book.specs.Mail.{MailCarries}
 use Rattle.book.specs.ClosedIntervals.{AreIntervalContents, AreClosed, DropsOnlyCoveredIntervals, IsTight}
-use Rattle.book.specs.State.{State, time_of}
-use Rattle.book.specs.Transitions.{book_open_interval}
+use Rattle.book.specs.State.{State, state_time_of}
+use Rattle.book.specs.Transitions.{transition_open_interval}
 use Rattle.book.specs.Told.{Represents}
 use Rattle.book.specs.Told.{HasSizes}
 use Rattle.book.proofs.Parts.Each.{each_set, each_is_at}
 use Rattle.book.proofs.Parts.Mail.{idle_mail}
-use Rattle.book.proofs.Parts.LastAndCounts.{awaits_idle, awaited_last_on, awaited_last_now}
+use Rattle.book.proofs.Parts.LastAndCounts.{last_awaits_idle, awaited_last_on, awaited_last_now}
 use Rattle.book.proofs.Parts.Stamps.{stamp_others, stamp_closing, stamp_taking}
 use Rattle.book.proofs.Parts.ClosedIntervals.{IsClosing, closed_closing}
 use Rattle.interval.proofs.News.BetweenUnchanged.{closings_between-pushed}
 
 -- whose number is found is a processor
-pub is_processor : (s : Sizes) (h : List Event) (b : State) (p : ℕ) (w : Option Kind) → Represents s h b
+pub times_is_processor : (s : Sizes) (h : List Event) (b : State) (p : ℕ) (w : Option Kind) → Represents s h b
     → slice_get b.awaits p ≡ Some w → p < s.processors
-is_processor s h b p w told at =
+times_is_processor s h b p w told at =
     let within = slice_get_within b.awaits p w at in
     let long = told.awaits.long in
     omega arith
 
 -- a book with as many processors, addresses and words a page has the same sizes
-pub same_sizes : (s : Sizes) (b c : State) → HasSizes s b
+pub times_same_sizes : (s : Sizes) (b c : State) → HasSizes s b
     → (c.journal.processors ≡ b.journal.processors) × (c.words ≡ b.words)
     × (c.journal.addresses ≡ b.journal.addresses) × (c.locks.processors ≡ b.locks.processors) → HasSizes s c
-same_sizes s b c is same = record {
+times_same_sizes s b c is same = record {
   processors = same.0 ∙ is.processors;
   words = same.1 ∙ is.words;
   addresses = same.2 ∙ is.addresses;
@@ -87,8 +87,8 @@ join_grows_time t u q = let e = get_or-join t u q in omega arith
 -- of a processor of a book that is told
 module _ (s : Sizes) (h : List Event) (b : State) (p : ℕ) (told : Represents s h b) where
   -- who awaits nothing is idle
-  pub idle_awaits_none : slice_get b.awaits p ≡ Some None → IsIdle h p
-  idle_awaits_none none = awaits_idle h p (told.awaits.each p None none)
+  pub idle_awaits_none : slice_get b.awaits p ≡ Some None → WaitsForNothing h p
+  idle_awaits_none none = last_awaits_idle h p (told.awaits.each p None none)
 
   -- and has no message
   pub awaits_none_no_mail : slice_get b.awaits p ≡ Some None → (r : ℕ) (m : Letter) → slice_get b.transit r ≡ Some (Some m) → r ≢ p
@@ -98,27 +98,27 @@ module _ (s : Sizes) (h : List Event) (b : State) (p : ℕ) (told : Represents s
 
   module _ (k : Kind) where
     -- an idle processor's event may follow
-    pub follows : slice_get b.awaits p ≡ Some None → KindInRange s k → Allowed s h p k → MayFollow s h (event p k)
-    follows none range allowed =
-        idle_follows s h p k (is_processor s h b p None told none) (idle_awaits_none none) range allowed
+    pub awaits_follows : slice_get b.awaits p ≡ Some None → KindInRange s k → Allowed s h p k → MayFollow s h (event p k)
+    awaits_follows none range allowed =
+        idle_follows s h p k (times_is_processor s h b p None told none) (idle_awaits_none none) range allowed
 
-    pub still_formed : MayFollow s h (event p k) → WellFormed s (did h p k)
-    still_formed may = (each_push s h (event p k)).1 (told.well_formed, may)
+    pub times_still_formed : MayFollow s h (event p k) → WellFormed s (did h p k)
+    times_still_formed may = (well_formed_push s h (event p k)).1 (told.well_formed, may)
 
     -- what is waited for
-    pub awaits_set : EachAt s.processors (IsAwaited (did h p k)) (slice_set b.awaits p (awaited k))
+    pub awaits_set : EachStampedAt s.processors (IsAwaitedByStamps (did h p k)) (slice_set b.awaits p (awaited k))
     awaits_set =
-        each_set s.processors (IsAwaited h) (IsAwaited (did h p k)) b.awaits p (awaited k) told.awaits
+        each_set s.processors (IsAwaitedByStamps h) (IsAwaitedByStamps (did h p k)) b.awaits p (awaited k) told.awaits
         (λ q w isnt at is. awaited_last_on h p k q w isnt is) (awaited_last_now h p k)
 
   module _ (lt : p < s.processors) where
     -- p's timestamp
-    pub own_time_stamp : IsStamp s.processors h (InPast h p) (time_of b p)
+    pub own_time_stamp : IsStamp s.processors h (InPast h p) (state_time_of b p)
     own_time_stamp = each_is_at s.processors (λ q t. IsStamp s.processors h (InPast h q) t) b.times p [] told.times lt
 
     -- all timestamps, once p has another one
     times_set : (k : Kind) (t : List ℕ) → IsStamp s.processors (did h p k) (InPast (did h p k) p) t
-        → EachAt s.processors (λ q u. IsStamp s.processors (did h p k) (InPast (did h p k) q) u) (slice_set b.times p t)
+        → EachStampedAt s.processors (λ q u. IsStamp s.processors (did h p k) (InPast (did h p k) q) u) (slice_set b.times p t)
     times_set k t stamp =
         each_set s.processors (λ q u. IsStamp s.processors h (InPast h q) u)
         (λ q u. IsStamp s.processors (did h p k) (InPast (did h p k) q) u) b.times p t told.times
@@ -126,51 +126,51 @@ module _ (s : Sizes) (h : List Event) (b : State) (p : ℕ) (told : Represents s
 
     -- the timestamps after a closing event
     pub times_closing : (k : Kind) → is_taking k ≡ false → is_closing k ≡ true
-        → EachAt s.processors (λ q t. IsStamp s.processors (did h p k) (InPast (did h p k) q) t)
-        (slice_set b.times p (tick (time_of b p) p))
+        → EachStampedAt s.processors (λ q t. IsStamp s.processors (did h p k) (InPast (did h p k) q) t)
+        (slice_set b.times p (tick (state_time_of b p) p))
     times_closing k quiet closes =
-        times_set k (tick (time_of b p) p) (stamp_closing s.processors h p k (time_of b p) lt quiet closes own_time_stamp)
+        times_set k (tick (state_time_of b p) p) (stamp_closing s.processors h p k (state_time_of b p) lt quiet closes own_time_stamp)
 
     -- and after an event that takes
     pub times_taking : (k : Kind) (u : List ℕ) → is_closing k ≡ false → IsStamp s.processors h (Brings h p k) u
-        → EachAt s.processors (λ q t. IsStamp s.processors (did h p k) (InPast (did h p k) q) t)
-        (slice_set b.times p (join (time_of b p) u))
+        → EachStampedAt s.processors (λ q t. IsStamp s.processors (did h p k) (InPast (did h p k) q) t)
+        (slice_set b.times p (join (state_time_of b p) u))
     times_taking k u quiet brings =
-        times_set k (join (time_of b p) u) (stamp_taking s.processors h p k (time_of b p) u quiet own_time_stamp brings)
+        times_set k (join (state_time_of b p) u) (stamp_taking s.processors h p k (state_time_of b p) u quiet own_time_stamp brings)
 
     -- the number of p's open interval
-    pub own_time_number : slice_index (time_of b p) p ≡ count_of is_closing h p
-    own_time_number = own_time_entry h p (slice_index (time_of b p)) own_time_stamp.is
+    pub own_time_number : slice_index (state_time_of b p) p ≡ count_of is_closing h p
+    own_time_number = own_time_entry h p (slice_index (state_time_of b p)) own_time_stamp.is
 
     -- p has a place among the timestamps
     timed : p < length b.times
     timed = subst (λ n. p < n) (sym told.times.long) lt
 
     -- the closed intervals after a closing event
-    pub closed_now : (k : Kind) (records : List Changes) → is_closing k ≡ true
+    pub times_closed_now : (k : Kind) (records : List Changes) → is_closing k ≡ true
         → AreIntervalContents s h p (count_of is_closing h p) records
-        → AreClosed s (did h p k) (pushed b.closed (book_open_interval b p records))
-    closed_now k records closes stored =
-        let now : IsClosing s h p k b.closed (slice_index (time_of b p) p) records = record {
+        → AreClosed s (did h p k) (pushed b.closed (transition_open_interval b p records))
+    times_closed_now k records closes stored =
+        let now : IsClosing s h p k b.closed (slice_index (state_time_of b p) p) records = record {
           closes = closes;
           mine = lt;
           number = own_time_number;
-          covered = told.within p p (time_of b p) (slice_get-get_or b.times p [] timed);
+          covered = told.within p p (state_time_of b p) (slice_get-get_or b.times p [] timed);
           stored = subst (λ n. AreIntervalContents s h p n records) (sym own_time_number) stored;
           before = told.closed;
         } in
         closed_closing now
 
-    pub times_within_closing : DropsOnlyCoveredIntervals b.closed.first (slice_set b.times p (tick (time_of b p) p))
+    pub times_within_closing : DropsOnlyCoveredIntervals b.closed.first (slice_set b.times p (tick (state_time_of b p) p))
     times_within_closing =
-        times_within_set b.closed.first b.times p (tick (time_of b p) p) timed (tick_grows_time (time_of b p) p) told.within
+        times_within_set b.closed.first b.times p (tick (state_time_of b p) p) timed (tick_grows_time (state_time_of b p) p) told.within
 
-    pub times_within_taking : (u : List ℕ) → DropsOnlyCoveredIntervals b.closed.first (slice_set b.times p (join (time_of b p) u))
+    pub times_within_taking : (u : List ℕ) → DropsOnlyCoveredIntervals b.closed.first (slice_set b.times p (join (state_time_of b p) u))
     times_within_taking u =
-        times_within_set b.closed.first b.times p (join (time_of b p) u) timed (join_grows_time (time_of b p) u) told.within
+        times_within_set b.closed.first b.times p (join (state_time_of b p) u) timed (join_grows_time (state_time_of b p) u) told.within
 
     -- with two processors or more, a tick leaves what everyone covers
-    pub times_tight_closing : 1 < s.processors → IsTight b.closed.first (slice_set b.times p (tick (time_of b p) p))
+    pub times_tight_closing : 1 < s.processors → IsTight b.closed.first (slice_set b.times p (tick (state_time_of b p) p))
     times_tight_closing more q less =
         let found = told.tight more q less in
         let long = told.times.long in
@@ -178,16 +178,16 @@ module _ (s : Sizes) (h : List Event) (b : State) (p : ℕ) (told : Represents s
           | inr isnt ↦ (
             found.0,
             found.1,
-            slice_get-set_other b.times p found.0 (tick (time_of b p) p) isnt ∙ found.2,
+            slice_get-set_other b.times p found.0 (tick (state_time_of b p) p) isnt ∙ found.2,
             found.3,
           )
           | inl is ↦ elim (cases_eq q p) [
             | inr apart ↦ (
                 let P : ℕ → Type 0 = λ x. slice_get b.times x ≡ Some found.1 in
                 let own = sym (get_or_from_slice_get b.times p found.1 [] (subst P is found.2)) in
-                let same = get_or-set_other (time_of b p) p q (slice_index (time_of b p) p + 1) 0 apart in
+                let same = get_or-set_other (state_time_of b p) p q (slice_index (state_time_of b p) p + 1) 0 apart in
                 let entry = subst (λ (t : List ℕ). slice_index t q ≤ slice_index b.closed.first q) own found.3 in
-                (p, tick (time_of b p) p, slice_get-set_same b.times p (tick (time_of b p) p) timed, omega arith))
+                (p, tick (state_time_of b p) p, slice_get-set_same b.times p (tick (state_time_of b p) p) timed, omega arith))
             | inl own ↦ (
                 let P : ℕ → Type 0 = λ x. slice_get b.times x ≡ Some found.1 in
                 let mine = sym (get_or_from_slice_get b.times p found.1 [] (subst P is found.2)) in
@@ -197,11 +197,11 @@ module _ (s : Sizes) (h : List Event) (b : State) (p : ℕ) (told : Represents s
                 let number = own_time_number in
                 let r = another p s.processors more in
                 let at = slice_get-get_or b.times r.0 [] (omega (arith, r.1)) in
-                let most = (told.times.each r.0 (time_of b r.0) at).is.within p in
-                let R : ℕ → Type 0 = λ x. slice_index (time_of b r.0) x ≤ slice_index b.closed.first x in (
+                let most = (told.times.each r.0 (state_time_of b r.0) at).is.within p in
+                let R : ℕ → Type 0 = λ x. slice_index (state_time_of b r.0) x ≤ slice_index b.closed.first x in (
                   r.0,
-                  time_of b r.0,
-                  slice_get-set_other b.times p r.0 (tick (time_of b p) p) r.2 ∙ at,
+                  state_time_of b r.0,
+                  slice_get-set_other b.times p r.0 (tick (state_time_of b p) p) r.2 ∙ at,
                   subst R (sym own) (omega arith),
                 ))
           ]
@@ -212,12 +212,12 @@ module _ (s : Sizes) (h : List Event) (b : State) (p : ℕ) (told : Represents s
         another (suc p) n more = (0, omega arith, λ e. absurd (omega arith))
 
     -- the notices of a message posted before a closing event
-    pub old_notices : (records : List Changes) (r : ℕ) (m : Letter) (t : List ℕ) → r ≢ p
-        → slice_get b.transit r ≡ Some (Some m) → slice_get (slice_set b.times p (tick (time_of b p) p)) r ≡ Some t
-        → m.notices ≡ closings_between (pushed b.closed (book_open_interval b p records)) t m.time
-    old_notices records r m t isnt at time =
+    pub times_old_notices : (records : List Changes) (r : ℕ) (m : Letter) (t : List ℕ) → r ≢ p
+        → slice_get b.transit r ≡ Some (Some m) → slice_get (slice_set b.times p (tick (state_time_of b p) p)) r ≡ Some t
+        → m.notices ≡ closings_between (pushed b.closed (transition_open_interval b p records)) t m.time
+    times_old_notices records r m t isnt at time =
         let mail : MailCarries s h r m = told.transit.each r (Some m) at in
         let most = mail.time.is.within p in
         let number = own_time_number in
-        told.notices r m t at (sym (slice_get-set_other b.times p r (tick (time_of b p) p) isnt) ∙ time)
-        ∙ sym (closings_between-pushed b.closed (book_open_interval b p records) t m.time (omega arith))
+        told.notices r m t at (sym (slice_get-set_other b.times p r (tick (state_time_of b p) p) isnt) ∙ time)
+        ∙ sym (closings_between-pushed b.closed (transition_open_interval b p records) t m.time (omega arith))

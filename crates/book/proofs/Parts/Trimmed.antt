@@ -6,57 +6,57 @@ use Rattle.std.proofs.lemmas.List.{set-get_or}
 use Rattle.base.specs.InOrderOnce.{Has}
 use Rattle.base.proofs.SliceSets.{slice_get-set_found, slice_get-set_other}
 use Rattle.interval.specs.declared.kept_interval.KeptInterval.{KeptInterval}
-use Rattle.interval.specs.Closings.{Closings, trimmed, is_trimmed}
+use Rattle.interval.specs.Closings.{Closings, closings_trimmed_below, is_trimmed_from_closings}
 use Rattle.book.specs.ClosedIntervals.{AreClosedFromFirst, IsTight}
-use Rattle.book.specs.Transitions.{lesser, least, trimmed_by}
-use Rattle.book.proofs.Parts.ClosedIntervals.{first_interval_own, first_interval_other, least_le, closed_from_first_trimmed, stays_from, length-trimmed_by}
+use Rattle.book.specs.Transitions.{transition_lesser, least, transition_trimmed_by}
+use Rattle.book.proofs.Parts.ClosedIntervals.{first_interval_own, first_interval_other, closed_least_le, closed_from_first_trimmed, closed_intervals_stay_from, length-transition_trimmed_by}
 
 -- where all pass, all are picked
-filter_all : {A : Type 0} (p : A → Bool) (xs : List A) → ((x : A) → Has xs x → p x ≡ true) → filter p xs ≡ xs
-filter_all p [] all = refl
-filter_all p (x ∷ xs) all =
+trimmed_filter_all : {A : Type 0} (p : A → Bool) (xs : List A) → ((x : A) → Has xs x → p x ≡ true) → filter p xs ≡ xs
+trimmed_filter_all p [] all = refl
+trimmed_filter_all p (x ∷ xs) all =
     cond-true (p x) (x ∷ filter p xs) (filter p xs) (all x (0, refl))
-    ∙ ap (λ ys. x ∷ ys) (filter_all p xs (λ y h. all y (suc h.0, h.1)))
+    ∙ ap (λ ys. x ∷ ys) (trimmed_filter_all p xs (λ y h. all y (suc h.0, h.1)))
 
 -- a trim to what is dropped already changes nothing
-trimmed_same : (c : Closings) (owner to : ℕ) → to ≤ slice_index c.first owner → AreClosedFromFirst c → trimmed c owner to ≡ c
+trimmed_same : (c : Closings) (owner to : ℕ) → to ≤ slice_index c.first owner → AreClosedFromFirst c → closings_trimmed_below c owner to ≡ c
 trimmed_same c owner to le from =
-    let kept = filter_all (λ k. not (is_trimmed owner to k)) c.kept
-    (λ k has. stays_from c owner to k le (from k has)) in
+    let kept = trimmed_filter_all (λ k. not (is_trimmed_from_closings owner to k)) c.kept
+    (λ k has. closed_intervals_stay_from c owner to k le (from k has)) in
     let most : max (slice_index c.first owner) (min to (slice_index c.next owner)) ≡ slice_index c.first owner =
     omega arith in
     let first = ap (λ n. slice_set c.first owner n) most ∙ set-get_or c.first owner 0 in
-    ap (λ (ks : List KeptInterval). record (trimmed c owner to) { kept = ks }) kept
+    ap (λ (ks : List KeptInterval). record (closings_trimmed_below c owner to) { kept = ks }) kept
     ∙ ap (λ (fs : List ℕ). record c { first = fs }) first
 
 pub from_trimmed_by : (c : Closings) (times : List (List ℕ)) (n : ℕ) → n ≤ length c.first → AreClosedFromFirst c
-    → AreClosedFromFirst (trimmed_by c times n)
+    → AreClosedFromFirst (transition_trimmed_by c times n)
 from_trimmed_by c times zero le from = from
 from_trimmed_by c times (suc n) le from =
-    let long = length-trimmed_by c times n in
-    closed_from_first_trimmed (trimmed_by c times n) n (least times n) (omega arith) (from_trimmed_by c times n (omega arith) from)
+    let long = length-transition_trimmed_by c times n in
+    closed_from_first_trimmed (transition_trimmed_by c times n) n (least times n) (omega arith) (from_trimmed_by c times n (omega arith) from)
 
 -- the first kept of an owner whose turn hasn't come
 trimmed_first_left : (c : Closings) (times : List (List ℕ)) (n q : ℕ) → n ≤ q
-    → slice_index (trimmed_by c times n).first q ≡ slice_index c.first q
+    → slice_index (transition_trimmed_by c times n).first q ≡ slice_index c.first q
 trimmed_first_left c times zero q le = refl
 trimmed_first_left c times (suc n) q le =
-    first_interval_other (trimmed_by c times n) n (least times n) q (omega arith) ∙ trimmed_first_left c times n q (omega arith)
+    first_interval_other (transition_trimmed_by c times n) n (least times n) q (omega arith) ∙ trimmed_first_left c times n q (omega arith)
 
-trimmed_next_left : (c : Closings) (times : List (List ℕ)) (n : ℕ) → (trimmed_by c times n).next ≡ c.next
+trimmed_next_left : (c : Closings) (times : List (List ℕ)) (n : ℕ) → (transition_trimmed_by c times n).next ≡ c.next
 trimmed_next_left c times zero = refl
 trimmed_next_left c times (suc n) = trimmed_next_left c times n
 
 -- and of one whose turn has
 first_trimmed : (c : Closings) (times : List (List ℕ)) (n q : ℕ) → q < n → n ≤ length c.first
-    → least times q ≤ slice_index c.next q → least times q ≤ slice_index (trimmed_by c times n).first q
+    → least times q ≤ slice_index c.next q → least times q ≤ slice_index (transition_trimmed_by c times n).first q
 first_trimmed c times zero q lt le few = absurd (omega arith)
 first_trimmed c times (suc n) q lt le few =
-    let old = trimmed_by c times n in
-    let long = length-trimmed_by c times n in
+    let old = transition_trimmed_by c times n in
+    let long = length-transition_trimmed_by c times n in
     elim (cases_eq q n) [
       | inl is ↦ (
-          let P : ℕ → Type 0 = λ x. least times x ≤ slice_index (trimmed old n (least times n)).first x in
+          let P : ℕ → Type 0 = λ x. least times x ≤ slice_index (closings_trimmed_below old n (least times n)).first x in
           let Q : ℕ → Type 0 = λ x. least times x ≤ slice_index c.next x in
           let here = first_interval_own old n (least times n) (omega arith) in
           let next = ap (λ ns. slice_index ns n) (trimmed_next_left c times n) in
@@ -69,11 +69,11 @@ first_trimmed c times (suc n) q lt le few =
     ]
 
 -- the least entry is someone's
-folded_at : (times : List (List ℕ)) (q n : ℕ)
-    → (fold (lesser q) n times ≡ n)
-    ⊎ ((r : ℕ) × (t : List ℕ) × (slice_get times r ≡ Some t) × (slice_index t q ≡ fold (lesser q) n times))
-folded_at [] q n = inl refl
-folded_at (t ∷ ts) q n = elim (folded_at ts q (lesser q n t)) [
+trimmed_folded_at : (times : List (List ℕ)) (q n : ℕ)
+    → (fold (transition_lesser q) n times ≡ n)
+    ⊎ ((r : ℕ) × (t : List ℕ) × (slice_get times r ≡ Some t) × (slice_index t q ≡ fold (transition_lesser q) n times))
+trimmed_folded_at [] q n = inl refl
+trimmed_folded_at (t ∷ ts) q n = elim (trimmed_folded_at ts q (transition_lesser q n t)) [
   | inr found ↦ inr (suc found.0, found.1, found.2, found.3)
   | inl is ↦ elim (cases_lt (slice_index t q) n) [
     | inl less ↦ inr (0, t, refl, let e = is in omega arith)
@@ -81,19 +81,19 @@ folded_at (t ∷ ts) q n = elim (folded_at ts q (lesser q n t)) [
   ]
 ]
 
-least_at : (times : List (List ℕ)) (q : ℕ) → 0 < length times
+trimmed_least_at : (times : List (List ℕ)) (q : ℕ) → 0 < length times
     → (r : ℕ) × (t : List ℕ) × (slice_get times r ≡ Some t) × (slice_index t q ≡ least times q)
-least_at times q some = elim (folded_at times q (slice_index (slice_index_or times 0 []) q)) [
+trimmed_least_at times q some = elim (trimmed_folded_at times q (slice_index (slice_index_or times 0 []) q)) [
   | inl is ↦ (0, slice_index_or times 0 [], slice_get-get_or times 0 [] some, sym is)
   | inr found ↦ found
 ]
 
 -- after a trim by everyone's timestamps nothing is left to trim
 pub tight_trimmed : (c : Closings) (times : List (List ℕ)) (n : ℕ) → 0 < length times → length c.first ≡ n
-    → ((q : ℕ) → q < n → least times q ≤ slice_index c.next q) → IsTight (trimmed_by c times n).first times
+    → ((q : ℕ) → q < n → least times q ≤ slice_index c.next q) → IsTight (transition_trimmed_by c times n).first times
 tight_trimmed c times n some long few q lt =
-    let same = length-trimmed_by c times n in
-    let found = least_at times q some in
+    let same = length-transition_trimmed_by c times n in
+    let found = trimmed_least_at times q some in
     let less : q < n = omega arith in
     let first = first_trimmed c times n q less (omega arith) (few q less) in
     (found.0, found.1, found.2, let entry = found.3 in omega arith)
@@ -102,7 +102,7 @@ tight_trimmed c times n some long few q lt =
 pub trimmed_spared : (c : Closings) (times : List (List ℕ)) (p owner : ℕ) (old new : List ℕ) → owner < length c.first
     → slice_get times p ≡ Some new → slice_index new owner ≤ slice_index old owner
     → IsTight c.first (slice_set times p old) → AreClosedFromFirst c
-    → trimmed_by c times (suc owner) ≡ trimmed_by c times owner
+    → transition_trimmed_by c times (suc owner) ≡ transition_trimmed_by c times owner
 trimmed_spared c times p owner old new lt at le tight from =
     let found = tight owner lt in
     let first = trimmed_first_left c times owner owner (omega arith) in
@@ -111,13 +111,13 @@ trimmed_spared c times p owner old new lt at le tight from =
           let P : ℕ → Type 0 = λ x. slice_get (slice_set times p old) x ≡ Some found.1 in
           let same = slice_get-set_found times p old found.1 (subst P is found.2) in
           let entry = subst (λ (t : List ℕ). slice_index t owner ≤ slice_index c.first owner) (sym same) found.3 in
-          let all = least_le times owner p new at in
+          let all = closed_least_le times owner p new at in
           omega arith)
       | inr isnt ↦ (
-          let all = least_le times owner found.0 found.1
+          let all = closed_least_le times owner found.0 found.1
           (sym (slice_get-set_other times p found.0 old isnt) ∙ found.2) in
           let entry = found.3 in
           omega arith)
     ] in
-    trimmed_same (trimmed_by c times owner) owner (least times owner) (omega arith)
+    trimmed_same (transition_trimmed_by c times owner) owner (least times owner) (omega arith)
     (from_trimmed_by c times owner (omega arith) from)

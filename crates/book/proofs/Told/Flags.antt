@@ -8,34 +8,34 @@ use Rattle.journal.specs.declared.event.Kind.TheVariants.{Ask, Acquire, Release,
 use Rattle.journal.specs.Sizes.{Sizes}
 use Rattle.journal.specs.Events.{count_of, is_arrive, is_depart, is_closing, is_taking}
 use Rattle.journal.specs.WellFormed.{LastIs, Allowed, MayFollow, Ready}
-use Rattle.journal.specs.Waits.{awaited, IsIdle}
+use Rattle.journal.specs.Waits.{awaited, WaitsForNothing}
 use Rattle.journal.proofs.Journals.WellFormedLast.{last_unique}
-use Rattle.journal.proofs.Journals.ReadyIdleWaits.{waits_for, taking_follows}
+use Rattle.journal.proofs.Journals.ReadyIdleWaits.{waits_for, ready_taking_follows}
 use Rattle.page.specs.RisingChanges.{Changes}
 use Rattle.base.proofs.SliceSets.{slice_get-set_other}
 use Rattle.vtime.specs.Times.{tick, join}
 use Rattle.transit.specs.Letters.{Letter}
 use Rattle.journal.specs.DidEvent.{event, did}
-use Rattle.book.specs.Stamps.{EachAt, IsAwaited}
+use Rattle.book.specs.Stamps.{EachStampedAt, IsAwaitedByStamps}
 use Rattle.book.specs.Mail.{ComesByMail, IsMail}
 use Rattle.book.specs.Flags.{IsFlag}
 use Rattle.book.specs.ClosedIntervals.{AreIntervalContents}
-use Rattle.book.specs.State.{State, time_of}
-use Rattle.book.specs.Transitions.{book_closed_by, book_flag_joined, book_set, book_watched, book_joined, book_trimmed}
+use Rattle.book.specs.State.{State, state_time_of}
+use Rattle.book.specs.Transitions.{transition_closed_by, transition_flag_joined, transition_set, transition_watched, transition_joined, transition_trimmed}
 use Rattle.book.specs.Told.{Represents}
 use Rattle.book.proofs.Parts.Each.{each_set, each_own, each_is_at}
 use Rattle.book.proofs.Parts.Stamps.{stamp_closing}
-use Rattle.book.proofs.Parts.Lines.{idle_no_ask}
+use Rattle.book.proofs.Parts.Lines.{line_idle_no_ask}
 use Rattle.book.proofs.Parts.Mail.{mail_kept, own_mail_idle, own_mail_none, mail_lets_posted}
 use Rattle.book.proofs.Parts.Flags.{flag_kept, flags_kept, flag_set}
-use Rattle.book.proofs.Parts.BarrierStages.{barrier_kept}
-use Rattle.book.proofs.Parts.LastAndCounts.{unlike}
-use Rattle.book.proofs.Parts.TimesAndAwaits.{is_processor, idle_awaits_none, awaits_none_no_mail, own_time_stamp, follows, old_notices}
-use Rattle.book.proofs.Told.Events.{IsTaking, told_closing, told_taking}
-use Rattle.book.proofs.Told.Locks.{locks_kept}
+use Rattle.book.proofs.Parts.BarrierStages.{barrier_stage_kept}
+use Rattle.book.proofs.Parts.LastAndCounts.{last_event_unlike}
+use Rattle.book.proofs.Parts.TimesAndAwaits.{times_is_processor, idle_awaits_none, awaits_none_no_mail, own_time_stamp, awaits_follows, times_old_notices}
+use Rattle.book.proofs.Told.Events.{IsToldTakingEvent, told_closing, told_taking}
+use Rattle.book.proofs.Told.Locks.{told_locks_kept}
 
 -- the event closes its interval, and neither locks nor the barrier know of it
-record IsPlainClosing (k : Kind) : Type 0 where
+record IsToldFlagClosing (k : Kind) : Type 0 where
   takes : is_taking k ≡ false
   closes : is_closing k ≡ true
   arrives : is_arrive k ≡ false
@@ -46,34 +46,34 @@ record IsPlainClosing (k : Kind) : Type 0 where
 module _ (s : Sizes) (h : List Event) (b : State) (p f : ℕ) (records : List Changes) (told : Represents s h b)
     (range : f < s.flags) (idle : slice_get b.awaits p ≡ Some None)
     (stored : AreIntervalContents s h p (count_of is_closing h p) records) where
-  told_plain : (k : Kind) → IsPlainClosing k → MayFollow s h (event p k) → (flags : List (Option (List ℕ)))
-      → EachAt s.flags (IsFlag s.processors (did h p k)) flags
-      → Represents s (did h p k) (record (book_closed_by b p k records) { flags = flags })
+  told_plain : (k : Kind) → IsToldFlagClosing k → MayFollow s h (event p k) → (flags : List (Option (List ℕ)))
+      → EachStampedAt s.flags (IsFlag s.processors (did h p k)) flags
+      → Represents s (did h p k) (record (transition_closed_by b p k records) { flags = flags })
   told_plain k plain may flags all =
-      told_closing s h b p told lt k may (record (book_closed_by b p k records) { flags = flags })
+      told_closing s h b p told lt k may (record (transition_closed_by b p k records) { flags = flags })
       (record {
-        locks = locks_kept s h p k b.locks.locks plain.ask (λ l. unlike is_taking k (Acquire l) plain.takes refl)
-            plain.release (λ l. idle_no_ask h p l free) told.locks;
-        barrier = barrier_kept s h p k b.barrier plain.arrives plain.departs told.barrier;
+        locks = told_locks_kept s h p k b.locks.locks plain.ask (λ l. last_event_unlike is_taking k (Acquire l) plain.takes refl)
+            plain.release (λ l. line_idle_no_ask h p l free) told.locks;
+        barrier = barrier_stage_kept s h p k b.barrier plain.arrives plain.departs told.barrier;
         flags = all;
         transit = each_own s.processors (IsMail s h) (IsMail s (did h p k)) b.transit p told.transit
             (λ r o isnt at is. mail_kept s h p k may r isnt o plain.release arrive is)
             (λ o at is. own_mail_idle s h p k o free plain.ask arrive is);
-        notices = λ r m t at. old_notices s h b p told lt records r m t (awaits_none_no_mail s h b p told idle r m at) at;
+        notices = λ r m t at. times_old_notices s h b p told lt records r m t (awaits_none_no_mail s h b p told idle r m at) at;
       })
       plain.takes plain.closes records stored refl
     where
       lt : p < s.processors
-      lt = is_processor s h b p None told idle
+      lt = times_is_processor s h b p None told idle
 
-      free : IsIdle h p
+      free : WaitsForNothing h p
       free = idle_awaits_none s h b p told idle
 
       arrive : k ≢ Arrive
-      arrive = unlike is_arrive k Arrive plain.arrives refl
+      arrive = last_event_unlike is_arrive k Arrive plain.arrives refl
 
   -- p sets a flag
-  pub told_set : Represents s (did h p (Set f)) (book_set b p f records)
+  pub told_set : Represents s (did h p (Set f)) (transition_set b p f records)
   told_set =
       told_plain (Set f)
       (record {
@@ -84,18 +84,18 @@ module _ (s : Sizes) (h : List Event) (b : State) (p f : ℕ) (records : List Ch
         ask = λ l e. absurd cc;
         release = λ l e. absurd cc;
       })
-      (follows s h b p told (Set f) idle range tt)
-      (slice_set b.flags f (Some (book_flag_joined (slice_index_or b.flags f None) (tick (time_of b p) p))))
+      (awaits_follows s h b p told (Set f) idle range tt)
+      (slice_set b.flags f (Some (transition_flag_joined (slice_index_or b.flags f None) (tick (state_time_of b p) p))))
       (each_set s.flags (IsFlag s.processors h) (IsFlag s.processors (did h p (Set f))) b.flags f
-      (Some (book_flag_joined (slice_index_or b.flags f None) (tick (time_of b p) p))) told.flags
+      (Some (transition_flag_joined (slice_index_or b.flags f None) (tick (state_time_of b p) p))) told.flags
       (λ g o isnt at is. flag_kept s.processors h p (Set f) g o (λ e. isnt (cc e)) is)
-      (flag_set s.processors h p f (slice_index_or b.flags f None) (tick (time_of b p) p)
+      (flag_set s.processors h p f (slice_index_or b.flags f None) (tick (state_time_of b p) p)
       (each_is_at s.flags (IsFlag s.processors h) b.flags f None told.flags range)
-      (let lt = is_processor s h b p None told idle in
-      stamp_closing s.processors h p (Set f) (time_of b p) lt refl refl (own_time_stamp s h b p told lt))))
+      (let lt = times_is_processor s h b p None told idle in
+      stamp_closing s.processors h p (Set f) (state_time_of b p) lt refl refl (own_time_stamp s h b p told lt))))
 
   -- p watches a flag
-  pub told_watch : Represents s (did h p (Watch f)) (book_watched b p f records)
+  pub told_watch : Represents s (did h p (Watch f)) (transition_watched b p f records)
   told_watch =
       told_plain (Watch f)
       (record {
@@ -106,7 +106,7 @@ module _ (s : Sizes) (h : List Event) (b : State) (p f : ℕ) (records : List Ch
         ask = λ l e. absurd cc;
         release = λ l e. absurd cc;
       })
-      (follows s h b p told (Watch f) idle range tt) b.flags
+      (awaits_follows s h b p told (Watch f) idle range tt) b.flags
       (flags_kept s h p (Watch f) b.flags (λ g e. absurd cc) told.flags)
 
 -- who waits for a flag has watched it
@@ -116,15 +116,15 @@ watched_flag Arrive f e = absurd (cc (e))
 watched_flag (Watch g) f e = cc (e)
 watched_flag _ f e = absurd (cc (e))
 
-pub last_flag_watch : (h : List Event) (p f : ℕ) → IsAwaited h p (Some (Await f)) → (i : ℕ) × LastIs h p i (Watch f)
+pub last_flag_watch : (h : List Event) (p f : ℕ) → IsAwaitedByStamps h p (Some (Await f)) → (i : ℕ) × LastIs h p i (Watch f)
 last_flag_watch h p f w = let s =
     w.some (Await f) refl in (s.0, subst (λ a. LastIs h p s.0 a) (watched_flag s.1 f (sym (w.last s.0 s.1 s.2))) s.2)
 
 -- who waits for a flag has no message
-pub watching_mail : (s : Sizes) (h : List Event) (p i f : ℕ) (o : Option Letter) → LastIs h p i (Watch f)
+pub told_flag_watching_mail : (s : Sizes) (h : List Event) (p i f : ℕ) (o : Option Letter) → LastIs h p i (Watch f)
     → IsMail s h p o → None ≡ o
-watching_mail s h p i f None last mail = refl
-watching_mail s h p i f (Some m) last mail = absurd (go mail.kind (mail_lets_posted m.kind mail.kind mail.lets) mail.allowed)
+told_flag_watching_mail s h p i f None last mail = refl
+told_flag_watching_mail s h p i f (Some m) last mail = absurd (go mail.kind (mail_lets_posted m.kind mail.kind mail.lets) mail.allowed)
   where
     go : (a : Kind) → ComesByMail a → ¬ Allowed s h p a
     go (Acquire l) posted allowed = absurd (cc ((last_unique h p i allowed.0 (Watch f) (Ask l) last allowed.1).1))
@@ -134,7 +134,7 @@ watching_mail s h p i f (Some m) last mail = absurd (go mail.kind (mail_lets_pos
 -- p awaits a flag that is set, and what everyone covers then is trimmed
 pub told_signal : (s : Sizes) (h : List Event) (b : State) (p f : ℕ) (t : List ℕ) → Represents s h b
     → slice_get b.awaits p ≡ Some (Some (Await f)) → slice_get b.flags f ≡ Some (Some t)
-    → Represents s (did h p (Await f)) (book_trimmed (book_joined b p (Await f) t))
+    → Represents s (did h p (Await f)) (transition_trimmed (transition_joined b p (Await f) t))
 told_signal s h b p f t told waits set =
     told_taking now
   where
@@ -145,31 +145,31 @@ told_signal s h b p f t told waits set =
     flag = told.flags.each f (Some t) set
 
     may : MayFollow s h (event p (Await f))
-    may = taking_follows s h p (Await f) told.well_formed refl (last.0, flag.0.0, flag.0.1.0, last.1, flag.0.1.1)
+    may = ready_taking_follows s h p (Await f) told.well_formed refl (last.0, flag.0.0, flag.0.1.0, last.1, flag.0.1.1)
 
     apart : (r : ℕ) (m : Letter) → slice_get b.transit r ≡ Some (Some m) → r ≢ p
     apart r m at is =
         let P : ℕ → Type 0 = λ x. slice_get b.transit x ≡ Some (Some m) in
-        none-some m (watching_mail s h p last.0 f (Some m) last.1 (told.transit.each p (Some m) (subst P is at)))
+        none-some m (told_flag_watching_mail s h p last.0 f (Some m) last.1 (told.transit.each p (Some m) (subst P is at)))
 
-    now : IsTaking s h b p (Await f) t (book_joined b p (Await f) t)
+    now : IsToldTakingEvent s h b p (Await f) t (transition_joined b p (Await f) t)
     now = record {
       told = told;
-      mine = is_processor s h b p (Some (Await f)) told waits;
+      mine = times_is_processor s h b p (Some (Await f)) told waits;
       may = may;
       quiet = refl;
       brings = flag.1;
       after = record {
-        locks = locks_kept s h p (Await f) b.locks.locks (λ l e. absurd cc) (λ l e. absurd cc) (λ l e. absurd cc)
+        locks = told_locks_kept s h p (Await f) b.locks.locks (λ l e. absurd cc) (λ l e. absurd cc) (λ l e. absurd cc)
             (λ l i ask. absurd (cc ((last_unique h p last.0 i (Watch f) (Ask l) last.1 ask).1))) told.locks;
-        barrier = barrier_kept s h p (Await f) b.barrier refl refl told.barrier;
+        barrier = barrier_stage_kept s h p (Await f) b.barrier refl refl told.barrier;
         flags = flags_kept s h p (Await f) b.flags (λ g e. absurd cc) told.flags;
         transit = each_own s.processors (IsMail s h) (IsMail s (did h p (Await f))) b.transit p told.transit
             (λ r o isnt at is. mail_kept s h p (Await f) may r isnt o (λ m e. absurd cc) (λ e. absurd cc) is)
-            (λ o at is. subst (λ x. IsMail s (did h p (Await f)) p x) (watching_mail s h p last.0 f o last.1 is)
+            (λ o at is. subst (λ x. IsMail s (did h p (Await f)) p x) (told_flag_watching_mail s h p last.0 f o last.1 is)
             (own_mail_none s h p (Await f) (λ m e. absurd cc) (λ e. absurd cc)));
         notices = λ r m u at now. told.notices r m u at
-            (sym (slice_get-set_other b.times p r (join (time_of b p) t) (apart r m at)) ∙ now);
+            (sym (slice_get-set_other b.times p r (join (state_time_of b p) t) (apart r m at)) ∙ now);
       };
       is = refl;
     }

@@ -8,11 +8,11 @@ use Rattle.journal.specs.declared.event.Kind.TheVariants.{Ask, Acquire, Release,
 use Rattle.journal.specs.Sizes.{Sizes}
 use Rattle.journal.specs.Events.{count_of, is_closing}
 use Rattle.journal.specs.WellFormed.{LastIs, Holds, MayBeGranted, Allowed, MayFollow, WellFormed}
-use Rattle.journal.specs.Waits.{IsIdle}
+use Rattle.journal.specs.Waits.{WaitsForNothing}
 use Rattle.journal.specs.Pasts.{UpToSome}
 use Rattle.journal.specs.Brings.{SomeDoes}
 use Rattle.base.proofs.SliceSets.{slice_get-set_found, slice_get-set_other}
-use Rattle.journal.proofs.Journals.WellFormedLast.{last_cases, holds_cases}
+use Rattle.journal.proofs.Journals.WellFormedLast.{last_cases, well_formed_holds_cases}
 use Rattle.journal.proofs.Journals.HoldingReleases.{holds_alone}
 use Rattle.page.specs.RisingChanges.{Changes}
 use Rattle.vtime.specs.Times.{tick}
@@ -22,103 +22,103 @@ use Rattle.lockq.specs.LockQueues.{Lock, unheld_lock, lock_at, lock_line, asked_
 use Rattle.transit.specs.Letters.{Letter}
 use Rattle.transit.specs.Letters.LetterKind.{grant}
 use Rattle.journal.specs.DidEvent.{event, did}
-use Rattle.book.specs.Stamps.{EachAt, IsStamp}
-use Rattle.book.specs.Lines.{IsLine, IsLock}
+use Rattle.book.specs.Stamps.{EachStampedAt, IsStamp}
+use Rattle.book.specs.Lines.{IsLine, HasLineOfLock}
 use Rattle.book.specs.Mail.{ComesByMail, IsMail}
 use Rattle.book.specs.ClosedIntervals.{AreIntervalContents}
-use Rattle.book.specs.State.{State, time_of}
-use Rattle.book.specs.Transitions.{book_closed_by, book_grant, if_free, book_mail_passed, book_asked, book_released}
+use Rattle.book.specs.State.{State, state_time_of}
+use Rattle.book.specs.Transitions.{transition_closed_by, transition_grant, transition_if_free, transition_mail_passed, transition_asked, transition_released}
 use Rattle.book.specs.Told.{Represents}
 use Rattle.book.proofs.Parts.Each.{each_set, each_kept, each_own, each_is_at}
-use Rattle.book.proofs.Parts.LastAndCounts.{last_none, holds_back}
+use Rattle.book.proofs.Parts.LastAndCounts.{last_none, last_holds_back}
 use Rattle.book.proofs.Parts.Stamps.{stamp_closing, stamp_released}
-use Rattle.book.proofs.Parts.Lines.{NoAsk, idle_no_ask, not_in_line, line_kept, line_asked, line_released, line_taken, first_in_line_allowed, allowed_first_in_line}
-use Rattle.book.proofs.Parts.Mail.{MailNews, stamp_kept, mail_unless, mail_kept, own_mail_idle}
+use Rattle.book.proofs.Parts.Lines.{NoAskInLine, line_idle_no_ask, not_in_line, line_kept, line_asked, line_released, line_taken, first_in_line_allowed, allowed_first_in_line}
+use Rattle.book.proofs.Parts.Mail.{MailNews, mail_stamp_kept, mail_unless, mail_kept, own_mail_idle}
 use Rattle.book.proofs.Parts.Flags.{flags_kept}
-use Rattle.book.proofs.Parts.BarrierStages.{barrier_kept}
-use Rattle.book.proofs.Parts.TimesAndAwaits.{is_processor, idle_awaits_none, awaits_none_no_mail, own_time_stamp, follows, still_formed, old_notices}
+use Rattle.book.proofs.Parts.BarrierStages.{barrier_stage_kept}
+use Rattle.book.proofs.Parts.TimesAndAwaits.{times_is_processor, idle_awaits_none, awaits_none_no_mail, own_time_stamp, awaits_follows, times_still_formed, times_old_notices}
 use Rattle.book.proofs.Told.Events.{told_closing}
 
 -- a lock that the event does not name stays
-pub lock_kept : (n : ℕ) (h : List Event) (p : ℕ) (k : Kind) (l : ℕ) (x : Lock) → k ≢ Ask l → k ≢ Acquire l
-    → k ≢ Release l → NoAsk h p l → IsLock n h l x → IsLock n (did h p k) l x
-lock_kept n h p k l x ask acquire release none is = record {
+pub told_lock_kept : (n : ℕ) (h : List Event) (p : ℕ) (k : Kind) (l : ℕ) (x : Lock) → k ≢ Ask l → k ≢ Acquire l
+    → k ≢ Release l → NoAskInLine h p l → HasLineOfLock n h l x → HasLineOfLock n (did h p k) l x
+told_lock_kept n h p k l x ask acquire release none is = record {
   line_is = line_kept h p k l (lock_line x) ask acquire release none is.line_is;
   held = is.held;
-  time = stamp_kept n h p k (Release l) x.time release is.time;
+  time = mail_stamp_kept n h p k (Release l) x.time release is.time;
 }
 
 -- each stays that is neither asked for nor taken nor released
-pub locks_kept : (s : Sizes) (h : List Event) (p : ℕ) (k : Kind) (xs : List Lock) → ((l : ℕ) → k ≢ Ask l)
-    → ((l : ℕ) → k ≢ Acquire l) → ((l : ℕ) → k ≢ Release l) → ((l : ℕ) → NoAsk h p l)
-    → EachAt s.locks (IsLock s.processors h) xs → EachAt s.locks (IsLock s.processors (did h p k)) xs
-locks_kept s h p k xs ask acquire release none all =
-    each_kept s.locks (IsLock s.processors h) (IsLock s.processors (did h p k)) xs all
-    (λ l x at is. lock_kept s.processors h p k l x (ask l) (acquire l) (release l) (none l) is)
+pub told_locks_kept : (s : Sizes) (h : List Event) (p : ℕ) (k : Kind) (xs : List Lock) → ((l : ℕ) → k ≢ Ask l)
+    → ((l : ℕ) → k ≢ Acquire l) → ((l : ℕ) → k ≢ Release l) → ((l : ℕ) → NoAskInLine h p l)
+    → EachStampedAt s.locks (HasLineOfLock s.processors h) xs → EachStampedAt s.locks (HasLineOfLock s.processors (did h p k)) xs
+told_locks_kept s h p k xs ask acquire release none all =
+    each_kept s.locks (HasLineOfLock s.processors h) (HasLineOfLock s.processors (did h p k)) xs all
+    (λ l x at is. told_lock_kept s.processors h p k l x (ask l) (acquire l) (release l) (none l) is)
 
-lock_asked : (n : ℕ) (h : List Event) (p l : ℕ) (o : Option ℕ) (xs t : List ℕ) → NoAsk h p l → ¬ Holds h p l
-    → IsLock n h l (record { holder = o; queue = xs; time = t })
-    → IsLock n (did h p (Ask l)) l (asked_lock (record { holder = o; queue = xs; time = t }) p)
-lock_asked n h p l None (y ∷ xs) t none free is = absurd (cc (is.held refl))
-lock_asked n h p l None [] t none free is = record {
+told_lock_asked : (n : ℕ) (h : List Event) (p l : ℕ) (o : Option ℕ) (xs t : List ℕ) → NoAskInLine h p l → ¬ Holds h p l
+    → HasLineOfLock n h l (record { holder = o; queue = xs; time = t })
+    → HasLineOfLock n (did h p (Ask l)) l (asked_lock (record { holder = o; queue = xs; time = t }) p)
+told_lock_asked n h p l None (y ∷ xs) t none free is = absurd (cc (is.held refl))
+told_lock_asked n h p l None [] t none free is = record {
   line_is = line_asked h p l [] none free is.line_is;
   held = λ e. absurd (cc (e));
-  time = stamp_kept n h p (Ask l) (Release l) t (λ e. absurd cc) is.time;
+  time = mail_stamp_kept n h p (Ask l) (Release l) t (λ e. absurd cc) is.time;
 }
-lock_asked n h p l (Some q) xs t none free is = record {
+told_lock_asked n h p l (Some q) xs t none free is = record {
   line_is = line_asked h p l (q ∷ xs) none free is.line_is;
   held = λ e. absurd (cc (e));
-  time = stamp_kept n h p (Ask l) (Release l) t (λ e. absurd cc) is.time;
+  time = mail_stamp_kept n h p (Ask l) (Release l) t (λ e. absurd cc) is.time;
 }
 
-pub lock_taken : (n : ℕ) (h : List Event) (p l i : ℕ) (x : Lock) → LastIs h p i (Ask l) → MayBeGranted h i l
-    → IsLock n h l x → IsLock n (did h p (Acquire l)) l x
-lock_taken n h p l i x last may is = record {
+pub told_lock_taken : (n : ℕ) (h : List Event) (p l i : ℕ) (x : Lock) → LastIs h p i (Ask l) → MayBeGranted h i l
+    → HasLineOfLock n h l x → HasLineOfLock n (did h p (Acquire l)) l x
+told_lock_taken n h p l i x last may is = record {
   line_is = line_taken h p l i (lock_line x) last may is.line_is;
   held = is.held;
-  time = stamp_kept n h p (Acquire l) (Release l) x.time (λ e. absurd cc) is.time;
+  time = mail_stamp_kept n h p (Acquire l) (Release l) x.time (λ e. absurd cc) is.time;
 }
 
 -- the line of a lock is that of its holder and its queue
-pub lock_holder_first : (n : ℕ) (h : List Event) (p l : ℕ) (o : Option ℕ) (xs t : List ℕ) → Holds h p l
-    → IsLock n h l (record { holder = o; queue = xs; time = t }) → o ≡ Some p
-lock_holder_first n h p l None (y ∷ xs) t held is = absurd (cc (is.held refl))
-lock_holder_first n h p l None [] t held is = absurd (none-some p (is.line_is.first p held))
-lock_holder_first n h p l (Some q) xs t held is = is.line_is.first p held
+pub told_lock_holder_first : (n : ℕ) (h : List Event) (p l : ℕ) (o : Option ℕ) (xs t : List ℕ) → Holds h p l
+    → HasLineOfLock n h l (record { holder = o; queue = xs; time = t }) → o ≡ Some p
+told_lock_holder_first n h p l None (y ∷ xs) t held is = absurd (cc (is.held refl))
+told_lock_holder_first n h p l None [] t held is = absurd (none-some p (is.line_is.first p held))
+told_lock_holder_first n h p l (Some q) xs t held is = is.line_is.first p held
 
-lock_passed : (n : ℕ) (h : List Event) (l : ℕ) (xs t : List ℕ) → IsLine h l xs
+told_lock_passed : (n : ℕ) (h : List Event) (l : ℕ) (xs t : List ℕ) → IsLine h l xs
     → IsStamp n h (UpToSome h (SomeDoes h (Release l))) t
-    → IsLock n h l (released_lock (record { holder = None; queue = xs; time = [] }) t)
-lock_passed n h l [] t is time = record { line_is = is; held = λ e. refl; time = time }
-lock_passed n h l (q ∷ xs) t is time = record { line_is = is; held = λ e. absurd (cc (e)); time = time }
+    → HasLineOfLock n h l (released_lock (record { holder = None; queue = xs; time = [] }) t)
+told_lock_passed n h l [] t is time = record { line_is = is; held = λ e. refl; time = time }
+told_lock_passed n h l (q ∷ xs) t is time = record { line_is = is; held = λ e. absurd (cc (e)); time = time }
 
 -- the line after the holder's release
-lock_line_passed : (n : ℕ) (h : List Event) (p l : ℕ) (o : Option ℕ) (xs t : List ℕ) → NoAsk h p l → Holds h p l
-    → IsLock n h l (record { holder = o; queue = xs; time = t }) → IsLine (did h p (Release l)) l xs
-lock_line_passed n h p l o xs t none held is =
-    let first = lock_holder_first n h p l o xs t held is in
+told_lock_line_passed : (n : ℕ) (h : List Event) (p l : ℕ) (o : Option ℕ) (xs t : List ℕ) → NoAskInLine h p l → Holds h p l
+    → HasLineOfLock n h l (record { holder = o; queue = xs; time = t }) → IsLine (did h p (Release l)) l xs
+told_lock_line_passed n h p l o xs t none held is =
+    let first = told_lock_holder_first n h p l o xs t held is in
     line_released h p l xs none held
     (subst (λ x. IsLine h l (lock_line (record { holder = x; queue = xs; time = t }))) first is.line_is)
 
 -- the mail of one who asks: a grant where nobody stands before it
-asked_mail : (s : Sizes) (h : List Event) (p l : ℕ) (o : Option ℕ) (xs t : List ℕ) (notices : List SentRecord)
-    → NoAsk h p l → ¬ Holds h p l → IsLock s.processors h l (record { holder = o; queue = xs; time = t })
-    → IsMail s (did h p (Ask l)) p (if_free o (record { kind = grant; time = t; notices = notices }))
-asked_mail s h p l None (y ∷ xs) t notices none free is = absurd (cc (is.held refl))
-asked_mail s h p l None [] t notices none free is =
-    let now = lock_asked s.processors h p l None [] t none free is in
+told_lock_asked_mail : (s : Sizes) (h : List Event) (p l : ℕ) (o : Option ℕ) (xs t : List ℕ) (notices : List SentRecord)
+    → NoAskInLine h p l → ¬ Holds h p l → HasLineOfLock s.processors h l (record { holder = o; queue = xs; time = t })
+    → IsMail s (did h p (Ask l)) p (transition_if_free o (record { kind = grant; time = t; notices = notices }))
+told_lock_asked_mail s h p l None (y ∷ xs) t notices none free is = absurd (cc (is.held refl))
+told_lock_asked_mail s h p l None [] t notices none free is =
+    let now = told_lock_asked s.processors h p l None [] t none free is in
     let nobody : (q : ℕ) → ¬ Holds (did h p (Ask l)) q l =
-    λ q held. none-some q (is.line_is.first q (holds_back h p (Ask l) q l (λ e. absurd cc) held)) in
+    λ q held. none-some q (is.line_is.first q (last_holds_back h p (Ask l) q l (λ e. absurd cc) held)) in
     record {
       kind = Acquire l;
       lets = tt;
       allowed = allowed_first_in_line (did h p (Ask l)) p l (p ∷ []) nobody refl now.line_is;
       time = now.time;
     }
-asked_mail s h p l (Some q) xs t notices none free is = mail
+told_lock_asked_mail s h p l (Some q) xs t notices none free is = mail
   where
-    now : IsLock s.processors (did h p (Ask l)) l (asked_lock (record { holder = Some q; queue = xs; time = t }) p)
-    now = lock_asked s.processors h p l (Some q) xs t none free is
+    now : HasLineOfLock s.processors (did h p (Ask l)) l (asked_lock (record { holder = Some q; queue = xs; time = t }) p)
+    now = told_lock_asked s.processors h p l (Some q) xs t none free is
 
     same_lock : (m i : ℕ) → LastIs (did h p (Ask l)) p i (Ask m) → l ≡ m
     same_lock m i last =
@@ -137,58 +137,58 @@ asked_mail s h p l (Some q) xs t notices none free is = mail
     mail Depart posted allowed = last_none h p (Ask l) allowed.0 Arrive (λ e. absurd cc) allowed.1
     mail _ posted allowed = absurd posted
 
-lock_due_is : (o : Option ℕ) (m n : Letter) → if_free o m ≡ Some n → m ≡ n
-lock_due_is None m n e = same_Some m n e
-lock_due_is (Some q) m n e = absurd (none-some n e)
+told_lock_due_is : (o : Option ℕ) (m n : Letter) → transition_if_free o m ≡ Some n → m ≡ n
+told_lock_due_is None m n e = same_Some m n e
+told_lock_due_is (Some q) m n e = absurd (none-some n e)
 
 -- a message that is made now has the notices that its receiver lacks
-pub granted_notices : (c : State) (r : ℕ) (u t : List ℕ) (m : Letter) → slice_get c.times r ≡ Some t
-    → book_grant c r u ≡ m → m.notices ≡ closings_between c.closed t m.time
-granted_notices c r u t m at is =
+pub told_lock_granted_notices : (c : State) (r : ℕ) (u t : List ℕ) (m : Letter) → slice_get c.times r ≡ Some t
+    → transition_grant c r u ≡ m → m.notices ≡ closings_between c.closed t m.time
+told_lock_granted_notices c r u t m at is =
     subst (λ x. x.notices ≡ closings_between c.closed t x.time) is
     (ap (λ own. closings_between c.closed own u) (get_or_from_slice_get c.times r t [] at))
 
 -- p asks for a lock
 pub told_ask : (s : Sizes) (h : List Event) (b : State) (p l : ℕ) (records : List Changes) → Represents s h b
     → l < s.locks → slice_get b.awaits p ≡ Some None → ¬ Holds h p l
-    → AreIntervalContents s h p (count_of is_closing h p) records → Represents s (did h p (Ask l)) (book_asked b p l records)
+    → AreIntervalContents s h p (count_of is_closing h p) records → Represents s (did h p (Ask l)) (transition_asked b p l records)
 told_ask s h b p l records told range idle free stored =
-    told_closing s h b p told lt (Ask l) may (book_asked b p l records)
+    told_closing s h b p told lt (Ask l) may (transition_asked b p l records)
     (record {
-      locks = each_set s.locks (IsLock s.processors h) (IsLock s.processors (did h p (Ask l))) b.locks.locks l
+      locks = each_set s.locks (HasLineOfLock s.processors h) (HasLineOfLock s.processors (did h p (Ask l))) b.locks.locks l
           (asked_lock (lock_at b.locks l) p) told.locks
-          (λ m x isnt at is. lock_kept s.processors h p (Ask l) m x (λ e. isnt (cc e)) (λ e. absurd cc) (λ e. absurd cc)
-          (idle_no_ask h p m (idle_awaits_none s h b p told idle)) is)
-          (lock_asked s.processors h p l (lock_at b.locks l).holder (lock_at b.locks l).queue
+          (λ m x isnt at is. told_lock_kept s.processors h p (Ask l) m x (λ e. isnt (cc e)) (λ e. absurd cc) (λ e. absurd cc)
+          (line_idle_no_ask h p m (idle_awaits_none s h b p told idle)) is)
+          (told_lock_asked s.processors h p l (lock_at b.locks l).holder (lock_at b.locks l).queue
           (lock_at b.locks l).time none free lock);
-      barrier = barrier_kept s h p (Ask l) b.barrier refl refl told.barrier;
+      barrier = barrier_stage_kept s h p (Ask l) b.barrier refl refl told.barrier;
       flags = flags_kept s h p (Ask l) b.flags (λ f e. absurd cc) told.flags;
       transit = each_set s.processors (IsMail s h) (IsMail s (did h p (Ask l))) b.transit p made told.transit
           (λ r o isnt at is. mail_kept s h p (Ask l) may r isnt o (λ m e. absurd cc) (λ e. absurd cc) is)
-          (asked_mail s h p l (lock_at b.locks l).holder (lock_at b.locks l).queue (lock_at b.locks l).time
-          (book_grant c p (lock_at b.locks l).time).notices none free lock);
+          (told_lock_asked_mail s h p l (lock_at b.locks l).holder (lock_at b.locks l).queue (lock_at b.locks l).time
+          (transition_grant c p (lock_at b.locks l).time).notices none free lock);
       notices = notices;
     })
     refl refl records stored refl
   where
     c : State
-    c = book_closed_by b p (Ask l) records
+    c = transition_closed_by b p (Ask l) records
 
     -- its grant, where nobody holds the lock
     made : Option Letter
-    made = if_free (lock_at b.locks l).holder (book_grant c p (lock_at b.locks l).time)
+    made = transition_if_free (lock_at b.locks l).holder (transition_grant c p (lock_at b.locks l).time)
 
     lt : p < s.processors
-    lt = is_processor s h b p None told idle
+    lt = times_is_processor s h b p None told idle
 
     may : MayFollow s h (event p (Ask l))
-    may = follows s h b p told (Ask l) idle range free
+    may = awaits_follows s h b p told (Ask l) idle range free
 
-    none : NoAsk h p l
-    none = idle_no_ask h p l (idle_awaits_none s h b p told idle)
+    none : NoAskInLine h p l
+    none = line_idle_no_ask h p l (idle_awaits_none s h b p told idle)
 
-    lock : IsLock s.processors h l (lock_at b.locks l)
-    lock = each_is_at s.locks (IsLock s.processors h) b.locks.locks l (unheld_lock b.locks.processors) told.locks range
+    lock : HasLineOfLock s.processors h l (lock_at b.locks l)
+    lock = each_is_at s.locks (HasLineOfLock s.processors h) b.locks.locks l (unheld_lock b.locks.processors) told.locks range
 
     notices : (r : ℕ) (m : Letter) (t : List ℕ) → slice_get (slice_set b.transit p made) r ≡ Some (Some m)
         → slice_get c.times r ≡ Some t → m.notices ≡ closings_between c.closed t m.time
@@ -197,61 +197,61 @@ told_ask s h b p l records told range idle free stored =
           let P : ℕ → Type 0 = λ x. slice_get (slice_set b.transit p made) x ≡ Some (Some m) in
           let Q : ℕ → Type 0 = λ x. slice_get c.times x ≡ Some t in
           let found = slice_get-set_found b.transit p made (Some m) (subst P is at) in
-          granted_notices c p (lock_at b.locks l).time t m (subst Q is time)
-          (lock_due_is (lock_at b.locks l).holder (book_grant c p (lock_at b.locks l).time) m found))
-      | inr isnt ↦ old_notices s h b p told lt records r m t isnt
+          told_lock_granted_notices c p (lock_at b.locks l).time t m (subst Q is time)
+          (told_lock_due_is (lock_at b.locks l).holder (transition_grant c p (lock_at b.locks l).time) m found))
+      | inr isnt ↦ times_old_notices s h b p told lt records r m t isnt
           (sym (slice_get-set_other b.transit p r made isnt) ∙ at) time
     ]
 
 -- the others' mail when p releases the lock: news for the first of the queue alone
-released_mail : (s : Sizes) (h : List Event) (p l r : ℕ) (xs : List ℕ) (o : Option Letter)
+told_lock_released_mail : (s : Sizes) (h : List Event) (p l r : ℕ) (xs : List ℕ) (o : Option Letter)
     → MayFollow s h (event p (Release l)) → r ≢ p → IsLine (did h p (Release l)) l xs → ¬ (slice_get xs 0 ≡ Some r)
     → IsMail s h r o → IsMail s (did h p (Release l)) r o
-released_mail s h p l r xs o may isnt lock_line behind mail = mail_unless s h p (Release l) may r isnt o never mail
+told_lock_released_mail s h p l r xs o may isnt lock_line behind mail = mail_unless s h p (Release l) may r isnt o never mail
   where
     never : (a : Kind) → ComesByMail a → MailNews (Release l) a → ¬ Allowed s (did h p (Release l)) r a
-    never (Acquire m) posted news (i, last, book_grant) =
+    never (Acquire m) posted news (i, last, transition_grant) =
         let same : m ≡ l = cc in
         behind (first_in_line_allowed (did h p (Release l)) r l i xs
         (subst (λ x. LastIs (did h p (Release l)) r i (Ask x)) same last)
-        (subst (λ x. MayBeGranted (did h p (Release l)) i x) same book_grant) lock_line)
+        (subst (λ x. MayBeGranted (did h p (Release l)) i x) same transition_grant) lock_line)
     never Depart posted news allowed = absurd cc
     never _ posted news allowed = absurd posted
 
 -- nobody holds a lock that was just released
-released_lock_free : (s : Sizes) (h : List Event) (p l : ℕ) → WellFormed s h → Holds h p l → (q : ℕ)
+told_released_lock_free : (s : Sizes) (h : List Event) (p l : ℕ) → WellFormed s h → Holds h p l → (q : ℕ)
     → ¬ Holds (did h p (Release l)) q l
-released_lock_free s h p l well held q after = elim (holds_cases h (event p (Release l)) q l after) [
+told_released_lock_free s h p l well held q after = elim (well_formed_holds_cases h (event p (Release l)) q l after) [
   | inl old ↦ old.1 (ap (λ (r : ℕ). event r (Release l)) (holds_alone s h well p q l held old.0))
   | inr new ↦ absurd (cc (ap (λ e. e.kind) new))
 ]
 
 -- p releases a lock that it holds: who stands in its line then, and its timestamp then
-record IsReleased (s : Sizes) (h : List Event) (p l : ℕ) (xs u : List ℕ) : Type 0 where
+record IsToldLockReleased (s : Sizes) (h : List Event) (p l : ℕ) (xs u : List ℕ) : Type 0 where
   well : WellFormed s h
   may : MayFollow s h (event p (Release l))
-  idle : IsIdle h p
+  idle : WaitsForNothing h p
   held : Holds h p l
   line : IsLine (did h p (Release l)) l xs
   time : IsStamp s.processors (did h p (Release l))
       (UpToSome (did h p (Release l)) (SomeDoes (did h p (Release l)) (Release l))) u
 
 -- everyone's mail after a release
-mail_released : (s : Sizes) (h : List Event) (c : State) (p l : ℕ) (xs u : List ℕ) → IsReleased s h p l xs u
-    → EachAt s.processors (IsMail s h) c.transit
-    → EachAt s.processors (IsMail s (did h p (Release l))) (book_mail_passed c xs u)
-mail_released s h c p l [] u now all =
+told_lock_mail_released : (s : Sizes) (h : List Event) (c : State) (p l : ℕ) (xs u : List ℕ) → IsToldLockReleased s h p l xs u
+    → EachStampedAt s.processors (IsMail s h) c.transit
+    → EachStampedAt s.processors (IsMail s (did h p (Release l))) (transition_mail_passed c xs u)
+told_lock_mail_released s h c p l [] u now all =
     each_own s.processors (IsMail s h) (IsMail s (did h p (Release l))) c.transit p all
-    (λ r o isnt at is. released_mail s h p l r [] o now.may isnt now.line (none-some r) is)
+    (λ r o isnt at is. told_lock_released_mail s h p l r [] o now.may isnt now.line (none-some r) is)
     (λ o at is. own_mail_idle s h p (Release l) o now.idle (λ m e. absurd cc) (λ e. absurd cc) is)
-mail_released s h c p l (q ∷ xs) u now all =
-    each_set s.processors (IsMail s h) (IsMail s (did h p (Release l))) c.transit q (Some (book_grant c q u))
+told_lock_mail_released s h c p l (q ∷ xs) u now all =
+    each_set s.processors (IsMail s h) (IsMail s (did h p (Release l))) c.transit q (Some (transition_grant c q u))
     all others
     (record {
       kind = Acquire l;
       lets = tt;
       allowed =
-          allowed_first_in_line (did h p (Release l)) q l (q ∷ xs) (released_lock_free s h p l now.well now.held) refl
+          allowed_first_in_line (did h p (Release l)) q l (q ∷ xs) (told_released_lock_free s h p l now.well now.held) refl
           now.line;
       time = now.time;
     })
@@ -262,69 +262,69 @@ mail_released s h c p l (q ∷ xs) u now all =
       | inl own ↦ (let P : ℕ → Type 0 = λ x. IsMail s h x o → IsMail s (did h p (Release l)) x o in
           subst P (sym own) (own_mail_idle s h p (Release l) o now.idle (λ m e. absurd cc) (λ e. absurd cc)) is)
       | inr apart ↦
-          released_mail s h p l r (q ∷ xs) o now.may apart now.line (λ e. isnt (sym (same_Some q r e))) is
+          told_lock_released_mail s h p l r (q ∷ xs) o now.may apart now.line (λ e. isnt (sym (same_Some q r e))) is
     ]
 
 -- the notices of messages that were there, and of the one that is posted
-passed_notices : (c : State) (xs u : List ℕ) (r : ℕ) (m : Letter) (t : List ℕ)
-    → slice_get (book_mail_passed c xs u) r ≡ Some (Some m) → slice_get c.times r ≡ Some t
+told_lock_passed_notices : (c : State) (xs u : List ℕ) (r : ℕ) (m : Letter) (t : List ℕ)
+    → slice_get (transition_mail_passed c xs u) r ≡ Some (Some m) → slice_get c.times r ≡ Some t
     → (slice_get c.transit r ≡ Some (Some m) → m.notices ≡ closings_between c.closed t m.time)
     → m.notices ≡ closings_between c.closed t m.time
-passed_notices c [] u r m t at time old = old at
-passed_notices c (q ∷ xs) u r m t at time old = elim (cases_eq r q) [
+told_lock_passed_notices c [] u r m t at time old = old at
+told_lock_passed_notices c (q ∷ xs) u r m t at time old = elim (cases_eq r q) [
   | inl is ↦ (
-      let P : ℕ → Type 0 = λ x. slice_get (slice_set c.transit q (Some (book_grant c q u))) x ≡ Some (Some m) in
+      let P : ℕ → Type 0 = λ x. slice_get (slice_set c.transit q (Some (transition_grant c q u))) x ≡ Some (Some m) in
       let Q : ℕ → Type 0 = λ x. slice_get c.times x ≡ Some t in
-      let found = slice_get-set_found c.transit q (Some (book_grant c q u)) (Some m) (subst P is at) in
-      granted_notices c q u t m (subst Q is time) (same_Some (book_grant c q u) m found))
-  | inr isnt ↦ old (sym (slice_get-set_other c.transit q r (Some (book_grant c q u)) isnt) ∙ at)
+      let found = slice_get-set_found c.transit q (Some (transition_grant c q u)) (Some m) (subst P is at) in
+      told_lock_granted_notices c q u t m (subst Q is time) (same_Some (transition_grant c q u) m found))
+  | inr isnt ↦ old (sym (slice_get-set_other c.transit q r (Some (transition_grant c q u)) isnt) ∙ at)
 ]
 
 -- p releases a lock that it holds
 pub told_release : (s : Sizes) (h : List Event) (b : State) (p l : ℕ) (records : List Changes) → Represents s h b
     → l < s.locks → slice_get b.awaits p ≡ Some None → Holds h p l
     → AreIntervalContents s h p (count_of is_closing h p) records
-    → Represents s (did h p (Release l)) (book_released b p l records)
+    → Represents s (did h p (Release l)) (transition_released b p l records)
 told_release s h b p l records told range idle held stored =
-    told_closing s h b p told lt (Release l) may (book_released b p l records)
+    told_closing s h b p told lt (Release l) may (transition_released b p l records)
     (record {
-      locks = each_set s.locks (IsLock s.processors h) (IsLock s.processors (did h p (Release l))) b.locks.locks l
+      locks = each_set s.locks (HasLineOfLock s.processors h) (HasLineOfLock s.processors (did h p (Release l))) b.locks.locks l
           (released_lock (lock_at b.locks l) now) told.locks
-          (λ m x isnt at is. lock_kept s.processors h p (Release l) m x (λ e. absurd cc) (λ e. absurd cc)
-          (λ e. isnt (cc e)) (idle_no_ask h p m free) is)
-          (lock_passed s.processors (did h p (Release l)) l (lock_at b.locks l).queue now line_now time);
-      barrier = barrier_kept s h p (Release l) b.barrier refl refl told.barrier;
+          (λ m x isnt at is. told_lock_kept s.processors h p (Release l) m x (λ e. absurd cc) (λ e. absurd cc)
+          (λ e. isnt (cc e)) (line_idle_no_ask h p m free) is)
+          (told_lock_passed s.processors (did h p (Release l)) l (lock_at b.locks l).queue now line_now time);
+      barrier = barrier_stage_kept s h p (Release l) b.barrier refl refl told.barrier;
       flags = flags_kept s h p (Release l) b.flags (λ f e. absurd cc) told.flags;
-      transit = mail_released s h (book_closed_by b p (Release l) records) p l (lock_at b.locks l).queue now
+      transit = told_lock_mail_released s h (transition_closed_by b p (Release l) records) p l (lock_at b.locks l).queue now
           (record { well = told.well_formed; may = may; idle = free; held = held; line = line_now; time = time })
           told.transit;
-      notices = λ r m t at read. passed_notices (book_closed_by b p (Release l) records) (lock_at b.locks l).queue
+      notices = λ r m t at read. told_lock_passed_notices (transition_closed_by b p (Release l) records) (lock_at b.locks l).queue
           now r m t at read
-          (λ there. old_notices s h b p told lt records r m t (awaits_none_no_mail s h b p told idle r m there) there read);
+          (λ there. times_old_notices s h b p told lt records r m t (awaits_none_no_mail s h b p told idle r m there) there read);
     })
     refl refl records stored refl
   where
     lt : p < s.processors
-    lt = is_processor s h b p None told idle
+    lt = times_is_processor s h b p None told idle
 
-    free : IsIdle h p
+    free : WaitsForNothing h p
     free = idle_awaits_none s h b p told idle
 
     may : MayFollow s h (event p (Release l))
-    may = follows s h b p told (Release l) idle range held
+    may = awaits_follows s h b p told (Release l) idle range held
 
     -- p's timestamp then
     now : List ℕ
-    now = tick (time_of b p) p
+    now = tick (state_time_of b p) p
 
-    lock : IsLock s.processors h l (lock_at b.locks l)
-    lock = each_is_at s.locks (IsLock s.processors h) b.locks.locks l (unheld_lock b.locks.processors) told.locks range
+    lock : HasLineOfLock s.processors h l (lock_at b.locks l)
+    lock = each_is_at s.locks (HasLineOfLock s.processors h) b.locks.locks l (unheld_lock b.locks.processors) told.locks range
 
     line_now : IsLine (did h p (Release l)) l (lock_at b.locks l).queue
-    line_now = lock_line_passed s.processors h p l (lock_at b.locks l).holder (lock_at b.locks l).queue
-        (lock_at b.locks l).time (idle_no_ask h p l free) held lock
+    line_now = told_lock_line_passed s.processors h p l (lock_at b.locks l).holder (lock_at b.locks l).queue
+        (lock_at b.locks l).time (line_idle_no_ask h p l free) held lock
 
     time : IsStamp s.processors (did h p (Release l))
         (UpToSome (did h p (Release l)) (SomeDoes (did h p (Release l)) (Release l))) now
-    time = stamp_released s h p l now (still_formed s h b p told (Release l) may)
-        (stamp_closing s.processors h p (Release l) (time_of b p) lt refl refl (own_time_stamp s h b p told lt))
+    time = stamp_released s h p l now (times_still_formed s h b p told (Release l) may)
+        (stamp_closing s.processors h p (Release l) (state_time_of b p) lt refl refl (own_time_stamp s h b p told lt))

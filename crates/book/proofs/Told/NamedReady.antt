@@ -2,7 +2,7 @@
 use Rattle.std.proofs.Common.{◌≡◌, ◌≢◌, ℕ, ◌+◌, ◌<◌, ◌≤◌, ◌⊎◌, inl, inr, List, [], ◌∷◌, ◌++◌, length, true, false, Bool, cond, Option, Some, None, IsTrue, slice_get, subst, sym, refl, ap, ◌∙◌, append_assoc, append-nil, arith}
 use Rattle.std.proofs.lemmas.Bool.{cases_eq, cases_lt, true≢false}
 use Rattle.std.proofs.lemmas.Option.{none-some, same_Some, slice_get_within}
-use Rattle.base.proofs.SlicesAndCounts.{push_cases, push_induction}
+use Rattle.base.proofs.SlicesAndCounts.{slice_push_cases, slice_push_induction}
 use Rattle.journal.specs.declared.event.Event.{Event}
 use Rattle.journal.specs.declared.event.Kind.{Kind}
 use Rattle.journal.specs.declared.event.Kind.TheVariants.{Acquire, Release, Arrive, Depart, Set, Watch, Await}
@@ -12,18 +12,18 @@ use Rattle.journal.specs.WellFormed.{KindInRange, LastIs, Allowed, MayFollow, We
 use Rattle.journal.specs.Waits.{awaited}
 use Rattle.journal.specs.Deadlocks.{IsDeadlock}
 use Rattle.journal.specs.DidEvent.{event, did}
-use Rattle.journal.proofs.Order.CountedAndNumbered.{at_longer, at_last}
-use Rattle.journal.proofs.Journals.WellFormedLast.{each_push, last_cases}
+use Rattle.journal.proofs.Order.CountedAndNumbered.{numbered_at_longer, numbered_at_last}
+use Rattle.journal.proofs.Journals.WellFormedLast.{well_formed_push, last_cases}
 use Rattle.journal.proofs.Journals.ReadyIdleWaits.{waits_for}
 use Rattle.journal.proofs.Journals.Balance.{balanced}
 use Rattle.lockq.specs.LockQueues.{lock_at, unheld_lock, lock_line}
-use Rattle.book.specs.Lines.{IsLock}
-use Rattle.book.specs.Stamps.{IsAwaited}
+use Rattle.book.specs.Lines.{HasLineOfLock}
+use Rattle.book.specs.Stamps.{IsAwaitedByStamps}
 use Rattle.book.specs.State.{State}
 use Rattle.book.specs.Messages.{message_has_come}
 use Rattle.book.specs.Told.{Represents}
-use Rattle.book.specs.Calls.{IsBlockOf}
-use Rattle.book.specs.Waiting.{IsDoneWaiting, WaitsInVain, IsNamed, LetsWaitingOn}
+use Rattle.book.specs.Calls.{IsBlockOfCalls}
+use Rattle.book.specs.Waiting.{IsDoneWaiting, WaitsInVain, IsNamedWaiting, LetsWaitingOn}
 use Rattle.book.proofs.Parts.Each.{each_is_at, each_item_at}
 use Rattle.book.proofs.Parts.LastAndCounts.{count_did, count_others, last_own}
 use Rattle.book.proofs.Parts.Lines.{first_in_line_allowed}
@@ -49,7 +49,7 @@ newly_ready s h p k may q isnt (Acquire l) takes allowed = elim (mail_news_cases
 newly_ready s h p k may q isnt Depart takes allowed = elim (mail_news_cases k Depart)
     [ inl news ↦ inl news | inr none ↦ inr (mail_allowed_back s h p k may q isnt Depart tt none allowed) ]
 newly_ready s h p k may q isnt (Await f) takes (i, m, r, last, set) =
-    elim (push_cases h (event p k) m (event r (Set f)) set)
+    elim (slice_push_cases h (event p k) m (event r (Set f)) set)
     [ inl old ↦ inr (i, m, r, before, old.1) | inr new ↦ inl (ap (λ (e : Event). e.kind) new.1) ]
   where
     before : LastIs h q i (Watch f)
@@ -58,42 +58,42 @@ newly_ready s h p k may q isnt (Await f) takes (i, m, r, last, set) =
 newly_ready s h p k may q isnt _ takes allowed = absurd cc
 
 -- what q may do after p's block, it could do before
-block_back : (s : Sizes) (h block : List Event) (p q : ℕ) (a : Kind) → q ≢ p → IsTrue (is_taking a)
-    → IsBlockOf s p block → WellFormed s (h ++ block) → Allowed s (h ++ block) q a → Allowed s h q a
-block_back s h block p q a isnt takes =
-    push_induction
-    (λ (es : List Event). IsBlockOf s p es → WellFormed s (h ++ es) → Allowed s (h ++ es) q a → Allowed s h q a) start step
+named_block_back : (s : Sizes) (h block : List Event) (p q : ℕ) (a : Kind) → q ≢ p → IsTrue (is_taking a)
+    → IsBlockOfCalls s p block → WellFormed s (h ++ block) → Allowed s (h ++ block) q a → Allowed s h q a
+named_block_back s h block p q a isnt takes =
+    slice_push_induction
+    (λ (es : List Event). IsBlockOfCalls s p es → WellFormed s (h ++ es) → Allowed s (h ++ es) q a → Allowed s h q a) start step
     block
   where
-    start : IsBlockOf s p [] → WellFormed s (h ++ []) → Allowed s (h ++ []) q a → Allowed s h q a
+    start : IsBlockOfCalls s p [] → WellFormed s (h ++ []) → Allowed s (h ++ []) q a → Allowed s h q a
     start inner well allowed = rw append-nil at allowed
 
     step : (es : List Event) (e : Event)
-        → (IsBlockOf s p es → WellFormed s (h ++ es) → Allowed s (h ++ es) q a → Allowed s h q a)
-        → IsBlockOf s p (es ++ e ∷ []) → WellFormed s (h ++ (es ++ e ∷ [])) → Allowed s (h ++ (es ++ e ∷ [])) q a
+        → (IsBlockOfCalls s p es → WellFormed s (h ++ es) → Allowed s (h ++ es) q a → Allowed s h q a)
+        → IsBlockOfCalls s p (es ++ e ∷ []) → WellFormed s (h ++ (es ++ e ∷ [])) → Allowed s (h ++ (es ++ e ∷ [])) q a
         → Allowed s h q a
     step es e ih inner well allowed =
-        let own = inner (length es) e (at_last es e) in
+        let own = inner (length es) e (numbered_at_last es e) in
         let same : (event p e.kind) ≡ e = ap (λ (r : ℕ). event r e.kind) (sym own.mine) in
         let longer = append_assoc h es (e ∷ []) in
-        let both = (each_push s (h ++ es) e).0 (subst (WellFormed s) (sym longer) well) in
+        let both = (well_formed_push s (h ++ es) e).0 (subst (WellFormed s) (sym longer) well) in
         let now = subst (λ (f : Event). Allowed s ((h ++ es) ++ f ∷ []) q a) (sym same)
         (subst (λ (xs : List Event). Allowed s xs q a) (sym longer) allowed) in
         elim (newly_ready s (h ++ es) p e.kind (subst (MayFollow s (h ++ es)) (sym same) both.1) q isnt a takes now) [
           | inl brings ↦ absurd (quiet_makes_ready e.kind a takes brings own.closes)
-          | inr old ↦ ih (λ k f at. inner k f (at_longer es (e ∷ []) k f at)) both.0 old
+          | inr old ↦ ih (λ k f at. inner k f (numbered_at_longer es (e ∷ []) k f at)) both.0 old
         ]
 
 -- of a book that is told
 module _ (s : Sizes) (h : List Event) (b : State) (told : Represents s h b) where
   -- who may take something waits for it
-  pub waits_taking : (q : ℕ) (k : Kind) → IsTrue (is_taking k) → Allowed s h q k
+  pub named_waits_taking : (q : ℕ) (k : Kind) → IsTrue (is_taking k) → Allowed s h q k
       → (q < s.processors) × (slice_get b.awaits q ≡ Some (Some k))
-  waits_taking q k takes allowed =
+  named_waits_taking q k takes allowed =
       let w = waits_for s h q k takes allowed in
       let lt = (told.well_formed w.place (event q w.call) w.last.does).processor in
-      let at = each_item_at s.processors (IsAwaited h) b.awaits q None told.awaits lt in
-      let is = (each_is_at s.processors (IsAwaited h) b.awaits q None told.awaits lt).last w.place w.call w.last in
+      let at = each_item_at s.processors (IsAwaitedByStamps h) b.awaits q None told.awaits lt in
+      let is = (each_is_at s.processors (IsAwaitedByStamps h) b.awaits q None told.awaits lt).last w.place w.call w.last in
       (lt, at ∙ ap (λ (o : Option Kind). Some o) (is ∙ w.awaits))
 
   -- for whom what it waits for has come is ready
@@ -103,7 +103,7 @@ module _ (s : Sizes) (h : List Event) (b : State) (told : Represents s h b) wher
   -- and for who is ready it has come
   pub ready_come : (q : ℕ) (r : Ready s h q) → IsDoneWaiting b r.0 q
   ready_come q r =
-      let waits = (waits_taking q r.0 r.1 r.2).1 in
+      let waits = (named_waits_taking q r.0 r.1 r.2).1 in
       record { waits = waits; come = (message_come s h b q told r.0 waits).1 r }
 
   -- where each waits in vain, there is a deadlock
@@ -124,7 +124,7 @@ module _ (s : Sizes) (h : List Event) (b : State) (told : Represents s h b) wher
       not_ready : (p : ℕ) → ¬ Ready s h p
       not_ready p ready =
           let come = ready_come p ready in
-          let v = vain p (waits_taking p ready.0 ready.1 ready.2).0 in
+          let v = vain p (named_waits_taking p ready.0 ready.1 ready.2).0 in
           let same = same_Some ready.0 v.kind (same_Some (Some ready.0) (Some v.kind) (sym come.waits ∙ v.waits)) in
           true≢false (sym (subst (λ (k : Kind). message_has_come b.flags b.transit p k ≡ true) same come.come) ∙ v.come)
 
@@ -133,25 +133,25 @@ module _ (s : Sizes) (h : List Event) (b : State) (told : Represents s h b) wher
   deadlock_none_ready dead p less =
       let lt = subst (λ (n : ℕ). p < n) told.awaits.long less in
       let d = dead.waits p lt in
-      let at = each_item_at s.processors (IsAwaited h) b.awaits p None told.awaits lt in
-      let is = (each_is_at s.processors (IsAwaited h) b.awaits p None told.awaits lt).last d.0 d.1 d.3 in
+      let at = each_item_at s.processors (IsAwaitedByStamps h) b.awaits p None told.awaits lt in
+      let is = (each_is_at s.processors (IsAwaitedByStamps h) b.awaits p None told.awaits lt).last d.0 d.1 d.3 in
       let waits = at ∙ ap (λ (o : Option Kind). Some o) (is ∙ d.4) in
       record {
         kind = d.2;
         waits = waits;
-        come = never (message_has_come b.flags b.transit p d.2)
+        come = named_never_ready (message_has_come b.flags b.transit p d.2)
             (λ e. dead.not_ready p ((message_come s h b p told d.2 waits).0 e));
       }
     where
       never : (x : Bool) → ¬ (x ≡ true) → x ≡ false
-      never true isnt = absurd (isnt refl)
-      never false isnt = refl
+      named_never_ready true isnt = absurd (isnt refl)
+      named_never_ready false isnt = refl
 
   -- who may acquire a lock holds it in the book
-  pub granted_holds : (q l : ℕ) → l < s.locks → Allowed s h q (Acquire l) → (lock_at b.locks l).holder ≡ Some q
-  granted_holds q l lt (i, last, granted) =
-      let is : IsLock s.processors h l (lock_at b.locks l) =
-      each_is_at s.locks (IsLock s.processors h) b.locks.locks l (unheld_lock b.locks.processors) told.locks lt in
+  pub named_granted_holds : (q l : ℕ) → l < s.locks → Allowed s h q (Acquire l) → (lock_at b.locks l).holder ≡ Some q
+  named_granted_holds q l lt (i, last, granted) =
+      let is : HasLineOfLock s.processors h l (lock_at b.locks l) =
+      each_is_at s.locks (HasLineOfLock s.processors h) b.locks.locks l (unheld_lock b.locks.processors) told.locks lt in
       first (lock_at b.locks l).holder (lock_at b.locks l).queue refl is.held
       (first_in_line_allowed h q l i (lock_line (lock_at b.locks l)) last granted is.line_is)
     where
@@ -164,14 +164,14 @@ module _ (s : Sizes) (h : List Event) (b : State) (told : Represents s h b) wher
       first (Some r) queue is held at = is ∙ at
 
   -- whom the book names is one for whom what it waits for has come
-  pub named_ready : (p : ℕ) (k : Kind) (q : ℕ) → IsNamed b p k q → Ready s h q
+  pub named_ready : (p : ℕ) (k : Kind) (q : ℕ) → IsNamedWaiting b p k q → Ready s h q
   named_ready p (Release l) q named = come_ready q (Acquire l) named.2
   named_ready p Arrive q named = come_ready q Depart named.2
   named_ready p (Set f) q named = come_ready q (Await f) named.1
   named_ready p _ q named = absurd named
 
 -- whom the book names is one of its processors
-pub named_within : (b : State) (p : ℕ) (k : Kind) (q : ℕ) → IsNamed b p k q → q < length b.awaits
+pub named_within : (b : State) (p : ℕ) (k : Kind) (q : ℕ) → IsNamedWaiting b p k q → q < length b.awaits
 named_within b p (Release l) q named = slice_get_within b.awaits q _ named.2.waits
 named_within b p Arrive q named = slice_get_within b.awaits q _ named.2.waits
 named_within b p (Set f) q named = slice_get_within b.awaits q _ named.1.waits
@@ -179,17 +179,17 @@ named_within b p _ q named = absurd named
 
 -- p's block and event let q go on
 module _ (s : Sizes) (h block : List Event) (b : State) (p : ℕ) (k : Kind) (q : ℕ)
-    (told : Represents s (did (h ++ block) p k) b) (inner : IsBlockOf s p block) (lets : LetsWaitingOn s h block p k q) where
-  followed : WellFormed s (h ++ block) × MayFollow s (h ++ block) (event p k)
-  followed = (each_push s (h ++ block) (event p k)).0 told.well_formed
+    (told : Represents s (did (h ++ block) p k) b) (inner : IsBlockOfCalls s p block) (lets : LetsWaitingOn s h block p k q) where
+  named_followed : WellFormed s (h ++ block) × MayFollow s (h ++ block) (event p k)
+  named_followed = (well_formed_push s (h ++ block) (event p k)).0 told.well_formed
 
-  never : (a : Kind) → IsTrue (is_taking a) → ¬ Allowed s (h ++ block) q a
-  never a takes allowed = lets.before (a, takes, block_back s h block p q a lets.other takes inner followed.0 allowed)
+  named_never_ready : (a : Kind) → IsTrue (is_taking a) → ¬ Allowed s (h ++ block) q a
+  named_never_ready a takes allowed = lets.before (a, takes, named_block_back s h block p q a lets.other takes inner named_followed.0 allowed)
 
   -- where q may depart since p has arrived, p may depart, too
   both_ready_to_depart : k ≡ Arrive → Allowed s (did (h ++ block) p k) q Depart → Allowed s (did (h ++ block) p k) p Depart
   both_ready_to_depart is (i, last, all) = elim (cases_lt (departs q) (departs p)) [
-    | inl more ↦ absurd (never Depart refl (i, before, λ r lt. early more r (all r lt)))
+    | inl more ↦ absurd (named_never_ready Depart refl (i, before, λ r lt. early more r (all r lt)))
     | inr le ↦ (length (h ++ block), arrived, λ r lt. (let one = all r lt in omega arith))
   ]
     where
@@ -220,30 +220,30 @@ module _ (s : Sizes) (h block : List Event) (b : State) (p : ℕ) (k : Kind) (q 
           ]
 
   -- so the book names it
-  pub lets_named : IsNamed b p k q
+  pub lets_named : IsNamedWaiting b p k q
   lets_named =
       let r = lets.after in
-      elim (newly_ready s (h ++ block) p k followed.1 q lets.other r.0 r.1 r.2) [
+      elim (newly_ready s (h ++ block) p k named_followed.1 q lets.other r.0 r.1 r.2) [
         | inl brings ↦ by_kind r.0 r.1 r.2 brings
-        | inr old ↦ absurd (never r.0 r.1 old)
+        | inr old ↦ absurd (named_never_ready r.0 r.1 old)
       ]
     where
       by_kind : (a : Kind) (takes : IsTrue (is_taking a)) (allowed : Allowed s (did (h ++ block) p k) q a) → MakesReady k a
-          → IsNamed b p k q
+          → IsNamedWaiting b p k q
       by_kind (Acquire l) takes allowed is =
-          let range : l < s.locks = subst (λ (x : Kind). KindInRange s x) is followed.1.in_range in
-          subst (λ (x : Kind). IsNamed b p x q) (sym is) (
-            granted_holds s (did (h ++ block) p k) b told q l range allowed,
+          let range : l < s.locks = subst (λ (x : Kind). KindInRange s x) is named_followed.1.in_range in
+          subst (λ (x : Kind). IsNamedWaiting b p x q) (sym is) (
+            named_granted_holds s (did (h ++ block) p k) b told q l range allowed,
             lets.few,
             ready_come s (did (h ++ block) p k) b told q (Acquire l, takes, allowed),
           )
       by_kind Depart takes allowed is =
-          subst (λ (x : Kind). IsNamed b p x q) (sym is) (
+          subst (λ (x : Kind). IsNamedWaiting b p x q) (sym is) (
             (ready_come s (did (h ++ block) p k) b told p (Depart, refl, both_ready_to_depart is allowed)).come,
             lets.few,
             ready_come s (did (h ++ block) p k) b told q (Depart, takes, allowed),
           )
       by_kind (Await f) takes allowed is =
-          subst (λ (x : Kind). IsNamed b p x q) (sym is)
+          subst (λ (x : Kind). IsNamedWaiting b p x q) (sym is)
           (lets.few, ready_come s (did (h ++ block) p k) b told q (Await f, takes, allowed))
       by_kind _ takes allowed is = absurd cc

@@ -16,31 +16,31 @@ use Rattle.journal.specs.Waits.{awaited}
 use Rattle.journal.specs.Pasts.{InPast}
 use Rattle.journal.specs.Brings.{Brings}
 use Rattle.journal.proofs.Journals.WellFormedLast.{last_unique}
-use Rattle.journal.proofs.Journals.ReadyIdleWaits.{waits_for, taking_follows}
+use Rattle.journal.proofs.Journals.ReadyIdleWaits.{waits_for, ready_taking_follows}
 use Rattle.vtime.specs.Times.{join}
 use Rattle.interval.specs.Closings.{closings_between}
 use Rattle.transit.specs.Letters.{Letter}
 use Rattle.journal.specs.DidEvent.{event, did}
-use Rattle.book.specs.Stamps.{IsStamp, IsAwaited}
-use Rattle.book.specs.Lines.{IsLock}
+use Rattle.book.specs.Stamps.{IsStamp, IsAwaitedByStamps}
+use Rattle.book.specs.Lines.{HasLineOfLock}
 use Rattle.book.specs.Mail.{ComesByMail, MailCarries, IsMail}
 use Rattle.book.specs.Flags.{IsFlag}
 use Rattle.book.specs.BarrierStages.{IsBarrier}
 use Rattle.lockq.specs.LockQueues.{Lock}
-use Rattle.book.specs.State.{State, time_of}
-use Rattle.book.specs.Transitions.{book_barrier_left, book_joined, book_received, book_trimmed, book_taken}
+use Rattle.book.specs.State.{State, state_time_of}
+use Rattle.book.specs.Transitions.{transition_barrier_left, transition_joined, transition_received, transition_trimmed, transition_taken}
 use Rattle.book.specs.Messages.{signal_message, message_for, message_has_come}
 use Rattle.book.specs.Told.{Represents}
-use Rattle.book.specs.Laws.{IsMessage}
+use Rattle.book.specs.Laws.{IsMessageByLaw}
 use Rattle.book.proofs.Parts.Each.{each_set, each_kept, each_item_at, each_is_at}
 use Rattle.book.proofs.Parts.Mail.{mail_lets_posted, mail_kept, own_mail_none}
 use Rattle.book.proofs.Parts.Flags.{flags_kept}
-use Rattle.book.proofs.Parts.BarrierStages.{barrier_kept, barrier_departed}
-use Rattle.book.proofs.Parts.LastAndCounts.{unlike}
-use Rattle.book.proofs.Parts.TimesAndAwaits.{is_processor}
-use Rattle.book.proofs.Told.Events.{IsTaking, told_taking}
-use Rattle.book.proofs.Told.Locks.{lock_kept, lock_taken}
-use Rattle.book.proofs.Told.Flags.{last_flag_watch, watching_mail, told_signal, flag_signal_ready}
+use Rattle.book.proofs.Parts.BarrierStages.{barrier_stage_kept, barrier_stage_departed}
+use Rattle.book.proofs.Parts.LastAndCounts.{last_event_unlike}
+use Rattle.book.proofs.Parts.TimesAndAwaits.{times_is_processor}
+use Rattle.book.proofs.Told.Events.{IsToldTakingEvent, told_taking}
+use Rattle.book.proofs.Told.Locks.{told_lock_kept, told_lock_taken}
+use Rattle.book.proofs.Told.Flags.{last_flag_watch, told_flag_watching_mail, told_signal, flag_signal_ready}
 
 posted_taking : (k : Kind) → ComesByMail k → IsTrue (is_taking k)
 posted_taking (Acquire l) posted = refl
@@ -48,17 +48,17 @@ posted_taking Depart posted = refl
 posted_taking _ posted = absurd posted
 
 -- what p may take is what it waits for
-awaits_it : (s : Sizes) (h : List Event) (p : ℕ) (k a : Kind) → IsAwaited h p (Some k) → IsTrue (is_taking a)
+taking_awaits_message : (s : Sizes) (h : List Event) (p : ℕ) (k a : Kind) → IsAwaitedByStamps h p (Some k) → IsTrue (is_taking a)
     → Allowed s h p a → a ≡ k
-awaits_it s h p k a w taking allowed = let x =
+taking_awaits_message s h p k a w taking allowed = let x =
     waits_for s h p a taking allowed in sym (same_Some k a (w.last x.place x.call x.last ∙ x.awaits))
 
 -- p's message lets it do what it waits for
-pub message_lets : (s : Sizes) (h : List Event) (p : ℕ) (k : Kind) (m : Letter) → IsAwaited h p (Some k)
+pub message_lets : (s : Sizes) (h : List Event) (p : ℕ) (k : Kind) (m : Letter) → IsAwaitedByStamps h p (Some k)
     → MailCarries s h p m → ComesByMail k × Allowed s h p k × IsStamp s.processors h (Brings h p k) m.time
 message_lets s h p k m w x =
     let posted = mail_lets_posted m.kind x.kind x.lets in
-    let is = awaits_it s h p k x.kind w (posted_taking x.kind posted) x.allowed in (
+    let is = taking_awaits_message s h p k x.kind w (posted_taking x.kind posted) x.allowed in (
       subst (λ a. ComesByMail a) is posted,
       subst (λ a. Allowed s h p a) is x.allowed,
       subst (λ a. IsStamp s.processors h (Brings h p a) m.time) is x.time,
@@ -66,17 +66,17 @@ message_lets s h p k m w x =
 
 -- each lock, after a take
 taking_lock : (s : Sizes) (h : List Event) (p : ℕ) (k : Kind) (l : ℕ) (x : Lock) → ComesByMail k → Allowed s h p k
-    → IsLock s.processors h l x → IsLock s.processors (did h p k) l x
+    → HasLineOfLock s.processors h l x → HasLineOfLock s.processors (did h p k) l x
 taking_lock s h p (Acquire m) l x posted (i, last, granted) is = elim (cases_eq m l) [
-  | inl same ↦ (let P : ℕ → Type 0 = λ n. IsLock s.processors (did h p (Acquire n)) l x in
+  | inl same ↦ (let P : ℕ → Type 0 = λ n. HasLineOfLock s.processors (did h p (Acquire n)) l x in
       subst P (sym same)
-      (lock_taken s.processors h p l i x (subst (λ n. LastIs h p i (Ask n)) same last)
+      (told_lock_taken s.processors h p l i x (subst (λ n. LastIs h p i (Ask n)) same last)
       (subst (λ n. MayBeGranted h i n) same granted) is))
-  | inr apart ↦ lock_kept s.processors h p (Acquire m) l x (λ e. absurd cc) (λ e. apart (cc e)) (λ e. absurd cc)
+  | inr apart ↦ told_lock_kept s.processors h p (Acquire m) l x (λ e. absurd cc) (λ e. apart (cc e)) (λ e. absurd cc)
       (λ n ask. apart (cc ((last_unique h p i n (Ask m) (Ask l) last ask).1))) is
 ]
 taking_lock s h p Depart l x posted (i, last, all) is =
-    lock_kept s.processors h p Depart l x (λ e. absurd cc) (λ e. absurd cc) (λ e. absurd cc)
+    told_lock_kept s.processors h p Depart l x (λ e. absurd cc) (λ e. absurd cc) (λ e. absurd cc)
     (λ n ask. absurd (cc ((last_unique h p i n Arrive (Ask l) last ask).1))) is
 taking_lock s h p _ l x posted allowed is = absurd posted
 
@@ -88,45 +88,45 @@ taking_quiet (Await f) takes = refl
 taking_quiet _ takes = absurd cc
 
 -- what p waits for is a grant, a departure or a flag
-awaited_cases : (a k : Kind) → awaited a ≡ Some k → ((f : ℕ) × (k ≡ Await f)) ⊎ ComesByMail k
-awaited_cases (Ask l) k is = inr (subst (λ x. ComesByMail x) (same_Some (Acquire l) k is) tt)
-awaited_cases Arrive k is = inr (subst (λ x. ComesByMail x) (same_Some Depart k is) tt)
-awaited_cases (Watch f) k is = inl (f, sym (same_Some (Await f) k is))
-awaited_cases _ k is = absurd (cc (is))
+taking_awaited_cases : (a k : Kind) → awaited a ≡ Some k → ((f : ℕ) × (k ≡ Await f)) ⊎ ComesByMail k
+taking_awaited_cases (Ask l) k is = inr (subst (λ x. ComesByMail x) (same_Some (Acquire l) k is) tt)
+taking_awaited_cases Arrive k is = inr (subst (λ x. ComesByMail x) (same_Some Depart k is) tt)
+taking_awaited_cases (Watch f) k is = inl (f, sym (same_Some (Await f) k is))
+taking_awaited_cases _ k is = absurd (cc (is))
 
 -- who waits for no flag waits for mail
-waits_posted : (h : List Event) (p : ℕ) (k : Kind) → IsAwaited h p (Some k) → ((f : ℕ) → k ≢ Await f) → ComesByMail k
-waits_posted h p k w isnt =
+taking_waits_posted : (h : List Event) (p : ℕ) (k : Kind) → IsAwaitedByStamps h p (Some k) → ((f : ℕ) → k ≢ Await f) → ComesByMail k
+taking_waits_posted h p k w isnt =
     let last = w.some k refl in
-    elim (awaited_cases last.1 k (sym (w.last last.0 last.1 last.2)))
+    elim (taking_awaited_cases last.1 k (sym (w.last last.0 last.1 last.2)))
     [ inl flag ↦ absurd (isnt flag.0 flag.1) | inr posted ↦ posted ]
 
-pub waits_taking : (h : List Event) (p : ℕ) (k : Kind) → IsAwaited h p (Some k) → IsTrue (is_taking k)
+pub waits_taking : (h : List Event) (p : ℕ) (k : Kind) → IsAwaitedByStamps h p (Some k) → IsTrue (is_taking k)
 waits_taking h p k w =
     let last = w.some k refl in
-    elim (awaited_cases last.1 k (sym (w.last last.0 last.1 last.2)))
+    elim (taking_awaited_cases last.1 k (sym (w.last last.0 last.1 last.2)))
     [ inl flag ↦ subst (λ a. IsTrue (is_taking a)) (sym flag.1) refl | inr posted ↦ posted_taking k posted ]
 
-there : {A R : Type 0} (o : Option A) → ((o ≢ None) ↔ R) → (is_some o ≡ true) ↔ R
-there None is = ((λ e. absurd (true≢false (sym e))), (λ r. absurd (is.1 r refl)))
-there (Some a) is = ((λ e. is.0 (λ none. none-some a (sym none))), (λ r. refl))
+taking_message_there : {A R : Type 0} (o : Option A) → ((o ≢ None) ↔ R) → (is_some o ≡ true) ↔ R
+taking_message_there None is = ((λ e. absurd (true≢false (sym e))), (λ r. absurd (is.1 r refl)))
+taking_message_there (Some a) is = ((λ e. is.0 (λ none. none-some a (sym none))), (λ r. refl))
 
 -- of a book that is told, and a processor that takes
 module _ (s : Sizes) (h : List Event) (b : State) (p : ℕ) (told : Represents s h b) where
   taking_barrier : (k : Kind) → p < s.processors → ComesByMail k → Allowed s h p k
-      → IsBarrier s (did h p k) (book_barrier_left k b.barrier p)
-  taking_barrier (Acquire l) lt posted allowed = barrier_kept s h p (Acquire l) b.barrier refl refl told.barrier
-  taking_barrier Depart lt posted allowed = barrier_departed s h p b.barrier told.well_formed allowed lt told.barrier
+      → IsBarrier s (did h p k) (transition_barrier_left k b.barrier p)
+  taking_barrier (Acquire l) lt posted allowed = barrier_stage_kept s h p (Acquire l) b.barrier refl refl told.barrier
+  taking_barrier Depart lt posted allowed = barrier_stage_departed s h p b.barrier told.well_formed allowed lt told.barrier
   taking_barrier _ lt posted allowed = absurd posted
 
   -- p takes its mail, and what everyone covers then is trimmed
   told_take : (k : Kind) (m : Letter) → slice_get b.awaits p ≡ Some (Some k)
-      → slice_get b.transit p ≡ Some (Some m) → Represents s (did h p k) (book_taken b p k m)
+      → slice_get b.transit p ≡ Some (Some m) → Represents s (did h p k) (transition_taken b p k m)
   told_take k m waits mail =
       told_taking now
     where
       lt : p < s.processors
-      lt = is_processor s h b p (Some k) told waits
+      lt = times_is_processor s h b p (Some k) told waits
 
       lets : ComesByMail k × Allowed s h p k × IsStamp s.processors h (Brings h p k) m.time
       lets = message_lets s h p k m (told.awaits.each p (Some k) waits) (told.transit.each p (Some m) mail)
@@ -135,22 +135,22 @@ module _ (s : Sizes) (h : List Event) (b : State) (p : ℕ) (told : Represents s
       quiet = taking_quiet k (posted_taking k lets.0)
 
       other : (a : Kind) → is_closing a ≡ true → k ≢ a
-      other a closes = unlike is_closing k a quiet closes
+      other a closes = last_event_unlike is_closing k a quiet closes
 
       may : MayFollow s h (event p k)
-      may = taking_follows s h p k told.well_formed (posted_taking k lets.0) lets.1
+      may = ready_taking_follows s h p k told.well_formed (posted_taking k lets.0) lets.1
 
       notices : (r : ℕ) (n : Letter) (t : List ℕ) → slice_get (slice_set b.transit p None) r ≡ Some (Some n)
-          → slice_get (slice_set b.times p (join (time_of b p) m.time)) r ≡ Some t
+          → slice_get (slice_set b.times p (join (state_time_of b p) m.time)) r ≡ Some t
           → n.notices ≡ closings_between b.closed t n.time
       notices r n t at now = elim (cases_eq r p) [
         | inl is ↦ (let P : ℕ → Type 0 = λ x. slice_get (slice_set b.transit p None) x ≡ Some (Some n) in
             absurd (none-some n (slice_get-set_found b.transit p None (Some n) (subst P is at))))
         | inr isnt ↦ told.notices r n t (sym (slice_get-set_other b.transit p r None isnt) ∙ at)
-            (sym (slice_get-set_other b.times p r (join (time_of b p) m.time) isnt) ∙ now)
+            (sym (slice_get-set_other b.times p r (join (state_time_of b p) m.time) isnt) ∙ now)
       ]
 
-      now : IsTaking s h b p k m.time (book_received b p k m)
+      now : IsToldTakingEvent s h b p k m.time (transition_received b p k m)
       now = record {
         told = told;
         mine = lt;
@@ -158,7 +158,7 @@ module _ (s : Sizes) (h : List Event) (b : State) (p : ℕ) (told : Represents s
         quiet = quiet;
         brings = lets.2;
         after = record {
-          locks = each_kept s.locks (IsLock s.processors h) (IsLock s.processors (did h p k)) b.locks.locks told.locks
+          locks = each_kept s.locks (HasLineOfLock s.processors h) (HasLineOfLock s.processors (did h p k)) b.locks.locks told.locks
               (λ l x at is. taking_lock s h p k l x lets.0 lets.1 is);
           barrier = taking_barrier k lt lets.0 lets.1;
           flags = flags_kept s h p k b.flags (λ f. other (Set f) refl) told.flags;
@@ -171,9 +171,9 @@ module _ (s : Sizes) (h : List Event) (b : State) (p : ℕ) (told : Represents s
       }
 
   -- who waits for a grant or a departure may go on exactly where its message is there
-  mail_ready : (k : Kind) (o : Option Letter) → slice_get b.awaits p ≡ Some (Some k) → ComesByMail k
+  taking_mail_ready : (k : Kind) (o : Option Letter) → slice_get b.awaits p ≡ Some (Some k) → ComesByMail k
       → slice_get b.transit p ≡ Some o → (o ≢ None) ↔ Ready s h p
-  mail_ready k o waits posted at =
+  taking_mail_ready k o waits posted at =
       (goes o (told.transit.each p o at), λ ready. back o (told.transit.each p o at) ready)
     where
       goes : (x : Option Letter) → IsMail s h p x → (x ≢ None) → Ready s h p
@@ -185,90 +185,90 @@ module _ (s : Sizes) (h : List Event) (b : State) (p : ℕ) (told : Represents s
       back (Some m) mail ready e = absurd (cc (e))
       back None mail (a, taking, allowed) e =
           mail k posted
-          (subst (λ c. Allowed s h p c) (awaits_it s h p k a (told.awaits.each p (Some k) waits) taking allowed)
+          (subst (λ c. Allowed s h p c) (taking_awaits_message s h p k a (told.awaits.each p (Some k) waits) taking allowed)
           allowed)
 
   -- p's mail, as it stands in the book
-  mail_at : (m : Letter) → p < s.processors → slice_index_or b.transit p None ≡ Some m
+  taking_mail_at : (m : Letter) → p < s.processors → slice_index_or b.transit p None ≡ Some m
       → slice_get b.transit p ≡ Some (Some m)
-  mail_at m lt is =
+  taking_mail_at m lt is =
       each_item_at s.processors (IsMail s h) b.transit p None told.transit lt ∙ ap (λ (o : Option Letter). Some o) is
 
   mail_message_is : (k : Kind) (m : Letter) → slice_get b.awaits p ≡ Some (Some k) → slice_index_or b.transit p None ≡ Some m
-      → IsMessage s h b p k m
+      → IsMessageByLaw s h b p k m
   mail_message_is k m waits is =
-      let lt = is_processor s h b p (Some k) told waits in
-      let at = mail_at m lt is in
+      let lt = times_is_processor s h b p (Some k) told waits in
+      let at = taking_mail_at m lt is in
       let lets = message_lets s h p k m (told.awaits.each p (Some k) waits) (told.transit.each p (Some m) at) in
       record {
         allowed = lets.1;
         time = lets.2;
-        notices = told.notices p m (time_of b p) at
+        notices = told.notices p m (state_time_of b p) at
             (each_item_at s.processors (λ q t. IsStamp s.processors h (InPast h q) t) b.times p [] told.times lt);
       }
 
   module _ (f : ℕ) (waits : slice_get b.awaits p ≡ Some (Some (Await f))) where
     -- a flag as it stands in the book
-    flag_at : slice_get b.flags f ≡ Some (slice_index_or b.flags f None)
-    flag_at =
+    taking_flag_at : slice_get b.flags f ≡ Some (slice_index_or b.flags f None)
+    taking_flag_at =
         let last = last_flag_watch h p f (told.awaits.each p (Some (Await f)) waits) in
         each_item_at s.flags (IsFlag s.processors h) b.flags f None told.flags
         (told.well_formed last.0 (event p (Watch f)) last.1.does).in_range
 
     signal_message_is : (m : Letter) (o : Option (List ℕ)) → slice_get b.flags f ≡ Some o
-        → option_map (λ (t : List ℕ). signal_message b.closed t (time_of b p)) o ≡ Some m → IsMessage s h b p (Await f) m
+        → option_map (λ (t : List ℕ). signal_message b.closed t (state_time_of b p)) o ≡ Some m → IsMessageByLaw s h b p (Await f) m
     signal_message_is m None at is = absurd (none-some m is)
     signal_message_is m (Some t) at is =
         let last = last_flag_watch h p f (told.awaits.each p (Some (Await f)) waits) in
         let flag : IsFlag s.processors h f (Some t) = told.flags.each f (Some t) at in
-        subst (IsMessage s h b p (Await f)) (same_Some (signal_message b.closed t (time_of b p)) m is)
+        subst (IsMessageByLaw s h b p (Await f)) (same_Some (signal_message b.closed t (state_time_of b p)) m is)
         (record { allowed = (last.0, flag.0.0, flag.0.1.0, last.1, flag.0.1.1); time = flag.1; notices = refl })
 
     -- who waits for a flag has no mail
-    pub no_mail_waits : b.transit ≡ slice_set b.transit p None
-    no_mail_waits =
-        let lt = is_processor s h b p (Some (Await f)) told waits in
+    pub taking_no_mail_waits : b.transit ≡ slice_set b.transit p None
+    taking_no_mail_waits =
+        let lt = times_is_processor s h b p (Some (Await f)) told waits in
         let last = last_flag_watch h p f (told.awaits.each p (Some (Await f)) waits) in
-        let none = watching_mail s h p last.0 f (slice_index_or b.transit p None) last.1
+        let none = told_flag_watching_mail s h p last.0 f (slice_index_or b.transit p None) last.1
         (each_is_at s.processors (IsMail s h) b.transit p None told.transit lt) in
         sym (set-get_or b.transit p None) ∙ ap (λ (o : Option Letter). slice_set b.transit p o) (sym none)
 
     told_signal_taking : (m : Letter) (o : Option (List ℕ)) → slice_get b.flags f ≡ Some o
-        → option_map (λ (t : List ℕ). signal_message b.closed t (time_of b p)) o ≡ Some m
-        → Represents s (did h p (Await f)) (book_taken b p (Await f) m)
+        → option_map (λ (t : List ℕ). signal_message b.closed t (state_time_of b p)) o ≡ Some m
+        → Represents s (did h p (Await f)) (transition_taken b p (Await f) m)
     told_signal_taking m None at is = absurd (none-some m is)
     told_signal_taking m (Some t) at is =
-        subst (λ x. Represents s (did h p (Await f)) (book_taken b p (Await f) x))
-        (same_Some (signal_message b.closed t (time_of b p)) m is)
-        (subst (λ ts. Represents s (did h p (Await f)) (book_trimmed
-        (record (book_joined b p (Await f) t) { transit = ts })))
-        no_mail_waits (told_signal s h b p f t told waits at))
+        subst (λ x. Represents s (did h p (Await f)) (transition_taken b p (Await f) x))
+        (same_Some (signal_message b.closed t (state_time_of b p)) m is)
+        (subst (λ ts. Represents s (did h p (Await f)) (transition_trimmed
+        (record (transition_joined b p (Await f) t) { transit = ts })))
+        taking_no_mail_waits (told_signal s h b p f t told waits at))
 
   -- p's message lets p go on
   pub message_is : (k : Kind) (m : Letter) → slice_get b.awaits p ≡ Some (Some k) → message_for b p k ≡ Some m
-      → IsMessage s h b p k m
-  message_is (Await f) m waits is = signal_message_is f waits m (slice_index_or b.flags f None) (flag_at f waits) is
+      → IsMessageByLaw s h b p k m
+  message_is (Await f) m waits is = signal_message_is f waits m (slice_index_or b.flags f None) (taking_flag_at f waits) is
   message_is _ m waits is = mail_message_is _ m waits is
 
   -- p takes its message, and what everyone covers then is trimmed
   pub told_took : (k : Kind) (m : Letter) → slice_get b.awaits p ≡ Some (Some k) → message_for b p k ≡ Some m
-      → Represents s (did h p k) (book_taken b p k m)
-  told_took (Await f) m waits is = told_signal_taking f waits m (slice_index_or b.flags f None) (flag_at f waits) is
-  told_took _ m waits is = told_take _ m waits (mail_at m (is_processor s h b p (Some _) told waits) is)
+      → Represents s (did h p k) (transition_taken b p k m)
+  told_took (Await f) m waits is = told_signal_taking f waits m (slice_index_or b.flags f None) (taking_flag_at f waits) is
+  told_took _ m waits is = told_take _ m waits (taking_mail_at m (times_is_processor s h b p (Some _) told waits) is)
 
   mail_message_come : (k : Kind) → slice_get b.awaits p ≡ Some (Some k) → ((f : ℕ) → k ≢ Await f)
       → (slice_index_or b.transit p None ≢ None) ↔ Ready s h p
   mail_message_come k waits isnt =
-      mail_ready k (slice_index_or b.transit p None) waits
-      (waits_posted h p k (told.awaits.each p (Some k) waits) isnt)
-      (each_item_at s.processors (IsMail s h) b.transit p None told.transit (is_processor s h b p (Some k) told waits))
+      taking_mail_ready k (slice_index_or b.transit p None) waits
+      (taking_waits_posted h p k (told.awaits.each p (Some k) waits) isnt)
+      (each_item_at s.processors (IsMail s h) b.transit p None told.transit (times_is_processor s h b p (Some k) told waits))
 
   -- p's message has come exactly where p may go on
   pub message_come : (k : Kind) → slice_get b.awaits p ≡ Some (Some k)
       → (message_has_come b.flags b.transit p k ≡ true) ↔ Ready s h p
   message_come (Await f) waits =
-      there (slice_index_or b.flags f None)
-      (flag_signal_ready s h b p f (slice_index_or b.flags f None) told waits (flag_at f waits))
+      taking_message_there (slice_index_or b.flags f None)
+      (flag_signal_ready s h b p f (slice_index_or b.flags f None) told waits (taking_flag_at f waits))
   message_come (Acquire l) waits =
-      there (slice_index_or b.transit p None) (mail_message_come (Acquire l) waits (λ f e. absurd (cc (e))))
-  message_come _ waits = there (slice_index_or b.transit p None) (mail_message_come _ waits (λ f e. absurd (cc (e))))
+      taking_message_there (slice_index_or b.transit p None) (mail_message_come (Acquire l) waits (λ f e. absurd (cc (e))))
+  message_come _ waits = taking_message_there (slice_index_or b.transit p None) (mail_message_come _ waits (λ f e. absurd (cc (e))))

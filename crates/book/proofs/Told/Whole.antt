@@ -3,7 +3,7 @@ use Rattle.std.proofs.Common.{◌≡◌, ◌≢◌, ℕ, ◌↔◌, Option, Some
 use Rattle.std.proofs.lemmas.Bool.{true≢false}
 use Rattle.std.proofs.lemmas.Option.{none-some}
 use Rattle.journal.specs.declared.event.Kind.{Kind}
-use Rattle.base.proofs.SlicesAndCounts.{push_induction}
+use Rattle.base.proofs.SlicesAndCounts.{slice_push_induction}
 use Rattle.journal.specs.declared.event.Event.{Event}
 use Rattle.journal.specs.declared.event.Kind.TheVariants.{Acquire, Release}
 use Rattle.journal.specs.Sizes.{Sizes}
@@ -11,15 +11,15 @@ use Rattle.journal.specs.Log.{Log}
 use Rattle.journal.specs.HistoryLaws.{HasHistorySizes}
 use Rattle.journal.specs.Events.{is_closing, is_taking}
 use Rattle.journal.specs.WellFormed.{Holds}
-use Rattle.journal.proofs.Order.CountedAndNumbered.{at_longer, at_last}
+use Rattle.journal.proofs.Order.CountedAndNumbered.{numbered_at_longer, numbered_at_last}
 use Rattle.book.specs.State.{State}
-use Rattle.book.specs.Transitions.{book_handed_in, book_handed_last}
+use Rattle.book.specs.Transitions.{transition_handed_in, transition_handed_last}
 use Rattle.book.specs.Told.{Represents}
-use Rattle.book.specs.Calls.{IsBlockOf, AllowsIdleBlock}
+use Rattle.book.specs.Calls.{IsBlockOfCalls, AllowsIdleBlockCall}
 use Rattle.book.specs.Laws.{NewLaw, HandInLaw, LastLaw, AskLaw, ReleaseLaw, ArriveLaw, SetLaw, WatchLaw, TakeLaw, BookCutLaw, MessageLaw, NewsLaw, NewsOrderLaw}
 use Rattle.book.proofs.Parts.History.{history_room, history_cut}
 use Rattle.book.proofs.Parts.News.{news_are, sent_news_in_order}
-use Rattle.book.proofs.Parts.LastAndCounts.{holds_last_on, holds_back}
+use Rattle.book.proofs.Parts.LastAndCounts.{holds_last_on, last_holds_back}
 use Rattle.book.proofs.Told.Starting.{told_new, told_journal, told_block}
 use Rattle.book.proofs.Told.Locks.{told_ask, told_release}
 use Rattle.book.proofs.Told.Arriving.{told_arrive}
@@ -27,44 +27,44 @@ use Rattle.book.proofs.Told.Flags.{told_set, told_watch}
 use Rattle.book.proofs.Told.TakingMessages.{told_took, message_is}
 
 -- a block of loads, stores and fetches leaves who holds a lock
-pub holds_block : (s : Sizes) (h block : List Event) (p l : ℕ) → IsBlockOf s p block
+pub whole_block_holds : (s : Sizes) (h block : List Event) (p l : ℕ) → IsBlockOfCalls s p block
     → Holds (h ++ block) p l ↔ Holds h p l
-holds_block s h block p l =
-    push_induction (λ es. IsBlockOf s p es → Holds (h ++ es) p l ↔ Holds h p l)
+whole_block_holds s h block p l =
+    slice_push_induction (λ es. IsBlockOfCalls s p es → Holds (h ++ es) p l ↔ Holds h p l)
     (λ inner. rw append-nil ((λ x. x), (λ x. x))) step block
   where
-    step : (es : List Event) (e : Event) → (IsBlockOf s p es → Holds (h ++ es) p l ↔ Holds h p l)
-        → IsBlockOf s p (es ++ e ∷ []) → Holds (h ++ (es ++ e ∷ [])) p l ↔ Holds h p l
+    step : (es : List Event) (e : Event) → (IsBlockOfCalls s p es → Holds (h ++ es) p l ↔ Holds h p l)
+        → IsBlockOfCalls s p (es ++ e ∷ []) → Holds (h ++ (es ++ e ∷ [])) p l ↔ Holds h p l
     step es e ih inner =
-        let old = ih (λ k f at. inner k f (at_longer es (e ∷ []) k f at)) in
-        let x = inner (length es) e (at_last es e) in
+        let old = ih (λ k f at. inner k f (numbered_at_longer es (e ∷ []) k f at)) in
+        let x = inner (length es) e (numbered_at_last es e) in
         let release : e.kind ≢ Release l = λ is. true≢false (sym (ap (λ k. is_closing k) is) ∙ x.closes) in
         let acquire : e.kind ≢ Acquire l = λ is. true≢false (sym (ap (λ k. is_taking k) is) ∙ x.takes) in
         let pushed : Holds ((h ++ es) ++ e ∷ []) p l ↔ Holds h p l = (
-          (λ y. old.0 (holds_back (h ++ es) e.processor e.kind p l acquire y)),
+          (λ y. old.0 (last_holds_back (h ++ es) e.processor e.kind p l acquire y)),
           (λ y. holds_last_on (h ++ es) e.processor e.kind p l release (old.1 y)),
         ) in
         rw append_assoc at pushed
 
-block_told : (s : Sizes) (h block : List Event) (b : State) (p : ℕ) → Represents s h b → AllowsIdleBlock s b p block
-    → Represents s (h ++ block) (book_handed_in b block)
+block_told : (s : Sizes) (h block : List Event) (b : State) (p : ℕ) → Represents s h b → AllowsIdleBlockCall s b p block
+    → Represents s (h ++ block) (transition_handed_in b block)
 block_told s h block b p told may = told_block s h block b p told may.idle may.inner
 
 pub new_law : NewLaw
 new_law s some = told_new s some
 
-nothing_told : (s : Sizes) (h : List Event) (b : State) → Represents s h b → Represents s (h ++ []) (book_handed_in b [])
+nothing_told : (s : Sizes) (h : List Event) (b : State) → Represents s h b → Represents s (h ++ []) (transition_handed_in b [])
 nothing_told s h b told =
-    subst (λ es. Represents s es (book_handed_in b [])) (sym (append-nil h))
+    subst (λ es. Represents s es (transition_handed_in b [])) (sym (append-nil h))
     (subst (λ (es : List Event). Represents s h (record b { journal = record b.journal { events = es } }))
     (sym (append-nil b.journal.events)) told)
 
 given_told : (s : Sizes) (h block : List Event) (b : State) (p : ℕ) (w : Option Kind) → Represents s h b
-    → slice_get b.awaits p ≡ Some w → (w ≢ None → block ≡ []) → IsBlockOf s p block
-    → Represents s (h ++ block) (book_handed_in b block)
+    → slice_get b.awaits p ≡ Some w → (w ≢ None → block ≡ []) → IsBlockOfCalls s p block
+    → Represents s (h ++ block) (transition_handed_in b block)
 given_told s h block b p None told at none inner = block_told s h block b p told (record { idle = at; inner = inner })
 given_told s h block b p (Some k) told at none inner =
-    subst (λ es. Represents s (h ++ es) (book_handed_in b es)) (sym (none (λ e. none-some k (sym e))))
+    subst (λ es. Represents s (h ++ es) (transition_handed_in b es)) (sym (none (λ e. none-some k (sym e))))
     (nothing_told s h b told)
 
 pub hand_in_law : HandInLaw
@@ -73,30 +73,30 @@ hand_in_law s h block b p told may = given_told s h block b p may.waits.0 told m
 pub last_law : LastLaw
 last_law s h block b p told may =
     let given = hand_in_law s h block b p told may in
-    told_journal s (h ++ block) (book_handed_in b block) (book_handed_last b block).journal (refl, refl)
-    (history_room (book_handed_in b block).journal (h ++ block) (book_handed_last b block).journal.room given.holds) given
+    told_journal s (h ++ block) (transition_handed_in b block) (transition_handed_last b block).journal (refl, refl)
+    (history_room (transition_handed_in b block).journal (h ++ block) (transition_handed_last b block).journal.room given.holds) given
 
 pub ask_law : AskLaw
 ask_law s h block b p l records told may are range free =
-    told_ask s (h ++ block) (book_handed_in b block) p l records (block_told s h block b p told may) range may.idle
-    (λ held. free ((holds_block s h block p l may.inner).0 held)) are
+    told_ask s (h ++ block) (transition_handed_in b block) p l records (block_told s h block b p told may) range may.idle
+    (λ held. free ((whole_block_holds s h block p l may.inner).0 held)) are
 
 pub release_law : ReleaseLaw
 release_law s h block b p l records told may are range held =
-    told_release s (h ++ block) (book_handed_in b block) p l records (block_told s h block b p told may) range may.idle
-    ((holds_block s h block p l may.inner).1 held) are
+    told_release s (h ++ block) (transition_handed_in b block) p l records (block_told s h block b p told may) range may.idle
+    ((whole_block_holds s h block p l may.inner).1 held) are
 
 pub arrive_law : ArriveLaw
 arrive_law s h block b p records told may are =
-    told_arrive s (h ++ block) (book_handed_in b block) p (block_told s h block b p told may) may.idle records are
+    told_arrive s (h ++ block) (transition_handed_in b block) p (block_told s h block b p told may) may.idle records are
 
 pub set_law : SetLaw
 set_law s h block b p f records told may are range =
-    told_set s (h ++ block) (book_handed_in b block) p f records (block_told s h block b p told may) range may.idle are
+    told_set s (h ++ block) (transition_handed_in b block) p f records (block_told s h block b p told may) range may.idle are
 
 pub watch_law : WatchLaw
 watch_law s h block b p f records told may are range =
-    told_watch s (h ++ block) (book_handed_in b block) p f records (block_told s h block b p told may) range may.idle are
+    told_watch s (h ++ block) (transition_handed_in b block) p f records (block_told s h block b p told may) range may.idle are
 
 pub take_law : TakeLaw
 take_law s h b p k m told waits is = told_took s h b p told k m waits is

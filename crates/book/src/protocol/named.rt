@@ -1,7 +1,7 @@
 //! Whom an event lets go on.
 ghost use Rattle.std.specs.Prelude.{ℕ, ◌↔◌};
 ghost use Rattle.base.specs.Prelude.{Has};
-ghost use Rattle.book.specs.Prelude.{HasClosed, IsNamed};
+ghost use Rattle.book.specs.Prelude.{HasClosedBeforeWaiting, IsNamedWaiting};
 
 use super::Protocol;
 use crate::waiters::Waiters;
@@ -11,8 +11,8 @@ use journal::{Awaited, Kind};
 impl Protocol {
     /// Whom `processor` has let go on by this event, with which it has just closed its interval.
     pub(crate) fn named_by(&self, processor: usize, kind: Kind) -> Waiters
-        requires closed { HasClosed self.now processor kind }
-        ensures { (q : ℕ) → Has result q ↔ IsNamed self.now processor kind q }
+        requires closed { HasClosedBeforeWaiting self.now processor kind }
+        ensures { (q : ℕ) → Has result q ↔ IsNamedWaiting self.now processor kind q }
     {
         let (awaits, flags, mail) = (&self.awaits, &self.flags, &self.transit);
         match kind {

@@ -7,7 +7,7 @@ use Rattle.std.proofs.lemmas.Option.{same_Some, slice_get-get_or}
 use Rattle.journal.specs.MissingWords.{MissingInOrder}
 use Rattle.interval.specs.SentIntervals.{SentRecord}
 use Rattle.book.specs.News.{news_of_notice}
-use Rattle.cluster.specs.Copies.Backlogs.{read_from}
+use Rattle.cluster.specs.Copies.Backlogs.{backlog_read_from}
 use Rattle.cluster.proofs.copies.Learned.{in_order}
 
 -- what stands before a record that was closed no later was closed no later
@@ -43,27 +43,27 @@ backlog_all_later xs place k x order there late i y le at = elim (cases_eq i k) 
 
 module _ {A : Type 0} where
   -- two lists, read round from within the first
-  read_append : (k : ℕ) (xs ys : List A) → k ≤ length xs
-      → read_from k (xs ++ ys) ≡ drop k xs ++ (ys ++ take k xs)
-  read_append k xs ys le =
+  backlog_read_append : (k : ℕ) (xs ys : List A) → k ≤ length xs
+      → backlog_read_from k (xs ++ ys) ≡ drop k xs ++ (ys ++ take k xs)
+  backlog_read_append k xs ys le =
       ap (λ (zs : List A). zs ++ take k (xs ++ ys)) (drop-append-le k xs ys le)
       ∙ ap (λ (zs : List A). (drop k xs ++ ys) ++ zs) (take-append-le k xs ys le)
       ∙ append_assoc (drop k xs) ys (take k xs)
 
   -- two lists, read round from within the second
-  read_behind : (k : ℕ) (xs ys : List A) → read_from (length xs + k) (xs ++ ys) ≡ drop k ys ++ (xs ++ take k ys)
-  read_behind k xs ys =
+  backlog_read_behind : (k : ℕ) (xs ys : List A) → backlog_read_from (length xs + k) (xs ++ ys) ≡ drop k ys ++ (xs ++ take k ys)
+  backlog_read_behind k xs ys =
       ap (λ (zs : List A). zs ++ take (length xs + k) (xs ++ ys)) (drop-append-add xs ys k)
       ∙ ap (λ (zs : List A). drop k ys ++ zs) (take-append-add xs ys k)
 
   -- two lists that change places are read round as before
   backlog_read_swapped : (k : ℕ) (xs ys : List A) → k ≤ length ys
-      → read_from k (ys ++ xs) ≡ read_from (length xs + k) (xs ++ ys)
-  backlog_read_swapped k xs ys le = read_append k ys xs le ∙ sym (read_behind k xs ys)
+      → backlog_read_from k (ys ++ xs) ≡ backlog_read_from (length xs + k) (xs ++ ys)
+  backlog_read_swapped k xs ys le = backlog_read_append k ys xs le ∙ sym (backlog_read_behind k xs ys)
 
   -- it is as long
-  pub length_read : (k : ℕ) (xs : List A) → length (read_from k xs) ≡ length xs
-  length_read k xs =
+  pub backlog_read_length : (k : ℕ) (xs : List A) → length (backlog_read_from k xs) ≡ length xs
+  backlog_read_length k xs =
       let both = length-append (drop k xs) (take k xs) in
       let cut = length-drop k xs in
       let long = length-take k xs in
@@ -71,24 +71,24 @@ module _ {A : Type 0} where
 
   -- turned to the left
   pub backlog_turned_left : (from to : ℕ) (xs : List A) → to < from → from ≤ length xs
-      → read_from to (drop (from - to) xs ++ take (from - to) xs) ≡ read_from from xs
+      → backlog_read_from to (drop (from - to) xs ++ take (from - to) xs) ≡ backlog_read_from from xs
   backlog_turned_left from to xs lt within =
       let k = from - to in
       let cut = length-drop k xs in
       let long = length-take k xs in
       let e : length (take k xs) + to ≡ from = omega arith in
       let swapped = backlog_read_swapped to (take k xs) (drop k xs) (omega arith) in
-      let whole = ap (λ (zs : List A). read_from (length (take k xs) + to) zs) (take-append-drop k xs) in
-      swapped ∙ whole ∙ ap (λ (n : ℕ). read_from n xs) e
+      let whole = ap (λ (zs : List A). backlog_read_from (length (take k xs) + to) zs) (take-append-drop k xs) in
+      swapped ∙ whole ∙ ap (λ (n : ℕ). backlog_read_from n xs) e
 
   -- turned to the right
   pub backlog_turned_right : (from to : ℕ) (xs : List A) → from < to → to ≤ length xs
-      → read_from to (drop (length xs - (to - from)) xs ++ take (length xs - (to - from)) xs) ≡ read_from from xs
+      → backlog_read_from to (drop (length xs - (to - from)) xs ++ take (length xs - (to - from)) xs) ≡ backlog_read_from from xs
   backlog_turned_right from to xs lt within =
       let k = length xs - (to - from) in
       let cut = length-drop k xs in
       let long = length-take k xs in
       let e : length (drop k xs) + from ≡ to = omega arith in
-      let same = ap (λ (n : ℕ). read_from n (drop k xs ++ take k xs)) e in
+      let same = ap (λ (n : ℕ). backlog_read_from n (drop k xs ++ take k xs)) e in
       let swapped = backlog_read_swapped from (drop k xs) (take k xs) (omega arith) in
-      sym same ∙ sym swapped ∙ ap (λ (zs : List A). read_from from zs) (take-append-drop k xs)
+      sym same ∙ sym swapped ∙ ap (λ (zs : List A). backlog_read_from from zs) (take-append-drop k xs)

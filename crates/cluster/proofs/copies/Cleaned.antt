@@ -4,26 +4,26 @@ use Rattle.std.proofs.lemmas.Bool.{cases_lt, cases_eq}
 use Rattle.std.proofs.lemmas.List.{map-set, map-id}
 use Rattle.std.specs.Option.{option_map}
 use Rattle.std.proofs.lemmas.Option.{slice_get-map, slice_get_within}
-use Rattle.base.proofs.FilteredInOrder.{map_same}
-use Rattle.base.proofs.SliceSets.{same_places, slice_get-set_same, slice_get-set_found, slice_get-set_other}
+use Rattle.base.proofs.FilteredInOrder.{in_order_map_same}
+use Rattle.base.proofs.SliceSets.{slice_sets_same, slice_get-set_same, slice_get-set_found, slice_get-set_other}
 use Rattle.page.specs.Contents.{IsClean}
 use Rattle.cluster.specs.Copies.PageReplica.{Copied}
 use Rattle.cluster.specs.Copies.MarksAndHarvests.{IsFirstMark, HasNoMark, DirtyAreMarked}
-use Rattle.cluster.specs.Copies.AfterNews.{cleaned}
+use Rattle.cluster.specs.Copies.AfterNews.{copy_cleaned_after_news}
 
 -- a clean copy stays as it is
-cleaned_same : (c : Copied) → IsClean c.page → cleaned c ≡ c
+cleaned_same : (c : Copied) → IsClean c.page → copy_cleaned_after_news c ≡ c
 cleaned_same c clean = ap (λ (d : List Bool). record c { page = record c.page { dirty = d } }) (sym clean)
 
 -- so clean copies stay
-all_same : (xs : List Copied) → ((n : ℕ) (c : Copied) → slice_get xs n ≡ Some c → IsClean c.page)
-    → map cleaned xs ≡ xs
-all_same xs clean =
-    map_same cleaned (λ (c : Copied). c) xs (λ c has. cleaned_same c (clean has.0 c has.1)) ∙ map-id xs
+cleaned_all_same : (xs : List Copied) → ((n : ℕ) (c : Copied) → slice_get xs n ≡ Some c → IsClean c.page)
+    → map copy_cleaned_after_news xs ≡ xs
+cleaned_all_same xs clean =
+    in_order_map_same copy_cleaned_after_news (λ (c : Copied). c) xs (λ c has. cleaned_same c (clean has.0 c has.1)) ∙ map-id xs
 
 -- a write of what stands there changes nothing
-pub set_same : {A : Type 0} (xs : List A) (i : ℕ) (x : A) → slice_get xs i ≡ Some x → slice_set xs i x ≡ xs
-set_same xs i x at = same_places (slice_set xs i x) xs each
+pub cleaned_set_same : {A : Type 0} (xs : List A) (i : ℕ) (x : A) → slice_get xs i ≡ Some x → slice_set xs i x ≡ xs
+cleaned_set_same xs i x at = slice_sets_same (slice_set xs i x) xs each
   where
     each : (k : ℕ) → slice_get (slice_set xs i x) k ≡ slice_get xs k
     each k = elim (cases_eq k i) [
@@ -36,7 +36,7 @@ set_same xs i x at = same_places (slice_set xs i x) xs each
 
 -- the copies below k and those without a mark are clean, and cleaning all makes of them what it makes of the old ones
 pub record IsCleanBelow (old new : List Copied) (marks : List Bool) (k : ℕ) : Type 0 where
-  pub same : map cleaned new ≡ map cleaned old
+  pub same : map copy_cleaned_after_news new ≡ map copy_cleaned_after_news old
   pub clean : (n : ℕ) (c : Copied) → slice_get new n ≡ Some c → (n < k) ⊎ (slice_get marks n ≡ Some false)
       → IsClean c.page
 
@@ -50,28 +50,28 @@ clean_start xs marks dirty = record {
 module _ (old new : List Copied) (marks : List Bool) (a : ℕ) (so_far : IsCleanBelow old new marks a) where
   -- after the next one with a mark
   pub clean_more : (b : ℕ) (c : Copied) → IsFirstMark marks a b → slice_get new b ≡ Some c
-      → IsCleanBelow old (slice_set new b (cleaned c)) marks (b + 1)
+      → IsCleanBelow old (slice_set new b (copy_cleaned_after_news c)) marks (b + 1)
   clean_more b c is at = record { same = same; clean = clean }
     where
       now : List Copied
-      now = slice_set new b (cleaned c)
+      now = slice_set new b (copy_cleaned_after_news c)
 
-      same : map cleaned now ≡ map cleaned old
+      same : map copy_cleaned_after_news now ≡ map copy_cleaned_after_news old
       same =
-          let here : slice_get (map cleaned new) b ≡ Some (cleaned c) =
-          slice_get-map cleaned new b ∙ ap (option_map cleaned) at
+          let here : slice_get (map copy_cleaned_after_news new) b ≡ Some (copy_cleaned_after_news c) =
+          slice_get-map copy_cleaned_after_news new b ∙ ap (option_map copy_cleaned_after_news) at
           in
-          map-set cleaned new b (cleaned c) ∙ set_same (map cleaned new) b (cleaned c) here ∙ so_far.same
+          map-set copy_cleaned_after_news new b (copy_cleaned_after_news c) ∙ cleaned_set_same (map copy_cleaned_after_news new) b (copy_cleaned_after_news c) here ∙ so_far.same
 
       clean : (n : ℕ) (d : Copied) → slice_get now n ≡ Some d → (n < b + 1) ⊎ (slice_get marks n ≡ Some false)
           → IsClean d.page
       clean n d there h = elim (cases_eq n b) [
         | inl here ↦
             (let P : ℕ → Type 0 = λ k. slice_get now k ≡ Some d in
-            let is : cleaned c ≡ d = slice_get-set_found new b (cleaned c) d (subst P here there) in
+            let is : copy_cleaned_after_news c ≡ d = slice_get-set_found new b (copy_cleaned_after_news c) d (subst P here there) in
             subst (λ (x : Copied). IsClean x.page) is refl)
         | inr other ↦
-            (let before = sym (slice_get-set_other new b n (cleaned c) other) ∙ there in
+            (let before = sym (slice_get-set_other new b n (copy_cleaned_after_news c) other) ∙ there in
             so_far.clean n d before (elim h [
               | inr unmarked ↦ inr unmarked
               | inl early ↦
@@ -83,8 +83,8 @@ module _ (old new : List Copied) (marks : List Bool) (a : ℕ) (so_far : IsClean
       ]
 
   -- no page is left that has a mark
-  pub clean_end : length new ≤ 64 → HasNoMark marks a → new ≡ map cleaned old
-  clean_end few none = sym (all_same new each) ∙ so_far.same
+  pub clean_end : length new ≤ 64 → HasNoMark marks a → new ≡ map copy_cleaned_after_news old
+  clean_end few none = sym (cleaned_all_same new each) ∙ so_far.same
     where
       each : (n : ℕ) (c : Copied) → slice_get new n ≡ Some c → IsClean c.page
       each n c at = so_far.clean n c at (elim (cases_lt n a) [
@@ -93,8 +93,8 @@ module _ (old new : List Copied) (marks : List Bool) (a : ℕ) (so_far : IsClean
       ])
 
   -- the next one is past the last copy
-  pub clean_past : (b : ℕ) → IsFirstMark marks a b → length new ≤ b → new ≡ map cleaned old
-  clean_past b is past = sym (all_same new each) ∙ so_far.same
+  pub clean_past : (b : ℕ) → IsFirstMark marks a b → length new ≤ b → new ≡ map copy_cleaned_after_news old
+  clean_past b is past = sym (cleaned_all_same new each) ∙ so_far.same
     where
       each : (n : ℕ) (c : Copied) → slice_get new n ≡ Some c → IsClean c.page
       each n c at = so_far.clean n c at (elim (cases_lt n a) [

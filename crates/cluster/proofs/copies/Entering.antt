@@ -9,17 +9,17 @@ use Rattle.journal.proofs.Journals.HoldsOfOthers.{holds_others}
 use Rattle.journal.proofs.Times.PushesCovered.{others_keep_time}
 use Rattle.journal.proofs.CopyOfPage.BlockAnswers.{answers_others}
 use Rattle.journal.proofs.Missing.Counted.{block_counts_others}
-use Rattle.book.specs.Stamps.{IsAwaited}
+use Rattle.book.specs.Stamps.{IsAwaitedByStamps}
 use Rattle.cluster.specs.Copies.Local.{Local}
-use Rattle.cluster.specs.Copies.Sound.{IsSound, most_seen}
+use Rattle.cluster.specs.Copies.Sound.{IsSound, most_seen_by_sound}
 use Rattle.cluster.specs.Copies.AfterNews.{found}
 use Rattle.cluster.proofs.copies.Replicas.{replica_others}
 
 -- others' events leave what a processor waits for
 pub entered_awaited_others : (h rest : List Event) (p : ℕ) (w : Option Kind)
     → ((k : ℕ) (e : Event) → At rest k e → e.processor ≢ p)
-    → IsAwaited h p w
-    → IsAwaited (h ++ rest) p w
+    → IsAwaitedByStamps h p w
+    → IsAwaitedByStamps (h ++ rest) p w
 entered_awaited_others h rest p w away x = record {
   last = λ i a last. x.last i a (last_shorter h rest p i a away last);
   some = λ k is. let s = x.some k is in (s.0, s.1, last_longer h rest p s.0 s.1 away s.2);
@@ -29,7 +29,7 @@ entered_awaited_others h rest p w away x = record {
 pub entered_found_sound : (m : Local) (rest : List Event) → IsSound m
     → ((k : ℕ) (e : Event) → At rest k e → e.processor ≢ m.number)
     → WellFormed m.sizes (m.seen ++ rest)
-    → length (m.seen ++ rest) ≤ most_seen
+    → length (m.seen ++ rest) ≤ most_seen_by_sound
     → IsSound (found m rest)
 entered_found_sound m rest sound away well few = record {
   sizes = sound.sizes;

@@ -20,19 +20,19 @@ mark_at word n below =
 
 module _ (word start : ℕ) where
   -- the bits of a word that is shifted
-  shifted : (i : ℕ) → bit_at (word / 2 ^ start) i ≡ bit_at word (start + i)
-  shifted i =
+  first_mark_shifted : (i : ℕ) → bit_at (word / 2 ^ start) i ≡ bit_at word (start + i)
+  first_mark_shifted i =
       let one = div-div-eq-div-mul word (2 ^ start) (2 ^ i) ∙ ap (λ (d : ℕ). word / d) (sym (pow-add 2 start i)) in
       ap (λ (k : ℕ). k % 2) one
 
   -- a bit from `start` on, by the shifted word
-  from : (i : ℕ) → start ≤ i → bit_at word i ≡ bit_at (word / 2 ^ start) (i - start)
-  from i late = ap (λ (k : ℕ). bit_at word k) (omega arith) ∙ sym (shifted (i - start))
+  first_mark_from : (i : ℕ) → start ≤ i → bit_at word i ≡ bit_at (word / 2 ^ start) (i - start)
+  first_mark_from i late = ap (λ (k : ℕ). bit_at word k) (omega arith) ∙ sym (first_mark_shifted (i - start))
 
   -- no bit is left of it
   pub no_mark : word / 2 ^ start ≡ 0 → HasNoMark (marks_of 64 word) start
   no_mark none i late below =
-      let unset = from i late ∙ ap (λ (w : ℕ). bit_at w (i - start)) none ∙ bit_at-zero (i - start) in
+      let unset = first_mark_from i late ∙ ap (λ (w : ℕ). bit_at w (i - start)) none ∙ bit_at-zero (i - start) in
       mark_at word i below ∙ ap (λ (b : ℕ). Some (b == 1)) unset
 
   -- or the lowest one is that of the least number
@@ -47,7 +47,7 @@ module _ (word start : ℕ) where
       small = let le = div-le_self word (2 ^ start) in omega arith
 
       set : bit_at word (start + t) ≡ 1
-      set = sym (shifted t) ∙ (bit_at-trailing_zeros w64 (word / 2 ^ start) some small).1
+      set = sym (first_mark_shifted t) ∙ (bit_at-trailing_zeros w64 (word / 2 ^ start) some small).1
 
       below : start + t < 64
       below = elim (cases_lt (start + t) 64) [
@@ -61,5 +61,5 @@ module _ (word start : ℕ) where
       first : (i : ℕ) → start ≤ i → i < start + t → slice_get (marks_of 64 word) i ≡ Some false
       first i late early =
           let lowest = (bit_at-trailing_zeros w64 (word / 2 ^ start) some small).2 in
-          let unset = from i late ∙ lowest (i - start) (omega arith) in
+          let unset = first_mark_from i late ∙ lowest (i - start) (omega arith) in
           mark_at word i (let within = below in omega arith) ∙ ap (λ (b : ℕ). Some (b == 1)) unset

@@ -7,19 +7,19 @@ use Rattle.journal.specs.declared.event.Kind.TheVariants.{Acquire, Release}
 use Rattle.journal.specs.DidEvent.{event}
 use Rattle.journal.specs.Events.{At}
 use Rattle.journal.specs.WellFormed.{Does, WellFormed, Holds}
-use Rattle.journal.specs.Waits.{IsIdle}
+use Rattle.journal.specs.Waits.{WaitsForNothing}
 use Rattle.journal.specs.Pasts.{InPast}
 use Rattle.journal.specs.Blocks.{IsBlock}
-use Rattle.journal.proofs.Journals.ReadyIdleWaits.{IsPlainAt, plain_block}
+use Rattle.journal.proofs.Journals.ReadyIdleWaits.{IsIdlePlainAt, idle_plain_block}
 use Rattle.journal.proofs.Journals.HoldsOfOthers.{holds_over, holds_before}
 use Rattle.journal.proofs.Times.Blocks.{block_time}
-use Rattle.journal.proofs.CopyOfPage.ValidAndStale.{answers_start}
+use Rattle.journal.proofs.CopyOfPage.ValidAndStale.{valid_answers_start}
 use Rattle.journal.proofs.Missing.Counted.{block_counts_start}
-use Rattle.book.specs.Stamps.{IsStamp, IsAwaited}
+use Rattle.book.specs.Stamps.{IsStamp, IsAwaitedByStamps}
 use Rattle.cluster.specs.Copies.PageReplica.{Copied, IsReplica}
 use Rattle.cluster.specs.Copies.Local.{Local}
-use Rattle.cluster.specs.Copies.Sound.{IsSound, most_seen}
-use Rattle.cluster.specs.Copies.AfterNews.{handed}
+use Rattle.cluster.specs.Copies.Sound.{IsSound, most_seen_by_sound}
+use Rattle.cluster.specs.Copies.AfterNews.{handed_after_news}
 use Rattle.cluster.proofs.copies.Replicas.{replica_handed}
 
 -- the words of the copy, if there is one
@@ -29,8 +29,8 @@ copied_words (Some c) = c.page.words
 
 module _ (m : Local) (sound : IsSound m) where
   -- the open block is events of the processor that take nothing
-  pub is_block : IsBlock m.number m.block
-  is_block k e at = let inner = sound.inner k e at in (inner.mine, inner.takes)
+  pub handing_in_block : IsBlock m.number m.block
+  handing_in_block k e at = let inner = sound.inner k e at in (inner.mine, inner.takes)
 
   -- so it leaves the timestamp
   handed_keeps_time : IsStamp m.sizes.processors (m.seen ++ m.block) (InPast (m.seen ++ m.block) m.number) m.time
@@ -38,7 +38,7 @@ module _ (m : Local) (sound : IsSound m) where
     long = sound.time.long;
     is =
         let closes = λ (k : ℕ) (e : Event) (at : At m.block k e). (sound.inner k e at).closes in
-        block_time m.seen m.block m.number (slice_index m.time) is_block closes sound.time.is;
+        block_time m.seen m.block m.number (slice_index m.time) handing_in_block closes sound.time.is;
   }
 
   -- which locks are held
@@ -57,16 +57,16 @@ module _ (m : Local) (sound : IsSound m) where
       acquire k does = true≢false (sound.inner k (event m.number (Acquire l)) does).takes
 
   -- and what is awaited
-  handed_keeps_awaits : IsAwaited (m.seen ++ m.block) m.number m.awaits
+  handed_keeps_awaits : IsAwaitedByStamps (m.seen ++ m.block) m.number m.awaits
   handed_keeps_awaits = go m.awaits refl
     where
-      go : (o : Option Kind) → m.awaits ≡ o → IsAwaited (m.seen ++ m.block) m.number o
+      go : (o : Option Kind) → m.awaits ≡ o → IsAwaitedByStamps (m.seen ++ m.block) m.number o
       go None none =
-          let idle : IsIdle m.seen m.number = λ i a last. sym (sound.awaits.last i a last) ∙ none in
-          let still = plain_block m.sizes m.seen m.block m.number sound.mine sound.well_formed idle plain in
+          let idle : WaitsForNothing m.seen m.number = λ i a last. sym (sound.awaits.last i a last) ∙ none in
+          let still = idle_plain_block m.sizes m.seen m.block m.number sound.mine sound.well_formed idle plain in
           record { last = λ i a last. sym (still.1 i a last); some = λ k is. absurd (none-some k is) }
         where
-          plain : (k : ℕ) (e : Event) → At m.block k e → IsPlainAt m.sizes m.number e
+          plain : (k : ℕ) (e : Event) → At m.block k e → IsIdlePlainAt m.sizes m.number e
           plain k e at = let inner = sound.inner k e at in record {
             mine = inner.mine;
             takes = inner.takes;
@@ -75,12 +75,12 @@ module _ (m : Local) (sound : IsSound m) where
           }
       go (Some k) some =
           let empty = sound.quiet (λ none. none-some k (sym none ∙ some)) in
-          rw (empty, append-nil) (subst (IsAwaited m.seen m.number) some sound.awaits)
+          rw (empty, append-nil) (subst (IsAwaitedByStamps m.seen m.number) some sound.awaits)
 
   -- a processor that handed its block in is as sound as it was
   pub handed_sound : WellFormed m.sizes (m.seen ++ m.block)
-      → length (m.seen ++ m.block) ≤ most_seen
-      → IsSound (handed m)
+      → length (m.seen ++ m.block) ≤ most_seen_by_sound
+      → IsSound (handed_after_news m)
   handed_sound well few = record {
     sizes = sound.sizes;
     mine = sound.mine;
@@ -90,7 +90,7 @@ module _ (m : Local) (sound : IsSound m) where
     short = omega arith;
     time = handed_keeps_time;
     bases = bases;
-    answers = answers_start m.sizes (m.seen ++ m.block) m.number bases;
+    answers = valid_answers_start m.sizes (m.seen ++ m.block) m.number bases;
     counts = block_counts_start m.sizes (m.seen ++ m.block) m.number;
     copies = record { long = sound.copies.long; each = copies };
     marks = sound.marks;
@@ -108,5 +108,5 @@ module _ (m : Local) (sound : IsSound m) where
           → IsReplica m.sizes (m.seen ++ m.block) [] m.number n (bases n) c
       copies n c at =
           let old = sound.copies.each n c at in
-          let now = replica_handed m.sizes m.seen m.block m.number n (sound.bases n) c is_block old in
+          let now = replica_handed m.sizes m.seen m.block m.number n (sound.bases n) c handing_in_block old in
           subst (λ (b : List ℕ). IsReplica m.sizes (m.seen ++ m.block) [] m.number n b c) (sym (ap copied_words at)) now

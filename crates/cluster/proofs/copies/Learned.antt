@@ -5,7 +5,7 @@ use Rattle.std.proofs.lemmas.List.{length-take, take-append-drop}
 use Rattle.std.proofs.lemmas.Option.{slice_get-map}
 use Rattle.journal.specs.MissingWords.{Missing, MissingInOrder}
 use Rattle.base.specs.InOrderOnce.{Has, InOrder}
-use Rattle.base.proofs.Joined.{has-nil, has-cons, has-append, in_order-append, in_order-cons, in_order-map, in_order_single, in_order_tail}
+use Rattle.base.proofs.Joined.{has-nil, has-cons, has-append, in_order-append, in_order-cons, in_order-map, joined_in_order_single, joined_in_order_tail}
 use Rattle.base.proofs.SlicesAndCounts.{slice_get-append_right, slice_get-from_take, slice_get-take_within}
 use Rattle.interval.specs.SentIntervals.{SentRecord}
 use Rattle.book.specs.News.{news_of_notice}
@@ -27,13 +27,13 @@ in_order xs order x y a b lt at bt = order x y (news_of_notice a) (news_of_notic
     there k r is = slice_get-map news_of_notice xs k ∙ ap (option_map news_of_notice) is
 
 -- and back
-pub closing_order : (xs : List SentRecord) → InOrder IsLearnedBefore xs → MissingInOrder (map news_of_notice xs)
-closing_order xs = in_order-map (λ (a b : Missing). a.place < b.place) news_of_notice xs
+pub learned_closing_order : (xs : List SentRecord) → InOrder IsLearnedBefore xs → MissingInOrder (map news_of_notice xs)
+learned_closing_order xs = in_order-map (λ (a b : Missing). a.place < b.place) news_of_notice xs
 
 module _ (xs : List SentRecord) (x : SentRecord) (k : ℕ) (is : IsPlaceInBacklog xs x.place k) where
   -- the list with the record at its place
-  abbrev inserted : List SentRecord
-  inserted = take k xs ++ x ∷ drop k xs
+  abbrev learned_inserted : List SentRecord
+  learned_inserted = take k xs ++ x ∷ drop k xs
 
   -- it has the record, and what it had
   pub learned_inserted_has : (y : SentRecord) → Has (take k xs ++ x ∷ drop k xs) y ↔ (Has xs y ⊎ Has (x ∷ []) y)
@@ -44,7 +44,7 @@ module _ (xs : List SentRecord) (x : SentRecord) (k : ℕ) (is : IsPlaceInBacklo
           let P : List SentRecord → Type 0 = λ ys. Has ys y ↔ (Has (take k xs) y ⊎ Has (drop k xs) y) in
           subst P (take-append-drop k xs) (has-append (take k xs) (drop k xs) y)
 
-      there : Has inserted y → Has xs y ⊎ Has (x ∷ []) y
+      there : Has learned_inserted y → Has xs y ⊎ Has (x ∷ []) y
       there has = elim ((has-append (take k xs) (x ∷ drop k xs) y).0 has) [
         | inl front ↦ inl (old.1 (inl front))
         | inr rest ↦
@@ -54,7 +54,7 @@ module _ (xs : List SentRecord) (x : SentRecord) (k : ℕ) (is : IsPlaceInBacklo
             ])
       ]
 
-      back : Has xs y ⊎ Has (x ∷ []) y → Has inserted y
+      back : Has xs y ⊎ Has (x ∷ []) y → Has learned_inserted y
       back (inl has) = elim (old.0 has) [
         | inl front ↦ (has-append (take k xs) (x ∷ drop k xs) y).1 (inl front)
         | inr rest ↦ (has-append (take k xs) (x ∷ drop k xs) y).1 (inr ((has-cons x (drop k xs) y).1 (inr rest)))
@@ -65,8 +65,8 @@ module _ (xs : List SentRecord) (x : SentRecord) (k : ℕ) (is : IsPlaceInBacklo
       ]
 
   -- the rest begins at k
-  at_dropped : (j : ℕ) → slice_get (drop k xs) j ≡ slice_get xs (k + j)
-  at_dropped j =
+  learned_at_dropped : (j : ℕ) → slice_get (drop k xs) j ≡ slice_get xs (k + j)
+  learned_at_dropped j =
       let within = is.within in
       let long = length-take k xs in
       let e : length (take k xs) ≡ k = omega arith in
@@ -79,20 +79,20 @@ module _ (xs : List SentRecord) (x : SentRecord) (k : ℕ) (is : IsPlaceInBacklo
   pub learned_inserted_order : MissingInOrder (map news_of_notice xs) → ((y : SentRecord) → Has xs y → y.place ≢ x.place)
       → MissingInOrder (map news_of_notice (take k xs ++ x ∷ drop k xs))
   learned_inserted_order closed apart =
-      closing_order inserted (in_order-append IsLearnedBefore (take k xs) (x ∷ drop k xs) front rest across)
+      learned_closing_order learned_inserted (in_order-append IsLearnedBefore (take k xs) (x ∷ drop k xs) front rest across)
     where
       order : InOrder IsLearnedBefore xs
       order = in_order xs closed
 
       behind : (b : SentRecord) → Has (drop k xs) b → x.place < b.place
-      behind b has = is.behind (k + has.0) b (omega arith) (sym (at_dropped has.0) ∙ has.1)
+      behind b has = is.behind (k + has.0) b (omega arith) (sym (learned_at_dropped has.0) ∙ has.1)
 
       front : InOrder IsLearnedBefore (take k xs)
       front i j a b lt at bt = order i j a b lt (slice_get-from_take xs k i a at) (slice_get-from_take xs k j b bt)
 
       rest : InOrder IsLearnedBefore (x ∷ drop k xs)
       rest = in_order-cons IsLearnedBefore x (drop k xs) behind (λ i j a b lt at bt.
-          order (k + i) (k + j) a b (omega arith) (sym (at_dropped i) ∙ at) (sym (at_dropped j) ∙ bt))
+          order (k + i) (k + j) a b (omega arith) (sym (learned_at_dropped i) ∙ at) (sym (learned_at_dropped j) ∙ bt))
 
       across : (a b : SentRecord) → Has (take k xs) a → Has (x ∷ drop k xs) b → a.place < b.place
       across a b in_front has = elim ((has-cons x (drop k xs) b).0 has) [
@@ -167,7 +167,7 @@ may_learn_rest c d x xs may is room = record {
   room = let all = may.room in omega arith;
   clean = λ _. rw (is.page (λ none. cc)) (may.clean (λ none. cc));
   order = is.order;
-  news_order = closing_order xs (in_order_tail IsLearnedBefore x xs order);
+  news_order = learned_closing_order xs (joined_in_order_tail IsLearnedBefore x xs order);
   apart = λ y z has new. elim ((is.lacks y).0 has) [
     | inl old ↦ may.apart y z old ((has-cons x xs z).1 (inr new))
     | inr first ↦
@@ -191,7 +191,7 @@ may_learn_first c x xs may = record {
   room = let all = may.room in omega arith;
   clean = λ _. may.clean (λ none. cc);
   order = may.order;
-  news_order = in_order_single (λ (a b : Missing). a.place < b.place) (news_of_notice x);
+  news_order = joined_in_order_single (λ (a b : Missing). a.place < b.place) (news_of_notice x);
   apart = λ y z has new. elim ((has-cons x [] z).0 new) [
     | inl same ↦ may.apart y z has (zero, ap (λ (r : SentRecord). Some r) same)
     | inr none ↦ absurd (has-nil z none)

@@ -6,10 +6,10 @@ use Rattle.journal.specs.declared.event.Kind.{Kind}
 use Rattle.journal.specs.declared.event.Kind.TheVariants.{Acquire, Release}
 use Rattle.journal.specs.DidEvent.{event, did}
 use Rattle.journal.specs.WellFormed.{Holds}
-use Rattle.journal.proofs.Journals.WellFormedLast.{holds_cases, holds_now}
-use Rattle.book.specs.Stamps.{EachAt}
+use Rattle.journal.proofs.Journals.WellFormedLast.{well_formed_holds_cases, well_formed_holds_now}
+use Rattle.book.specs.Stamps.{EachStampedAt}
 use Rattle.book.proofs.Parts.Each.{each_set, each_kept}
-use Rattle.book.proofs.Parts.LastAndCounts.{holds_last_on, holds_back}
+use Rattle.book.proofs.Parts.LastAndCounts.{holds_last_on, last_holds_back}
 use Rattle.cluster.specs.Copies.Local.{Local}
 use Rattle.cluster.specs.Copies.Sound.{IsSound}
 use Rattle.cluster.specs.Copies.AfterNews.{held_after}
@@ -24,23 +24,23 @@ lock_held_kept : (h : List Event) (p : ℕ) (k : Kind) (l : ℕ) (b : Bool) → 
     → IsLockMark (did h p k) p l b
 lock_held_kept h p k l b acquire release is = (
   (λ yes. holds_last_on h p k p l release (is.0 yes)),
-  (λ holds. is.1 (holds_back h p k p l acquire holds)),
+  (λ holds. is.1 (last_holds_back h p k p l acquire holds)),
 )
 
 -- who releases a lock doesn't hold it
 lock_released_now : (h : List Event) (p l : ℕ) → ¬ Holds (did h p (Release l)) p l
-lock_released_now h p l holds = elim (holds_cases h (event p (Release l)) p l holds) [
+lock_released_now h p l holds = elim (well_formed_holds_cases h (event p (Release l)) p l holds) [
   | inl old ↦ old.1 refl
   | inr new ↦ absurd (cc (ap (λ (e : Event). e.kind) new))
 ]
 
 -- the marks after an event are what the history says
 pub locks_held_now : (n : ℕ) (h : List Event) (p : ℕ) (k : Kind) (held : List Bool)
-    → EachAt n (IsLockMark h p) held
-    → EachAt n (IsLockMark (did h p k) p) (held_after k held)
+    → EachStampedAt n (IsLockMark h p) held
+    → EachStampedAt n (IsLockMark (did h p k) p) (held_after k held)
 locks_held_now n h p (Acquire l) held all = each_set n (IsLockMark h p) (IsLockMark (did h p (Acquire l)) p) held l true all
     (λ m b isnt at is. lock_held_kept h p (Acquire l) m b (λ e. isnt (cc e)) (λ e. absurd cc) is)
-    (λ _. holds_now h p l, λ _. refl)
+    (λ _. well_formed_holds_now h p l, λ _. refl)
 locks_held_now n h p (Release l) held all = each_set n (IsLockMark h p) (IsLockMark (did h p (Release l)) p) held l false all
     (λ m b isnt at is. lock_held_kept h p (Release l) m b (λ e. absurd cc) (λ e. isnt (cc e)) is)
     (λ yes. absurd (true≢false (sym yes)), λ holds. absurd (lock_released_now h p l holds))

@@ -13,12 +13,12 @@ use Rattle.cluster.specs.Copies.MarksAndHarvests.{AreHarvests, IsFirstMark, HasN
 use Rattle.cluster.proofs.copies.Records.{records_harvest_more}
 
 -- further copies that are clean add no record
-harvests_wider : (xs ys : List Copied) (rs : List Changes)
+marked_harvests_wider : (xs ys : List Copied) (rs : List Changes)
     → ((n : ℕ) (c : Copied) → slice_get xs n ≡ Some c → slice_get ys n ≡ Some c)
     → ((n : ℕ) (c : Copied) → slice_get ys n ≡ Some c → ¬ IsClean c.page → slice_get xs n ≡ Some c)
     → AreHarvests xs rs
     → AreHarvests ys rs
-harvests_wider xs ys rs there back hs = record {
+marked_harvests_wider xs ys rs there back hs = record {
   each = λ r has.
       let x = hs.each r has in
       record { page = x.page; copy = x.copy; at = there x.page x.copy x.at; harvest = x.harvest; dirty = x.dirty };
@@ -31,7 +31,7 @@ module _ (xs : List Copied) (marks : List Bool) (dirty : DirtyAreMarked xs marks
   where
     -- no page is left that has a mark
     pub marked_harvests_end : HasNoMark marks a → AreHarvests xs rs
-    marked_harvests_end none = harvests_wider (take a xs) xs rs (slice_get-from_take xs a) back hs
+    marked_harvests_end none = marked_harvests_wider (take a xs) xs rs (slice_get-from_take xs a) back hs
       where
         back : (n : ℕ) (c : Copied) → slice_get xs n ≡ Some c → ¬ IsClean c.page → slice_get (take a xs) n ≡ Some c
         back n c at some = elim (cases_lt n a) [
@@ -45,7 +45,7 @@ module _ (xs : List Copied) (marks : List Bool) (dirty : DirtyAreMarked xs marks
     module _ (b : ℕ) (is : IsFirstMark marks a b) where
       -- the pages up to the next one with a mark add none
       pub marked_harvests_until : AreHarvests (take b xs) rs
-      marked_harvests_until = harvests_wider (take a xs) (take b xs) rs there back hs
+      marked_harvests_until = marked_harvests_wider (take a xs) (take b xs) rs there back hs
         where
           there : (n : ℕ) (c : Copied) → slice_get (take a xs) n ≡ Some c → slice_get (take b xs) n ≡ Some c
           there n c at =
@@ -65,7 +65,7 @@ module _ (xs : List Copied) (marks : List Bool) (dirty : DirtyAreMarked xs marks
 
       -- it is past the last copy
       pub marked_harvests_past : length xs ≤ b → AreHarvests xs rs
-      marked_harvests_past past = harvests_wider (take b xs) xs rs (slice_get-from_take xs b) back marked_harvests_until
+      marked_harvests_past past = marked_harvests_wider (take b xs) xs rs (slice_get-from_take xs b) back marked_harvests_until
         where
           back : (n : ℕ) (c : Copied) → slice_get xs n ≡ Some c → ¬ IsClean c.page → slice_get (take b xs) n ≡ Some c
           back n c at some =
@@ -73,13 +73,13 @@ module _ (xs : List Copied) (marks : List Bool) (dirty : DirtyAreMarked xs marks
               slice_get-take xs b n (omega arith) ∙ at
 
       module _ (c : Copied) (at : slice_get xs b ≡ Some c) where
-        one_more : take (b + 1) xs ≡ take b xs ++ c ∷ []
-        one_more = ap (λ (n : ℕ). take n xs) (add-one b) ∙ take-suc_at xs b c at
+        marked_one_more : take (b + 1) xs ≡ take b xs ++ c ∷ []
+        marked_one_more = ap (λ (n : ℕ). take n xs) (add-one b) ∙ take-suc_at xs b c at
 
         -- it is clean all the same
         pub marked_harvests_none_at : IsClean c.page → AreHarvests (take (b + 1) xs) rs
         marked_harvests_none_at clean =
-            harvests_wider (take b xs) (take (b + 1) xs) rs there back marked_harvests_until
+            marked_harvests_wider (take b xs) (take (b + 1) xs) rs there back marked_harvests_until
           where
             there : (n : ℕ) (d : Copied) → slice_get (take b xs) n ≡ Some d → slice_get (take (b + 1) xs) n ≡ Some d
             there n d old =
@@ -110,10 +110,10 @@ module _ (xs : List Copied) (marks : List Bool) (dirty : DirtyAreMarked xs marks
             let P : ℕ → Type 0 = λ n. IsHarvest n c.page r in
             let more = records_harvest_more (take b xs) c rs marked_harvests_until r some (subst P long harvest) in
             let Q : List Copied → Type 0 = λ ys. AreHarvests ys (rs ++ r ∷ []) in
-            subst Q (sym one_more) more
+            subst Q (sym marked_one_more) more
 
 -- where no page has a mark there is no first one
-pub unmarked : (marks : List Bool) (a b : ℕ) → IsFirstMark marks a b → marks ≢ replicate 64 false
-unmarked marks a b is none =
+pub marked_nowhere : (marks : List Bool) (a b : ℕ) → IsFirstMark marks a b → marks ≢ replicate 64 false
+marked_nowhere marks a b is none =
     let P : List Bool → Type 0 = λ ms. slice_get ms b ≡ Some true in
     true≢false (sym (slice_get-replicate_found 64 false true b (subst P none is.marked)))

@@ -3,25 +3,25 @@ use Rattle.std.proofs.Common.{ℕ, zero, ◌≡◌, ◌≢◌, ◌+◌, ◌↔�
 use Rattle.std.proofs.lemmas.Bool.{cases_eq}
 use Rattle.std.proofs.lemmas.List.{length_push, length-set}
 use Rattle.interval.specs.SentIntervals.{SentRecord}
-use Rattle.journal.specs.PageImages.{HasCount}
+use Rattle.journal.specs.PageImages.{HasImageCount}
 use Rattle.base.specs.InOrderOnce.{Has}
 use Rattle.base.proofs.Joined.{has-nil, has-cons, has-append}
 use Rattle.base.proofs.OnceWithout.{once-append}
-use Rattle.base.proofs.Joined.{in_order-nil, in_order_single}
+use Rattle.base.proofs.Joined.{in_order-nil, joined_in_order_single}
 use Rattle.base.proofs.SliceSets.{slice_get-set_found, slice_get-set_other, slice_get-replicate_found}
-use Rattle.cluster.specs.Copies.PageReplica.{IsOwner}
+use Rattle.cluster.specs.Copies.PageReplica.{IsReplicaOwner}
 
 -- the marks are those of the records' owners
-pub record AreMarked (missing : List SentRecord) (marks : List Bool) : Type 0 where
+pub record AreOwnersMarked (missing : List SentRecord) (marks : List Bool) : Type 0 where
   pub long : length marks ≡ 64
-  pub each : (q : ℕ) (b : Bool) → slice_get marks q ≡ Some b → (b ≡ true) ↔ IsOwner missing q
+  pub each : (q : ℕ) (b : Bool) → slice_get marks q ≡ Some b → (b ≡ true) ↔ IsReplicaOwner missing q
 
 -- the owners of one record more
 pub owner_more : (missing : List SentRecord) (x : SentRecord) (q : ℕ)
-    → IsOwner (missing ++ x ∷ []) q ↔ (IsOwner missing q ⊎ (x.notice.owner ≡ q))
+    → IsReplicaOwner (missing ++ x ∷ []) q ↔ (IsReplicaOwner missing q ⊎ (x.notice.owner ≡ q))
 owner_more missing x q = (there, back)
   where
-    there : IsOwner (missing ++ x ∷ []) q → IsOwner missing q ⊎ (x.notice.owner ≡ q)
+    there : IsReplicaOwner (missing ++ x ∷ []) q → IsReplicaOwner missing q ⊎ (x.notice.owner ≡ q)
     there h = elim ((has-append missing (x ∷ []) h.0).0 h.1) [
       | inl a ↦ inl (h.0, a, h.2)
       | inr a ↦ (elim ((has-cons x [] h.0).0 a) [
@@ -30,11 +30,11 @@ owner_more missing x q = (there, back)
       ])
     ]
 
-    back : (IsOwner missing q ⊎ (x.notice.owner ≡ q)) → IsOwner (missing ++ x ∷ []) q
+    back : (IsReplicaOwner missing q ⊎ (x.notice.owner ≡ q)) → IsReplicaOwner (missing ++ x ∷ []) q
     back (inl h) = (h.0, (has-append missing (x ∷ []) h.0).1 (inl h.1), h.2)
     back (inr h) = (x, (has-append missing (x ∷ []) x).1 (inr (zero, refl)), h)
 
-pub no_owners : HasCount (IsOwner []) 0
+pub no_owners : HasImageCount (IsReplicaOwner []) 0
 no_owners = record {
   list = [];
   each = λ q. ((λ h. absurd (has-nil q h)), λ h. absurd (has-nil h.0 h.1));
@@ -42,8 +42,8 @@ no_owners = record {
   length_is = refl;
 }
 
-pub no_marks : AreMarked [] (replicate 64 false)
-no_marks = record {
+pub owners_no_marks : AreOwnersMarked [] (replicate 64 false)
+owners_no_marks = record {
   long = refl;
   each =
       λ q b at. (
@@ -54,8 +54,8 @@ no_marks = record {
 
 -- an owner that is marked is counted
 pub owner_again : (missing : List SentRecord) (x : SentRecord) (marks : List Bool) (n : ℕ)
-    → slice_get marks x.notice.owner ≡ Some true → AreMarked missing marks → HasCount (IsOwner missing) n
-    → AreMarked (missing ++ x ∷ []) marks × HasCount (IsOwner (missing ++ x ∷ [])) n
+    → slice_get marks x.notice.owner ≡ Some true → AreOwnersMarked missing marks → HasImageCount (IsReplicaOwner missing) n
+    → AreOwnersMarked (missing ++ x ∷ []) marks × HasImageCount (IsReplicaOwner (missing ++ x ∷ [])) n
 owner_again missing x marks n there marked counted = (
   record {
     long = marked.long;
@@ -69,32 +69,32 @@ owner_again missing x marks n there marked counted = (
   },
 )
   where
-    owned : IsOwner missing x.notice.owner
+    owned : IsReplicaOwner missing x.notice.owner
     owned = (marked.each x.notice.owner true there).0 refl
 
-    same : (q : ℕ) → IsOwner missing q ↔ IsOwner (missing ++ x ∷ []) q
+    same : (q : ℕ) → IsReplicaOwner missing q ↔ IsReplicaOwner (missing ++ x ∷ []) q
     same q = (
       (λ h. (owner_more missing x q).1 (inl h)),
       λ h. elim ((owner_more missing x q).0 h) [
         | inl a ↦ a
-        | inr is ↦ subst (IsOwner missing) is owned
+        | inr is ↦ subst (IsReplicaOwner missing) is owned
       ],
     )
 
 -- and one that isn't is one more
 pub owner_new : (missing : List SentRecord) (x : SentRecord) (marks : List Bool) (n : ℕ)
-    → slice_get marks x.notice.owner ≡ Some false → AreMarked missing marks → HasCount (IsOwner missing) n
-    → AreMarked (missing ++ x ∷ []) (slice_set marks x.notice.owner true)
-    × HasCount (IsOwner (missing ++ x ∷ [])) (n + 1)
+    → slice_get marks x.notice.owner ≡ Some false → AreOwnersMarked missing marks → HasImageCount (IsReplicaOwner missing) n
+    → AreOwnersMarked (missing ++ x ∷ []) (slice_set marks x.notice.owner true)
+    × HasImageCount (IsReplicaOwner (missing ++ x ∷ [])) (n + 1)
 owner_new missing x marks n there marked counted = (
   record { long = length-set marks p true ∙ marked.long; each = each },
   record {
     list = counted.list ++ p ∷ [];
     each = λ q. ((λ h. listed q h), λ h. owned q h);
     once =
-        once-append counted.list (p ∷ []) counted.once (in_order_single (λ (a b : ℕ). a ≢ b) p) (λ y h in_new.
+        once-append counted.list (p ∷ []) counted.once (joined_in_order_single (λ (a b : ℕ). a ≢ b) p) (λ y h in_new.
         elim ((has-cons p [] y).0 in_new) [
-          | inl is ↦ new (subst (IsOwner missing) (sym is) ((counted.each y).0 h))
+          | inl is ↦ new (subst (IsReplicaOwner missing) (sym is) ((counted.each y).0 h))
           | inr none ↦ has-nil y none
         ]);
     length_is = length_push counted.list p ∙ ap (λ k. k + 1) counted.length_is;
@@ -104,10 +104,10 @@ owner_new missing x marks n there marked counted = (
     p : ℕ
     p = x.notice.owner
 
-    new : ¬ IsOwner missing p
+    new : ¬ IsReplicaOwner missing p
     new h = absurd (true≢false (sym ((marked.each p false there).1 h)))
 
-    listed : (q : ℕ) → Has (counted.list ++ p ∷ []) q → IsOwner (missing ++ x ∷ []) q
+    listed : (q : ℕ) → Has (counted.list ++ p ∷ []) q → IsReplicaOwner (missing ++ x ∷ []) q
     listed q h = elim ((has-append counted.list (p ∷ []) q).0 h) [
       | inl a ↦ (owner_more missing x q).1 (inl ((counted.each q).0 a))
       | inr a ↦ (elim ((has-cons p [] q).0 a) [
@@ -116,14 +116,14 @@ owner_new missing x marks n there marked counted = (
       ])
     ]
 
-    owned : (q : ℕ) → IsOwner (missing ++ x ∷ []) q → Has (counted.list ++ p ∷ []) q
+    owned : (q : ℕ) → IsReplicaOwner (missing ++ x ∷ []) q → Has (counted.list ++ p ∷ []) q
     owned q h = elim ((owner_more missing x q).0 h) [
       | inl a ↦ (has-append counted.list (p ∷ []) q).1 (inl ((counted.each q).1 a))
       | inr is ↦ subst (Has (counted.list ++ p ∷ [])) is ((has-append counted.list (p ∷ []) p).1 (inr (zero, refl)))
     ]
 
     each : (q : ℕ) (b : Bool) → slice_get (slice_set marks p true) q ≡ Some b
-        → (b ≡ true) ↔ IsOwner (missing ++ x ∷ []) q
+        → (b ≡ true) ↔ IsReplicaOwner (missing ++ x ∷ []) q
     each q b at = elim (cases_eq q p) [
       | inl same ↦
           (let P : ℕ → Type 0 = λ k. slice_get (slice_set marks p true) k ≡ Some b in

@@ -15,23 +15,23 @@ use Rattle.journal.proofs.Intervals.Dirty.{dirty_content}
 use Rattle.base.specs.InOrderOnce.{Has}
 use Rattle.base.specs.MarkedRecords.{harvest}
 use Rattle.base.proofs.MarkedHarvests.{length-marked}
-use Rattle.base.proofs.Joined.{in_order-append, in_order_single, has-append}
-use Rattle.base.proofs.SlicesAndCounts.{append_cases, push_cases, slice_get-append_left, slice_get-last}
+use Rattle.base.proofs.Joined.{in_order-append, joined_in_order_single, has-append}
+use Rattle.base.proofs.SlicesAndCounts.{slice_append_cases, slice_push_cases, slice_get-append_left, slice_get-last}
 use Rattle.base.proofs.Unmarked.{harvest_unmarked, unmarked_harvest}
 use Rattle.page.specs.CarriedHarvests.{IsHarvest}
 use Rattle.page.specs.RisingChanges.{Changes}
 use Rattle.page.specs.Contents.{IsClean}
-use Rattle.interval.specs.SentIntervals.{HasRisingPages}
+use Rattle.interval.specs.SentIntervals.{SentPagesRise}
 use Rattle.book.specs.ClosedIntervals.{AreIntervalContents}
 use Rattle.cluster.specs.Copies.PageReplica.{Copied}
 use Rattle.cluster.specs.Copies.Local.{Local, blank}
-use Rattle.cluster.specs.Copies.MarksAndHarvests.{IsOfCopy, AreHarvests}
+use Rattle.cluster.specs.Copies.MarksAndHarvests.{IsHarvestOfCopy, AreHarvests}
 use Rattle.cluster.specs.Copies.Sound.{IsSound}
 use Rattle.cluster.proofs.copies.Replicas.{replica_long}
 
 module _ (xs : List Copied) (c : Copied) (rs : List Changes) (hs : AreHarvests xs rs) where
-  longer : (r : Changes) → IsOfCopy xs r → IsOfCopy (xs ++ c ∷ []) r
-  longer r x = record {
+  record_longer : (r : Changes) → IsHarvestOfCopy xs r → IsHarvestOfCopy (xs ++ c ∷ []) r
+  record_longer r x = record {
     page = x.page;
     copy = x.copy;
     at = slice_get-append_left xs (c ∷ []) x.page (slice_get_within xs x.page x.copy x.at) ∙ x.at;
@@ -47,33 +47,33 @@ module _ (xs : List Copied) (c : Copied) (rs : List Changes) (hs : AreHarvests x
       last : Has (rs ++ r ∷ []) r
       last = (length rs, slice_get-last rs r)
 
-      here : IsOfCopy (xs ++ c ∷ []) r
+      here : IsHarvestOfCopy (xs ++ c ∷ []) r
       here = record { page = length xs; copy = c; at = slice_get-last xs c; harvest = harvest; dirty = dirty }
 
-      each : (x : Changes) → Has (rs ++ r ∷ []) x → IsOfCopy (xs ++ c ∷ []) x
-      each x has = elim (push_cases rs r has.0 x has.1) [
-        | inl old ↦ longer x (hs.each x (has.0, old.1))
-        | inr new ↦ subst (IsOfCopy (xs ++ c ∷ [])) new.1 here
+      each : (x : Changes) → Has (rs ++ r ∷ []) x → IsHarvestOfCopy (xs ++ c ∷ []) x
+      each x has = elim (slice_push_cases rs r has.0 x has.1) [
+        | inl old ↦ record_longer x (hs.each x (has.0, old.1))
+        | inr new ↦ subst (IsHarvestOfCopy (xs ++ c ∷ [])) new.1 here
       ]
 
       all : (n : ℕ) (d : Copied) → slice_get (xs ++ c ∷ []) n ≡ Some d → ¬ IsClean d.page
           → (x : Changes) × Has (rs ++ r ∷ []) x × (x.page ≡ n)
-      all n d at some = elim (push_cases xs c n d at) [
+      all n d at some = elim (slice_push_cases xs c n d at) [
         | inl old ↦
             (let x = hs.all n d old.1 some in
             (x.0, (has-append rs (r ∷ []) x.0).1 (inl x.1), x.2))
         | inr new ↦ (r, last, harvest.page_is ∙ sym new.0)
       ]
 
-      rising : HasRisingPages (rs ++ r ∷ [])
+      rising : SentPagesRise (rs ++ r ∷ [])
       rising = in_order-append (λ (a b : Changes). a.page < b.page) rs (r ∷ []) hs.rising
-          (in_order_single (λ (a b : Changes). a.page < b.page) r)
+          (joined_in_order_single (λ (a b : Changes). a.page < b.page) r)
           (λ a b has has_last.
           let x = hs.each a has in
           let below = slice_get_within xs x.page x.copy x.at in
           let is = x.harvest.page_is in
           let own = harvest.page_is in
-          let same : b ≡ r = elim (push_cases [] r has_last.0 b has_last.1) [
+          let same : b ≡ r = elim (slice_push_cases [] r has_last.0 b has_last.1) [
             | inl old ↦ absurd (none-some b old.1)
             | inr new ↦ sym new.1
           ] in
@@ -99,8 +99,8 @@ module _ (m : Local) (sound : IsSound m) where
       go false is = absurd (dirty (sound.clean n c at is))
 
   -- the history with the open block
-  abbrev now : List Event
-  now = m.seen ++ m.block
+  abbrev record_history_now : List Event
+  record_history_now = m.seen ++ m.block
 
   -- the number of the open interval
   abbrev number : ℕ
@@ -108,56 +108,56 @@ module _ (m : Local) (sound : IsSound m) where
 
   -- what the open interval comes to in a page
   record_content : (n : ℕ) (c : Copied) → slice_get m.copies n ≡ Some c
-      → IsContent m.sizes now m.number number n (harvest 0 c.page.words c.page.dirty)
+      → IsContent m.sizes record_history_now m.number number n (harvest 0 c.page.words c.page.dirty)
   record_content n c at =
       let dirty = (sound.copies.each n c at).dirty in
-      dirty_content m.sizes now m.number n c.page.words c.page.dirty sound.sizes.some_words dirty
+      dirty_content m.sizes record_history_now m.number n c.page.words c.page.dirty sound.sizes.some_words dirty
 
   -- a copy has as many marks as words
-  marks_long : (n : ℕ) (c : Copied) → slice_get m.copies n ≡ Some c → length c.page.dirty ≡ length c.page.words
-  marks_long n c at =
+  record_marks_long : (n : ℕ) (c : Copied) → slice_get m.copies n ≡ Some c → length c.page.dirty ≡ length c.page.words
+  record_marks_long n c at =
       let r = sound.copies.each n c at in
       let f = λ (e : Event). block_write m.sizes n e.kind in
       let none = replicate m.sizes.words false in
-      let marked = length-marked f none (since now m.number) ∙ length-replicate m.sizes.words false in
+      let marked = length-marked f none (since record_history_now m.number) ∙ length-replicate m.sizes.words false in
       let words = replica_long m.sizes m.seen m.block m.number n (sound.bases n) c r in
       ap length r.dirty.marks_are ∙ marked ∙ sym words
 
   -- each event so far is within the sizes
-  in_range : (i : ℕ) (e : Event) → At now i e → KindInRange m.sizes e.kind
-  in_range i e at = elim (append_cases m.seen m.block i e at) [
+  records_in_range : (i : ℕ) (e : Event) → At record_history_now i e → KindInRange m.sizes e.kind
+  records_in_range i e at = elim (slice_append_cases m.seen m.block i e at) [
     | inl old ↦ (sound.well_formed i e old.1).in_range
     | inr new ↦ (sound.inner new.0 e new.2).in_range
   ]
 
   -- a page that the open interval stores in is not clean
   recorded_stored_dirty : (n i : ℕ) (c : Copied) → slice_get m.copies n ≡ Some c
-      → StoresInInterval m.sizes now m.number number n i
+      → StoresInInterval m.sizes record_history_now m.number number n i
       → ¬ IsClean c.page
   recorded_stored_dirty n i c at stores clean =
       let is = record_content n c at in
       let nothing = ap (harvest 0 c.page.words) clean ∙ harvest_unmarked 0 c.page.words in
-      let P : List (ℕ × ℕ) → Type 0 = λ ws. IsContent m.sizes now m.number number n ws in
-      content_none m.sizes now m.number number n i (subst P nothing is) stores
+      let P : List (ℕ × ℕ) → Type 0 = λ ws. IsContent m.sizes record_history_now m.number number n ws in
+      content_none m.sizes record_history_now m.number number n i (subst P nothing is) stores
 
   -- the harvests of the copies with dirty words are the records of the open interval
   pub record_harvest_contents : (rs : List Changes) → AreHarvests m.copies rs
       → AreIntervalContents m.sizes (m.seen ++ m.block) m.number (count_of is_closing (m.seen ++ m.block) m.number) rs
   record_harvest_contents rs hs = record { each = each; some = some; all = all; rising = hs.rising }
     where
-      each : (r : Changes) → Has rs r → IsContent m.sizes now m.number number r.page r.words
+      each : (r : Changes) → Has rs r → IsContent m.sizes record_history_now m.number number r.page r.words
       each r has =
           let x = hs.each r has in
-          let P : ℕ → List (ℕ × ℕ) → Type 0 = λ n ws. IsContent m.sizes now m.number number n ws in
+          let P : ℕ → List (ℕ × ℕ) → Type 0 = λ n ws. IsContent m.sizes record_history_now m.number number n ws in
           subst₂ P (sym x.harvest.page_is) (sym x.harvest.words_are) (record_content x.page x.copy x.at)
 
       some : (r : Changes) → Has rs r → r.words ≢ []
       some r has none =
           let x = hs.each r has in
-          let long = marks_long x.page x.copy x.at in
+          let long = record_marks_long x.page x.copy x.at in
           x.dirty (unmarked_harvest 0 x.copy.page.words x.copy.page.dirty long (sym x.harvest.words_are ∙ none))
 
-      all : (n i : ℕ) → StoresInInterval m.sizes now m.number number n i → (r : Changes) × Has rs r × (r.page ≡ n)
+      all : (n i : ℕ) → StoresInInterval m.sizes record_history_now m.number number n i → (r : Changes) × Has rs r × (r.page ≡ n)
       all n i stores = hs.all n copy found (recorded_stored_dirty n i copy found stores)
         where
           copy : Copied
@@ -165,7 +165,7 @@ module _ (m : Local) (sound : IsSound m) where
 
           within : n < m.sizes.pages
           within =
-              let a = in_range i (event m.number (Store stores.0 stores.1)) stores.2 in
+              let a = records_in_range i (event m.number (Store stores.0 stores.1)) stores.2 in
               let P : ℕ → Type 0 = λ k. k < m.sizes.pages in
               subst P stores.3 ((div-lt_iff_lt-mul sound.sizes.some_words).1 a)
 

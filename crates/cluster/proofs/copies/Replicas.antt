@@ -8,7 +8,7 @@ use Rattle.journal.specs.DidEvent.{event, did}
 use Rattle.journal.specs.Sizes.{Sizes}
 use Rattle.journal.specs.Events.{At, is_closing, is_taking}
 use Rattle.journal.specs.Blocks.{block_write, IsBlock}
-use Rattle.journal.specs.ValidAndStaleCopy.{Touches, IsValidCopy, IsStaleCopy}
+use Rattle.journal.specs.ValidAndStaleCopy.{TouchesCopy, IsValidCopy, IsStaleCopy}
 use Rattle.journal.specs.ContentsSince.{since}
 use Rattle.journal.specs.Dirty.{IsDirty}
 use Rattle.journal.proofs.CopyOfPage.ValidAndStale.{valid_push, stale_push, valid_others, stale_others, valid_handed, stale_handed}
@@ -16,12 +16,12 @@ use Rattle.journal.proofs.Intervals.Dirty.{dirty_push, dirty_others, dirty_closi
 use Rattle.base.specs.LastWritten.{wrote}
 use Rattle.base.specs.MarkedRecords.{mark}
 use Rattle.base.proofs.LastWritten.{length-written}
-use Rattle.base.proofs.SlicesAndCounts.{push_cases}
+use Rattle.base.proofs.SlicesAndCounts.{slice_push_cases}
 use Rattle.page.specs.declared.page.Access.TheVariants.{Invalid}
 use Rattle.page.specs.Contents.{IsClean}
 use Rattle.book.specs.News.{news_of_notice}
 use Rattle.cluster.specs.Copies.PageReplica.{Copied, IsReplica}
-use Rattle.cluster.specs.Copies.AfterNews.{IsSameCopy, cleaned}
+use Rattle.cluster.specs.Copies.AfterNews.{IsSameCopyAfterNews, copy_cleaned_after_news}
 
 -- a copy has as many words as its page
 pub replica_long : (s : Sizes) (seen block : List Event) (p n : ℕ) (base : List ℕ) (c : Copied)
@@ -33,7 +33,7 @@ replica_long s seen block p n base c r =
 
 -- a copy's room is no matter
 pub replica_same : (s : Sizes) (seen block : List Event) (p n : ℕ) (base : List ℕ) (c d : Copied)
-    → IsSameCopy c d
+    → IsSameCopyAfterNews c d
     → IsReplica s seen block p n base c
     → IsReplica s seen block p n base d
 replica_same s seen block p n base c d same r = record {
@@ -44,18 +44,18 @@ replica_same s seen block p n base c d same r = record {
 }
 
 -- the copy d is c after an event of the block
-pub record IsAfterEvent (s : Sizes) (n : ℕ) (e : Event) (c d : Copied) : Type 0 where
+pub record IsReplicaAfterEvent (s : Sizes) (n : ℕ) (e : Event) (c d : Copied) : Type 0 where
   pub words : d.page.words ≡ wrote c.page.words (block_write s n e.kind)
   pub dirty : d.page.dirty ≡ mark c.page.dirty (block_write s n e.kind)
   pub access : d.page.access ≡ c.page.access
   pub missing : d.missing ≡ c.missing
-  pub away : c.page.access ≡ Invalid → (¬ Touches s n e.kind) × (block_write s n e.kind ≡ None)
+  pub away : c.page.access ≡ Invalid → (¬ TouchesCopy s n e.kind) × (block_write s n e.kind ≡ None)
 
 -- an event of the block that doesn't use a stale copy
 pub replica_pushed : (s : Sizes) (seen block : List Event) (e : Event) (p n : ℕ) (base : List ℕ) (c d : Copied)
     → e.processor ≡ p
     → is_closing e.kind ≡ false
-    → IsAfterEvent s n e c d
+    → IsReplicaAfterEvent s n e c d
     → IsReplica s seen block p n base c
     → IsReplica s seen (block ++ e ∷ []) p n base d
 replica_pushed s seen block e p n base c d mine inner after r = record {
@@ -121,31 +121,31 @@ replica_handed s seen block p n base c is r = record {
 }
 
 -- what closes an interval takes nothing
-pub closing_takes : (k : Kind) → is_closing k ≡ true → is_taking k ≡ false
-closing_takes (Ask l) closes = refl
-closing_takes (Release l) closes = refl
-closing_takes Arrive closes = refl
-closing_takes (Set f) closes = refl
-closing_takes (Watch f) closes = refl
-closing_takes _ closes = absurd (true≢false (sym closes))
+pub replica_closing_takes : (k : Kind) → is_closing k ≡ true → is_taking k ≡ false
+replica_closing_takes (Ask l) closes = refl
+replica_closing_takes (Release l) closes = refl
+replica_closing_takes Arrive closes = refl
+replica_closing_takes (Set f) closes = refl
+replica_closing_takes (Watch f) closes = refl
+replica_closing_takes _ closes = absurd (true≢false (sym closes))
 
 -- it touches no page
-pub closing_touches : (s : Sizes) (n : ℕ) (k : Kind) → is_closing k ≡ true → ¬ Touches s n k
-closing_touches s n (Load a v) closes = absurd (true≢false (sym closes))
-closing_touches s n (Store a v) closes = absurd (true≢false (sym closes))
-closing_touches s n (Fetch w m r d) closes = absurd (true≢false (sym closes))
-closing_touches s n _ closes = λ h. h
+pub replica_closing_touches : (s : Sizes) (n : ℕ) (k : Kind) → is_closing k ≡ true → ¬ TouchesCopy s n k
+replica_closing_touches s n (Load a v) closes = absurd (true≢false (sym closes))
+replica_closing_touches s n (Store a v) closes = absurd (true≢false (sym closes))
+replica_closing_touches s n (Fetch w m r d) closes = absurd (true≢false (sym closes))
+replica_closing_touches s n _ closes = λ h. h
 
 -- and stores in none
-pub closing_writes : (s : Sizes) (n : ℕ) (k : Kind) → is_closing k ≡ true → block_write s n k ≡ None
-closing_writes s n (Store a v) closes = absurd (true≢false (sym closes))
-closing_writes s n _ closes = refl
+pub replica_closing_writes : (s : Sizes) (n : ℕ) (k : Kind) → is_closing k ≡ true → block_write s n k ≡ None
+replica_closing_writes s n (Store a v) closes = absurd (true≢false (sym closes))
+replica_closing_writes s n _ closes = refl
 
 -- an event that closes the interval cleans the copy
 pub replica_closed : (s : Sizes) (seen : List Event) (p n : ℕ) (k : Kind) (base : List ℕ) (c : Copied)
     → is_closing k ≡ true
     → IsReplica s seen [] p n base c
-    → IsReplica s (did seen p k) [] p n c.page.words (cleaned c)
+    → IsReplica s (did seen p k) [] p n c.page.words (copy_cleaned_after_news c)
 replica_closed s seen p n k base c closes r = record {
   valid = λ h. let old = r.valid h in (valid old.0, old.1);
   stale = λ h. let old = r.stale h in (stale old.0, old.1, refl);
@@ -157,25 +157,25 @@ replica_closed s seen p n k base c closes r = record {
     e = event p k
 
     is : IsBlock p (e ∷ [])
-    is m f at = elim (push_cases [] e m f at) [
+    is m f at = elim (slice_push_cases [] e m f at) [
       | inl old ↦ absurd (none-some f old.1)
       | inr new ↦
           (let P : Event → Type 0 = λ g. (g.processor ≡ p) × (is_taking g.kind ≡ false) in
-          subst P new.1 (refl, closing_takes k closes))
+          subst P new.1 (refl, replica_closing_takes k closes))
     ]
 
     valid : IsValidCopy s seen [] p n base c.page.words
         → IsValidCopy s (did seen p k) [] p n c.page.words c.page.words
     valid old =
         let pushed = valid_push s seen [] e p n base c.page.words old in
-        let same = ap (wrote c.page.words) (closing_writes s n k closes) in
+        let same = ap (wrote c.page.words) (replica_closing_writes s n k closes) in
         let P : List ℕ → Type 0 = λ page. IsValidCopy s seen (e ∷ []) p n base page in
         valid_handed s seen (e ∷ []) p n base c.page.words is (subst P same pushed)
 
     stale : IsStaleCopy s seen [] p n c.page.words (map news_of_notice c.missing)
         → IsStaleCopy s (did seen p k) [] p n c.page.words (map news_of_notice c.missing)
     stale old =
-        let away = closing_touches s n k closes in
+        let away = replica_closing_touches s n k closes in
         let pushed = stale_push s seen [] e p n c.page.words (map news_of_notice c.missing) away old in
         stale_handed s seen (e ∷ []) p n c.page.words (map news_of_notice c.missing) is pushed
 

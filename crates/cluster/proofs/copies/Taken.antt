@@ -23,27 +23,27 @@ use Rattle.page.specs.Contents.{Contents, IsClean}
 use Rattle.interval.specs.SentIntervals.{SentRecord}
 use Rattle.book.specs.News.{news_of_notice}
 use Rattle.cluster.specs.Copies.PageReplica.{Copied, IsReplica}
-use Rattle.cluster.specs.Copies.AfterNews.{IsSameCopy, IsAfterNews}
+use Rattle.cluster.specs.Copies.AfterNews.{IsSameCopyAfterNews, IsAfterNews}
 use Rattle.cluster.proofs.copies.Replicas.{replica_same}
 
 -- what takes closes no interval
-pub taking_closes : (k : Kind) → is_taking k ≡ true → is_closing k ≡ false
-taking_closes (Acquire l) takes = refl
-taking_closes Depart takes = refl
-taking_closes (Await f) takes = refl
-taking_closes _ takes = absurd (true≢false (sym takes))
+pub taken_closes_none : (k : Kind) → is_taking k ≡ true → is_closing k ≡ false
+taken_closes_none (Acquire l) takes = refl
+taken_closes_none Depart takes = refl
+taken_closes_none (Await f) takes = refl
+taken_closes_none _ takes = absurd (true≢false (sym takes))
 
 -- and waits for nothing
-pub taking_awaits : (k : Kind) → is_taking k ≡ true → awaited k ≡ None
-taking_awaits (Acquire l) takes = refl
-taking_awaits Depart takes = refl
-taking_awaits (Await f) takes = refl
-taking_awaits _ takes = absurd (true≢false (sym takes))
+pub taken_awaits_none : (k : Kind) → is_taking k ≡ true → awaited k ≡ None
+taken_awaits_none (Acquire l) takes = refl
+taken_awaits_none Depart takes = refl
+taken_awaits_none (Await f) takes = refl
+taken_awaits_none _ takes = absurd (true≢false (sym takes))
 
 -- it stores in no page
-taking_writes : (s : Sizes) (n : ℕ) (k : Kind) → is_taking k ≡ true → block_write s n k ≡ None
-taking_writes s n (Store a v) takes = absurd (true≢false (sym takes))
-taking_writes s n _ takes = refl
+taken_writes_none : (s : Sizes) (n : ℕ) (k : Kind) → is_taking k ≡ true → block_write s n k ≡ None
+taken_writes_none s n (Store a v) takes = absurd (true≢false (sym takes))
+taken_writes_none s n _ takes = refl
 
 -- a stale copy may list what it lacks in another order
 taken_stale_same : (s : Sizes) (j block : List Event) (p n : ℕ) (page : List ℕ) (missing other : List Missing)
@@ -97,7 +97,7 @@ module _ (c d : Copied) (news : List SentRecord) (after : IsAfterNews c news d) 
           ])
 
 -- what comes to a copy comes to one that is the same but for its room
-pub taken_news_same : (c d e : Copied) (news : List SentRecord) → IsSameCopy c d → IsAfterNews d news e
+pub taken_news_same : (c d e : Copied) (news : List SentRecord) → IsSameCopyAfterNews c d → IsAfterNews d news e
     → IsAfterNews c news e
 taken_news_same c d e news same after = record {
   none = λ none. let still = after.none none in record {
@@ -121,8 +121,8 @@ module _ (s : Sizes) (seen : List Event) (p n : ℕ) (k : Kind) (t t' : ℕ → 
     dirty_taken : IsDirty s (did seen p k ++ []) p n c.page.words c.page.dirty
     dirty_taken =
         let old = rw append-nil at r.dirty in
-        let now = dirty_push s seen (event p k) p n c.page.words c.page.dirty refl (taking_closes k takes) old in
-        rw append-nil (rw (taking_writes s n k takes) at now)
+        let now = dirty_push s seen (event p k) p n c.page.words c.page.dirty refl (taken_closes_none k takes) old in
+        rw append-nil (rw (taken_writes_none s n k takes) at now)
 
     -- without news the copy stays as it is
     taken_without_news : AreMissingNotices s seen p n t t' [] → IsReplica s (did seen p k) [] p n c.page.words c

@@ -8,7 +8,7 @@ use Rattle.journal.specs.declared.event.Event.{Event}
 use Rattle.journal.specs.declared.event.Kind.TheVariants.{Store}
 use Rattle.journal.specs.DidEvent.{event}
 use Rattle.journal.specs.Events.{is_closing, interval_at}
-use Rattle.journal.specs.MissingWords.{Missing, IsPlaced, AreMissing, AreMissingNotices, MissingInOrder}
+use Rattle.journal.specs.MissingWords.{Missing, IsMissingPlaced, AreMissing, AreMissingNotices, MissingInOrder}
 use Rattle.journal.specs.Times.{IsTimeOf}
 use Rattle.journal.specs.Sizes.{Sizes}
 use Rattle.journal.proofs.Missing.GapsTaken.{gaps_apart}
@@ -21,24 +21,24 @@ use Rattle.page.specs.declared.page.Access.{Access}
 use Rattle.page.specs.declared.page.Access.TheVariants.{Valid, Invalid}
 use Rattle.page.specs.Contents.{IsClean}
 use Rattle.interval.specs.SentIntervals.{SentRecord}
-use Rattle.interval.specs.Closings.{is_of_page}
+use Rattle.interval.specs.Closings.{is_closing_of_page}
 use Rattle.book.specs.News.{news_of_notice, news_of_page}
 use Rattle.cluster.specs.Copies.PageReplica.{Copied, IsReplica}
 use Rattle.cluster.specs.Copies.Local.{Local}
 use Rattle.cluster.specs.Copies.Sound.{IsSound}
-use Rattle.cluster.specs.Copies.AfterNews.{AreSameCopies, IsSameCopy, MayLackNews, MayLearnNews}
+use Rattle.cluster.specs.Copies.AfterNews.{AreSameCopies, IsSameCopyAfterNews, MayLackNews, MayLearnNews}
 use Rattle.cluster.proofs.copies.Replicas.{replica_same}
 use Rattle.cluster.proofs.copies.Taking.{waiting_to_take_clean}
 
 -- a closing number is of one interval
-placed_apart : (j : List Event) (q k r m place : ℕ) → IsPlaced j q k place → IsPlaced j r m place
+waiting_placed_apart : (j : List Event) (q k r m place : ℕ) → IsMissingPlaced j q k place → IsMissingPlaced j r m place
     → (q ≡ r) × (k ≡ m)
-placed_apart j q k r m place x y = (owner, number)
+waiting_placed_apart j q k r m place x y = (owner, number)
   where
     closes : Event → Bool
     closes e = is_closing e.kind
 
-    not_before : (q k r m : ℕ) (x : IsPlaced j q k place) (y : IsPlaced j r m place) → y.at ≤ x.at
+    not_before : (q k r m : ℕ) (x : IsMissingPlaced j q k place) (y : IsMissingPlaced j r m place) → y.at ≤ x.at
     not_before q k r m x y = elim (cases_lt x.at y.at) [
       | inl less ↦
           (let past = count_by-past closes j x.at y.at (event q x.closes.kind) x.closes.does x.closes.closes less in
@@ -66,22 +66,22 @@ placed_apart j q k r m place x y = (owner, number)
         ∙ y.number
 
 -- what p's timestamp counts is not among what a copy misses and what is news
-missing_apart : (s : Sizes) (j : List Event) (p n : ℕ) (t t' : ℕ → ℕ) (missing new : List Missing) → IsTimeOf j p t
+waiting_missing_apart : (s : Sizes) (j : List Event) (p n : ℕ) (t t' : ℕ → ℕ) (missing new : List Missing) → IsTimeOf j p t
     → AreMissing s j p n missing
     → AreMissingNotices s j p n t t' new
     → (x y : Missing)
     → Has missing x
     → Has new y
     → x.place ≢ y.place
-missing_apart s j p n t t' missing new time are news x y has now same =
+waiting_missing_apart s j p n t t' missing new time are news x y has now same =
     let g = (are.each x.owner x.number).0 (x, has, refl, refl) in
     let apart = gaps_apart s j p n x.owner g.1.0 g.0 g.1.1 g.1.3 g.1.2 in
     let counted = (covered j p x.owner g.1.0 (Store g.0 g.1.1) t time g.1.2 apart).0 g.1.3.past in
     let number = g.1.4 in
     let uncounted = ((news.each y.owner y.number).0 (y, now, refl, refl)).3 in
-    let P : ℕ → Type 0 = λ k. IsPlaced j y.owner y.number k in
+    let P : ℕ → Type 0 = λ k. IsMissingPlaced j y.owner y.number k in
     let one =
-    placed_apart j x.owner x.number y.owner y.number x.place (are.placed x has)
+    waiting_placed_apart j x.owner x.number y.owner y.number x.place (are.placed x has)
     (subst P (sym same) (news.placed y now)) in
     let owners : t x.owner ≡ t y.owner = ap t one.0 in
     let numbers : x.number ≡ y.number = one.1 in
@@ -89,12 +89,12 @@ missing_apart s j p n t t' missing new time are news x y has now same =
 
 module _ (m : Local) (sound : IsSound m) (copies : List Copied) (same : AreSameCopies m.copies copies) where
   -- the copy as it was before room was made
-  record WasSame (n : ℕ) (d : Copied) : Type 0 where
+  record WasSameBeforeWaiting (n : ℕ) (d : Copied) : Type 0 where
     copy : Copied
     at : slice_get m.copies n ≡ Some copy
-    kept : IsSameCopy copy d
+    kept : IsSameCopyAfterNews copy d
 
-  waiting_was_same : (n : ℕ) (d : Copied) → slice_get copies n ≡ Some d → WasSame n d
+  waiting_was_same : (n : ℕ) (d : Copied) → slice_get copies n ≡ Some d → WasSameBeforeWaiting n d
   waiting_was_same n d at =
       let inside = slice_get_within copies n d at in
       let all = same.all in
@@ -139,14 +139,14 @@ module _ (m : Local) (sound : IsSound m) (copies : List Copied) (same : AreSameC
   module _ (waits : m.awaits ≢ None) (sent : List SentRecord) (t' : ℕ → ℕ)
       (news : (n : ℕ) → AreMissingNotices m.sizes m.seen m.number n (slice_index m.time) t' (news_of_page n sent))
       (order : (n : ℕ) → MissingInOrder (news_of_page n sent))
-      (room : (n : ℕ) (c : Copied) → slice_get copies n ≡ Some c → count_by (is_of_page n) sent ≤ c.room)
+      (room : (n : ℕ) (c : Copied) → slice_get copies n ≡ Some c → count_by (is_closing_of_page n) sent ≤ c.room)
     where
       -- what comes is of pages that there are
-      in_range : (x : SentRecord) → Has sent x → x.notice.page < length copies
-      in_range x has =
+      waiting_news_in_range : (x : SentRecord) → Has sent x → x.notice.page < length copies
+      waiting_news_in_range x has =
           let n = x.notice.page in
-          let mine = (has-filter (is_of_page n) sent x).1 (has, eq-eqb n n refl) in
-          let here = (has-map news_of_notice (filter (is_of_page n) sent) (news_of_notice x)).1 (x, mine, refl) in
+          let mine = (has-filter (is_closing_of_page n) sent x).1 (has, eq-eqb n n refl) in
+          let here = (has-map news_of_notice (filter (is_closing_of_page n) sent) (news_of_notice x)).1 (x, mine, refl) in
           let store = (((news n).each x.notice.owner x.notice.number).0 (news_of_notice x, here, refl, refl)).1 in
           let lawful =
           (sound.well_formed (((news n).each x.notice.owner x.notice.number).0 (news_of_notice x, here, refl, refl)).0
@@ -159,7 +159,7 @@ module _ (m : Local) (sound : IsSound m) (copies : List Copied) (same : AreSameC
 
       -- what comes of a page is not among what its copy lacks
       apart : (n : ℕ) (c : Copied) → slice_get m.copies n ≡ Some c → (x y : SentRecord) → Has c.missing x
-          → Has (filter (is_of_page n) sent) y
+          → Has (filter (is_closing_of_page n) sent) y
           → x.place ≢ y.place
       apart n c at x y has now = go c.page.access refl
         where
@@ -173,23 +173,23 @@ module _ (m : Local) (sound : IsSound m) (copies : List Copied) (same : AreSameC
           go Invalid is =
               let lacks = (replica.stale is).0.lacks in
               let here = (has-map news_of_notice c.missing (news_of_notice x)).1 (x, has, refl) in
-              let there = (has-map news_of_notice (filter (is_of_page n) sent) (news_of_notice y)).1 (y, now, refl) in
-              missing_apart m.sizes m.seen m.number n (slice_index m.time) t' (map news_of_notice c.missing)
+              let there = (has-map news_of_notice (filter (is_closing_of_page n) sent) (news_of_notice y)).1 (y, now, refl) in
+              waiting_missing_apart m.sizes m.seen m.number n (slice_index m.time) t' (map news_of_notice c.missing)
               (news_of_page n sent)
               sound.time.is lacks (news n) (news_of_notice x) (news_of_notice y) here there
 
       -- a processor that waits may learn what it lacks, where its copies have room
       pub waiting_may_learn : MayLearnNews copies sent
-      waiting_may_learn = record { in_range = in_range; each = each }
+      waiting_may_learn = record { in_range = waiting_news_in_range; each = each }
         where
-          each : (n : ℕ) (d : Copied) → slice_get copies n ≡ Some d → MayLackNews d (filter (is_of_page n) sent)
+          each : (n : ℕ) (d : Copied) → slice_get copies n ≡ Some d → MayLackNews d (filter (is_closing_of_page n) sent)
           each n d at = record {
-            room = let fits = room n d at in let counts = length-filter (is_of_page n) sent in omega arith;
+            room = let fits = room n d at in let counts = length-filter (is_closing_of_page n) sent in omega arith;
             clean = λ _. subst IsClean (sym c.kept.page) (waiting_to_take_clean m sound waits n c.copy c.at);
             order = rw (c.kept.missing) (sound.copies.each n c.copy c.at).order;
             news_order = order n;
             apart = rw (c.kept.missing) (apart n c.copy c.at);
           }
             where
-              c : WasSame n d
+              c : WasSameBeforeWaiting n d
               c = waiting_was_same n d at

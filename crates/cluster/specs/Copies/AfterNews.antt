@@ -12,7 +12,7 @@ use Rattle.vtime.specs.Times.{tick, join}
 use Rattle.page.specs.declared.page.Access.TheVariants.{Invalid}
 use Rattle.page.specs.Contents.{IsClean}
 use Rattle.interval.specs.SentIntervals.{SentRecord}
-use Rattle.interval.specs.Closings.{is_of_page}
+use Rattle.interval.specs.Closings.{is_closing_of_page}
 use Rattle.book.specs.News.{news_of_notice}
 use Rattle.cluster.specs.Copies.PageReplica.{Copied}
 use Rattle.cluster.specs.Copies.Local.{Local}
@@ -22,12 +22,12 @@ abbrev pub found : Local → List Event → Local
 found m rest = record m { seen = m.seen ++ rest }
 
 -- after it handed its block in
-abbrev pub handed : Local → Local
-handed m = record m { seen = m.seen ++ m.block; block = [] }
+abbrev pub handed_after_news : Local → Local
+handed_after_news m = record m { seen = m.seen ++ m.block; block = [] }
 
 -- the copy with no word dirty
-abbrev pub cleaned : Copied → Copied
-cleaned c = record c { page = record c.page { dirty = replicate (length c.page.words) false } }
+abbrev pub copy_cleaned_after_news : Copied → Copied
+copy_cleaned_after_news c = record c { page = record c.page { dirty = replicate (length c.page.words) false } }
 
 -- the locks held after this event
 abbrev pub held_after : Kind → List Bool → List Bool
@@ -36,10 +36,10 @@ held_after (Release l) held = slice_set held l false
 held_after _ held = held
 
 -- after an event of its own that closes its interval
-abbrev pub interval_closed : Local → Kind → Local
-interval_closed m k = record m {
+abbrev pub closed_after_news : Local → Kind → Local
+closed_after_news m k = record m {
   seen = did m.seen m.number k;
-  copies = map cleaned m.copies;
+  copies = map copy_cleaned_after_news m.copies;
   stored = replicate most_pages false;
   time = tick m.time m.number;
   held = held_after k m.held;
@@ -47,19 +47,19 @@ interval_closed m k = record m {
 }
 
 -- the copy d is c, except for its room
-pub record IsSameCopy (c d : Copied) : Type 0 where
+pub record IsSameCopyAfterNews (c d : Copied) : Type 0 where
   pub page : d.page ≡ c.page
   pub missing : d.missing ≡ c.missing
 
 -- each copy is as it was, except for its room
 pub record AreSameCopies (old new : List Copied) : Type 0 where
   pub all : length new ≡ length old
-  pub each : (n : ℕ) (c d : Copied) → slice_get old n ≡ Some c → slice_get new n ≡ Some d → IsSameCopy c d
+  pub each : (n : ℕ) (c d : Copied) → slice_get old n ≡ Some c → slice_get new n ≡ Some d → IsSameCopyAfterNews c d
 
 -- the copy d is c after these records of its page came: as it was if none came, else stale, and it lacks what it
 -- lacked and these, in closing order
 pub record IsAfterNews (c : Copied) (news : List SentRecord) (d : Copied) : Type 0 where
-  pub none : news ≡ [] → IsSameCopy c d
+  pub none : news ≡ [] → IsSameCopyAfterNews c d
   pub page : news ≢ [] → d.page ≡ record c.page { access = Invalid }
   pub lacks : (x : SentRecord) → Has d.missing x ↔ (Has c.missing x ⊎ Has news x)
   pub order : MissingInOrder (map news_of_notice d.missing)
@@ -68,11 +68,11 @@ pub record IsAfterNews (c : Copied) (news : List SentRecord) (d : Copied) : Type
 pub record AreAfterNews (old : List Copied) (sent : List SentRecord) (new : List Copied) : Type 0 where
   pub all : length new ≡ length old
   pub each : (n : ℕ) (c d : Copied) → slice_get old n ≡ Some c → slice_get new n ≡ Some d
-      → IsAfterNews c (filter (is_of_page n) sent) d
+      → IsAfterNews c (filter (is_closing_of_page n) sent) d
 
 -- nothing is counted
-abbrev pub AreZeros : List ℕ → Type 0
-AreZeros counts = EachIndex counts (λ n. slice_index counts n ≡ 0)
+abbrev pub AreZerosAfterNews : List ℕ → Type 0
+AreZerosAfterNews counts = EachIndex counts (λ n. slice_index counts n ≡ 0)
 
 -- each copy's list has memory for as many more records as its count says
 abbrev pub HaveRoomForNews : List ℕ → List Copied → Type 0
@@ -90,7 +90,7 @@ pub record MayLackNews (c : Copied) (news : List SentRecord) : Type 0 where
 -- each of these records is of a page that has a copy, whose list may take it
 pub record MayLearnNews (copies : List Copied) (sent : List SentRecord) : Type 0 where
   pub in_range : (x : SentRecord) → Has sent x → x.notice.page < length copies
-  pub each : (n : ℕ) (c : Copied) → slice_get copies n ≡ Some c → MayLackNews c (filter (is_of_page n) sent)
+  pub each : (n : ℕ) (c : Copied) → slice_get copies n ≡ Some c → MayLackNews c (filter (is_closing_of_page n) sent)
 
 -- after it took this, which came with this time, and its copies are then these
 abbrev pub took_news : Local → Kind → List ℕ → List Copied → Local

@@ -3,17 +3,17 @@ use Rattle.std.specs.Prelude.{ℕ, ◌≡◌, ◌<◌, ◌≤◌, Some, List, []
 use Rattle.interval.specs.SentIntervals.{SentRecord}
 
 -- the records in their order, and for how many more of them there is memory
-pub record Backlogged : Type 0 where
+pub record BacklogOfCopy : Type 0 where
   pub records : List SentRecord
   pub room : ℕ
 
 -- no records, and memory for none
-abbrev pub no_backlog : Backlogged
+abbrev pub no_backlog : BacklogOfCopy
 no_backlog = record { records = []; room = 0 }
 
 -- a list read round from its k-th item on
-abbrev pub read_from : {A : Type 0} → ℕ → List A → List A
-read_from k xs = drop k xs ++ take k xs
+abbrev pub backlog_read_from : {A : Type 0} → ℕ → List A → List A
+backlog_read_from k xs = drop k xs ++ take k xs
 
 -- the first k of the records were closed no later than `place`, and the others later
 pub record IsPlaceInBacklog (missing : List SentRecord) (place k : ℕ) : Type 0 where

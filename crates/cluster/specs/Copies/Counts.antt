@@ -1,17 +1,17 @@
 -- What a fetch counts.
 use Rattle.std.specs.Prelude.{◌≡◌, ◌<◌, ◌^◌, List, length, sum_by}
-use Rattle.journal.specs.PageImages.{HasCount}
+use Rattle.journal.specs.PageImages.{HasImageCount}
 use Rattle.interval.specs.SentIntervals.{SentRecord}
 use Rattle.cluster.specs.declared.copies.page_copy.MissingCounts.{MissingCounts}
-use Rattle.cluster.specs.Copies.PageReplica.{record_words, IsOwner}
+use Rattle.cluster.specs.Copies.PageReplica.{replica_record_words, IsReplicaOwner}
 
 -- how many owners, records and words these are
 pub record AreCounts (missing : List SentRecord) (c : MissingCounts) : Type 0 where
-  pub writers : HasCount (IsOwner missing) c.writers
+  pub writers : HasImageCount (IsReplicaOwner missing) c.writers
   pub records : c.records ≡ length missing
-  pub words : c.words ≡ sum_by (λ x. length (record_words x)) missing
+  pub words : c.words ≡ sum_by (λ x. length (replica_record_words x)) missing
 
 -- how many they are, and their words, fits a fetch's counts
 pub record AreCountable (missing : List SentRecord) : Type 0 where
   pub records : length missing < 2 ^ 32
-  pub words : sum_by (λ x. length (record_words x)) missing < 2 ^ 32
+  pub words : sum_by (λ x. length (replica_record_words x)) missing < 2 ^ 32

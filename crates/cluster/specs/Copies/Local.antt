@@ -6,7 +6,7 @@ use Rattle.journal.specs.declared.event.Kind.{Kind}
 use Rattle.journal.specs.Sizes.{Sizes}
 use Rattle.journal.specs.Events.{events_of}
 use Rattle.journal.specs.DidEvent.{event}
-use Rattle.turn.specs.Chairs.{LockId}
+use Rattle.turn.specs.Chairs.{ChairLockId}
 use Rattle.cluster.specs.Copies.PageReplica.{Copied, zero_replica}
 
 -- its lock and how often it has entered; its number and the cluster's sizes; the history as it left it last, how many
@@ -14,7 +14,7 @@ use Rattle.cluster.specs.Copies.PageReplica.{Copied, zero_replica}
 -- stored since its last closing event;
 -- its timestamp; which locks it holds; and what it waits for
 pub record Local : Type 0 where
-  pub lock : LockId
+  pub lock : ChairLockId
   pub entries : ℕ
   pub number : ℕ
   pub sizes : Sizes
@@ -33,15 +33,15 @@ abbrev pub calls : Local → List Event
 calls m = events_of m.seen m.number ++ m.block
 
 -- after one more event of its open block
-abbrev pub noted : Local → Kind → Local
-noted m k = record m { block = m.block ++ event m.number k ∷ [] }
+abbrev pub local_noted : Local → Kind → Local
+local_noted m k = record m { block = m.block ++ event m.number k ∷ [] }
 
 -- a copy of a page that nobody stored to
 abbrev pub blank : Sizes → Copied
 blank s = zero_replica s.words
 
 -- processor p of this lock before its first call
-abbrev pub new_local : LockId → ℕ → Sizes → Local
+abbrev pub new_local : ChairLockId → ℕ → Sizes → Local
 new_local l p s = record {
   lock = l;
   entries = 0;

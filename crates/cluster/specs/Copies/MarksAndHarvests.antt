@@ -5,7 +5,7 @@ use Rattle.base.specs.InOrderOnce.{Has}
 use Rattle.page.specs.CarriedHarvests.{IsHarvest}
 use Rattle.page.specs.RisingChanges.{Changes}
 use Rattle.page.specs.Contents.{IsClean}
-use Rattle.interval.specs.SentIntervals.{HasRisingPages}
+use Rattle.interval.specs.SentIntervals.{SentPagesRise}
 use Rattle.cluster.specs.Copies.PageReplica.{Copied}
 
 -- n is the least number from `start` on with a mark
@@ -24,7 +24,7 @@ pub record DirtyAreMarked (copies : List Copied) (marks : List Bool) : Type 0 wh
   pub clean : (n : ℕ) (c : Copied) → slice_get copies n ≡ Some c → slice_get marks n ≡ Some false → IsClean c.page
 
 -- the record is the harvest of one of the copies, some word of which is dirty
-pub record IsOfCopy (copies : List Copied) (r : Changes) : Type 0 where
+pub record IsHarvestOfCopy (copies : List Copied) (r : Changes) : Type 0 where
   pub page : ℕ
   pub copy : Copied
   pub at : slice_get copies page ≡ Some copy
@@ -33,7 +33,7 @@ pub record IsOfCopy (copies : List Copied) (r : Changes) : Type 0 where
 
 -- the records are the harvests of the copies with dirty words, by rising page
 pub record AreHarvests (copies : List Copied) (records : List Changes) : Type 0 where
-  pub each : (r : Changes) → Has records r → IsOfCopy copies r
+  pub each : (r : Changes) → Has records r → IsHarvestOfCopy copies r
   pub all : (n : ℕ) (c : Copied) → slice_get copies n ≡ Some c → ¬ IsClean c.page
       → (r : Changes) × Has records r × (r.page ≡ n)
-  pub rising : HasRisingPages records
+  pub rising : SentPagesRise records

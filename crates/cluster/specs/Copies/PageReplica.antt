@@ -36,9 +36,9 @@ may_use_replica Valid = true
 may_use_replica Invalid = false
 
 -- the words of a copy, if it may be used
-abbrev pub words_if : Bool → Copied → Option (List ℕ)
-words_if true c = Some c.page.words
-words_if false c = None
+abbrev pub replica_words_if : Bool → Copied → Option (List ℕ)
+replica_words_if true c = Some c.page.words
+replica_words_if false c = None
 
 -- a copy of zeros that lacks nothing
 abbrev pub zero_replica : ℕ → Copied
@@ -54,26 +54,26 @@ replica_written_at c o v =
     record c { page = record c.page { words = slice_set c.page.words o v; dirty = slice_set c.page.dirty o true } }
 
 -- the words of a record that was sent
-abbrev pub record_words : SentRecord → List (ℕ × ℕ)
-record_words x = x.content.words
+abbrev pub replica_record_words : SentRecord → List (ℕ × ℕ)
+replica_record_words x = x.content.words
 
 -- the copy with its missing records applied, in their order; their places in the list are room again
 abbrev pub replica_fetched : Copied → Copied
 replica_fetched c = record {
-  page = record c.page { words = records_applied c.page.words (map record_words c.missing); access = Valid };
+  page = record c.page { words = records_applied c.page.words (map replica_record_words c.missing); access = Valid };
   missing = [];
   room = c.room + length c.missing;
 }
 
 -- q owns one of the records
-abbrev pub IsOwner : List SentRecord → ℕ → Type 0
-IsOwner missing q = (x : SentRecord) × Has missing x × (x.notice.owner ≡ q)
+abbrev pub IsReplicaOwner : List SentRecord → ℕ → Type 0
+IsReplicaOwner missing q = (x : SentRecord) × Has missing x × (x.notice.owner ≡ q)
 
 -- the record has words of a page of n words alone, at most as many as a page may have, and its owner's number is one of a set
 pub record FitsPage (n : ℕ) (x : SentRecord) : Type 0 where
   pub owner : x.notice.owner < most_pages
-  pub fits : FitsIn n (record_words x)
-  pub short : length (record_words x) ≤ most_words
+  pub fits : FitsIn n (replica_record_words x)
+  pub short : length (replica_record_words x) ≤ most_words
 
 -- each of them does
 abbrev pub AllFitPage : ℕ → List SentRecord → Type 0

@@ -4,10 +4,10 @@ ghost use Rattle.std.specs.Arc.{arc_value};
 ghost use Rattle.std.specs.Result.{result_err};
 ghost use Rattle.base.specs.Prelude.{most_in_block};
 ghost use Rattle.journal.specs.Prelude.{closing_kind};
-ghost use Rattle.interval.specs.Prelude.{HasRisingPages};
-ghost use Rattle.book.specs.Prelude.{EndsClosed, HasClosed, MayClose, book_closed, book_handed_in};
+ghost use Rattle.interval.specs.Prelude.{SentPagesRise};
+ghost use Rattle.book.specs.Prelude.{EndsClosed, HasClosedBeforeWaiting, MayCallToClose, transition_closed, transition_handed_in};
 ghost use Rattle.cluster.specs.Copies.Prelude.{AreHarvests};
-ghost use Rattle.cluster.specs.Prelude.{closing_refusal, MayMake, IsClosingCall};
+ghost use Rattle.cluster.specs.Prelude.{closing_refusal, MayMakeClosing, IsClosingCall};
 
 use super::Cluster;
 use crate::bells::Bells;
@@ -48,7 +48,7 @@ impl<T: BookTurn> Cluster<T> {
         records: Vec<Arc<Record>>,
     ) -> Result<(), Refused>
         requires own { processor.old.lock ≡ self.now.lock }
-        requires may { MayMake processor.old (closing_kind closing) }
+        requires may { MayMakeClosing processor.old (closing_kind closing) }
         requires records { AreHarvests processor.old.copies (map arc_value records.items) }
         ensures { IsClosingCall None (closing_kind closing)
             processor.old processor.new (result_err result) }
@@ -84,12 +84,12 @@ fn close_in(
     block: &[Event],
     records: Vec<Arc<Record>>,
 ) -> Result<Waiters, Refused>
-    requires call { MayClose (closing_kind closing) book.old p block.now }
+    requires call { MayCallToClose (closing_kind closing) book.old p block.now }
     requires short { length block.now ≤ most_in_block }
-    requires rising { HasRisingPages (map arc_value records.items) }
-    requires told { HasClosed (book_closed (closing_kind closing) (book_handed_in book.old block.now) p
+    requires rising { SentPagesRise (map arc_value records.items) }
+    requires told { HasClosedBeforeWaiting (transition_closed (closing_kind closing) (transition_handed_in book.old block.now) p
         (map arc_value records.items)) p (closing_kind closing) }
-    ensures { EndsClosed block.now (λ b. book_closed (closing_kind closing) b p (map arc_value records.items))
+    ensures { EndsClosed block.now (λ b. transition_closed (closing_kind closing) b p (map arc_value records.items))
         book.old book.new result }
 {
     let kind = closing.kind();

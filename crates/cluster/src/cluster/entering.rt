@@ -1,10 +1,10 @@
 //! How a call enters the book, and leaves it.
 ghost use Rattle.std.specs.Prelude.{◌≡◌, ◌+◌, ◌<◌, IfOk, IfErr, List};
-ghost use Rattle.turn.specs.Prelude.{lock, entries, IsOutside, IsInside};
+ghost use Rattle.turn.specs.Prelude.{lock, entries, IsChairOutside, IsChairInside};
 ghost use Rattle.journal.specs.declared.event.Event.{Event};
 ghost use Rattle.book.specs.Prelude.{State};
 ghost use Rattle.cluster.specs.Copies.Prelude.{Local};
-ghost use Rattle.cluster.specs.Prelude.{IsChairOf, IsCallOf, FindsBook, HasEntered, HasLeft};
+ghost use Rattle.cluster.specs.Prelude.{IsEnteringChairOf, IsCallOf, FindsBookOnEntering, HasEntered, HasLeftAfterEntering};
 
 use super::Cluster;
 use crate::keeper::{BookTurn, Looking, Rule};
@@ -24,9 +24,9 @@ impl<T: BookTurn> Cluster<T> {
         chair: &mut Chair<Book, Rule>,
     ) -> Result<(Held, Book), Refused>
         requires own { lock chair.old ≡ self.now.lock }
-        requires outside { IsOutside chair.old }
+        requires outside { IsChairOutside chair.old }
         ensures entered { IfOk result (λ r. HasEntered chair.old chair.new r.0 r.1) }
-        ensures finds { IfOk result (λ r. FindsBook chair.old r.1) }
+        ensures finds { IfOk result (λ r. FindsBookOnEntering chair.old r.1) }
         ensures spent { IfErr result (λ e. (e ≡ Refused.SeatSpent)
             × (entries chair.old ≡ (lock chair.old).limit) × (chair.new ≡ chair.old)) }
     {
@@ -41,8 +41,8 @@ impl<T: BookTurn> Cluster<T> {
     pub(super) fn give_book(&self, chair: &mut Chair<Book, Rule>, held: Held, book: Book)
         requires own { lock chair.old ≡ self.now.lock }
         requires call { (m : Local) × (found : State) × (es : List Event)
-            × IsChairOf m chair.old × IsInside chair.old held found × IsCallOf m found es book }
-        ensures { HasLeft chair.old chair.new held book }
+            × IsEnteringChairOf m chair.old × IsChairInside chair.old held found × IsCallOf m found es book }
+        ensures { HasLeftAfterEntering chair.old chair.new held book }
     {
         let turn = &self.turn;
         turn.leave::<Looking>(chair, held, book);

@@ -5,7 +5,7 @@ ghost use Rattle.journal.specs.declared.event.Event.{Event as AnEvent};
 ghost use Rattle.journal.specs.Sizes.{Sizes};
 ghost use Rattle.base.specs.Limits.{most_processors};
 ghost use Rattle.cluster.specs.Copies.Local.{Local};
-ghost use Rattle.cluster.specs.Finishing.{AreAllToFinish, AreTakenApart, AreBlocksToFinish, IsFinished, IsFinishing};
+ghost use Rattle.cluster.specs.Finishing.{AreAllToFinish, AreTakenApartToFinish, AreBlocksToFinish, IsFinished, IsFinishing};
 
 use super::Cluster;
 use crate::keeper::{BookTurn, Rule};
@@ -61,7 +61,7 @@ fn take_apart<T: BookTurn>(
     spare: Spare,
 ) -> (Vec<Chair<Book, Rule>>, Vec<Vec<Event>>)
     requires { vec_len processors ≤ most_processors }
-    ensures { AreTakenApart processors.items result.0.items (map vec_items result.1.items) }
+    ensures { AreTakenApartToFinish processors.items result.0.items (map vec_items result.1.items) }
 {
     let Spare {
         mut chairs,

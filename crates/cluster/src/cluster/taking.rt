@@ -7,7 +7,7 @@ ghost use Rattle.journal.specs.Prelude.{Sizes, Ready};
 ghost use Rattle.journal.specs.declared.event.Event.{Event};
 ghost use Rattle.vtime.specs.Times.{join};
 ghost use Rattle.transit.specs.Prelude.{letter};
-ghost use Rattle.book.specs.Prelude.{brought, IsProcessor, AllowsSomeTake, BookTakes, IsFullRefusal, IsRoomRefusal, Represents};
+ghost use Rattle.book.specs.Prelude.{brought_by_message, IsProcessorOfCall, AllowsSomeTakeCall, TransitionTakes, IsFullRefusal, IsRoomRefusal, Represents};
 ghost use Rattle.cluster.specs.Copies.Prelude.{AreAfterNews, AreSameCopies, HaveRoomForNews, MayLearnNews};
 ghost use Rattle.cluster.specs.Prelude.{IsTakingCall, HasRoomToTake};
 
@@ -51,11 +51,11 @@ impl<T: BookTurn> Cluster<T> {
 /// Takes what `p` waits for from the book, and makes room for it in the copies' lists. A processor that waits looks
 /// again and again, so it asks first whether that has come.
 fn receive(book: &mut Book, p: usize, replicas: &mut Vec<Replica>) -> Result<Message, Refused>
-    requires call { AllowsSomeTake book.old p }
+    requires call { AllowsSomeTakeCall book.old p }
     requires few { vec_len replicas.old ≤ most_pages }
     ensures same { AreSameCopies replicas.old.items replicas.new.items }
     ensures room { IfOk result (λ m. HasRoomToTake (letter m).notices replicas.new.items) }
-    ensures ok { IfOk result (λ m. BookTakes book.old p (letter m) book.new) }
+    ensures ok { IfOk result (λ m. TransitionTakes book.old p (letter m) book.new) }
     ensures err { OnErr result (book.new ≡ book.old) }
     ensures absent { (s : Sizes) (h : List Event) → Represents s h book.old
         → result ≡ Err Refused.NotYet ↔ (¬ Ready s h p) }
@@ -75,12 +75,12 @@ fn receive(book: &mut Book, p: usize, replicas: &mut Vec<Replica>) -> Result<Mes
 /// otherwise an early take pays for these locals.
 #[inline(never)]
 fn receive_ready(book: &mut Book, p: usize, replicas: &mut Vec<Replica>) -> Result<Message, Refused>
-    requires call { AllowsSomeTake book.old p }
+    requires call { AllowsSomeTakeCall book.old p }
     requires ready { (s : Sizes) (h : List Event) → Represents s h book.old → Ready s h p }
     requires few { vec_len replicas.old ≤ most_pages }
     ensures same { AreSameCopies replicas.old.items replicas.new.items }
     ensures room { IfOk result (λ m. HasRoomToTake (letter m).notices replicas.new.items) }
-    ensures ok { IfOk result (λ m. BookTakes book.old p (letter m) book.new) }
+    ensures ok { IfOk result (λ m. TransitionTakes book.old p (letter m) book.new) }
     ensures err { OnErr result (book.new ≡ book.old) }
     ensures full { IsFullRefusal (length book.old.journal.events + 1) result }
     ensures only { IfErr result IsRoomRefusal }
@@ -94,10 +94,10 @@ fn receive_ready(book: &mut Book, p: usize, replicas: &mut Vec<Replica>) -> Resu
 
 /// Makes room in the copies' lists for what a take by `p` would bring now.
 fn prepare(book: &Book, p: usize, replicas: &mut Vec<Replica>) -> Result<(), AllocError>
-    requires call { IsProcessor book.now p }
+    requires call { IsProcessorOfCall book.now p }
     requires few { vec_len replicas.old ≤ most_pages }
     ensures same { AreSameCopies replicas.old.items replicas.new.items }
-    ensures room { OnOk result (HasRoomToTake (brought book.now p) replicas.new.items) }
+    ensures room { OnOk result (HasRoomToTake (brought_by_message book.now p) replicas.new.items) }
 {
     let mut counts = [0; MOST_PAGES];
     let counts = &mut counts[..replicas.len()];

@@ -2,7 +2,7 @@
 ghost use Rattle.std.specs.Prelude.{◌≡◌, ◌↔◌, List};
 ghost use Rattle.journal.specs.Prelude.{Sizes, Ready, IsDeadlock};
 ghost use Rattle.journal.specs.declared.event.Event.{Event};
-ghost use Rattle.book.specs.Prelude.{Represents, AllowsSomeTake};
+ghost use Rattle.book.specs.Prelude.{Represents, AllowsSomeTakeCall};
 ghost use Rattle.cluster.specs.Prelude.{IsWaitingCall, waited_answer};
 
 use super::Cluster;
@@ -47,7 +47,7 @@ impl<T: BookTurn> Cluster<T> {
 
 /// What processor `p` finds: an answer, or None if it has to sleep. If nothing has come it forgets what it was told.
 fn look(bells: &Bells, book: &Book, p: usize) -> Option<Waited>
-    requires call { AllowsSomeTake book.now p }
+    requires call { AllowsSomeTakeCall book.now p }
     ensures stuck { (s : Sizes) (h : List Event) → Represents s h book.now
         → waited_answer result ≡ Waited.Stuck ↔ IsDeadlock s h }
     ensures deserted { (s : Sizes) (h : List Event) → Represents s h book.now

@@ -2,7 +2,7 @@
 ghost use Rattle.std.specs.Prelude.{◌≡◌, IfOk, IsOk, false, map, replicate};
 ghost use Rattle.std.specs.Arc.{arc_value};
 ghost use Rattle.base.specs.Prelude.{most_pages};
-ghost use Rattle.cluster.specs.Copies.Prelude.{AreHarvests, DirtyAreMarked, cleaned};
+ghost use Rattle.cluster.specs.Copies.Prelude.{AreHarvests, DirtyAreMarked, copy_cleaned_after_news};
 
 use crate::copies::marks::Marks;
 use crate::copies::page_copy::Replica;
@@ -42,7 +42,7 @@ pub fn harvest(
 /// mark are looked at.
 pub fn clean(replicas: &mut [Replica], stored: &mut Marks)
     requires { DirtyAreMarked replicas.old stored.old }
-    ensures copies { replicas.new ≡ map cleaned replicas.old }
+    ensures copies { replicas.new ≡ map copy_cleaned_after_news replicas.old }
     ensures marks { stored.new ≡ replicate most_pages false }
 {
     let mut next = 0;

@@ -1,6 +1,6 @@
 //! What a call that takes does to the copies: the records that come are missing in them from then on.
 ghost use Rattle.std.specs.Prelude.{◌≡◌, ◌≤◌, IsOk, OnOk, length};
-ghost use Rattle.cluster.specs.Copies.Prelude.{AreAfterNews, AreSameCopies, AreZeros, HaveRoomForNews, MayLearnNews};
+ghost use Rattle.cluster.specs.Copies.Prelude.{AreAfterNews, AreSameCopies, AreZerosAfterNews, HaveRoomForNews, MayLearnNews};
 
 use crate::copies::page_copy::Replica;
 use interval::Sent;
@@ -14,7 +14,7 @@ pub fn make_room(replicas: &mut [Replica], counts: &[usize]) -> Result<(), Alloc
     requires { length counts.now ≤ length replicas.old }
     ensures same { AreSameCopies replicas.old replicas.new }
     ensures ok { OnOk result (HaveRoomForNews counts.now replicas.new) }
-    ensures zeros { AreZeros counts.now → IsOk result × (replicas.new ≡ replicas.old) }
+    ensures zeros { AreZerosAfterNews counts.now → IsOk result × (replicas.new ≡ replicas.old) }
 {
     for page in 0..counts.len() {
         let count = counts[page];

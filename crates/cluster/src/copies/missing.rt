@@ -4,7 +4,7 @@ ghost use Rattle.std.specs.VecDeque.{deque_capacity, deque_len};
 ghost use Rattle.interval.specs.Prelude.{SentRecord};
 ghost use Rattle.journal.specs.Prelude.{MissingInOrder};
 ghost use Rattle.book.specs.Prelude.{news_of_notice};
-ghost use Rattle.cluster.specs.Copies.Prelude.{IsPlaceInBacklog, IsPutInBacklog, no_backlog, read_from};
+ghost use Rattle.cluster.specs.Copies.Prelude.{IsPlaceInBacklog, IsPutInBacklog, no_backlog, backlog_read_from};
 
 use interval::Sent;
 use std::alloc::{AllocError, Global};
@@ -24,12 +24,12 @@ pub(crate) struct Backlog {
 impl Model for Backlog {
     ghost use Rattle.std.specs.Prelude.{◌≤◌, ◌-◌, length};
     ghost use Rattle.std.specs.VecDeque.{deque_capacity};
-    ghost use Rattle.cluster.specs.Copies.Backlogs.{Backlogged, read_from};
+    ghost use Rattle.cluster.specs.Copies.Backlogs.{BacklogOfCopy, backlog_read_from};
 
-    ghost Value = { Backlogged };
+    ghost Value = { BacklogOfCopy };
 
     ghost view = { λ b. record {
-      records = read_from b.start b.ring.items;
+      records = backlog_read_from b.start b.ring.items;
       room = deque_capacity b.ring - length b.ring.items;
     } };
 
@@ -143,7 +143,7 @@ impl Backlog {
 fn turn(ring: &mut VecDeque<Sent>, from: usize, to: usize)
     requires from { from ≤ length ring.old.items }
     requires to { to ≤ length ring.old.items }
-    ensures items { read_from to ring.new.items ≡ read_from from ring.old.items }
+    ensures items { backlog_read_from to ring.new.items ≡ backlog_read_from from ring.old.items }
     ensures len { deque_len ring.new ≡ deque_len ring.old }
     ensures capacity { deque_capacity ring.new ≡ deque_capacity ring.old }
 {

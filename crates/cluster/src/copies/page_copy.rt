@@ -3,13 +3,13 @@ ghost use Rattle.std.specs.Prelude.{◌≡◌, ◌<◌, ◌≤◌, ◌^◌, Some
 ghost use Rattle.std.specs.Prelude.{length, map, slice_get, sum_by};
 ghost use Rattle.std.specs.Option.{option_map};
 ghost use Rattle.base.specs.Prelude.{records_applied, Has, most_pages, most_words};
-ghost use Rattle.journal.specs.Prelude.{HasCount, MissingInOrder};
+ghost use Rattle.journal.specs.Prelude.{HasImageCount, MissingInOrder};
 ghost use Rattle.page.specs.Prelude.{IsHarvest, IsClean};
 ghost use Rattle.page.specs.declared.page.Access.TheVariants.{Valid, Invalid};
 ghost use Rattle.interval.specs.Prelude.{SentRecord};
 ghost use Rattle.book.specs.Prelude.{news_of_notice};
-ghost use Rattle.cluster.specs.Copies.Prelude.{AllFitPage, IsOwner, may_use_replica, words_if, record_words, AreCountable};
-ghost use Rattle.cluster.specs.Copies.Prelude.{replica_fetched, replica_written_at, zero_replica, IsAfterNews, IsSameCopy, MayLackNews, cleaned};
+ghost use Rattle.cluster.specs.Copies.Prelude.{AllFitPage, IsReplicaOwner, may_use_replica, replica_words_if, replica_record_words, AreCountable};
+ghost use Rattle.cluster.specs.Copies.Prelude.{replica_fetched, replica_written_at, zero_replica, IsAfterNews, IsSameCopyAfterNews, MayLackNews, copy_cleaned_after_news};
 ghost use Rattle.cluster.specs.Copies.Prelude.{AreCounts};
 
 use crate::copies::marks::Marks;
@@ -73,7 +73,7 @@ impl Replica {
     /// Its words, if it lacks nothing.
     pub fn words(&self) -> Option<&[u32]>
         ensures { option_map (λ words. words.now) result
-            ≡ words_if (may_use_replica self.now.page.access) self.now }
+            ≡ replica_words_if (may_use_replica self.now.page.access) self.now }
     {
         if !self.is_valid() {
             return None;
@@ -124,14 +124,14 @@ impl Replica {
 
     /// Cleans its words.
     pub(crate) fn clean(&mut self)
-        ensures { self.new ≡ cleaned self.old }
+        ensures { self.new ≡ copy_cleaned_after_news self.old }
     {
         self.page.clean();
     }
 
     /// Makes room for `count` more records. Answers `AllocError` if memory for them is refused.
     pub(crate) fn reserve(&mut self, count: usize) -> Result<(), AllocError>
-        ensures same { IsSameCopy self.old self.new }
+        ensures same { IsSameCopyAfterNews self.old self.new }
         ensures ok { OnOk result (count ≤ self.new.room) }
     {
         self.missing.reserve(count)
@@ -166,7 +166,7 @@ fn apply_all(page: &mut Page, missing: &Backlog)
     requires invalid { page.old.access ≡ Invalid }
     requires fit { AllFitPage (length page.old.words) missing.now.records }
     ensures { page.new ≡ record page.old
-        { words = records_applied page.old.words (map record_words missing.now.records) } }
+        { words = records_applied page.old.words (map replica_record_words missing.now.records) } }
 {
     for index in 0..missing.len() {
         let sent = missing.at(index);
@@ -179,7 +179,7 @@ fn apply_all(page: &mut Page, missing: &Backlog)
 fn writers_of(missing: &Backlog) -> u32
     requires few { length missing.now.records < 2 ^ 32 }
     requires fit { (x : SentRecord) → Has missing.now.records x → x.notice.owner < most_pages }
-    ensures { HasCount (IsOwner missing.now.records) result }
+    ensures { HasImageCount (IsReplicaOwner missing.now.records) result }
 {
     let mut owners = Marks::none();
     let mut count = 0;
@@ -196,8 +196,8 @@ fn writers_of(missing: &Backlog) -> u32
 
 /// How many words the records have.
 fn words_in(missing: &Backlog) -> u32
-    requires { sum_by (λ x. length (record_words x)) missing.now.records < 2 ^ 32 }
-    ensures { result ≡ sum_by (λ x. length (record_words x)) missing.now.records }
+    requires { sum_by (λ x. length (replica_record_words x)) missing.now.records < 2 ^ 32 }
+    ensures { result ≡ sum_by (λ x. length (replica_record_words x)) missing.now.records }
 {
     let mut count = 0;
     for index in 0..missing.len() {

@@ -8,21 +8,21 @@ use Rattle.journal.specs.HappensBeforeEdges.{LetsThrough, Link, Edge, HappensBef
 use Rattle.journal.specs.HappensBeforeEdges.Link.{same, lets, meets}
 use Rattle.journal.specs.HappensBeforeEdges.HappensBefore.{edge, on}
 use Rattle.journal.specs.Races.{Conflict, Race}
-use Rattle.conformance.specs.Like.{valueless, SameButValues}
-use Rattle.conformance.proofs.Like.Places.{exact_if_like, AreLikeEvents, like_at, like_take, count_like, arrive_valueless, depart_valueless}
+use Rattle.conformance.specs.Like.{like_without_value, SameButValues}
+use Rattle.conformance.proofs.Like.Places.{exact_if_like, AreLikeEvents, like_at, like_take, count_like, like_arrive_valueless, like_depart_valueless}
 
-lets_valueless : (a b : Kind) → LetsThrough a b → LetsThrough (valueless a) (valueless b)
-lets_valueless (Release l) (Acquire m) h = h
-lets_valueless (Set f) (Await g) h = h
-lets_valueless _ _ h = absurd h
+like_lets_valueless : (a b : Kind) → LetsThrough a b → LetsThrough (like_without_value a) (like_without_value b)
+like_lets_valueless (Release l) (Acquire m) h = h
+like_lets_valueless (Set f) (Await g) h = h
+like_lets_valueless _ _ h = absurd h
 
-lets_back : (a b : Kind) → LetsThrough (valueless a) (valueless b) → LetsThrough a b
-lets_back (Release l) (Acquire m) h = h
-lets_back (Set f) (Await g) h = h
-lets_back _ _ h = absurd h
+like_lets_back : (a b : Kind) → LetsThrough (like_without_value a) (like_without_value b) → LetsThrough a b
+like_lets_back (Release l) (Acquire m) h = h
+like_lets_back (Set f) (Await g) h = h
+like_lets_back _ _ h = absurd h
 
-lets_like : (a b c d : Kind) → valueless a ≡ valueless c → valueless b ≡ valueless d → LetsThrough a b → LetsThrough c d
-lets_like a b c d first second h = lets_back c d (rw (← first, ← second) (lets_valueless a b h))
+lets_like : (a b c d : Kind) → like_without_value a ≡ like_without_value c → like_without_value b ≡ like_without_value d → LetsThrough a b → LetsThrough c d
+lets_like a b c d first second h = like_lets_back c d (rw (← first, ← second) (like_lets_valueless a b h))
 
 link_like : (h g : List Event) (i k : ℕ) (e f x y : Event) → SameButValues h g → AreLikeEvents e x → AreLikeEvents f y → Link h i k e f
     → Link g i k x y
@@ -30,11 +30,11 @@ link_like h g i k e f x y like first second (same s) = same (sym first.processor
 link_like h g i k e f x y like first second (lets l) =
     lets (lets_like e.kind f.kind x.kind y.kind first.kinds second.kinds l)
 link_like h g i k e f x y like first second (meets m) =
-    let arrivals = count_like is_arrive (take i h) (take i g) e.processor arrive_valueless (like_take h g i like) in
-    let departures = count_like is_depart (take k h) (take k g) f.processor depart_valueless (like_take h g k like) in
+    let arrivals = count_like is_arrive (take i h) (take i g) e.processor like_arrive_valueless (like_take h g i like) in
+    let departures = count_like is_depart (take k h) (take k g) f.processor like_depart_valueless (like_take h g k like) in
     meets (record {
-      arrives = exact_if_like x.kind Arrive (sym first.kinds ∙ ap valueless m.arrives) refl;
-      departs = exact_if_like y.kind Depart (sym second.kinds ∙ ap valueless m.departs) refl;
+      arrives = exact_if_like x.kind Arrive (sym first.kinds ∙ ap like_without_value m.arrives) refl;
+      departs = exact_if_like y.kind Depart (sym second.kinds ∙ ap like_without_value m.departs) refl;
       episode = rw (← first.processors, ← second.processors) (sym arrivals ∙ m.episode ∙ departures);
     })
 
@@ -56,21 +56,21 @@ pub before_like : (h g : List Event) {i k : ℕ} → SameButValues h g → Happe
 before_like h g like (edge {i} {k} e) = edge (edge_like h g i k like e)
 before_like h g like (on {i} {m} {k} b e) = on (before_like h g like b) (edge_like h g m k like e)
 
-address_valueless : (k : Kind) → address_of (valueless k) ≡ address_of k
-address_valueless (Load a v) = refl
-address_valueless (Store a v) = refl
-address_valueless _ = refl
+like_address_valueless : (k : Kind) → address_of (like_without_value k) ≡ address_of k
+like_address_valueless (Load a v) = refl
+like_address_valueless (Store a v) = refl
+like_address_valueless _ = refl
 
-store_valueless : (k : Kind) → is_store (valueless k) ≡ is_store k
-store_valueless (Load a v) = refl
-store_valueless (Store a v) = refl
-store_valueless _ = refl
+like_store_valueless : (k : Kind) → is_store (like_without_value k) ≡ is_store k
+like_store_valueless (Load a v) = refl
+like_store_valueless (Store a v) = refl
+like_store_valueless _ = refl
 
-address_like : (a b : Kind) → valueless a ≡ valueless b → address_of a ≡ address_of b
-address_like a b e = sym (address_valueless a) ∙ ap address_of e ∙ address_valueless b
+address_like : (a b : Kind) → like_without_value a ≡ like_without_value b → address_of a ≡ address_of b
+address_like a b e = sym (like_address_valueless a) ∙ ap address_of e ∙ like_address_valueless b
 
-store_like : (a b : Kind) → valueless a ≡ valueless b → IsTrue (is_store a) → IsTrue (is_store b)
-store_like a b e stores = subst IsTrue (sym (store_valueless a) ∙ ap is_store e ∙ store_valueless b) stores
+store_like : (a b : Kind) → like_without_value a ≡ like_without_value b → IsTrue (is_store a) → IsTrue (is_store b)
+store_like a b e stores = subst IsTrue (sym (like_store_valueless a) ∙ ap is_store e ∙ like_store_valueless b) stores
 
 conflict_like : (e f x y : Event) → AreLikeEvents e x → AreLikeEvents f y → Conflict e f → Conflict x y
 conflict_like e f x y first second c =

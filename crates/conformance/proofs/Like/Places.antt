@@ -11,32 +11,32 @@ use Rattle.journal.specs.DidEvent.{event}
 use Rattle.journal.specs.Events.{At, count_of, is_arrive, is_depart}
 use Rattle.journal.specs.WellFormed.{Does}
 use Rattle.journal.proofs.Order.CountedAndNumbered.{count_of-append}
-use Rattle.conformance.specs.Like.{valueless, without_value, SameButValues}
+use Rattle.conformance.specs.Like.{like_without_value, event_like_without_value, SameButValues}
 
 -- whether a kind has a value
-abbrev pub has_value : Kind → Bool
-has_value (Load a v) = true
-has_value (Store a v) = true
-has_value k = false
+abbrev pub like_has_value : Kind → Bool
+like_has_value (Load a v) = true
+like_has_value (Store a v) = true
+like_has_value k = false
 
 -- what is like a kind without a value is that kind
-pub exact_if_like : (k c : Kind) → valueless k ≡ valueless c → has_value c ≡ false → k ≡ c
+pub exact_if_like : (k c : Kind) → like_without_value k ≡ like_without_value c → like_has_value c ≡ false → k ≡ c
 exact_if_like k c same none = back k (same ∙ plain c none)
   where
-    plain : (x : Kind) → has_value x ≡ false → valueless x ≡ x
+    plain : (x : Kind) → like_has_value x ≡ false → like_without_value x ≡ x
     plain (Load a v) h = absurd (false≢true (sym h))
     plain (Store a v) h = absurd (false≢true (sym h))
     plain _ h = refl
 
-    back : (x : Kind) → valueless x ≡ c → x ≡ c
-    back (Load a v) e = absurd (false≢true (sym none ∙ ap has_value (sym e)))
-    back (Store a v) e = absurd (false≢true (sym none ∙ ap has_value (sym e)))
+    back : (x : Kind) → like_without_value x ≡ c → x ≡ c
+    back (Load a v) e = absurd (false≢true (sym none ∙ ap like_has_value (sym e)))
+    back (Store a v) e = absurd (false≢true (sym none ∙ ap like_has_value (sym e)))
     back _ e = e
 
 -- two events are the same but for their values
 pub record AreLikeEvents (e f : Event) : Type 0 where
   pub processors : e.processor ≡ f.processor
-  pub kinds : valueless e.kind ≡ valueless f.kind
+  pub kinds : like_without_value e.kind ≡ like_without_value f.kind
 
 -- at the same place of histories that are alike
 pub record LikeAt (g : List Event) (i : ℕ) (e : Event) : Type 0 where
@@ -47,15 +47,15 @@ pub record LikeAt (g : List Event) (i : ℕ) (e : Event) : Type 0 where
 -- an event of the one history has its like in the other
 pub like_at : (h g : List Event) (i : ℕ) (e : Event) → SameButValues h g → At h i e → LikeAt g i e
 like_at h g i e like at =
-    let there : option_map without_value (slice_get g i) ≡ Some (without_value e) =
-    sym (slice_get-map without_value g i) ∙ ap (λ es. slice_get es i) (sym like)
-    ∙ slice_get-map without_value h i ∙ ap (option_map without_value) at in
+    let there : option_map event_like_without_value (slice_get g i) ≡ Some (event_like_without_value e) =
+    sym (slice_get-map event_like_without_value g i) ∙ ap (λ es. slice_get es i) (sym like)
+    ∙ slice_get-map event_like_without_value h i ∙ ap (option_map event_like_without_value) at in
     found (slice_get g i) refl there
   where
-    found : (o : Option Event) → slice_get g i ≡ o → option_map without_value o ≡ Some (without_value e) → LikeAt g i e
-    found None here is = absurd (none-some (without_value e) is)
+    found : (o : Option Event) → slice_get g i ≡ o → option_map event_like_without_value o ≡ Some (event_like_without_value e) → LikeAt g i e
+    found None here is = absurd (none-some (event_like_without_value e) is)
     found (Some f) here is =
-        let same : without_value f ≡ without_value e = same_Some (without_value f) (without_value e) is in
+        let same : event_like_without_value f ≡ event_like_without_value e = same_Some (event_like_without_value f) (event_like_without_value e) is in
         record {
           event = f;
           at = here;
@@ -67,7 +67,7 @@ like_at h g i e like at =
         }
 
 -- so what has no value is done in both
-pub does_like : (h g : List Event) (i p : ℕ) (k : Kind) → SameButValues h g → has_value k ≡ false → Does h i p k → Does g i p k
+pub does_like : (h g : List Event) (i p : ℕ) (k : Kind) → SameButValues h g → like_has_value k ≡ false → Does h i p k → Does g i p k
 does_like h g i p k like none does =
     let l = like_at h g i (event p k) like does in
     let kind : l.event.kind ≡ k = exact_if_like l.event.kind k (sym l.like.kinds) none in
@@ -76,28 +76,28 @@ does_like h g i p k like none does =
 
 -- fronts of histories that are alike are alike
 pub like_take : (h g : List Event) (i : ℕ) → SameButValues h g → SameButValues (take i h) (take i g)
-like_take h g i like = sym (take-map without_value i h) ∙ ap (take i) like ∙ take-map without_value i g
+like_take h g i like = sym (take-map event_like_without_value i h) ∙ ap (take i) like ∙ take-map event_like_without_value i g
 
 -- as many events of a kind, where the kind doesn't tell values apart
-pub count_like : (is : Kind → Bool) (h g : List Event) (p : ℕ) → ((k : Kind) → is (valueless k) ≡ is k) → SameButValues h g
+pub count_like : (is : Kind → Bool) (h g : List Event) (p : ℕ) → ((k : Kind) → is (like_without_value k) ≡ is k) → SameButValues h g
     → count_of is h p ≡ count_of is g p
 count_like is h g p same like = sym (valueless_count h) ∙ ap (λ (es : List Event). count_of is es p) like
     ∙ valueless_count g
   where
-    valueless_count : (es : List Event) → count_of is (map without_value es) p ≡ count_of is es p
+    valueless_count : (es : List Event) → count_of is (map event_like_without_value es) p ≡ count_of is es p
     valueless_count [] = refl
     valueless_count (e ∷ es) =
         let one : Bool → ℕ = λ b. 0 + cond ((e.processor == p) && b) 1 0 in
-        count_of-append is (without_value e ∷ []) (map without_value es) p
-        ∙ ap (λ (n : ℕ). one (is (valueless e.kind)) + n) (valueless_count es)
+        count_of-append is (event_like_without_value e ∷ []) (map event_like_without_value es) p
+        ∙ ap (λ (n : ℕ). one (is (like_without_value e.kind)) + n) (valueless_count es)
         ∙ ap (λ b. one b + count_of is es p) (same e.kind) ∙ sym (count_of-append is (e ∷ []) es p)
 
-pub arrive_valueless : (k : Kind) → is_arrive (valueless k) ≡ is_arrive k
-arrive_valueless (Load a v) = refl
-arrive_valueless (Store a v) = refl
-arrive_valueless _ = refl
+pub like_arrive_valueless : (k : Kind) → is_arrive (like_without_value k) ≡ is_arrive k
+like_arrive_valueless (Load a v) = refl
+like_arrive_valueless (Store a v) = refl
+like_arrive_valueless _ = refl
 
-pub depart_valueless : (k : Kind) → is_depart (valueless k) ≡ is_depart k
-depart_valueless (Load a v) = refl
-depart_valueless (Store a v) = refl
-depart_valueless _ = refl
+pub like_depart_valueless : (k : Kind) → is_depart (like_without_value k) ≡ is_depart k
+like_depart_valueless (Load a v) = refl
+like_depart_valueless (Store a v) = refl
+like_depart_valueless _ = refl

@@ -6,24 +6,24 @@ use Rattle.journal.specs.declared.event.Kind.TheVariants.{Load, Store, Ask, Acqu
 use Rattle.journal.specs.Events.{At, count_of, is_arrive, is_depart}
 use Rattle.journal.specs.Sizes.{Sizes}
 use Rattle.journal.specs.WellFormed.{KindInRange, LastIs, Holds, MayBeGranted, AllArrived, AnswersCall, Allowed, MayFollow, WellFormed}
-use Rattle.conformance.specs.Like.{valueless, SameButValues}
-use Rattle.conformance.proofs.Like.Places.{has_value, exact_if_like, AreLikeEvents, like_at, does_like, like_take, count_like, arrive_valueless, depart_valueless}
+use Rattle.conformance.specs.Like.{like_without_value, SameButValues}
+use Rattle.conformance.proofs.Like.Places.{like_has_value, exact_if_like, AreLikeEvents, like_at, does_like, like_take, count_like, like_arrive_valueless, like_depart_valueless}
 
-range_valueless : (s : Sizes) (k : Kind) → KindInRange s k → KindInRange s (valueless k)
-range_valueless s (Load a v) h = h
-range_valueless s (Store a v) h = h
-range_valueless s _ h = h
+like_range_valueless : (s : Sizes) (k : Kind) → KindInRange s k → KindInRange s (like_without_value k)
+like_range_valueless s (Load a v) h = h
+like_range_valueless s (Store a v) h = h
+like_range_valueless s _ h = h
 
-range_back_like : (s : Sizes) (k : Kind) → KindInRange s (valueless k) → KindInRange s k
+range_back_like : (s : Sizes) (k : Kind) → KindInRange s (like_without_value k) → KindInRange s k
 range_back_like s (Load a v) h = h
 range_back_like s (Store a v) h = h
 range_back_like s _ h = h
 
-range_like : (s : Sizes) (a b : Kind) → valueless a ≡ valueless b → KindInRange s a → KindInRange s b
-range_like s a b same h = range_back_like s b (subst (KindInRange s) same (range_valueless s a h))
+range_like : (s : Sizes) (a b : Kind) → like_without_value a ≡ like_without_value b → KindInRange s a → KindInRange s b
+range_like s a b same h = range_back_like s b (subst (KindInRange s) same (like_range_valueless s a h))
 
 -- p's last event stands at the same place, and is the same where it has no value
-last_like : (h g : List Event) (p i : ℕ) (k : Kind) → SameButValues h g → has_value k ≡ false → LastIs h p i k → LastIs g p i k
+last_like : (h g : List Event) (p i : ℕ) (k : Kind) → SameButValues h g → like_has_value k ≡ false → LastIs h p i k → LastIs g p i k
 last_like h g p i k like none l =
     record { does = does_like h g i p k like none l.does; last = later }
   where
@@ -50,8 +50,8 @@ granted_like h g i l like x =
 arrived_like : (s : Sizes) (h g : List Event) (p : ℕ) → SameButValues h g → AllArrived s h (count_of is_depart h p + 1)
     → AllArrived s g (count_of is_depart g p + 1)
 arrived_like s h g p like all q inside =
-    let departures = count_like is_depart h g p depart_valueless like in
-    let arrivals = count_like is_arrive h g q arrive_valueless like in
+    let departures = count_like is_depart h g p like_depart_valueless like in
+    let arrivals = count_like is_arrive h g q like_arrive_valueless like in
     rw (← departures, ← arrivals) (all q inside)
 
 -- what may be done next, may be done next after what is alike
@@ -65,31 +65,31 @@ allowed_here_like s h g p (Await f) like x =
     (x.0, x.1, x.2, last_like h g p x.0 (Watch f) like refl x.3, does_like h g x.1 x.2 (Set f) like refl x.4)
 allowed_here_like s h g p _ like x = tt
 
-allowed_valueless : (s : Sizes) (h : List Event) (p : ℕ) (k : Kind) → Allowed s h p k → Allowed s h p (valueless k)
-allowed_valueless s h p (Load a v) x = x
-allowed_valueless s h p (Store a v) x = x
-allowed_valueless s h p _ x = x
+like_allowed_valueless : (s : Sizes) (h : List Event) (p : ℕ) (k : Kind) → Allowed s h p k → Allowed s h p (like_without_value k)
+like_allowed_valueless s h p (Load a v) x = x
+like_allowed_valueless s h p (Store a v) x = x
+like_allowed_valueless s h p _ x = x
 
-allowed_back_like : (s : Sizes) (h : List Event) (p : ℕ) (k : Kind) → Allowed s h p (valueless k) → Allowed s h p k
+allowed_back_like : (s : Sizes) (h : List Event) (p : ℕ) (k : Kind) → Allowed s h p (like_without_value k) → Allowed s h p k
 allowed_back_like s h p (Load a v) x = x
 allowed_back_like s h p (Store a v) x = x
 allowed_back_like s h p _ x = x
 
-allowed_like : (s : Sizes) (h g : List Event) (p : ℕ) (a b : Kind) → SameButValues h g → valueless a ≡ valueless b
+allowed_like : (s : Sizes) (h g : List Event) (p : ℕ) (a b : Kind) → SameButValues h g → like_without_value a ≡ like_without_value b
     → Allowed s h p a → Allowed s g p b
 allowed_like s h g p a b like same x =
-    allowed_here_like s h g p b like (allowed_back_like s h p b (subst (Allowed s h p) same (allowed_valueless s h p a x)))
+    allowed_here_like s h g p b like (allowed_back_like s h p b (subst (Allowed s h p) same (like_allowed_valueless s h p a x)))
 
 -- the answer to a call that waits, where what answers is of the same kind
-answers_like : (h g : List Event) (p i : ℕ) (a b c : Kind) → SameButValues h g → valueless a ≡ valueless b
+answers_like : (h g : List Event) (p i : ℕ) (a b c : Kind) → SameButValues h g → like_without_value a ≡ like_without_value b
     → ((k : Kind) → LastIs h p i k → AnswersCall k a) → LastIs g p i c → AnswersCall c b
 answers_like h g p i a b (Ask l) like same answers last =
-    exact_if_like b (Acquire l) (sym same ∙ ap valueless
+    exact_if_like b (Acquire l) (sym same ∙ ap like_without_value
     (answers (Ask l) (last_like g h p i (Ask l) (sym like) refl last))) refl
 answers_like h g p i a b Arrive like same answers last =
-    exact_if_like b Depart (sym same ∙ ap valueless (answers Arrive (last_like g h p i Arrive (sym like) refl last))) refl
+    exact_if_like b Depart (sym same ∙ ap like_without_value (answers Arrive (last_like g h p i Arrive (sym like) refl last))) refl
 answers_like h g p i a b (Watch f) like same answers last =
-    exact_if_like b (Await f) (sym same ∙ ap valueless
+    exact_if_like b (Await f) (sym same ∙ ap like_without_value
     (answers (Watch f) (last_like g h p i (Watch f) (sym like) refl last))) refl
 answers_like h g p i a b _ like same answers last = tt
 

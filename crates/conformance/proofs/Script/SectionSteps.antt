@@ -6,8 +6,8 @@ use Rattle.journal.specs.declared.event.Kind.TheVariants as kind
 use Rattle.lrc_script.specs.declared.script.Instruction.{Instruction}
 use Rattle.lrc_script.specs.declared.script.Instruction.TheVariants.{Load, Store, Add, Acquire, Release, Barrier, Set, Await, Cut}
 use Rattle.conformance.specs.Instructions.{AreEventsOfInstruction, AreEventsOfInstructions}
-use Rattle.conformance.specs.Follows.{load_of, FollowsSection}
-use Rattle.conformance.proofs.Script.Steps.{Step, replyless, reply_after, IsStep, AreSteps, steps-append, step_halves, one_step, two_steps}
+use Rattle.conformance.specs.Follows.{followed_load, FollowsSection}
+use Rattle.conformance.proofs.Script.Steps.{Step, step_without_reply, step_reply_after, IsStep, AreSteps, steps-append, step_halves, one_step, two_steps}
 use Rattle.conformance.proofs.Script.Steps.Step.{plain, adds}
 
 -- what an instruction says of its calls
@@ -56,7 +56,7 @@ all_steps (i ∷ is) kinds reply are =
     rw are.2 (steps-append reply (steps_of i) (steps_of_all is) are.0 are.1 first more)
 
 loads_steps : (loads : List (ℕ × ℕ)) (reply : ℕ)
-    → AreSteps reply (section_load_steps (map (λ (x : ℕ × ℕ). x.0) loads)) (map load_of loads)
+    → AreSteps reply (section_load_steps (map (λ (x : ℕ × ℕ). x.0) loads)) (map followed_load loads)
 loads_steps [] reply = tt
 loads_steps (x ∷ loads) reply = (refl, loads_steps loads x.1)
 
@@ -65,34 +65,34 @@ pub section_steps : (section : List Instruction) (shown : List ℕ) (kinds : Lis
     → FollowsSection section shown kinds → AreSteps reply (steps_of_section section shown) kinds
 section_steps section shown kinds reply f =
     let rest : List ℕ → List Step = λ addresses. plain kind.Arrive ∷ plain kind.Depart ∷ section_load_steps addresses in
-    let ends : List Kind = kind.Arrive ∷ kind.Depart ∷ map load_of f.loads in
+    let ends : List Kind = kind.Arrive ∷ kind.Depart ∷ map followed_load f.loads in
     let end : (last : ℕ) → AreSteps last (rest shown) ends =
     λ last. rw (← f.addresses_are) (refl, (refl, loads_steps f.loads last)) in
     let own = all_steps section f.own reply f.follows in
     rw f.kinds_are (steps-append reply (steps_of_all section) (rest shown) f.own ends own end)
 
-abbrev pub is_load : Kind → Bool
-is_load (kind.Load a v) = true
-is_load k = false
+abbrev pub is_section_load : Kind → Bool
+is_section_load (kind.Load a v) = true
+is_section_load k = false
 
 -- a call that is no load's is as its step says
-pub told : (k c : Kind) → replyless k ≡ c → is_load c ≡ false → k ≡ c
-told (kind.Load a v) c e none = absurd (false≢true (sym none ∙ ap is_load (sym e)))
+pub told : (k c : Kind) → step_without_reply k ≡ c → is_section_load c ≡ false → k ≡ c
+told (kind.Load a v) c e none = absurd (false≢true (sym none ∙ ap is_section_load (sym e)))
 told _ c e none = e
 
 -- and a load's but for its reply
-pub told_load : (k : Kind) (a : ℕ) → replyless k ≡ kind.Load a 0 → (v : ℕ) × (k ≡ kind.Load a v)
-told_load (kind.Load b v) a e = (v, cc)
-told_load _ a e = absurd (cc)
+pub section_load_told : (k : Kind) (a : ℕ) → step_without_reply k ≡ kind.Load a 0 → (v : ℕ) × (k ≡ kind.Load a v)
+section_load_told (kind.Load b v) a e = (v, cc)
+section_load_told _ a e = absurd (cc)
 
-one_step_told : (reply : ℕ) (c : Kind) (kinds : List Kind) → replyless c ≡ c → is_load c ≡ false
+one_step_told : (reply : ℕ) (c : Kind) (kinds : List Kind) → step_without_reply c ≡ c → is_section_load c ≡ false
     → AreSteps reply (plain c ∷ []) kinds → kinds ≡ c ∷ []
 one_step_told reply c kinds whole none h =
     let x = one_step reply (plain c) kinds h in
     x.are ∙ ap (λ k. k ∷ []) (told x.call c (x.is ∙ whole) none)
 
-two_steps_told : (reply : ℕ) (c d : Kind) (kinds : List Kind) → replyless c ≡ c → replyless d ≡ d → is_load c ≡ false
-    → is_load d ≡ false → AreSteps reply (plain c ∷ plain d ∷ []) kinds → kinds ≡ c ∷ d ∷ []
+two_steps_told : (reply : ℕ) (c d : Kind) (kinds : List Kind) → step_without_reply c ≡ c → step_without_reply d ≡ d → is_section_load c ≡ false
+    → is_section_load d ≡ false → AreSteps reply (plain c ∷ plain d ∷ []) kinds → kinds ≡ c ∷ d ∷ []
 two_steps_told reply c d kinds first second none neither h =
     let x = two_steps reply (plain c) (plain d) kinds h in
     x.are ∙ ap₂ (λ k l. k ∷ l ∷ []) (told x.first c (x.first_is ∙ first) none)
@@ -102,15 +102,15 @@ load_step_told : (reply a : ℕ) (kinds : List Kind) → AreSteps reply (plain (
     → (v : ℕ) × (kinds ≡ kind.Load a v ∷ [])
 load_step_told reply a kinds h =
     let x = one_step reply (plain (kind.Load a 0)) kinds h in
-    let load = told_load x.call a x.is in
+    let load = section_load_told x.call a x.is in
     (load.0, x.are ∙ ap (λ k. k ∷ []) load.1)
 
 add_steps_told : (reply a v : ℕ) (kinds : List Kind) → AreSteps reply (plain (kind.Load a 0) ∷ adds a v ∷ []) kinds
     → (w : ℕ) × (kinds ≡ kind.Load a w ∷ kind.Store a ((w + v) % 2 ^ 32) ∷ [])
 add_steps_told reply a v kinds h =
     let x = two_steps reply (plain (kind.Load a 0)) (adds a v) kinds h in
-    let load = told_load x.first a x.first_is in
-    let P : Kind → Type 0 = λ k. IsStep (reply_after reply k) (adds a v) x.second in
+    let load = section_load_told x.first a x.first_is in
+    let P : Kind → Type 0 = λ k. IsStep (step_reply_after reply k) (adds a v) x.second in
     (load.0, x.are ∙ ap₂ (λ k l. k ∷ l ∷ []) load.1 (subst P load.1 x.second_is))
 
 instruction_steps_told : (i : Instruction) (kinds : List Kind) (reply : ℕ) → AreSteps reply (steps_of i) kinds
@@ -135,19 +135,19 @@ all_steps_told (i ∷ is) kinds reply h =
     (x.front, x.rest, x.are, instruction_steps_told i x.front reply x.first, all_steps_told is x.rest x.last x.second)
 
 -- loads of these addresses
-record AreLoads (shown : List ℕ) (kinds : List Kind) : Type 0 where
+record AreSectionLoads (shown : List ℕ) (kinds : List Kind) : Type 0 where
   loads : List (ℕ × ℕ)
-  are : kinds ≡ map load_of loads
+  are : kinds ≡ map followed_load loads
   addresses_are : map (λ (x : ℕ × ℕ). x.0) loads ≡ shown
 
 load_steps_told : (shown : List ℕ) (kinds : List Kind) (reply : ℕ) → AreSteps reply (section_load_steps shown) kinds
-    → AreLoads shown kinds
+    → AreSectionLoads shown kinds
 load_steps_told [] [] reply h = record { loads = []; are = refl; addresses_are = refl }
 load_steps_told [] (k ∷ kinds) reply h = absurd h
 load_steps_told (a ∷ shown) [] reply h = absurd h
 load_steps_told (a ∷ shown) (k ∷ kinds) reply h =
-    let load = told_load k a h.0 in
-    let rest = load_steps_told shown kinds (reply_after reply k) h.1 in
+    let load = section_load_told k a h.0 in
+    let rest = load_steps_told shown kinds (step_reply_after reply k) h.1 in
     record {
       loads = (a, load.0) ∷ rest.loads;
       are = ap₂ (λ l ls. l ∷ ls) load.1 rest.are;
@@ -158,7 +158,7 @@ load_steps_told (a ∷ shown) (k ∷ kinds) reply h =
 record AreSectionEnd (shown : List ℕ) (kinds : List Kind) : Type 0 where
   rest : List Kind
   are : kinds ≡ kind.Arrive ∷ kind.Depart ∷ rest
-  loads : AreLoads shown rest
+  loads : AreSectionLoads shown rest
 
 end_steps_told : (shown : List ℕ) (kinds : List Kind) (reply : ℕ)
     → AreSteps reply (plain kind.Arrive ∷ plain kind.Depart ∷ section_load_steps shown) kinds → AreSectionEnd shown kinds
@@ -168,7 +168,7 @@ end_steps_told shown (k ∷ l ∷ rest) reply h =
     record {
       rest = rest;
       are = ap₂ (λ x y. x ∷ y ∷ rest) (told k kind.Arrive h.0 refl) (told l kind.Depart h.1.0 refl);
-      loads = load_steps_told shown rest (reply_after (reply_after reply k) l) h.1.1;
+      loads = load_steps_told shown rest (step_reply_after (step_reply_after reply k) l) h.1.1;
     }
 
 -- what is as a section's steps say follows it

@@ -9,30 +9,30 @@ pub data Step : Type 0 where
   adds : ℕ → ℕ → Step
 
 -- the kind, with 0 for the reply of a load
-abbrev pub replyless : Kind → Kind
-replyless (Load a v) = Load a 0
-replyless k = k
+abbrev pub step_without_reply : Kind → Kind
+step_without_reply (Load a v) = Load a 0
+step_without_reply k = k
 
 -- the reply that was given last
-abbrev pub reply_after : ℕ → Kind → ℕ
-reply_after reply (Load a v) = v
-reply_after reply k = reply
+abbrev pub step_reply_after : ℕ → Kind → ℕ
+step_reply_after reply (Load a v) = v
+step_reply_after reply k = reply
 
 -- the call is as the step says, where this reply was given last
 abbrev pub IsStep : ℕ → Step → Kind → Type 0
-IsStep reply (plain k) made = replyless made ≡ replyless k
+IsStep reply (plain k) made = step_without_reply made ≡ step_without_reply k
 IsStep reply (adds a v) made = made ≡ Store a ((reply + v) % 2 ^ 32)
 
 -- the calls are as the steps say, one by one
 abbrev pub AreSteps : ℕ → List Step → List Kind → Type 0
 AreSteps reply [] [] = Unit {0}
-AreSteps reply (s ∷ steps) (k ∷ kinds) = IsStep reply s k × AreSteps (reply_after reply k) steps kinds
+AreSteps reply (s ∷ steps) (k ∷ kinds) = IsStep reply s k × AreSteps (step_reply_after reply k) steps kinds
 AreSteps reply _ _ = ⊥
 
 -- any calls are as they say themselves
 pub plain_steps : (reply : ℕ) (kinds : List Kind) → AreSteps reply (map plain kinds) kinds
 plain_steps reply [] = tt
-plain_steps reply (k ∷ kinds) = (refl, plain_steps (reply_after reply k) kinds)
+plain_steps reply (k ∷ kinds) = (refl, plain_steps (step_reply_after reply k) kinds)
 
 -- where there are no calls, the last reply doesn't matter
 pub no_steps : (reply other : ℕ) (steps : List Step) → AreSteps reply steps [] → AreSteps other steps []
@@ -46,7 +46,7 @@ steps-append reply [] more [] ys h then = then reply
 steps-append reply [] more (k ∷ xs) ys h then = absurd h
 steps-append reply (s ∷ steps) more [] ys h then = absurd h
 steps-append reply (s ∷ steps) more (k ∷ xs) ys h then =
-    (h.0, steps-append (reply_after reply k) steps more xs ys h.1 then)
+    (h.0, steps-append (step_reply_after reply k) steps more xs ys h.1 then)
 
 -- calls as the one steps say, and then the others
 pub record AreStepHalves (reply : ℕ) (steps more : List Step) (kinds : List Kind) : Type 0 where
@@ -63,7 +63,7 @@ step_halves reply [] more kinds h =
     record { front = []; rest = kinds; last = reply; are = refl; first = tt; second = h }
 step_halves reply (s ∷ steps) more [] h = absurd h
 step_halves reply (s ∷ steps) more (k ∷ kinds) h =
-    let x = step_halves (reply_after reply k) steps more kinds h.1 in
+    let x = step_halves (step_reply_after reply k) steps more kinds h.1 in
     record {
       front = k ∷ x.front;
       rest = x.rest;
@@ -90,7 +90,7 @@ pub record AreTwoSteps (reply : ℕ) (s t : Step) (kinds : List Kind) : Type 0 w
   pub second : Kind
   pub are : kinds ≡ first ∷ second ∷ []
   pub first_is : IsStep reply s first
-  pub second_is : IsStep (reply_after reply first) t second
+  pub second_is : IsStep (step_reply_after reply first) t second
 
 pub two_steps : (reply : ℕ) (s t : Step) (kinds : List Kind) → AreSteps reply (s ∷ t ∷ []) kinds
     → AreTwoSteps reply s t kinds

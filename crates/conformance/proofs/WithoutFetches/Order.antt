@@ -9,26 +9,26 @@ use Rattle.journal.specs.HappensBeforeEdges.{Link, Edge, HappensBefore}
 use Rattle.journal.specs.HappensBeforeEdges.Link.{same, lets, meets}
 use Rattle.journal.specs.HappensBeforeEdges.HappensBefore.{edge, on}
 use Rattle.journal.specs.Races.{Race}
-use Rattle.conformance.specs.Follows.{is_fetch}
+use Rattle.conformance.specs.Follows.{is_followed_fetch}
 use Rattle.conformance.proofs.WithoutFetches.Embeds.{IsWithoutFetchesOf, NoneFetches, embeds_rising}
 
-pub no_arrival : NoneFetches is_arrive
-no_arrival (Fetch w n r d) is = refl
-no_arrival Arrive is = sym is
-no_arrival _ is = refl
+pub without_fetches_arrival : NoneFetches is_arrive
+without_fetches_arrival (Fetch w n r d) is = refl
+without_fetches_arrival Arrive is = sym is
+without_fetches_arrival _ is = refl
 
-pub no_departure : NoneFetches is_depart
-no_departure (Fetch w n r d) is = refl
-no_departure Depart is = sym is
-no_departure _ is = refl
+pub without_fetches_departure : NoneFetches is_depart
+without_fetches_departure (Fetch w n r d) is = refl
+without_fetches_departure Depart is = sym is
+without_fetches_departure _ is = refl
 
 link_with_fetches : (g h : List Event) (x : IsWithoutFetchesOf g h) (i k : ℕ) (e f : Event) → Link g i k e f
     → Link h (x.embeds.place i) (x.embeds.place k) e f
 link_with_fetches g h x i k e f (same s) = same s
 link_with_fetches g h x i k e f (lets l) = lets l
 link_with_fetches g h x i k e f (meets m) =
-    let arrivals = x.fronts i is_arrive no_arrival e.processor in
-    let departures = x.fronts k is_depart no_departure f.processor in
+    let arrivals = x.fronts i is_arrive without_fetches_arrival e.processor in
+    let departures = x.fronts k is_depart without_fetches_departure f.processor in
     meets (record { arrives = m.arrives; departs = m.departs; episode = sym arrivals ∙ m.episode ∙ departures })
 
 edge_with_fetches : (g h : List Event) (x : IsWithoutFetchesOf g h) (i k : ℕ) → Edge g i k
@@ -50,7 +50,7 @@ before_with_fetches g h x (edge {i} {k} e) = edge (edge_with_fetches g h x i k e
 before_with_fetches g h x (on {i} {m} {k} b e) = on (before_with_fetches g h x b) (edge_with_fetches g h x m k e)
 
 -- what has an address is no fetch
-pub access_no_fetch : (k : Kind) (a : ℕ) → address_of k ≡ Some a → is_fetch k ≡ false
+pub access_no_fetch : (k : Kind) (a : ℕ) → address_of k ≡ Some a → is_followed_fetch k ≡ false
 access_no_fetch (Fetch w n r d) a at = absurd (none-some a at)
 access_no_fetch _ a at = refl
 

@@ -10,9 +10,9 @@ use Rattle.journal.specs.Sizes.{Sizes}
 use Rattle.journal.specs.WellFormed.{Does, LastIs, Holds, MayBeGranted, AllArrived, AnswersCall, Allowed, MayFollow, WellFormed}
 use Rattle.journal.proofs.Journals.WellFormedLast.{well_formed_take}
 use Rattle.base.proofs.SlicesAndCounts.{slice_get-take, slice_get-take_within, slice_get-from_take}
-use Rattle.conformance.specs.Follows.{is_fetch}
-use Rattle.conformance.proofs.WithoutFetches.Embeds.{Embeds, IsWithoutFetchesOf, CountsSame, embeds_take, embeds_rising}
-use Rattle.conformance.proofs.WithoutFetches.Order.{no_arrival, no_departure}
+use Rattle.conformance.specs.Follows.{is_followed_fetch}
+use Rattle.conformance.proofs.WithoutFetches.Embeds.{Embeds, IsWithoutFetchesOf, EmbedsCountsSame, embeds_take, embeds_rising}
+use Rattle.conformance.proofs.WithoutFetches.Order.{without_fetches_arrival, without_fetches_departure}
 
 -- a call that waits
 abbrev pub waits : Kind → Bool
@@ -22,20 +22,20 @@ waits (Watch f) = true
 waits k = false
 
 -- what answers it is no fetch
-answer_no_fetch : (k c : Kind) → waits k ≡ true → AnswersCall k c → is_fetch c ≡ false
-answer_no_fetch (Ask l) c is answers = ap is_fetch answers
-answer_no_fetch Arrive c is answers = ap is_fetch answers
-answer_no_fetch (Watch f) c is answers = ap is_fetch answers
+answer_no_fetch : (k c : Kind) → waits k ≡ true → AnswersCall k c → is_followed_fetch c ≡ false
+answer_no_fetch (Ask l) c is answers = ap is_followed_fetch answers
+answer_no_fetch Arrive c is answers = ap is_followed_fetch answers
+answer_no_fetch (Watch f) c is answers = ap is_followed_fetch answers
 answer_no_fetch _ c is answers = absurd (false≢true is)
 
 -- p calls nothing after place i
-abbrev NoCallAfter : List Event → ℕ → ℕ → Type 0
-NoCallAfter h p i = (m : ℕ) (f : Event) → i < m → At h m f → is_fetch f.kind ≡ false → f.processor ≢ p
+abbrev NoCallButFetchesAfter : List Event → ℕ → ℕ → Type 0
+NoCallButFetchesAfter h p i = (m : ℕ) (f : Event) → i < m → At h m f → is_followed_fetch f.kind ≡ false → f.processor ≢ p
 
 -- p's last event before place m is a call that waits: so what p does at m is no fetch
 no_fetch_at : (s : Sizes) (h : List Event) (p i : ℕ) (k : Kind) (m : ℕ) (f : Event) → WellFormed s h → waits k ≡ true
     → Does h i p k → i < m → At h m f → f.processor ≡ p
-    → ((n : ℕ) (e : Event) → n < m → i < n → At h n e → e.processor ≢ p) → is_fetch f.kind ≡ false
+    → ((n : ℕ) (e : Event) → n < m → i < n → At h n e → e.processor ≢ p) → is_followed_fetch f.kind ≡ false
 no_fetch_at s h p i k m f well waiting does after at mine none =
     answer_no_fetch k f.kind waiting ((well m f at).answers i k (subst (λ q. LastIs (take m h) q i k) (sym mine) last))
   where
@@ -47,12 +47,12 @@ no_fetch_at s h p i k m f well waiting does after at mine none =
         }
 
 -- where p waits and calls nothing after it, it fetches nothing either
-none_below : (s : Sizes) (h : List Event) (p i : ℕ) (k : Kind) → WellFormed s h → waits k ≡ true → Does h i p k
-    → NoCallAfter h p i → (bound m : ℕ) (f : Event) → m < bound → i < m → At h m f → f.processor ≢ p
-none_below s h p i k well waiting does no_call zero m f below after at mine = absurd (omega arith)
-none_below s h p i k well waiting does no_call (suc bound) m f below after at mine =
+without_fetches_none_below : (s : Sizes) (h : List Event) (p i : ℕ) (k : Kind) → WellFormed s h → waits k ≡ true → Does h i p k
+    → NoCallButFetchesAfter h p i → (bound m : ℕ) (f : Event) → m < bound → i < m → At h m f → f.processor ≢ p
+without_fetches_none_below s h p i k well waiting does no_call zero m f below after at mine = absurd (omega arith)
+without_fetches_none_below s h p i k well waiting does no_call (suc bound) m f below after at mine =
     let earlier : (n : ℕ) (e : Event) → n < m → i < n → At h n e → e.processor ≢ p =
-    λ n e less next here. none_below s h p i k well waiting does no_call bound n e (omega arith) next here in
+    λ n e less next here. without_fetches_none_below s h p i k well waiting does no_call bound n e (omega arith) next here in
     no_call m f after at (no_fetch_at s h p i k m f well waiting does after at mine earlier) mine
 
 -- p waits in the whole where it does without the fetches
@@ -62,18 +62,18 @@ last_with_fetches s g h x p i k well waiting l =
     record {
       does = x.there i (event p k) l.does;
       last = λ m f after at.
-          none_below s h p (x.place i) k well waiting (x.there i (event p k) l.does) no_call (suc m) m f
+          without_fetches_none_below s h p (x.place i) k well waiting (x.there i (event p k) l.does) no_call (suc m) m f
           (omega arith) after at;
     }
   where
-    no_call : NoCallAfter h p (x.place i)
+    no_call : NoCallButFetchesAfter h p (x.place i)
     no_call m f after at calls =
         let b = x.back m f at calls in
         let place : x.place b.0 ≡ m = b.1 in
         l.last b.0 f (embeds_rising g h x i b.0 (omega arith)) b.2
 
 -- and without the fetches where it waits in the whole
-pub last_without_fetches : (g h : List Event) (x : Embeds g h) (p n : ℕ) (k : Kind) → is_fetch k ≡ false → LastIs h p n k
+pub last_without_fetches : (g h : List Event) (x : Embeds g h) (p n : ℕ) (k : Kind) → is_followed_fetch k ≡ false → LastIs h p n k
     → (i : ℕ) × (x.place i ≡ n) × LastIs g p i k
 last_without_fetches g h x p n k call l =
     let b = x.back n (event p k) l.does call in
@@ -125,12 +125,12 @@ acquired_without_fetches s g h x p l well a =
     let P : ℕ → Type 0 = λ n. MayBeGranted h n l in
     (b.0, b.2, granted_without_fetches s g h x b.0 l well (subst P (sym b.1) a.2))
 
-departed_without_fetches : (s : Sizes) (g h : List Event) (x : Embeds g h) (p : ℕ) → CountsSame g h → Allowed s h p Depart
+departed_without_fetches : (s : Sizes) (g h : List Event) (x : Embeds g h) (p : ℕ) → EmbedsCountsSame g h → Allowed s h p Depart
     → Allowed s g p Depart
 departed_without_fetches s g h x p counts a =
     let b = last_without_fetches g h x p a.0 Arrive refl a.1 in
     let all : AllArrived s g (count_of is_depart g p + 1) =
-    λ q inside. rw (counts is_depart no_departure p, counts is_arrive no_arrival q) (a.2 q inside) in
+    λ q inside. rw (counts is_depart without_fetches_departure p, counts is_arrive without_fetches_arrival q) (a.2 q inside) in
     (b.0, b.2, all)
 
 awaited_without_fetches : (s : Sizes) (g h : List Event) (x : Embeds g h) (p f : ℕ) → Allowed s h p (Await f)
@@ -141,7 +141,7 @@ awaited_without_fetches s g h x p f a =
     (b.0, set.0, a.2, b.2, set.2)
 
 -- what may be done in the whole may be done without the fetches
-allowed_without_fetches : (s : Sizes) (g h : List Event) (x : Embeds g h) (p : ℕ) (k : Kind) → WellFormed s h → CountsSame g h
+allowed_without_fetches : (s : Sizes) (g h : List Event) (x : Embeds g h) (p : ℕ) (k : Kind) → WellFormed s h → EmbedsCountsSame g h
     → Allowed s h p k → Allowed s g p k
 allowed_without_fetches s g h x p (Ask l) well counts a = λ held. a (holds_with_fetches g h x p l held)
 allowed_without_fetches s g h x p (Acquire l) well counts a = acquired_without_fetches s g h x p l well a
@@ -160,7 +160,7 @@ answers_without_fetches s g h x p i (Watch f) c well answers last =
     answers (x.place i) (Watch f) (last_with_fetches s g h x p i (Watch f) well refl last)
 answers_without_fetches s g h x p i _ c well answers last = tt
 
-follow_without_fetches : (s : Sizes) (g h : List Event) (x : Embeds g h) (e : Event) → WellFormed s h → CountsSame g h
+follow_without_fetches : (s : Sizes) (g h : List Event) (x : Embeds g h) (e : Event) → WellFormed s h → EmbedsCountsSame g h
     → MayFollow s h e → MayFollow s g e
 follow_without_fetches s g h x e well counts m =
     record {

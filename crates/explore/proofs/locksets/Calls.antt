@@ -10,12 +10,12 @@ use Rattle.journal.specs.DidEvent.{did, event}
 use Rattle.journal.specs.Events.{address_of, count_of, is_depart, is_store}
 use Rattle.journal.specs.WellFormed.{Holds}
 use Rattle.journal.proofs.Order.CountedAndNumbered.{count_of-append}
-use Rattle.journal.proofs.Times.Times.{count_of-one}
-use Rattle.journal.proofs.Journals.WellFormedLast.{holds_cases, holds_longer, holds_now}
-use Rattle.base.proofs.SlicesAndCounts.{count_by-append, push_induction}
+use Rattle.journal.proofs.Times.Times.{count_of-one_time}
+use Rattle.journal.proofs.Journals.WellFormedLast.{well_formed_holds_cases, well_formed_holds_longer, well_formed_holds_now}
+use Rattle.base.proofs.SlicesAndCounts.{count_by-append, slice_push_induction}
 use Rattle.lrc_script.specs.Plan.{Plan}
-use Rattle.conformance.specs.Follows.{calls_of, is_fetch}
-use Rattle.conformance.proofs.Calls.{calls_of-own, calls_of-other}
+use Rattle.conformance.specs.Follows.{followed_calls, is_followed_fetch}
+use Rattle.conformance.proofs.Calls.{followed_calls-own, followed_calls-others}
 use Rattle.explore.specs.declared.prefixes.script_call.ScriptCall.{ScriptCall}
 use Rattle.explore.specs.declared.prefixes.script_call.ScriptCall.TheVariants.{Call, Adds}
 use Rattle.explore.specs.Prefixes.Beginnings.{IsFlatBeginning}
@@ -30,7 +30,7 @@ pub beginning_induction : (s : Plan) (P : List Event → Type 0) → P []
     → ((g : List Event) (p : ℕ) (k : Kind) → IsFlatBeginning s g → MayComeNext s g p k → P g → P (did g p k))
     → (g : List Event) → IsFlatBeginning s g → P g
 beginning_induction s P start step =
-    push_induction (λ g. IsFlatBeginning s g → P g) (λ h. start)
+    slice_push_induction (λ g. IsFlatBeginning s g → P g) (λ h. start)
     (λ g e ih h.
     let both = (next_begins s g e.processor e.kind).0 h in
     step g e.processor e.kind both.0 both.1 (ih both.0))
@@ -47,29 +47,29 @@ one_departure : (k : Kind) (p : ℕ) → count_of is_depart (event p k ∷ []) p
 one_departure k p = let own = eq-eqb p p refl in rw own refl
 
 pub departed : (s : Plan) (g : List Event) → IsFlatBeginning s g → (p : ℕ)
-    → count_of is_depart g p ≡ departures (calls_of g p)
-departed s = beginning_induction s (λ g. (p : ℕ) → count_of is_depart g p ≡ departures (calls_of g p)) (λ p. refl)
+    → count_of is_depart g p ≡ departures (followed_calls g p)
+departed s = beginning_induction s (λ g. (p : ℕ) → count_of is_depart g p ≡ departures (followed_calls g p)) (λ p. refl)
     (λ g q k begins next ih p. elim (cases_eq q p) [
-      | inl is ↦ subst (λ r. count_of is_depart (did g q k) r ≡ departures (calls_of (did g q k) r)) is (own g q k next.calls.call (ih q))
+      | inl is ↦ subst (λ r. count_of is_depart (did g q k) r ≡ departures (followed_calls (did g q k) r)) is (own g q k next.calls.call (ih q))
       | inr isnt ↦ other g q k p isnt (ih p)
     ])
   where
-    own : (g : List Event) (q : ℕ) (k : Kind) → is_fetch k ≡ false → count_of is_depart g q ≡ departures (calls_of g q)
-        → count_of is_depart (did g q k) q ≡ departures (calls_of (did g q k) q)
+    own : (g : List Event) (q : ℕ) (k : Kind) → is_followed_fetch k ≡ false → count_of is_depart g q ≡ departures (followed_calls g q)
+        → count_of is_depart (did g q k) q ≡ departures (followed_calls (did g q k) q)
     own g q k call ih =
         count_of-append is_depart g (event q k ∷ []) q
         ∙ ap₂ (λ (m n : ℕ). m + n) ih (one_departure k q)
-        ∙ sym (count_by-append is_depart (calls_of g q) (k ∷ []))
-        ∙ ap departures (sym (calls_of-own g q k call))
+        ∙ sym (count_by-append is_depart (followed_calls g q) (k ∷ []))
+        ∙ ap departures (sym (followed_calls-own g q k call))
 
-    other : (g : List Event) (q : ℕ) (k : Kind) (p : ℕ) → q ≢ p → count_of is_depart g p ≡ departures (calls_of g p)
-        → count_of is_depart (did g q k) p ≡ departures (calls_of (did g q k) p)
+    other : (g : List Event) (q : ℕ) (k : Kind) (p : ℕ) → q ≢ p → count_of is_depart g p ≡ departures (followed_calls g p)
+        → count_of is_depart (did g q k) p ≡ departures (followed_calls (did g q k) p)
     other g q k p isnt ih =
         let sum = count_of-append is_depart g (event q k ∷ []) p in
         let none : count_of is_depart (event q k ∷ []) p ≡ 0 =
-        elim (count_of-one is_depart (event q k) p) [ inl zero_more ↦ zero_more | inr one ↦ absurd (isnt one.0) ] in
+        elim (count_of-one_time is_depart (event q k) p) [ inl zero_more ↦ zero_more | inr one ↦ absurd (isnt one.0) ] in
         let same : count_of is_depart (did g q k) p ≡ count_of is_depart g p = omega arith in
-        same ∙ ih ∙ ap departures (sym (calls_of-other g q p k isnt))
+        same ∙ ih ∙ ap departures (sym (followed_calls-others g q p k isnt))
 
 -- a call that takes or gives up no lock
 own_held : (g : List Event) (q l : ℕ) (k : Kind) (held : Bool) → Holds g q l ↔ IsTrue held
@@ -77,66 +77,66 @@ own_held : (g : List Event) (q l : ℕ) (k : Kind) (held : Bool) → Holds g q l
 own_held g q l (kind.Acquire m) held ih = elim (cases_eq m l) [
   | inl is ↦ (
     λ h. cond-true (m == l) true held (eq-eqb m l is),
-    λ h. subst (λ n. Holds (did g q (kind.Acquire n)) q l) (sym is) (holds_now g q l),
+    λ h. subst (λ n. Holds (did g q (kind.Acquire n)) q l) (sym is) (well_formed_holds_now g q l),
   )
   | inr isnt ↦ (
-    λ h. elim (holds_cases g (event q (kind.Acquire m)) q l h) [
+    λ h. elim (well_formed_holds_cases g (event q (kind.Acquire m)) q l h) [
       | inl old ↦ cond-false (m == l) true held (ne_eqb m l isnt) ∙ ih.0 old.0
       | inr now ↦ (let kinds = ap (λ (e : Event). e.kind) now in absurd (isnt cc))
     ],
-    λ h. holds_longer g (event q (kind.Acquire m)) q l (λ is. let kinds = ap (λ (e : Event). e.kind) is in absurd cc)
+    λ h. well_formed_holds_longer g (event q (kind.Acquire m)) q l (λ is. let kinds = ap (λ (e : Event). e.kind) is in absurd cc)
         (ih.1 (sym (cond-false (m == l) true held (ne_eqb m l isnt)) ∙ h)),
   )
 ]
 own_held g q l (kind.Release m) held ih = elim (cases_eq m l) [
   | inl is ↦ (
-    λ h. elim (holds_cases g (event q (kind.Release m)) q l h) [
+    λ h. elim (well_formed_holds_cases g (event q (kind.Release m)) q l h) [
       | inl old ↦ absurd (old.1 (ap (λ n. event q (kind.Release n)) is))
       | inr now ↦ (let kinds = ap (λ (e : Event). e.kind) now in absurd cc)
     ],
     λ h. absurd (false≢true (sym (cond-true (m == l) false held (eq-eqb m l is)) ∙ h)),
   )
   | inr isnt ↦ (
-    λ h. elim (holds_cases g (event q (kind.Release m)) q l h) [
+    λ h. elim (well_formed_holds_cases g (event q (kind.Release m)) q l h) [
       | inl old ↦ cond-false (m == l) false held (ne_eqb m l isnt) ∙ ih.0 old.0
       | inr now ↦ (let kinds = ap (λ (e : Event). e.kind) now in absurd cc)
     ],
-    λ h. holds_longer g (event q (kind.Release m)) q l (λ is. let kinds = ap (λ (e : Event). e.kind) is in isnt cc)
+    λ h. well_formed_holds_longer g (event q (kind.Release m)) q l (λ is. let kinds = ap (λ (e : Event). e.kind) is in isnt cc)
         (ih.1 (sym (cond-false (m == l) false held (ne_eqb m l isnt)) ∙ h)),
   )
 ]
 own_held g q l k held ih = (
-  λ h. elim (holds_cases g (event q k) q l h) [ inl old ↦ ih.0 old.0 | inr now ↦ (let kinds = ap (λ (e : Event). e.kind) now in absurd cc) ],
-  λ h. holds_longer g (event q k) q l (λ is. let kinds = ap (λ (e : Event). e.kind) is in absurd cc) (ih.1 h),
+  λ h. elim (well_formed_holds_cases g (event q k) q l h) [ inl old ↦ ih.0 old.0 | inr now ↦ (let kinds = ap (λ (e : Event). e.kind) now in absurd cc) ],
+  λ h. well_formed_holds_longer g (event q k) q l (λ is. let kinds = ap (λ (e : Event). e.kind) is in absurd cc) (ih.1 h),
 )
 
-pub holding : (s : Plan) (g : List Event) → IsFlatBeginning s g → (p l : ℕ) → Holds g p l ↔ IsTrue (held_by l (calls_of g p))
-holding s = beginning_induction s (λ g. (p l : ℕ) → Holds g p l ↔ IsTrue (held_by l (calls_of g p)))
+pub holding : (s : Plan) (g : List Event) → IsFlatBeginning s g → (p l : ℕ) → Holds g p l ↔ IsTrue (held_by l (followed_calls g p))
+holding s = beginning_induction s (λ g. (p l : ℕ) → Holds g p l ↔ IsTrue (held_by l (followed_calls g p)))
     (λ p l. ((λ h. absurd (none h)), (λ h. absurd (false≢true h))))
     (λ g q k begins next ih p l. elim (cases_eq q p) [
-      | inl is ↦ subst (λ r. Holds (did g q k) r l ↔ IsTrue (held_by l (calls_of (did g q k) r))) is (own g q k l next.calls.call (ih q l))
+      | inl is ↦ subst (λ r. Holds (did g q k) r l ↔ IsTrue (held_by l (followed_calls (did g q k) r))) is (own g q k l next.calls.call (ih q l))
       | inr isnt ↦ other g q k p l isnt (ih p l)
     ])
   where
     none : {p l : ℕ} → Holds [] p l → ⊥
     none h = let at = h.acquires in absurd cc
 
-    own : (g : List Event) (q : ℕ) (k : Kind) (l : ℕ) → is_fetch k ≡ false → Holds g q l ↔ IsTrue (held_by l (calls_of g q))
-        → Holds (did g q k) q l ↔ IsTrue (held_by l (calls_of (did g q k) q))
+    own : (g : List Event) (q : ℕ) (k : Kind) (l : ℕ) → is_followed_fetch k ≡ false → Holds g q l ↔ IsTrue (held_by l (followed_calls g q))
+        → Holds (did g q k) q l ↔ IsTrue (held_by l (followed_calls (did g q k) q))
     own g q k l call ih =
         subst (λ b. Holds (did g q k) q l ↔ IsTrue b)
-        (sym (ap (held_by l) (calls_of-own g q k call) ∙ fold-append (is_held_after l) false (calls_of g q) (k ∷ [])))
-        (own_held g q l k (held_by l (calls_of g q)) ih)
+        (sym (ap (held_by l) (followed_calls-own g q k call) ∙ fold-append (is_held_after l) false (followed_calls g q) (k ∷ [])))
+        (own_held g q l k (held_by l (followed_calls g q)) ih)
 
-    other : (g : List Event) (q : ℕ) (k : Kind) (p l : ℕ) → q ≢ p → Holds g p l ↔ IsTrue (held_by l (calls_of g p))
-        → Holds (did g q k) p l ↔ IsTrue (held_by l (calls_of (did g q k) p))
+    other : (g : List Event) (q : ℕ) (k : Kind) (p l : ℕ) → q ≢ p → Holds g p l ↔ IsTrue (held_by l (followed_calls g p))
+        → Holds (did g q k) p l ↔ IsTrue (held_by l (followed_calls (did g q k) p))
     other g q k p l isnt ih =
-        subst (λ ks. Holds (did g q k) p l ↔ IsTrue (held_by l ks)) (sym (calls_of-other g q p k isnt)) (
-          λ h. elim (holds_cases g (event q k) p l h) [
+        subst (λ ks. Holds (did g q k) p l ↔ IsTrue (held_by l ks)) (sym (followed_calls-others g q p k isnt)) (
+          λ h. elim (well_formed_holds_cases g (event q k) p l h) [
             | inl old ↦ ih.0 old.0
             | inr now ↦ absurd (isnt (ap (λ (e : Event). e.processor) now))
           ],
-          λ h. holds_longer g (event q k) p l (λ is. isnt (ap (λ (e : Event). e.processor) is)) (ih.1 h),
+          λ h. well_formed_holds_longer g (event q k) p l (λ is. isnt (ap (λ (e : Event). e.processor) is)) (ih.1 h),
         )
 
 -- what a call without its reply does

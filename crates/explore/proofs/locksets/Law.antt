@@ -13,12 +13,12 @@ use Rattle.journal.specs.Events.{address_of, count_of, is_arrive, is_depart, is_
 use Rattle.journal.specs.Races.{Conflict}
 use Rattle.journal.specs.WellFormed.{AllArrived, Allowed, AnswersCall, Holds, LastIs}
 use Rattle.journal.proofs.Order.CountedAndNumbered.{count_of-append}
-use Rattle.journal.proofs.Times.Times.{count_of-one}
+use Rattle.journal.proofs.Times.Times.{count_of-one_time}
 use Rattle.journal.proofs.Journals.Balance.{balanced}
 use Rattle.journal.proofs.Journals.HoldingReleases.{holds_alone}
 use Rattle.lrc_script.specs.declared.script.Instruction.{Instruction}
 use Rattle.lrc_script.specs.Plan.{Plan}
-use Rattle.conformance.specs.Follows.{calls_of, plan_sizes}
+use Rattle.conformance.specs.Follows.{followed_calls, followed_plan_sizes}
 use Rattle.explore.specs.declared.prefixes.script_call.ScriptCall.{ScriptCall}
 use Rattle.explore.specs.Guarded.{GuardedTextLaw, HaveCommonLock, IsAccessAt, IsGuarded, departs, is_held_after_step, held_at, phase_at, step_address, step_stores}
 use Rattle.explore.specs.Machines.{AreLawfulSteps}
@@ -49,10 +49,10 @@ all_arrived s =
         let old = ih q p within in
         let departs_more = count_of-append is_depart g (event r k ∷ []) q in
         let arrives_more = count_of-append is_arrive g (event r k ∷ []) p in
-        elim (count_of-one is_depart (event r k) q) [
+        elim (count_of-one_time is_depart (event r k) q) [
           | inl none ↦ omega arith
           | inr one ↦
-              (let allowed = subst (Allowed (plan_sizes s) g r) (departure k one.1) next.may_follow.allowed in
+              (let allowed = subst (Allowed (followed_plan_sizes s) g r) (departure k one.1) next.may_follow.allowed in
               let enough = allowed.2 p within in
               let same = ap (λ n. count_of is_depart g n) one.0 in
               let counts = one.2 in
@@ -67,12 +67,12 @@ not_waiting _ a w at answers is = absurd cc
 -- what the text says of an access of p that may come next
 record IsAccessNext (s : Plan) (rows : List (Vec ScriptCall)) (g : List Event) (p w : ℕ) (a : Kind) : Type 0 where
   step : ScriptCall
-  access : IsAccessAt rows p (length (calls_of g p)) w step
+  access : IsAccessAt rows p (length (followed_calls g p)) w step
   stores : step_stores step ≡ is_store a
   within : p < s.processors
-  arrived : phase_at access.row.items (length (calls_of g p)) ≡ count_of is_arrive g p
-  departed : phase_at access.row.items (length (calls_of g p)) ≡ count_of is_depart g p
-  holds : (l : ℕ) → IsTrue (held_at access.row.items (length (calls_of g p)) l) → Holds g p l
+  arrived : phase_at access.row.items (length (followed_calls g p)) ≡ count_of is_arrive g p
+  departed : phase_at access.row.items (length (followed_calls g p)) ≡ count_of is_depart g p
+  holds : (l : ℕ) → IsTrue (held_at access.row.items (length (followed_calls g p)) l) → Holds g p l
 
 module _ (s : Plan) (rows : List (Vec ScriptCall)) (steps : AreLawfulSteps s rows) (g : List Event) (p w : ℕ) (a : Kind)
     (begins : IsFlatBeginning s g) (next : MayComeNext s g p a) (at : address_of a ≡ Some w) where
@@ -88,15 +88,15 @@ module _ (s : Plan) (rows : List (Vec ScriptCall)) (steps : AreLawfulSteps s row
   says : row.0.items ≡ section_steps section.0 (shown_by s p)
   says = steps.are.each p section.0 row.0 section.1 row.1
 
-  first : AreFirstCalls 0 row.0.items (calls_of g p)
-  first = subst (λ x. AreFirstCalls 0 x (calls_of g p)) (sym says)
-      ((begins_calls section.0 (shown_by s p) (calls_of g p)).0 (begins.begins p section.0 section.1))
+  first : AreFirstCalls 0 row.0.items (followed_calls g p)
+  first = subst (λ x. AreFirstCalls 0 x (followed_calls g p)) (sym says)
+      ((begins_calls section.0 (shown_by s p) (followed_calls g p)).0 (begins.begins p section.0 section.1))
 
-  departs_often : phase_at row.0.items (length (calls_of g p)) ≡ count_of is_depart g p
-  departs_often = sym (first_departures 0 row.0.items (calls_of g p) first) ∙ sym (departed s g begins p)
+  departs_often : phase_at row.0.items (length (followed_calls g p)) ≡ count_of is_depart g p
+  departs_often = sym (first_departures 0 row.0.items (followed_calls g p) first) ∙ sym (departed s g begins p)
 
   balance : count_of is_arrive g p ≡ count_of is_depart g p
-  balance = (balanced (plan_sizes s) g p begins.well_formed).going
+  balance = (balanced (followed_plan_sizes s) g p begins.well_formed).going
       (λ i last. not_waiting kind.Arrive a w at (next.may_follow.answers i kind.Arrive last) refl)
 
   access_next : IsAccessNext s rows g p w a
@@ -107,14 +107,14 @@ module _ (s : Plan) (rows : List (Vec ScriptCall)) (steps : AreLawfulSteps s row
         access = record {
           row = row.0;
           row_at = row.1;
-          at = subst (λ x. slice_get x (length (calls_of g p)) ≡ Some called.step) (sym says) called.at;
-          address = called_address (last_reply (calls_of g p)) called.step a called.is ∙ at;
+          at = subst (λ x. slice_get x (length (followed_calls g p)) ≡ Some called.step) (sym says) called.at;
+          address = called_address (last_reply (followed_calls g p)) called.step a called.is ∙ at;
         };
-        stores = called_store (last_reply (calls_of g p)) called.step a called.is;
+        stores = called_store (last_reply (followed_calls g p)) called.step a called.is;
         within = inside;
         arrived = departs_often ∙ sym balance;
         departed = departs_often;
-        holds = λ l held. (holding s g begins p l).1 (first_held l 0 false row.0.items (calls_of g p) first ∙ held);
+        holds = λ l held. (holding s g begins p l).1 (first_held l 0 false row.0.items (followed_calls g p) first ∙ held);
       }
 
 -- no two processors may access a guarded word next, one of them storing
@@ -132,14 +132,14 @@ guarded_quiet s rows steps g p q a b one other apart c guarded =
     let there = y.arrived in
     let gone = x.departed in
     let left = y.departed in
-    let same : phase_at x.access.row.items (length (calls_of g p)) ≡ phase_at y.access.row.items (length (calls_of g q))
+    let same : phase_at x.access.row.items (length (followed_calls g p)) ≡ phase_at y.access.row.items (length (followed_calls g q))
     = omega arith in
     let stores : IsTrue (step_stores x.step) ⊎ IsTrue (step_stores y.step) = elim c.stores [
       | inl is ↦ inl (x.stores ∙ is)
       | inr is ↦ inr (y.stores ∙ is)
     ] in
-    let common = guarded p q (length (calls_of g p)) (length (calls_of g q)) x.step y.step x.access y.access apart stores same in
-    apart (holds_alone (plan_sizes s) g first.0.well_formed p q common.lock (x.holds common.lock common.first)
+    let common = guarded p q (length (followed_calls g p)) (length (followed_calls g q)) x.step y.step x.access y.access apart stores same in
+    apart (holds_alone (followed_plan_sizes s) g first.0.well_formed p q common.lock (x.holds common.lock common.first)
     (y.holds common.lock common.second))
 
 pub guarded_law : GuardedTextLaw

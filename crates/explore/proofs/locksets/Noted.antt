@@ -10,7 +10,7 @@ use Rattle.std.proofs.lemmas.List.Elements.{All-get_or}
 use Rattle.std.proofs.lemmas.Option.{none-some, same_Some, slice_get-get_or, slice_get_within}
 use Rattle.std.proofs.lemmas.List.{length-take-le}
 use Rattle.std.proofs.lemmas.List.Sums.{count_by-le-length, fold-append}
-use Rattle.base.proofs.SlicesAndCounts.{count_by-append, push_cases, take-suc_at}
+use Rattle.base.proofs.SlicesAndCounts.{count_by-append, slice_push_cases, take-suc_at}
 use Rattle.base.proofs.SliceSets.{slice_get-set_same, slice_get-set_other}
 use Rattle.journal.specs.declared.event.Kind.{Kind}
 use Rattle.journal.specs.declared.event.Kind.TheVariants as kind
@@ -18,7 +18,7 @@ use Rattle.journal.specs.Events.{address_of}
 use Rattle.journal.specs.WellFormed.{KindInRange}
 use Rattle.lrc_script.specs.Plan.{Plan}
 use Rattle.lrc_script.specs.Lawful.{plan_addresses, IsLawful, IsLawfulSection}
-use Rattle.conformance.specs.Follows.{plan_sizes}
+use Rattle.conformance.specs.Follows.{followed_plan_sizes}
 use Rattle.explore.specs.declared.prefixes.script_call.ScriptCall.{ScriptCall}
 use Rattle.explore.specs.declared.prefixes.script_call.ScriptCall.TheVariants.{Call, Adds}
 use Rattle.explore.specs.declared.guarded.Users.{Users}
@@ -184,7 +184,7 @@ unused_guarded rows w none p q i k a b x y apart stores phases = absurd (none p 
 -- a new word that nobody uses
 pub sound_push : (words : List WordUse) (word : WordUse) → AreSoundUses words
     → ((phase : ℕ) → get nat_cmp word.phases phase ≡ None) → AreSoundUses (words ++ word ∷ [])
-sound_push words word sound none w other at = elim (push_cases words word w other at) [
+sound_push words word sound none w other at = elim (slice_push_cases words word w other at) [
   | inl old ↦ sound w other old.1
   | inr now ↦ subst IsSoundUse now.1 (λ guarded phase u is. absurd (none-some u (sym (none phase) ∙ is)))
 ]
@@ -197,12 +197,12 @@ flags_of (x ∷ words) zero is = (x, refl, is)
 flags_of (x ∷ words) (suc w) is = flags_of words w is
 
 -- the numbers of a lawful script's steps are small
-small_address : (s : Plan) (k : Kind) → KindInRange (plan_sizes s) k → (w : ℕ) → address_of k ≡ Some w → w < plan_addresses s
+small_address : (s : Plan) (k : Kind) → KindInRange (followed_plan_sizes s) k → (w : ℕ) → address_of k ≡ Some w → w < plan_addresses s
 small_address s (kind.Load a v) range w at = subst (λ n. n < plan_addresses s) (same_Some a w at) range
 small_address s (kind.Store a v) range w at = subst (λ n. n < plan_addresses s) (same_Some a w at) range
 small_address s _ range w at = absurd (none-some w at)
 
-small_lock : (s : Plan) (k : Kind) → s.locks ≤ 32 → KindInRange (plan_sizes s) k → IsSmallLock k
+small_lock : (s : Plan) (k : Kind) → s.locks ≤ 32 → KindInRange (followed_plan_sizes s) k → IsSmallLock k
 small_lock s (kind.Acquire l) most range = omega (arith, range)
 small_lock s (kind.Release l) most range = omega (arith, range)
 small_lock s _ most range = tt

@@ -8,18 +8,18 @@ use Rattle.journal.specs.declared.event.Event.{Event}
 use Rattle.journal.specs.declared.event.Kind.{Kind}
 use Rattle.journal.specs.declared.event.Kind.TheVariants.{Load}
 use Rattle.journal.specs.DidEvent.{did, event}
-use Rattle.journal.specs.FlatMemory.{AnswersWord, Replays, memory_after}
-use Rattle.journal.proofs.Order.CountedAndNumbered.{at_last, at_longer, at_within}
-use Rattle.journal.proofs.Journals.WellFormedLast.{each_push, well_formed_empty, well_formed_front}
-use Rattle.base.proofs.SlicesAndCounts.{push_cases}
+use Rattle.journal.specs.FlatMemory.{AnswersFlatWord, Replays, memory_after}
+use Rattle.journal.proofs.Order.CountedAndNumbered.{numbered_at_last, numbered_at_longer, numbered_at_within}
+use Rattle.journal.proofs.Journals.WellFormedLast.{well_formed_push, well_formed_empty, well_formed_front}
+use Rattle.base.proofs.SlicesAndCounts.{slice_push_cases}
 use Rattle.lrc_script.specs.declared.script.Instruction.{Instruction}
 use Rattle.lrc_script.specs.Plan.{Plan}
 use Rattle.lrc_script.specs.Lawful.{plan_addresses}
 use Rattle.conformance.specs.Begins.{BeginsScript, BeginsSection}
-use Rattle.conformance.specs.Follows.{plan_sizes, calls_of, is_fetch, Follows, FollowsSection}
-use Rattle.conformance.specs.FlatRuns.{HasNoFetch}
+use Rattle.conformance.specs.Follows.{followed_plan_sizes, followed_calls, is_followed_fetch, Follows, FollowsSection}
+use Rattle.conformance.specs.FlatRuns.{FlatRunHasNoFetch}
 use Rattle.conformance.proofs.Begins.{begins_front}
-use Rattle.conformance.proofs.Calls.{calls_of-append, calls_of-own, calls_of-other}
+use Rattle.conformance.proofs.Calls.{followed_calls-append, followed_calls-own, followed_calls-others}
 use Rattle.explore.specs.Prefixes.Beginnings.{IsFlatBeginning}
 use Rattle.explore.specs.Prefixes.Calling.{IsCalledNext, CallsNext, section_steps, shown_by}
 use Rattle.explore.specs.Prefixes.Laws.{EmptyLaw, FrontLaw, MayComeNext, NeverRacesLaw, NextLaw, WholeRunLaw}
@@ -29,7 +29,7 @@ use Rattle.explore.proofs.prefixes.Calling.{begins_empty, begins_push, follows_l
 pub follows_begins : (s : Plan) (g : List Event) → Follows s g → BeginsScript s g
 follows_begins s g follows p section at = record {
   rest = [];
-  follows = subst (FollowsSection section (shown_by s p)) (sym (append-nil (calls_of g p))) (follows p section at);
+  follows = subst (FollowsSection section (shown_by s p)) (sym (append-nil (followed_calls g p))) (follows p section at);
 }
 
 pub never_races : NeverRacesLaw
@@ -44,7 +44,7 @@ never_races s free g run none =
 
 pub empty_begins : EmptyLaw
 empty_begins s = record {
-  well_formed = well_formed_empty (plan_sizes s);
+  well_formed = well_formed_empty (followed_plan_sizes s);
   begins = λ p section at. begins_empty section (shown_by s p);
   replays = λ i p a v does. absurd (none-some (event p (Load a v)) does);
   no_fetch = λ i e at. absurd (none-some e at);
@@ -52,52 +52,52 @@ empty_begins s = record {
 
 replays_front : (start : List ℕ) (g more : List Event) → Replays start (g ++ more) → Replays start g
 replays_front start g more replays i p a v does =
-    let lt = at_within g i (event p (Load a v)) does in
+    let lt = numbered_at_within g i (event p (Load a v)) does in
     subst (λ es. slice_get (memory_after start es) a ≡ Some v) (take-append-le i g more (omega arith))
-    (replays i p a v (at_longer g more i (event p (Load a v)) does))
+    (replays i p a v (numbered_at_longer g more i (event p (Load a v)) does))
 
 -- a front of what begins a script does so
 pub script_front : (s : Plan) (g more : List Event) → BeginsScript s (g ++ more) → BeginsScript s g
 script_front s g more begins p section at =
-    begins_front section (shown_by s p) (calls_of g p) (calls_of more p)
-    (subst (BeginsSection section (shown_by s p)) (calls_of-append g more p) (begins p section at))
+    begins_front section (shown_by s p) (followed_calls g p) (followed_calls more p)
+    (subst (BeginsSection section (shown_by s p)) (followed_calls-append g more p) (begins p section at))
 
 pub front_begins : FrontLaw
 front_begins s g more h = record {
-  well_formed = well_formed_front (plan_sizes s) g more h.well_formed;
+  well_formed = well_formed_front (followed_plan_sizes s) g more h.well_formed;
   begins = script_front s g more h.begins;
   replays = replays_front (replicate (plan_addresses s) 0) g more h.replays;
-  no_fetch = λ i e at. h.no_fetch i e (at_longer g more i e at);
+  no_fetch = λ i e at. h.no_fetch i e (numbered_at_longer g more i e at);
 }
 
 -- a load that comes last answers its word
 answers_last : (start : List ℕ) (g : List Event) (p : ℕ) (k : Kind) → Replays start (did g p k)
-    → AnswersWord (memory_after start g) k
+    → AnswersFlatWord (memory_after start g) k
 answers_last start g p (Load a v) replays =
     subst (λ es. slice_get (memory_after start es) a ≡ Some v) (take-append_seam g (event p (Load a v) ∷ []))
-    (replays (length g) p a v (at_last g (event p (Load a v))))
+    (replays (length g) p a v (numbered_at_last g (event p (Load a v))))
 answers_last start g p _ replays = tt
 
 replays_push : (start : List ℕ) (g : List Event) (p : ℕ) (k : Kind) → Replays start g
-    → AnswersWord (memory_after start g) k → Replays start (did g p k)
-replays_push start g p k old answers i q a v does = elim (push_cases g (event p k) i (event q (Load a v)) does) [
+    → AnswersFlatWord (memory_after start g) k → Replays start (did g p k)
+replays_push start g p k old answers i q a v does = elim (slice_push_cases g (event p k) i (event q (Load a v)) does) [
   | inl before ↦
       (let lt = before.0 in
       subst (λ es. slice_get (memory_after start es) a ≡ Some v) (sym (take-append-le i g (event p k ∷ []) (omega arith)))
       (old i q a v before.1))
   | inr now ↦
       (let word : slice_get (memory_after start g) a ≡ Some v =
-      subst (AnswersWord (memory_after start g)) (ap (λ (e : Event). e.kind) now.1) answers in
+      subst (AnswersFlatWord (memory_after start g)) (ap (λ (e : Event). e.kind) now.1) answers in
       subst (λ es. slice_get (memory_after start es) a ≡ Some v)
       (sym (take-append_seam g (event p k ∷ [])) ∙ ap (λ n. take n (did g p k)) (sym now.0)) word)
 ]
 
-begins_now : (s : Plan) (g : List Event) (p : ℕ) (k : Kind) → is_fetch k ≡ false → BeginsScript s (did g p k)
+begins_now : (s : Plan) (g : List Event) (p : ℕ) (k : Kind) → is_followed_fetch k ≡ false → BeginsScript s (did g p k)
     → (section : List Instruction) → slice_get s.sections p ≡ Some section
-    → IsCalledNext (section_steps section (shown_by s p)) (calls_of g p) k
+    → IsCalledNext (section_steps section (shown_by s p)) (followed_calls g p) k
 begins_now s g p k call begins section at =
-    ((begins_push section (shown_by s p) (calls_of g p) k).0
-    (subst (BeginsSection section (shown_by s p)) (calls_of-own g p k call) (begins p section at))).1
+    ((begins_push section (shown_by s p) (followed_calls g p) k).0
+    (subst (BeginsSection section (shown_by s p)) (followed_calls-own g p k call) (begins p section at))).1
 
 begins_more : (s : Plan) (g : List Event) (p : ℕ) (k : Kind) → BeginsScript s g → CallsNext s g p k
     → BeginsScript s (did g p k)
@@ -105,17 +105,17 @@ begins_more s g p k begins may q section at = elim (cases_eq p q) [
   | inl is ↦
       (let here : slice_get s.sections p ≡ Some section =
       subst (λ r. slice_get s.sections r ≡ Some section) (sym is) at in
-      subst (λ r. BeginsSection section (shown_by s r) (calls_of (did g p k) r)) is
-      (subst (BeginsSection section (shown_by s p)) (sym (calls_of-own g p k may.call))
-      ((begins_push section (shown_by s p) (calls_of g p) k).1 (begins p section here, may.next section here))))
+      subst (λ r. BeginsSection section (shown_by s r) (followed_calls (did g p k) r)) is
+      (subst (BeginsSection section (shown_by s p)) (sym (followed_calls-own g p k may.call))
+      ((begins_push section (shown_by s p) (followed_calls g p) k).1 (begins p section here, may.next section here))))
   | inr isnt ↦
-      subst (BeginsSection section (shown_by s q)) (sym (calls_of-other g p q k isnt)) (begins q section at)
+      subst (BeginsSection section (shown_by s q)) (sym (followed_calls-others g p q k isnt)) (begins q section at)
 ]
 
-fetchless_push : (g : List Event) (p : ℕ) (k : Kind) → HasNoFetch g → is_fetch k ≡ false → HasNoFetch (did g p k)
-fetchless_push g p k none call i e at = elim (push_cases g (event p k) i e at) [
+fetchless_push : (g : List Event) (p : ℕ) (k : Kind) → FlatRunHasNoFetch g → is_followed_fetch k ≡ false → FlatRunHasNoFetch (did g p k)
+fetchless_push g p k none call i e at = elim (slice_push_cases g (event p k) i e at) [
   | inl before ↦ none i e before.1
-  | inr now ↦ ap (λ (x : Event). is_fetch x.kind) (sym now.1) ∙ call
+  | inr now ↦ ap (λ (x : Event). is_followed_fetch x.kind) (sym now.1) ∙ call
 ]
 
 pub next_begins : NextLaw
@@ -123,10 +123,10 @@ next_begins s g p k = (there, back)
   where
     there : IsFlatBeginning s (did g p k) → IsFlatBeginning s g × MayComeNext s g p k
     there h =
-        let call : is_fetch k ≡ false = h.no_fetch (length g) (event p k) (at_last g (event p k)) in (
+        let call : is_followed_fetch k ≡ false = h.no_fetch (length g) (event p k) (numbered_at_last g (event p k)) in (
           front_begins s g (event p k ∷ []) h,
           record {
-            may_follow = ((each_push (plan_sizes s) g (event p k)).0 h.well_formed).1;
+            may_follow = ((well_formed_push (followed_plan_sizes s) g (event p k)).0 h.well_formed).1;
             calls = record { call = call; next = begins_now s g p k call h.begins };
             answers = answers_last (replicate (plan_addresses s) 0) g p k h.replays;
           },
@@ -134,7 +134,7 @@ next_begins s g p k = (there, back)
 
     back : IsFlatBeginning s g × MayComeNext s g p k → IsFlatBeginning s (did g p k)
     back h = record {
-      well_formed = (each_push (plan_sizes s) g (event p k)).1 (h.0.well_formed, h.1.may_follow);
+      well_formed = (well_formed_push (followed_plan_sizes s) g (event p k)).1 (h.0.well_formed, h.1.may_follow);
       begins = begins_more s g p k h.0.begins h.1.calls;
       replays = replays_push (replicate (plan_addresses s) 0) g p k h.0.replays h.1.answers;
       no_fetch = fetchless_push g p k h.0.no_fetch h.1.calls.call;
@@ -143,7 +143,7 @@ next_begins s g p k = (there, back)
 pub whole_done : WholeRunLaw
 whole_done s g h = (
   λ follows p section at.
-      (follows_length section (shown_by s p) (calls_of g p) (h.begins p section at)).0 (follows p section at),
+      (follows_length section (shown_by s p) (followed_calls g p) (h.begins p section at)).0 (follows p section at),
   λ done p section at.
-      (follows_length section (shown_by s p) (calls_of g p) (h.begins p section at)).1 (done p section at),
+      (follows_length section (shown_by s p) (followed_calls g p) (h.begins p section at)).1 (done p section at),
 )

@@ -2,7 +2,7 @@
 use Rattle.std.proofs.Common.{ℕ, zero, suc, inl, inr, length, subst, ◌≡◌, ◌+◌, List, [], ◌∷◌, ◌++◌, take, refl, sym, ap, ◌∙◌, Some, slice_get, append_assoc, append-nil, add-one}
 use Rattle.std.specs.Global.{Vec}
 use Rattle.std.proofs.lemmas.Option.{none-some, same_Some}
-use Rattle.base.proofs.SlicesAndCounts.{push_cases, take-suc_at}
+use Rattle.base.proofs.SlicesAndCounts.{slice_push_cases, take-suc_at}
 use Rattle.journal.specs.declared.event.Kind.TheVariants as kind
 use Rattle.lrc_script.specs.declared.script.Instruction.{Instruction}
 use Rattle.lrc_script.specs.Plan.{Plan, plan_sections}
@@ -53,7 +53,7 @@ AreRowsOf s rows = (p : ℕ) (section : List Instruction) (row : Vec ScriptCall)
 pub rows_next : (s : Plan) (rows : List (Vec ScriptCall)) (row : Vec ScriptCall) (section : List Instruction)
     → slice_get s.sections (length rows) ≡ Some section
     → row.items ≡ section_steps section (shown_by s (length rows)) → AreRowsOf s rows → AreRowsOf s (rows ++ row ∷ [])
-rows_next s rows row section at is old p other found there here = elim (push_cases rows row p found here) [
+rows_next s rows row section at is old p other found there here = elim (slice_push_cases rows row p found here) [
   | inl before ↦ old p other found there before.1
   | inr now ↦
       (let there_now = subst (λ q. slice_get s.sections q ≡ Some other) now.0 there in

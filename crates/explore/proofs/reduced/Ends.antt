@@ -7,7 +7,7 @@ use Rattle.journal.specs.declared.event.Kind.{Kind}
 use Rattle.journal.specs.DidEvent.{did, event}
 use Rattle.journal.specs.Races.{Conflict}
 use Rattle.lrc_script.specs.Plan.{Plan}
-use Rattle.conformance.specs.Follows.{calls_of, Follows, FollowsSection}
+use Rattle.conformance.specs.Follows.{followed_calls, Follows, FollowsSection}
 use Rattle.explore.specs.declared.prefixes.script_call.ScriptCall.{ScriptCall}
 use Rattle.explore.specs.Free.{IsFree}
 use Rattle.explore.specs.Machines.{AreLawfulSteps}
@@ -30,7 +30,7 @@ follows_ends s g p k one follows next =
     let section = some_at s.sections p (omega arith) in
     let called = both.1.calls.next section.0 section.1 in
     let done = (whole_done s g both.0).0 follows p section.0 section.1 in
-    let lt = slice_get_within (section_steps section.0 (shown_by s p)) (length (calls_of g p)) called.step called.at in
+    let lt = slice_get_within (section_steps section.0 (shown_by s p)) (length (followed_calls g p)) called.step called.at in
     omega arith
 
 follows_same : (s : Plan) (g h : List Event) → IsSame s g h → Follows s g → Follows s h

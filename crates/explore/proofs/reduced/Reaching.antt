@@ -13,12 +13,12 @@ use Rattle.journal.specs.declared.event.Kind.{Kind}
 use Rattle.journal.specs.declared.event.Kind.TheVariants.{Load}
 use Rattle.journal.specs.DidEvent.{did, event}
 use Rattle.journal.specs.Events.{At}
-use Rattle.journal.specs.FlatMemory.{AnswersWord, memory_after}
+use Rattle.journal.specs.FlatMemory.{AnswersFlatWord, memory_after}
 use Rattle.journal.specs.Races.{Conflict}
 use Rattle.lrc_script.specs.declared.script.Instruction.{Instruction}
 use Rattle.lrc_script.specs.Plan.{Plan}
 use Rattle.lrc_script.specs.Lawful.{plan_addresses}
-use Rattle.conformance.specs.Follows.{calls_of, Follows, FollowsSection}
+use Rattle.conformance.specs.Follows.{followed_calls, Follows, FollowsSection}
 use Rattle.explore.specs.declared.prefixes.script_call.ScriptCall.{ScriptCall}
 use Rattle.explore.specs.declared.prefixes.script_call.ScriptCall.TheVariants.{Call, Adds}
 use Rattle.explore.specs.Free.{IsFree}
@@ -36,7 +36,7 @@ use Rattle.explore.proofs.reduced.Same.{IsSame, after_that, other_way, same_call
 use Rattle.explore.proofs.reduced.Swapping.{ComesFirst, comes_first, next_after}
 
 -- one reply is the memory's
-once : (memory : List ℕ) (j k : Kind) → replyless j ≡ replyless k → AnswersWord memory j → AnswersWord memory k → j ≡ k
+once : (memory : List ℕ) (j k : Kind) → replyless j ≡ replyless k → AnswersFlatWord memory j → AnswersFlatWord memory k → j ≡ k
 once memory (Load a v) (Load b u) same one two =
     let place : a ≡ b = cc in
     let value : v ≡ u = same_Some v u (sym one ∙ ap (slice_get memory) place ∙ two) in
@@ -46,7 +46,7 @@ once memory j (Load b u) same one two = absurd cc
 once memory j k same one two = same
 
 step_once : (reply : ℕ) (memory : List ℕ) (step : ScriptCall) (j k : Kind) → IsStep reply step j → IsStep reply step k
-    → AnswersWord memory j → AnswersWord memory k → j ≡ k
+    → AnswersFlatWord memory j → AnswersFlatWord memory k → j ≡ k
 step_once reply memory (Call c) j k first second one two = once memory j k (first ∙ sym second) one two
 step_once reply memory (Adds a v) j k first second one two = first ∙ sym second
 
@@ -61,8 +61,8 @@ next_once s g p j k long first second =
     let here = one.calls.next section.0 section.1 in
     let there = two.calls.next section.0 section.1 in
     let same : there.step ≡ here.step = same_Some there.step here.step (sym there.at ∙ here.at) in
-    step_once (last_reply (calls_of g p)) (memory_after (replicate (plan_addresses s) 0) g) here.step j k here.is
-    (subst (λ x. IsStep (last_reply (calls_of g p)) x k) same there.is) one.answers two.answers
+    step_once (last_reply (followed_calls g p)) (memory_after (replicate (plan_addresses s) 0) g) here.step j k here.is
+    (subst (λ x. IsStep (last_reply (followed_calls g p)) x k) same there.is) one.answers two.answers
 
 -- p's first event among some, or none of them is its
 record FirstOf (w : List Event) (p : ℕ) : Type 0 where

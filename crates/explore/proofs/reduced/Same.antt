@@ -4,7 +4,7 @@ use Rattle.std.proofs.Common.{ℕ, ◌≡◌, ◌≢◌, ◌+◌, ◌<◌, ◌�
 use Rattle.std.specs.Prelude.{◌==◌, ◌&&◌}
 use Rattle.std.proofs.lemmas.Bool.{cases_eq, cases_order, cond-true, cond-false, eq-eqb, ne_eqb}
 use Rattle.std.proofs.lemmas.Option.{none-some}
-use Rattle.base.proofs.SlicesAndCounts.{count_by-append, push_cases, push_induction}
+use Rattle.base.proofs.SlicesAndCounts.{count_by-append, slice_push_cases, slice_push_induction}
 use Rattle.base.proofs.LastWritten.{written-append}
 use Rattle.base.specs.LastWritten.{wrote}
 use Rattle.journal.specs.declared.event.Event.{Event}
@@ -12,17 +12,17 @@ use Rattle.journal.specs.declared.event.Kind.{Kind}
 use Rattle.journal.specs.declared.event.Kind.TheVariants.{Ask, Acquire, Release, Arrive, Depart, Set, Watch, Await}
 use Rattle.journal.specs.DidEvent.{did, event}
 use Rattle.journal.specs.Events.{At, count_of, is_arrive, is_depart, events_of}
-use Rattle.journal.specs.FlatMemory.{AnswersWord, flat_write, memory_after}
+use Rattle.journal.specs.FlatMemory.{AnswersFlatWord, flat_write, memory_after}
 use Rattle.journal.specs.Sizes.{Sizes}
 use Rattle.journal.specs.WellFormed.{AllArrived, Allowed, Does, Holds, LastIs, MayBeGranted, MayFollow}
-use Rattle.journal.proofs.Order.CountedAndNumbered.{at_last, at_longer, at_within, count_of-append}
-use Rattle.journal.proofs.Times.Times.{count_of-one}
-use Rattle.journal.proofs.Journals.WellFormedLast.{holds_cases, holds_longer, holds_now, last_cases, last_longer, last_now, last_shorter, last_unique}
+use Rattle.journal.proofs.Order.CountedAndNumbered.{numbered_at_last, numbered_at_longer, numbered_at_within, count_of-append}
+use Rattle.journal.proofs.Times.Times.{count_of-one_time}
+use Rattle.journal.proofs.Journals.WellFormedLast.{well_formed_holds_cases, well_formed_holds_longer, well_formed_holds_now, last_cases, last_longer, last_now, last_shorter, last_unique}
 use Rattle.lrc_script.specs.declared.script.Instruction.{Instruction}
 use Rattle.lrc_script.specs.Plan.{Plan}
 use Rattle.lrc_script.specs.Lawful.{plan_addresses}
-use Rattle.conformance.specs.Follows.{calls_of, call_kinds, plan_sizes}
-use Rattle.conformance.proofs.Calls.{part-append}
+use Rattle.conformance.specs.Follows.{followed_calls, followed_call_kinds, followed_plan_sizes}
+use Rattle.conformance.proofs.Calls.{calls_part-append}
 use Rattle.explore.specs.Prefixes.Beginnings.{IsFlatBeginning}
 use Rattle.explore.specs.Prefixes.Calling.{IsCalledNext, section_steps, shown_by}
 use Rattle.explore.specs.Prefixes.Laws.{MayComeNext}
@@ -30,18 +30,18 @@ use Rattle.explore.proofs.prefixes.Beginnings.{front_begins, next_begins}
 
 pub part_own : (j : List Event) (e : Event) → events_of (j ++ e ∷ []) e.processor ≡ events_of j e.processor ++ e ∷ []
 part_own j e =
-    part-append j (e ∷ []) e.processor
+    calls_part-append j (e ∷ []) e.processor
     ∙ ap (λ xs. events_of j e.processor ++ xs) (cond-true (e.processor == e.processor) (e ∷ []) [] (eq-eqb e.processor e.processor refl))
 
 pub part_other : (j : List Event) (e : Event) (p : ℕ) → e.processor ≢ p → events_of (j ++ e ∷ []) p ≡ events_of j p
 part_other j e p isnt =
-    part-append j (e ∷ []) p
+    calls_part-append j (e ∷ []) p
     ∙ ap (λ xs. events_of j p ++ xs) (cond-false (e.processor == p) (e ∷ []) [] (ne_eqb e.processor p isnt))
     ∙ append-nil (events_of j p)
 
 -- others' events are none of a processor's
 pub away_one : (e : Event) (p : ℕ) → e.processor ≢ p → (m : ℕ) (f : Event) → At (e ∷ []) m f → f.processor ≢ p
-away_one e p isnt m f at same = elim (push_cases [] e m f at) [
+away_one e p isnt m f at same = elim (slice_push_cases [] e m f at) [
   | inl old ↦ absurd (none-some f old.1)
   | inr new ↦ isnt (ap (λ (x : Event). x.processor) new.1 ∙ same)
 ]
@@ -52,7 +52,7 @@ module _ (O : List Event → ℕ → Type 0)
     → O (i ++ e ∷ []) e.processor ↔ O (j ++ e ∷ []) e.processor)
     (others : (j : List Event) (e : Event) (p : ℕ) → e.processor ≢ p → O (j ++ e ∷ []) p ↔ O j p) where
   by_part : (j : List Event) (p : ℕ) → O j p ↔ O (events_of j p) p
-  by_part j p = push_induction (λ g. O g p ↔ O (events_of g p) p) ((λ o. o), (λ o. o)) step j
+  by_part j p = slice_push_induction (λ g. O g p ↔ O (events_of g p) p) ((λ o. o), (λ o. o)) step j
     where
       step : (g : List Event) (e : Event) → O g p ↔ O (events_of g p) p → O (g ++ e ∷ []) p ↔ O (events_of (g ++ e ∷ []) p) p
       step g e ih = elim (cases_eq e.processor p) [
@@ -91,20 +91,20 @@ same_last g h p k =
 
 held_own : (i j : List Event) (l : ℕ) (e : Event) → (Holds i e.processor l → Holds j e.processor l)
     → Holds (i ++ e ∷ []) e.processor l → Holds (j ++ e ∷ []) e.processor l
-held_own i j l e old holds = elim (holds_cases i e e.processor l holds) [
-  | inl was ↦ holds_longer j e e.processor l was.1 (old was.0)
-  | inr now ↦ subst (λ f. Holds (j ++ f ∷ []) e.processor l) (sym now) (holds_now j e.processor l)
+held_own i j l e old holds = elim (well_formed_holds_cases i e e.processor l holds) [
+  | inl was ↦ well_formed_holds_longer j e e.processor l was.1 (old was.0)
+  | inr now ↦ subst (λ f. Holds (j ++ f ∷ []) e.processor l) (sym now) (well_formed_holds_now j e.processor l)
 ]
 
 pub same_held : (g h : List Event) (p l : ℕ) → events_of g p ≡ events_of h p → Holds g p l → Holds h p l
 same_held g h p l =
     same_part (λ j q. Holds j q l) (λ i j e old. (held_own i j l e old.0, held_own j i l e old.1))
     (λ j e q isnt. (
-      (λ holds. elim (holds_cases j e q l holds) [
+      (λ holds. elim (well_formed_holds_cases j e q l holds) [
         | inl was ↦ was.0
         | inr now ↦ absurd (isnt (ap (λ (x : Event). x.processor) now))
       ]),
-      (λ holds. holds_longer j e q l (λ is. isnt (ap (λ (x : Event). x.processor) is)) holds),
+      (λ holds. well_formed_holds_longer j e q l (λ is. isnt (ap (λ (x : Event). x.processor) is)) holds),
     )) g h p
 
 -- p has set f
@@ -113,26 +113,26 @@ SetBy f j p = (k : ℕ) × Does j k p (Set f)
 
 set_own : (i j : List Event) (f : ℕ) (e : Event) → (SetBy f i e.processor → SetBy f j e.processor)
     → SetBy f (i ++ e ∷ []) e.processor → SetBy f (j ++ e ∷ []) e.processor
-set_own i j f e old set = elim (push_cases i e set.0 (event e.processor (Set f)) set.1) [
+set_own i j f e old set = elim (slice_push_cases i e set.0 (event e.processor (Set f)) set.1) [
   | inl was ↦
       (let there = old (set.0, was.1) in
-      (there.0, at_longer j (e ∷ []) there.0 (event e.processor (Set f)) there.1))
-  | inr now ↦ (length j, subst (λ x. At (j ++ e ∷ []) (length j) x) now.1 (at_last j e))
+      (there.0, numbered_at_longer j (e ∷ []) there.0 (event e.processor (Set f)) there.1))
+  | inr now ↦ (length j, subst (λ x. At (j ++ e ∷ []) (length j) x) now.1 (numbered_at_last j e))
 ]
 
 pub same_set : (g h : List Event) (p f : ℕ) → events_of g p ≡ events_of h p → SetBy f g p → SetBy f h p
 same_set g h p f =
     same_part (SetBy f) (λ i j e old. (set_own i j f e old.0, set_own j i f e old.1))
     (λ j e q isnt. (
-      (λ set. elim (push_cases j e set.0 (event q (Set f)) set.1) [
+      (λ set. elim (slice_push_cases j e set.0 (event q (Set f)) set.1) [
         | inl was ↦ (set.0, was.1)
         | inr now ↦ absurd (isnt (ap (λ (x : Event). x.processor) now.1))
       ]),
-      (λ set. (set.0, at_longer j (e ∷ []) set.0 (event q (Set f)) set.1)),
+      (λ set. (set.0, numbered_at_longer j (e ∷ []) set.0 (event q (Set f)) set.1)),
     )) g h p
 
 count_part : (is : Kind → Bool) (j : List Event) (p : ℕ) → count_of is j p ≡ count_by (λ (e : Event). is e.kind) (events_of j p)
-count_part is j p = push_induction (λ g. count_of is g p ≡ count_by (λ (e : Event). is e.kind) (events_of g p)) refl step j
+count_part is j p = slice_push_induction (λ g. count_of is g p ≡ count_by (λ (e : Event). is e.kind) (events_of g p)) refl step j
   where
     one : (e : Event) → count_of is (e ∷ []) e.processor ≡ count_by (λ (x : Event). is x.kind) (e ∷ [])
     one e = let own = eq-eqb e.processor e.processor refl in rw own refl
@@ -148,7 +148,7 @@ count_part is j p = push_induction (λ g. count_of is g p ≡ count_by (λ (e : 
           ∙ ap (count_by (λ (x : Event). is x.kind)) (sym (part_own g e))))
       | inr isnt ↦
           (let sum = count_of-append is g (e ∷ []) p in
-          let none : count_of is (e ∷ []) p ≡ 0 = elim (count_of-one is e p) [
+          let none : count_of is (e ∷ []) p ≡ 0 = elim (count_of-one_time is e p) [
             | inl zero_more ↦ zero_more
             | inr own ↦ absurd (isnt own.0)
           ] in
@@ -190,8 +190,8 @@ after_that s g h i one two = record {
   asks = λ l p q. ((λ a. (two.asks l p q).0 ((one.asks l p q).0 a)), (λ a. (one.asks l p q).1 ((two.asks l p q).1 a)));
 }
 
-pub same_calls : (s : Plan) (g h : List Event) (p : ℕ) → IsSame s g h → calls_of g p ≡ calls_of h p
-same_calls s g h p same = ap call_kinds (same.parts p)
+pub same_calls : (s : Plan) (g h : List Event) (p : ℕ) → IsSame s g h → followed_calls g p ≡ followed_calls h p
+same_calls s g h p same = ap followed_call_kinds (same.parts p)
 
 -- memory after one event more
 pub memory_did : (start : List ℕ) (g : List Event) (p : ℕ) (k : Kind)
@@ -199,7 +199,7 @@ pub memory_did : (start : List ℕ) (g : List Event) (p : ℕ) (k : Kind)
 memory_did start g p k = written-append (λ (e : Event). flat_write e.kind) start g (event p k ∷ [])
 
 module _ (s : Plan) (g h : List Event) (same : IsSame s g h) where
-  allowed_same : (p : ℕ) (k : Kind) → Allowed (plan_sizes s) g p k → Allowed (plan_sizes s) h p k
+  allowed_same : (p : ℕ) (k : Kind) → Allowed (followed_plan_sizes s) g p k → Allowed (followed_plan_sizes s) h p k
   allowed_same p (Ask l) a = λ holds. a (same_held h g p l (sym (same.parts p)) holds)
   allowed_same p (Acquire l) a =
       let last = same_last g h p (Ask l) (same.parts p) (a.0, a.1) in (
@@ -217,7 +217,7 @@ module _ (s : Plan) (g h : List Event) (same : IsSame s g h) where
   allowed_same p Depart a =
       let last = same_last g h p Arrive (same.parts p) (a.0, a.1) in
       let own = same_count is_depart g h p (same.parts p) in
-      let all : AllArrived (plan_sizes s) h (count_of is_depart h p + 1) = λ q within.
+      let all : AllArrived (followed_plan_sizes s) h (count_of is_depart h p + 1) = λ q within.
       (let enough = a.2 q within in
       let others = same_count is_arrive g h q (same.parts q) in
       omega (arith, enough, others, own)) in
@@ -228,7 +228,7 @@ module _ (s : Plan) (g h : List Event) (same : IsSame s g h) where
       (last.0, set.0, a.2, last.1, set.1)
   allowed_same p _ a = a
 
-  pub follows_same : (e : Event) → MayFollow (plan_sizes s) g e → MayFollow (plan_sizes s) h e
+  pub follows_same : (e : Event) → MayFollow (followed_plan_sizes s) g e → MayFollow (followed_plan_sizes s) h e
   follows_same e may = record {
     processor = may.processor;
     in_range = may.in_range;
@@ -241,9 +241,9 @@ module _ (s : Plan) (g h : List Event) (same : IsSame s g h) where
   asks_push : (e : Event) (l p q : ℕ) → AsksFirst (g ++ e ∷ []) l p q → AsksFirst (h ++ e ∷ []) l p q
   asks_push e l p q a = elim (last_cases g e p a.first (Ask l) a.asks) [
     | inl mine ↦
-        (let within = at_within (g ++ e ∷ []) a.second (event q (Ask l)) a.other.does in
+        (let within = numbered_at_within (g ++ e ∷ []) a.second (event q (Ask l)) a.other.does in
         let lt = a.before in
-        absurd (elim (push_cases g e a.second (event q (Ask l)) a.other.does) [
+        absurd (elim (slice_push_cases g e a.second (event q (Ask l)) a.other.does) [
           | inl old ↦ (let less = old.0 in let is = mine.1 in omega arith)
           | inr new ↦ (let there = new.0 in let is = mine.1 in omega arith)
         ]))
@@ -256,7 +256,7 @@ module _ (s : Plan) (g h : List Event) (same : IsSame s g h) where
             asks = last_longer h (e ∷ []) p there.0 (Ask l) (away_one e p old.0) there.1;
             other = subst (λ r. LastIs (h ++ e ∷ []) r (length h) (Ask l)) mine.0
                 (subst (LastIs (h ++ e ∷ []) e.processor (length h)) (sym mine.2) (last_now h e));
-            before = at_within h there.0 (event p (Ask l)) there.1.does;
+            before = numbered_at_within h there.0 (event p (Ask l)) there.1.does;
           })
       | inr other ↦
           (let there = (same.asks l p q).0 (record {
@@ -306,7 +306,7 @@ same_next s g h p k same begins next =
               subst (λ calls. IsCalledNext (section_steps section (shown_by s p)) calls k) (same_calls s g h p same)
               (may.calls.next section at);
         };
-        answers = subst (λ m. AnswersWord m k) same.memory may.answers;
+        answers = subst (λ m. AnswersFlatWord m k) same.memory may.answers;
       },
     )
 

@@ -13,18 +13,18 @@ use Rattle.journal.specs.declared.event.Kind.{Kind}
 use Rattle.journal.specs.declared.event.Kind.TheVariants as kind
 use Rattle.journal.specs.DidEvent.{did, event}
 use Rattle.journal.specs.Events.{At, address_of, count_of, is_arrive, is_depart, is_store, events_of}
-use Rattle.journal.specs.FlatMemory.{AnswersWord, flat_write, memory_after}
+use Rattle.journal.specs.FlatMemory.{AnswersFlatWord, flat_write, memory_after}
 use Rattle.journal.specs.Races.{Conflict}
 use Rattle.journal.specs.Sizes.{Sizes}
 use Rattle.journal.specs.WellFormed.{AllArrived, Allowed, Does, Holds, LastIs, MayBeGranted, MayFollow}
-use Rattle.journal.proofs.Order.CountedAndNumbered.{at_longer, at_within, count_of-append, does_same}
-use Rattle.journal.proofs.Times.Times.{count_of-one}
-use Rattle.journal.proofs.Journals.WellFormedLast.{holds_cases, holds_longer, last_cases, last_longer, last_now, last_shorter}
+use Rattle.journal.proofs.Order.CountedAndNumbered.{numbered_at_longer, numbered_at_within, count_of-append, numbered_does_same}
+use Rattle.journal.proofs.Times.Times.{count_of-one_time}
+use Rattle.journal.proofs.Journals.WellFormedLast.{well_formed_holds_cases, well_formed_holds_longer, last_cases, last_longer, last_now, last_shorter}
 use Rattle.lrc_script.specs.declared.script.Instruction.{Instruction}
 use Rattle.lrc_script.specs.Plan.{Plan}
 use Rattle.lrc_script.specs.Lawful.{plan_addresses}
-use Rattle.conformance.specs.Follows.{calls_of, plan_sizes}
-use Rattle.conformance.proofs.Calls.{calls_of-other}
+use Rattle.conformance.specs.Follows.{followed_calls, followed_plan_sizes}
+use Rattle.conformance.proofs.Calls.{followed_calls-others}
 use Rattle.explore.specs.declared.prefixes.script_call.ScriptCall.{ScriptCall}
 use Rattle.explore.specs.Free.{IsFree, is_ask}
 use Rattle.explore.specs.Guarded.{IsGuarded}
@@ -41,13 +41,13 @@ not_both : (s : Sizes) (j : List Event) (p q l : ℕ) → p ≢ q → Allowed s 
 not_both s j p q l apart a b = elim (cases_order a.0 b.0) [
   | inl is ↦
       (let there = subst (λ n. Does j n p (kind.Ask l)) is a.1.does in
-      apart (does_same j b.0 p q (kind.Ask l) (kind.Ask l) there b.1.does).0)
+      apart (numbered_does_same j b.0 p q (kind.Ask l) (kind.Ask l) there b.1.does).0)
   | inr other ↦ elim other [ inl lt ↦ b.2.first a.0 p lt a.1 | inr lt ↦ a.2.first b.0 q lt b.1 ]
 ]
 
 module _ (s : Sizes) (j : List Event) (p q : ℕ) (k : Kind) (apart : p ≢ q) (may : MayFollow s j (event p k)) where
   allowed_after : (c : Kind) → Allowed s j q c → Allowed s (did j p k) q c
-  allowed_after (kind.Ask l) a = λ holds. elim (holds_cases j (event p k) q l holds) [
+  allowed_after (kind.Ask l) a = λ holds. elim (well_formed_holds_cases j (event p k) q l holds) [
     | inl old ↦ a old.0
     | inr now ↦ apart (ap (λ (e : Event). e.processor) now)
   ]
@@ -55,7 +55,7 @@ module _ (s : Sizes) (j : List Event) (p q : ℕ) (k : Kind) (apart : p ≢ q) (
     a.0,
     last_longer j (event p k ∷ []) q a.0 (kind.Ask l) (away_one (event p k) q apart) a.1,
     record {
-      free = λ r holds. elim (holds_cases j (event p k) r l holds) [
+      free = λ r holds. elim (well_formed_holds_cases j (event p k) r l holds) [
         | inl old ↦ a.2.free r old.0
         | inr now ↦
             (let takes = subst (Allowed s j p) (ap (λ (e : Event). e.kind) now) may.allowed in
@@ -63,17 +63,17 @@ module _ (s : Sizes) (j : List Event) (p q : ℕ) (k : Kind) (apart : p ≢ q) (
       ];
       first = λ m r lt asks. elim (last_cases j (event p k) r m (kind.Ask l) asks) [
         | inl mine ↦
-            (let within = at_within j a.0 (event q (kind.Ask l)) a.1.does in
+            (let within = numbered_at_within j a.0 (event q (kind.Ask l)) a.1.does in
             let is = mine.1 in
             absurd (omega arith))
         | inr old ↦ a.2.first m r lt old.1
       ];
     },
   )
-  allowed_after (kind.Release l) a = holds_longer j (event p k) q l (λ is. apart (ap (λ (e : Event). e.processor) is)) a
+  allowed_after (kind.Release l) a = well_formed_holds_longer j (event p k) q l (λ is. apart (ap (λ (e : Event). e.processor) is)) a
   allowed_after kind.Depart a =
       let sum = count_of-append is_depart j (event p k ∷ []) q in
-      let none : count_of is_depart (event p k ∷ []) q ≡ 0 = elim (count_of-one is_depart (event p k) q) [
+      let none : count_of is_depart (event p k ∷ []) q ≡ 0 = elim (count_of-one_time is_depart (event p k) q) [
         | inl zero_more ↦ zero_more
         | inr one ↦ absurd (apart one.0)
       ] in
@@ -87,7 +87,7 @@ module _ (s : Sizes) (j : List Event) (p q : ℕ) (k : Kind) (apart : p ≢ q) (
     a.1,
     a.2,
     last_longer j (event p k ∷ []) q a.0 (kind.Watch f) (away_one (event p k) q apart) a.3,
-    at_longer j (event p k ∷ []) a.1 (event a.2 (kind.Set f)) a.4,
+    numbered_at_longer j (event p k ∷ []) a.1 (event a.2 (kind.Set f)) a.4,
   )
   allowed_after _ a = a
 
@@ -101,8 +101,8 @@ module _ (s : Sizes) (j : List Event) (p q : ℕ) (k : Kind) (apart : p ≢ q) (
   }
 
 -- a load answers the same after an event that doesn't conflict with it
-answers_after : (m : List ℕ) (p q : ℕ) (k c : Kind) → ¬ Conflict (event p k) (event q c) → AnswersWord m c
-    → AnswersWord (wrote m (flat_write k)) c
+answers_after : (m : List ℕ) (p q : ℕ) (k c : Kind) → ¬ Conflict (event p k) (event q c) → AnswersFlatWord m c
+    → AnswersFlatWord (wrote m (flat_write k)) c
 answers_after m p q (kind.Store a v) (kind.Load w u) quiet word = elim (cases_eq w a) [
   | inl is ↦ absurd (quiet (record { address = a; first = refl; second = ap Some is; stores = inl refl }))
   | inr isnt ↦ slice_get-set_other m a w v isnt ∙ word
@@ -119,14 +119,14 @@ next_after s g p q k c apart quiet first second =
     (next_begins s (did g p k) q c).1 (
       first,
       record {
-        may_follow = follows_after (plan_sizes s) g p q k apart one.1.may_follow c two.1.may_follow;
+        may_follow = follows_after (followed_plan_sizes s) g p q k apart one.1.may_follow c two.1.may_follow;
         calls = record {
           call = two.1.calls.call;
           next = λ section at.
-              subst (λ calls. IsCalledNext (section_steps section (shown_by s q)) calls c) (sym (calls_of-other g p q k apart))
+              subst (λ calls. IsCalledNext (section_steps section (shown_by s q)) calls c) (sym (followed_calls-others g p q k apart))
               (two.1.calls.next section at);
         };
-        answers = subst (λ m. AnswersWord m c) (sym (memory_did (replicate (plan_addresses s) 0) g p k))
+        answers = subst (λ m. AnswersFlatWord m c) (sym (memory_did (replicate (plan_addresses s) 0) g p k))
             (answers_after (memory_after (replicate (plan_addresses s) 0) g) p q k c quiet two.1.answers);
       },
     )
@@ -185,7 +185,7 @@ module _ (g : List Event) (p q : ℕ) (k c : Kind) (apart : p ≢ q) (none : is_
                 (last_longer g (event q c ∷ []) r a.first (kind.Ask l) (away_one (event q c) r old.0) was.1);
             other = last_longer (did g q c) (event p k ∷ []) t (length g) (kind.Ask l)
                 (away_one (event p k) t (λ is. apart (is ∙ sym mine.0))) now;
-            before = at_within g a.first (event r (kind.Ask l)) was.1.does;
+            before = numbered_at_within g a.first (event r (kind.Ask l)) was.1.does;
           })
     ]
     | inr later ↦
@@ -193,7 +193,7 @@ module _ (g : List Event) (p q : ℕ) (k c : Kind) (apart : p ≢ q) (none : is_
         elim (last_cases (did g p k) (event q c) r a.first (kind.Ask l) a.asks) [
           | inl own ↦
               (let lt = a.before in
-              let within = at_within g a.second (event t (kind.Ask l)) second.1.does in
+              let within = numbered_at_within g a.second (event t (kind.Ask l)) second.1.does in
               let two = own.1 in
               let long = length-append g (event p k ∷ []) in
               absurd (omega arith))
@@ -211,7 +211,7 @@ module _ (g : List Event) (p q : ℕ) (k c : Kind) (apart : p ≢ q) (none : is_
         | inl mine ↦ elim (last_cases g (event q c) r a.first (kind.Ask l) first.1) [
           | inl own ↦ (let lt = a.before in let one = mine.1 in let two = own.1 in absurd (omega arith))
           | inr old ↦
-              (let within = at_within g a.first (event r (kind.Ask l)) old.1.does in
+              (let within = numbered_at_within g a.first (event r (kind.Ask l)) old.1.does in
               let long = length-append g (event p k ∷ []) in
               let now : LastIs (did (did g p k) q c) t (length (did g p k)) (kind.Ask l) =
               subst (λ u. LastIs (did (did g p k) q c) u (length (did g p k)) (kind.Ask l)) mine.0
@@ -228,7 +228,7 @@ module _ (g : List Event) (p q : ℕ) (k c : Kind) (apart : p ≢ q) (none : is_
         | inr later ↦ elim (last_cases g (event q c) r a.first (kind.Ask l) first.1) [
           | inl own ↦
               (let lt = a.before in
-              let within = at_within g a.second (event t (kind.Ask l)) later.1.does in
+              let within = numbered_at_within g a.second (event t (kind.Ask l)) later.1.does in
               let two = own.1 in
               absurd (omega arith))
           | inr old ↦ two_old g (event p k) (event q c) l r t a.first a.second first.0 second.0 old.0 later.0 old.1 later.1 a.before

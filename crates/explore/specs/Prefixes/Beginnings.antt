@@ -9,15 +9,15 @@ use Rattle.journal.specs.Races.{RaceFree}
 use Rattle.lrc_script.specs.Plan.{Plan}
 use Rattle.lrc_script.specs.Lawful.{plan_addresses}
 use Rattle.conformance.specs.Begins.{BeginsScript}
-use Rattle.conformance.specs.Follows.{plan_sizes, Follows}
-use Rattle.conformance.specs.FlatRuns.{HasNoFetch}
+use Rattle.conformance.specs.Follows.{followed_plan_sizes, Follows}
+use Rattle.conformance.specs.FlatRuns.{FlatRunHasNoFetch}
 
 -- processors have begun the script on one flat memory, and nothing is fetched
 pub record IsFlatBeginning (s : Plan) (g : List Event) : Type 0 where
-  pub well_formed : WellFormed (plan_sizes s) g
+  pub well_formed : WellFormed (followed_plan_sizes s) g
   pub begins : BeginsScript s g
   pub replays : Replays (replicate (plan_addresses s) 0) g
-  pub no_fetch : HasNoFetch g
+  pub no_fetch : FlatRunHasNoFetch g
 
 -- and all of them have done all of it
 pub record IsWhole (s : Plan) (g : List Event) : Type 0 where

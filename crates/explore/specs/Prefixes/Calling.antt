@@ -7,7 +7,7 @@ use Rattle.journal.specs.declared.event.Kind.TheVariants as kind
 use Rattle.lrc_script.specs.declared.script.Instruction.{Instruction}
 use Rattle.lrc_script.specs.declared.script.Instruction.TheVariants.{Load, Store, Add, Acquire, Release, Barrier, Set, Await, Cut}
 use Rattle.lrc_script.specs.Plan.{Plan}
-use Rattle.conformance.specs.Follows.{calls_of, is_fetch}
+use Rattle.conformance.specs.Follows.{followed_calls, is_followed_fetch}
 use Rattle.explore.specs.declared.prefixes.script_call.ScriptCall.{ScriptCall}
 use Rattle.explore.specs.declared.prefixes.script_call.ScriptCall.TheVariants.{Call, Adds}
 
@@ -74,6 +74,6 @@ pub record IsCalledNext (steps : List ScriptCall) (kinds : List Kind) (k : Kind)
 
 -- p's section says that it calls this next; a fetch is no call
 pub record CallsNext (s : Plan) (g : List Event) (p : ℕ) (k : Kind) : Type 0 where
-  pub call : is_fetch k ≡ false
+  pub call : is_followed_fetch k ≡ false
   pub next : (section : List Instruction) → slice_get s.sections p ≡ Some section
-      → IsCalledNext (section_steps section (shown_by s p)) (calls_of g p) k
+      → IsCalledNext (section_steps section (shown_by s p)) (followed_calls g p) k

@@ -4,12 +4,12 @@ use Rattle.journal.specs.declared.event.Event.{Event}
 use Rattle.journal.specs.declared.event.Kind.{Kind}
 use Rattle.journal.specs.DidEvent.{did, event}
 use Rattle.journal.specs.WellFormed.{MayFollow}
-use Rattle.journal.specs.FlatMemory.{AnswersWord, memory_after}
+use Rattle.journal.specs.FlatMemory.{AnswersFlatWord, memory_after}
 use Rattle.journal.specs.Races.{Conflict, Race}
 use Rattle.lrc_script.specs.declared.script.Instruction.{Instruction}
 use Rattle.lrc_script.specs.Plan.{Plan}
 use Rattle.lrc_script.specs.Lawful.{plan_addresses}
-use Rattle.conformance.specs.Follows.{plan_sizes, calls_of, Follows}
+use Rattle.conformance.specs.Follows.{followed_plan_sizes, followed_calls, Follows}
 use Rattle.conformance.specs.FlatRuns.{NeverRacesFlat}
 use Rattle.explore.specs.Prefixes.Beginnings.{IsFlatBeginning, IsFlatRaceFree}
 use Rattle.explore.specs.Prefixes.Calling.{CallsNext, replyless, section_steps, shown_by}
@@ -28,9 +28,9 @@ FrontLaw = (s : Plan) (g more : List Event) → IsFlatBeginning s (g ++ more) �
 
 -- p may do this next: its section says so, what it waits for has come, and a load answers its word
 pub record MayComeNext (s : Plan) (g : List Event) (p : ℕ) (k : Kind) : Type 0 where
-  pub may_follow : MayFollow (plan_sizes s) g (event p k)
+  pub may_follow : MayFollow (followed_plan_sizes s) g (event p k)
   pub calls : CallsNext s g p k
-  pub answers : AnswersWord (memory_after (replicate (plan_addresses s) 0) g) k
+  pub answers : AnswersFlatWord (memory_after (replicate (plan_addresses s) 0) g) k
 
 -- exactly then it makes a beginning longer
 abbrev pub NextLaw : Type 0
@@ -40,7 +40,7 @@ NextLaw = (s : Plan) (g : List Event) (p : ℕ) (k : Kind)
 -- each processor has made as many calls as its section says
 abbrev pub AreAllDone : Plan → List Event → Type 0
 AreAllDone s g = (p : ℕ) (section : List Instruction) → slice_get s.sections p ≡ Some section
-    → length (calls_of g p) ≡ length (section_steps section (shown_by s p))
+    → length (followed_calls g p) ≡ length (section_steps section (shown_by s p))
 
 -- a beginning is whole exactly then
 abbrev pub WholeRunLaw : Type 0

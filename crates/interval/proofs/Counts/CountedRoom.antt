@@ -10,8 +10,8 @@ use Rattle.interval.specs.PageCounts.{CountsGrew, CountsHaveRoom}
 use Rattle.interval.proofs.Records.ReadItems.{ReadsItem, taken_flat_map}
 
 -- the test for page base + i
-abbrev is_page : ℕ → ℕ → ℕ → ℕ
-is_page base i p = cond (p == base + i) 1 0
+abbrev counted_room_is_page : ℕ → ℕ → ℕ → ℕ
+counted_room_is_page base i p = cond (p == base + i) 1 0
 
 pub counted-nil : (base : ℕ) (counts : List ℕ) → CountsGrew base [] counts counts
 counted-nil base counts = record { long = refl; each = λ i inside. omega arith }
@@ -35,7 +35,7 @@ counted-one base page counts from inside = record {
   long = length-set counts (page - base) (slice_index counts (page - base) + 1);
   each = λ i within.
       let value = slice_index counts (page - base) + 1 in
-      let one = sum_by-cons (is_page base i) page [] in
+      let one = sum_by-cons (counted_room_is_page base i) page [] in
       elim (cases_eq i (page - base)) [
         | inl here ↦
             let is : cond {A = ℕ} (page == base + i) 1 0 ≡ 1 =
@@ -59,7 +59,7 @@ pub counted-out : (base page : ℕ) (counts : List ℕ) → (base ≤ page → l
 counted-out base page counts out = record {
   long = refl;
   each = λ i within.
-      let one = sum_by-cons (is_page base i) page [] in
+      let one = sum_by-cons (counted_room_is_page base i) page [] in
       let isnt : cond {A = ℕ} (page == base + i) 1 0 ≡ 0 =
       ap (λ (b : Bool). cond {A = ℕ} b 1 0)
       (ne_eqb page (base + i) (λ e. let past = out (omega arith) in omega arith)) in
@@ -71,7 +71,7 @@ pub room_one : (base page : ℕ) (counts : List ℕ) → base ≤ page → page 
     → CountsHaveRoom base (page ∷ []) counts → slice_index counts (page - base) + 1 < 2 ^ 64
 room_one base page counts from inside room =
     let less = room (page - base) inside in
-    let one = sum_by-cons (is_page base (page - base)) page [] in
+    let one = sum_by-cons (counted_room_is_page base (page - base)) page [] in
     let is : cond {A = ℕ} (page == base + (page - base)) 1 0 ≡ 1 =
     ap (λ (b : Bool). cond {A = ℕ} b 1 0) (eq-eqb page (base + (page - base)) (omega arith)) in
     omega arith

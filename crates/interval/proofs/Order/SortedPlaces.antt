@@ -11,8 +11,8 @@ use Rattle.base.specs.InOrderOnce.{Has, InOrder}
 use Rattle.base.proofs.Joined.{in_order-map}
 use Rattle.base.proofs.SlicesAndCounts.{count_by-past, count_by-within, counted}
 use Rattle.interval.specs.declared.kept_interval.KeptInterval.{KeptInterval}
-use Rattle.interval.specs.Queues.{SameIntervals}
-use Rattle.interval.proofs.Order.RisingByPlace.{IsBefore, Rises, same_rising}
+use Rattle.interval.specs.Queues.{SameQueuedIntervals}
+use Rattle.interval.proofs.Order.RisingByPlace.{RisesBefore, Rises, same_rising}
 
 abbrev at_place : ℕ → KeptInterval → Bool
 at_place n k = k.place == n
@@ -39,19 +39,19 @@ once_sorted n xs apart = elim (cases_lt 1 (count_by (at_place n) xs)) [
       ]
 ]
 
-sum_by-map : {X : Type 0} (w : KeptInterval → ℕ) (f : X → KeptInterval) (xs : List X)
+sum_by-map_sorted : {X : Type 0} (w : KeptInterval → ℕ) (f : X → KeptInterval) (xs : List X)
     → sum_by w (map f xs) ≡ sum_by (λ (x : X). w (f x)) xs
-sum_by-map w f [] = refl
-sum_by-map {X} w f (x ∷ xs) =
-    let rest = sum_by-map w f xs in
+sum_by-map_sorted w f [] = refl
+sum_by-map_sorted {X} w f (x ∷ xs) =
+    let rest = sum_by-map_sorted w f xs in
     let left = sum_by-cons w (f x) (map f xs) in
     let right = sum_by-cons (λ (y : X). w (f y)) x xs in
     omega arith
 
 -- numbers that don't fall, of which none is there twice, rise
-rises_once : {X : Type 0} (n : X → ℕ) (xs : List X) → IsNonDecreasingBy n xs
+sorted_rises_once : {X : Type 0} (n : X → ℕ) (xs : List X) → IsNonDecreasingBy n xs
     → ((m : ℕ) → count_by (λ (x : X). n x == m) xs ≤ 1) → InOrder (λ (a b : X). n a < n b) xs
-rises_once {X} n xs up counts x y a b less at_a at_b =
+sorted_rises_once {X} n xs up counts x y a b less at_a at_b =
     let order = up x y a (omega arith) (slice_get_within xs y b at_b) in
     let read_a = ap n (get_or_from_slice_get xs x a a at_a) in
     let read_b = ap n (get_or_from_slice_get xs y b a at_b) in
@@ -75,17 +75,17 @@ has_sorted xs ys k other h =
 
 -- a rising list is what comes of sorting all of its intervals; `kept` reads them where they are only lent
 pub sorted_all : {X : Type 0} (kept : X → KeptInterval) (ks : List KeptInterval) (xs ys : List X) → Rises ks
-    → SameIntervals ks (map kept xs) → IsPermutation xs ys → IsNonDecreasingBy (λ (x : X). (kept x).place) ys
+    → SameQueuedIntervals ks (map kept xs) → IsPermutation xs ys → IsNonDecreasingBy (λ (x : X). (kept x).place) ys
     → map kept ys ≡ ks
 sorted_all {X} kept ks xs ys rises all other up =
     let moved = IsPermutation-map kept xs ys other in
     let counts : (m : ℕ) → count_by (λ (x : X). (kept x).place == m) ys ≤ 1 = λ m.
     let most = once_sorted m (map kept xs) all.apart in
     let same = sum_by-IsPermutation (λ (k : KeptInterval). cond (at_place m k) 1 0) (map kept xs) (map kept ys) moved in
-    let read = sum_by-map (λ (k : KeptInterval). cond (at_place m k) 1 0) kept ys in
+    let read = sum_by-map_sorted (λ (k : KeptInterval). cond (at_place m k) 1 0) kept ys in
     omega arith in
     let rising : Rises (map kept ys) =
-    in_order-map IsBefore kept ys (rises_once (λ (x : X). (kept x).place) ys up counts) in
+    in_order-map RisesBefore kept ys (sorted_rises_once (λ (x : X). (kept x).place) ys up counts) in
     same_rising (map kept ys) ks rising rises
     (λ k h. (all.same k).0 (has_sorted (map kept ys) (map kept xs) k
     (IsPermutation-sym (map kept xs) (map kept ys) moved) h))

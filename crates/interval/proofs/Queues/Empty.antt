@@ -6,7 +6,7 @@ use Rattle.base.specs.InOrderOnce.{Has}
 use Rattle.base.proofs.Joined.{has-nil}
 use Rattle.interval.specs.declared.kept_interval.KeptInterval.{KeptInterval}
 use Rattle.interval.specs.Queues.{Queue, AreQueues}
-use Rattle.interval.proofs.Queues.Merged.{Lies, lies_in}
+use Rattle.interval.proofs.Queues.Merged.{LiesInMerged, lies_in_merged}
 
 -- so many empty queues
 pub record AreEmpty (n : ℕ) (queues : List Queue) : Type 0 where
@@ -29,10 +29,10 @@ one_more_empty n queues queue first kept are =
       next = rw (map-append, are.next, long, replicate_more) refl;
     }
 
-pub nothing_lies : (queues : List Queue) → flat_map (λ (q : Queue). q.kept) queues ≡ [] → (k : KeptInterval) → Lies queues k
+pub nothing_lies_in_empty : (queues : List Queue) → flat_map (λ (q : Queue). q.kept) queues ≡ [] → (k : KeptInterval) → LiesInMerged queues k
     → ⊥
-nothing_lies queues none k l =
-    let P : List KeptInterval → Type 0 = λ ks. Has ks k in has-nil k (subst P none (lies_in queues k l))
+nothing_lies_in_empty queues none k l =
+    let P : List KeptInterval → Type 0 = λ ks. Has ks k in has-nil k (subst P none (lies_in_merged queues k l))
 
 pub are_none_queued : (queues : List Queue) → flat_map (λ (q : Queue). q.kept) queues ≡ [] → AreQueues queues 0
 are_none_queued queues none = record {
@@ -40,12 +40,12 @@ are_none_queued queues none = record {
   each = λ q queue at. record {
     each =
         λ i k at_i. absurd
-        (nothing_lies queues none k (record { owner = q; queue = queue; index = i; owned = at; at = at_i }));
+        (nothing_lies_in_empty queues none k (record { owner = q; queue = queue; index = i; owned = at; at = at_i }));
     rising =
         λ x y a b lt at_x at_y. absurd
-        (nothing_lies queues none a (record { owner = q; queue = queue; index = x; owned = at; at = at_x }));
+        (nothing_lies_in_empty queues none a (record { owner = q; queue = queue; index = x; owned = at; at = at_x }));
   };
   apart =
       λ q r a b j k at_q at_r has_j has_k same. absurd
-      (nothing_lies queues none j (record { owner = q; queue = a; index = has_j.0; owned = at_q; at = has_j.1 }));
+      (nothing_lies_in_empty queues none j (record { owner = q; queue = a; index = has_j.0; owned = at_q; at = has_j.1 }));
 }

@@ -6,15 +6,15 @@ use Rattle.std.proofs.lemmas.Option.{slice_get_within, slice_get-get_or, slice_g
 use Rattle.page.specs.RisingChanges.{Changes}
 use Rattle.interval.specs.declared.notice.Notice.{Notice}
 use Rattle.interval.specs.declared.kept_interval.KeptInterval.{KeptInterval}
-use Rattle.interval.specs.Closings.{Closings, is_noticed, record_of}
+use Rattle.interval.specs.Closings.{Closings, is_noticed_closing, record_of}
 use Rattle.interval.specs.Queues.{Queue, merged_queues, AreQueues}
 use Rattle.base.specs.InOrderOnce.{Has}
-use Rattle.base.proofs.Filters.{find_none}
+use Rattle.base.proofs.Filters.{filter_find_none}
 use Rattle.interval.proofs.Order.Least.{find_least}
-use Rattle.interval.proofs.Queues.Merged.{QueuesHold, Lies, merged_lies, lies_merged, rises-merged, queued}
+use Rattle.interval.proofs.Queues.Merged.{QueuesHold, LiesInMerged, merged_lies, lies_merged, rises-merged, queued}
 
 -- an owner's interval lies in the owner's queue
-pub in_own_queue : (queues : List Queue) (count : ℕ) → AreQueues queues count → (k : KeptInterval) → Lies queues k
+pub in_own_queue : (queues : List Queue) (count : ℕ) → AreQueues queues count → (k : KeptInterval) → LiesInMerged queues k
     → (owner : ℕ) → k.interval.owner ≡ owner → (queue : Queue) → slice_get queues owner ≡ Some queue
     → (i : ℕ) × (slice_get queue.kept i ≡ Some k)
 in_own_queue queues count are k l owner is queue owned =
@@ -34,7 +34,7 @@ first_of queues count owner queue are owned =
     let go : (o : Option KeptInterval) → slice_get queue.kept 0 ≡ o
     → find test (merged_queues queues)
     ≡ o = λ o. elim o as (λ (o : Option KeptInterval). slice_get queue.kept 0 ≡ o → find test (merged_queues queues) ≡ o) [
-      | None ↦ λ e. find_none test (merged_queues queues) (λ j h. elim (cases_Bool (test j)) [
+      | None ↦ λ e. filter_find_none test (merged_queues queues) (λ j h. elim (cases_Bool (test j)) [
         | inl t ↦
             let at = in_own_queue queues count are j (merged_lies queues j h) owner (eqb-true _ _ t) queue owned in
             let within = slice_get_within queue.kept at.0 j at.1 in
@@ -43,7 +43,7 @@ first_of queues count owner queue are owned =
         | inr f ↦ f
       ])
       | Some k ↦ λ e.
-          let l : Lies queues k = record { owner = owner; queue = queue; index = 0; owned = owned; at = e } in
+          let l : LiesInMerged queues k = record { owner = owner; queue = queue; index = 0; owned = owned; at = e } in
           let is = (queued queues count are k l).owner_is in
           find_least test (merged_queues queues) k (rises-merged queues) (lies_merged queues count are k l) (eq-eqb _ _ is)
           (λ j h t.
@@ -100,9 +100,9 @@ first_number {queues} {count} {value} {queue} {n} owner hold owned n_is =
 
 -- no such owner
 pub none_found : (queues : List Queue) (count : ℕ) (n : Notice) → AreQueues queues count → length queues ≤ n.owner
-    → find (is_noticed n) (merged_queues queues) ≡ None
+    → find (is_noticed_closing n) (merged_queues queues) ≡ None
 none_found queues count n are past =
-    find_none (is_noticed n) (merged_queues queues) (λ j h. elim (cases_Bool (is_noticed n j)) [
+    filter_find_none (is_noticed_closing n) (merged_queues queues) (λ j h. elim (cases_Bool (is_noticed_closing n j)) [
       | inl t ↦
           let l = merged_lies queues j h in
           let owner = (queued queues count are j l).owner_is in
@@ -113,12 +113,12 @@ none_found queues count n are past =
     ])
 
 -- the interval of a notice is found in its owner's queue, by its number
-pub noticed_at : (queues : List Queue) (count : ℕ) (n : Notice) (queue : Queue) → AreQueues queues count
+pub noticed_found_at : (queues : List Queue) (count : ℕ) (n : Notice) (queue : Queue) → AreQueues queues count
     → slice_get queues n.owner ≡ Some queue → queue.first ≤ n.number
-    → find (is_noticed n) (merged_queues queues) ≡ slice_get queue.kept (n.number - queue.first)
-noticed_at queues count n queue are owned from =
+    → find (is_noticed_closing n) (merged_queues queues) ≡ slice_get queue.kept (n.number - queue.first)
+noticed_found_at queues count n queue are owned from =
     let i : ℕ = n.number - queue.first in
-    let found_at : (j : KeptInterval) → Has (merged_queues queues) j → is_noticed n j ≡ true
+    let found_at : (j : KeptInterval) → Has (merged_queues queues) j → is_noticed_closing n j ≡ true
     → slice_get queue.kept i ≡ Some j = λ j h t.
     let parts = and_parts _ _ t in
     let at = in_own_queue queues count are j (merged_lies queues j h) n.owner (eqb-true _ _ parts.0) queue owned in
@@ -127,17 +127,17 @@ noticed_at queues count n queue are owned from =
     let index : at.0 ≡ i = omega arith in
     ap (slice_get queue.kept) (sym index) ∙ at.1 in
     let go : (o : Option KeptInterval) → slice_get queue.kept i ≡ o
-    → find (is_noticed n) (merged_queues queues)
+    → find (is_noticed_closing n) (merged_queues queues)
     ≡ o = λ o. elim o as
-    (λ (o : Option KeptInterval). slice_get queue.kept i ≡ o → find (is_noticed n) (merged_queues queues) ≡ o) [
-      | None ↦ λ e. find_none (is_noticed n) (merged_queues queues)
-          (λ j h. elim (cases_Bool (is_noticed n j)) [ inl t ↦ let there = found_at j h t in cc | inr f ↦ f ])
+    (λ (o : Option KeptInterval). slice_get queue.kept i ≡ o → find (is_noticed_closing n) (merged_queues queues) ≡ o) [
+      | None ↦ λ e. filter_find_none (is_noticed_closing n) (merged_queues queues)
+          (λ j h. elim (cases_Bool (is_noticed_closing n j)) [ inl t ↦ let there = found_at j h t in cc | inr f ↦ f ])
       | Some k ↦ λ e.
-          let l : Lies queues k = record { owner = n.owner; queue = queue; index = i; owned = owned; at = e } in
+          let l : LiesInMerged queues k = record { owner = n.owner; queue = queue; index = i; owned = owned; at = e } in
           let q = queued queues count are k l in
           let number = q.number_is in
           let is : k.interval.number ≡ n.number = omega arith in
-          find_least (is_noticed n) (merged_queues queues) k (rises-merged queues) (lies_merged queues count are k l)
+          find_least (is_noticed_closing n) (merged_queues queues) k (rises-merged queues) (lies_merged queues count are k l)
           (and_from _ _ (eq-eqb _ _ q.owner_is) (eq-eqb _ _ is))
           (λ j h t. let there = found_at j h t in let one : k ≡ j = cc (e, there) in
           let place = ap (λ (z : KeptInterval). z.place) one in omega arith)
@@ -147,9 +147,9 @@ noticed_at queues count n queue are owned from =
 -- no interval has a number below the first one that is kept
 pub none_found_below : (queues : List Queue) (count : ℕ) (n : Notice) (queue : Queue) → AreQueues queues count
     → slice_get queues n.owner ≡ Some queue → n.number < queue.first
-    → find (is_noticed n) (merged_queues queues) ≡ None
+    → find (is_noticed_closing n) (merged_queues queues) ≡ None
 none_found_below queues count n queue are owned below =
-    find_none (is_noticed n) (merged_queues queues) (λ j h. elim (cases_Bool (is_noticed n j)) [
+    filter_find_none (is_noticed_closing n) (merged_queues queues) (λ j h. elim (cases_Bool (is_noticed_closing n j)) [
       | inl t ↦
           let parts = and_parts _ _ t in
           let at =
@@ -162,13 +162,13 @@ none_found_below queues count n queue are owned below =
 
 -- of the interval that is found, the record for the page
 pub record_found : {queues : List Queue} {count : ℕ} {value : Closings} {o : Option KeptInterval}
-    → QueuesHold queues count value → (n : Notice) → find (is_noticed n) (merged_queues queues) ≡ o
+    → QueuesHold queues count value → (n : Notice) → find (is_noticed_closing n) (merged_queues queues) ≡ o
     → record_of value n
     ≡ option_and_then (λ (k : KeptInterval). find (λ (r : Changes). r.page == n.page) k.interval.records) o
 record_found {queues} {value = value} hold n found =
     let kepts : value.kept ≡ merged_queues queues = ap (λ (c : Closings). c.kept) (sym hold.seen) in
     ap (λ (ks : List KeptInterval). option_and_then
-    (λ (k : KeptInterval). find (λ (r : Changes). r.page == n.page) k.interval.records) (find (is_noticed n) ks))
+    (λ (k : KeptInterval). find (λ (r : Changes). r.page == n.page) k.interval.records) (find (is_noticed_closing n) ks))
     kepts
     ∙ ap (option_and_then (λ (k : KeptInterval). find (λ (r : Changes). r.page == n.page) k.interval.records)) found
 

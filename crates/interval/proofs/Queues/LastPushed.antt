@@ -5,23 +5,23 @@ use Rattle.std.proofs.lemmas.List.{length_push, length-map, map-set, set-get_or}
 use Rattle.std.proofs.lemmas.Option.{slice_get_within, get_or_from_slice_get, slice_get_read}
 use Rattle.base.specs.InOrderOnce.{Has, InOrder}
 use Rattle.base.proofs.Joined.{has-nil, has-cons, has-append}
-use Rattle.base.proofs.SlicesAndCounts.{slice_get-append_left, slice_get-last, push_cases}
+use Rattle.base.proofs.SlicesAndCounts.{slice_get-append_left, slice_get-last, slice_push_cases}
 use Rattle.base.proofs.SliceSets.{slice_get-set_same, slice_get-set_other}
 use Rattle.interval.specs.declared.kept_interval.KeptInterval.{KeptInterval}
-use Rattle.interval.specs.SentIntervals.{HasRisingPages, ClosedInterval}
+use Rattle.interval.specs.SentIntervals.{SentPagesRise, ClosedInterval}
 use Rattle.interval.specs.Closings.{Closings, pushed}
 use Rattle.interval.specs.Queues.{Queue, merged_queues, queue_closings, IsQueue, IsQueued, AreQueues}
 use Rattle.interval.proofs.Order.RisingByPlace.{rises-push, same_rising}
-use Rattle.interval.proofs.Queues.Merged.{QueuesHold, Lies, merged_lies, lies_merged, rises-merged, queued}
+use Rattle.interval.proofs.Queues.Merged.{QueuesHold, LiesInMerged, merged_lies, lies_merged, rises-merged, queued}
 
 -- the interval k comes last in the queue of its owner, and is closed last
-pub record Comes (queues : List Queue) (count owner : ℕ) (queue : Queue) (k : KeptInterval) : Type 0 where
+pub record ComesLast (queues : List Queue) (count owner : ℕ) (queue : Queue) (k : KeptInterval) : Type 0 where
   pub owned : slice_get queues owner ≡ Some queue
   pub owner_is : k.interval.owner ≡ owner
   pub number_is : k.interval.number ≡ queue.first + length queue.kept
   pub place_is : k.place ≡ count
   pub fits : count + 1 < 2 ^ 64
-  pub pages : HasRisingPages k.interval.records
+  pub pages : SentPagesRise k.interval.records
 
 abbrev pub with_last : Queue → KeptInterval → Queue
 with_last queue k = record { first = queue.first; kept = queue.kept ++ k ∷ [] }
@@ -30,16 +30,16 @@ abbrev pub with_queue : List Queue → ℕ → Queue → KeptInterval → List Q
 with_queue queues owner queue k = set queues owner (with_last queue k)
 
 module _ (queues : List Queue) (count owner : ℕ) (queue : Queue) (k : KeptInterval) (are : AreQueues queues count)
-    (comes : Comes queues count owner queue k) where
-  inside : owner < length queues
-  inside = slice_get_within queues owner queue comes.owned
+    (comes : ComesLast queues count owner queue k) where
+  last_pushed_inside : owner < length queues
+  last_pushed_inside = slice_get_within queues owner queue comes.owned
 
   -- a queue of the new ones
   queue_cases : (q : ℕ) (a : Queue) → slice_get (with_queue queues owner queue k) q ≡ Some a
       → ((q ≡ owner) × (with_last queue k ≡ a)) ⊎ ((q ≢ owner) × (slice_get queues q ≡ Some a))
   queue_cases q a at = elim (cases_eq q owner) [
     | inl e ↦
-        let here = slice_get-set_same queues owner (with_last queue k) inside in
+        let here = slice_get-set_same queues owner (with_last queue k) last_pushed_inside in
         let there : slice_get (with_queue queues owner queue k) owner ≡ Some a =
         ap (slice_get (with_queue queues owner queue k)) (sym e) ∙ at in
         inl (e, cc (here, there))
@@ -51,7 +51,7 @@ module _ (queues : List Queue) (count owner : ℕ) (queue : Queue) (k : KeptInte
 
   queued_last : (i : ℕ) (j : KeptInterval) → slice_get (queue.kept ++ k ∷ []) i ≡ Some j
       → IsQueued owner (count + 1) (with_last queue k) i j
-  queued_last i j at = elim (push_cases queue.kept k i j at) [
+  queued_last i j at = elim (slice_push_cases queue.kept k i j at) [
     | inl old ↦
         let was = was_queue.each i j old.1 in
         let before = was.closed in
@@ -68,16 +68,16 @@ module _ (queues : List Queue) (count owner : ℕ) (queue : Queue) (k : KeptInte
   ]
 
   rising_last : InOrder (λ (j k : KeptInterval). j.place < k.place) (queue.kept ++ k ∷ [])
-  rising_last x y a b lt at_x at_y = elim (push_cases queue.kept k y b at_y) [
+  rising_last x y a b lt at_x at_y = elim (slice_push_cases queue.kept k y b at_y) [
     | inl old_y ↦
         let within = old_y.0 in
-        elim (push_cases queue.kept k x a at_x) [
+        elim (slice_push_cases queue.kept k x a at_x) [
           | inl old_x ↦ was_queue.rising x y a b lt old_x.1 old_y.1
           | inr new_x ↦ let index = new_x.0 in absurd (omega arith)
         ]
     | inr new_y ↦
         let index = new_y.0 in
-        elim (push_cases queue.kept k x a at_x) [
+        elim (slice_push_cases queue.kept k x a at_x) [
           | inl old_x ↦
               let before = (was_queue.each x a old_x.1).closed in
               let place = comes.place_is in
@@ -88,19 +88,19 @@ module _ (queues : List Queue) (count owner : ℕ) (queue : Queue) (k : KeptInte
   ]
 
   -- where an interval of the new queues lay before
-  pub lies_from : (j : KeptInterval) → Lies (with_queue queues owner queue k) j → (j ≡ k) ⊎ Lies queues j
-  lies_from j l = elim (queue_cases l.owner l.queue l.owned) [
+  pub last_pushed_lies_from : (j : KeptInterval) → LiesInMerged (with_queue queues owner queue k) j → (j ≡ k) ⊎ LiesInMerged queues j
+  last_pushed_lies_from j l = elim (queue_cases l.owner l.queue l.owned) [
     | inl here ↦
         let at : slice_get (queue.kept ++ k ∷ []) l.index ≡ Some j =
         ap (λ (q : Queue). slice_get q.kept l.index) here.1 ∙ l.at in
-        elim (push_cases queue.kept k l.index j at) [
+        elim (slice_push_cases queue.kept k l.index j at) [
           | inl old ↦ inr (record { owner = owner; queue = queue; index = l.index; owned = comes.owned; at = old.1 })
           | inr new ↦ inl (sym new.1)
         ]
     | inr there ↦ inr (record { owner = l.owner; queue = l.queue; index = l.index; owned = there.1; at = l.at })
   ]
 
-  pub lies_pushed : (j : KeptInterval) → Lies queues j → Lies (with_queue queues owner queue k) j
+  pub lies_pushed : (j : KeptInterval) → LiesInMerged queues j → LiesInMerged (with_queue queues owner queue k) j
   lies_pushed j l = elim (cases_eq l.owner owner) [
     | inl e ↦
         let same : l.queue ≡ queue =
@@ -112,7 +112,7 @@ module _ (queues : List Queue) (count owner : ℕ) (queue : Queue) (k : KeptInte
           owner = owner;
           queue = with_last queue k;
           index = l.index;
-          owned = slice_get-set_same queues owner (with_last queue k) inside;
+          owned = slice_get-set_same queues owner (with_last queue k) last_pushed_inside;
           at =
               slice_get-append_left queue.kept (k ∷ []) l.index (slice_get_within queue.kept l.index j at)
               ∙ at;
@@ -126,19 +126,19 @@ module _ (queues : List Queue) (count owner : ℕ) (queue : Queue) (k : KeptInte
     }
   ]
 
-  lies_last : Lies (with_queue queues owner queue k) k
+  lies_last : LiesInMerged (with_queue queues owner queue k) k
   lies_last =
       record {
         owner = owner;
         queue = with_last queue k;
         index = length queue.kept;
-        owned = slice_get-set_same queues owner (with_last queue k) inside;
+        owned = slice_get-set_same queues owner (with_last queue k) last_pushed_inside;
         at = slice_get-last queue.kept k;
       }
 
   -- k is the only one with its place
-  place_below : (j : KeptInterval) → Lies queues j → j.place < count
-  place_below j l = (queued queues count are j l).closed
+  last_pushed_place_below : (j : KeptInterval) → LiesInMerged queues j → j.place < count
+  last_pushed_place_below j l = (queued queues count are j l).closed
 
   has_last : (q : ℕ) (a : Queue) (j : KeptInterval) → slice_get (with_queue queues owner queue k) q ≡ Some a → Has a.kept j
       → ((q ≡ owner) × (j ≡ k)) ⊎ ((b : Queue) × (slice_get queues q ≡ Some b) × Has b.kept j)
@@ -146,7 +146,7 @@ module _ (queues : List Queue) (count owner : ℕ) (queue : Queue) (k : KeptInte
     | inl here ↦
         let in_last : slice_get (queue.kept ++ k ∷ []) i ≡ Some j =
         ap (λ (q : Queue). slice_get q.kept i) here.1 ∙ has in
-        elim (push_cases queue.kept k i j in_last) [
+        elim (slice_push_cases queue.kept k i j in_last) [
           | inl old ↦ inr (queue, ap (slice_get queues) here.0 ∙ comes.owned, (i, old.1))
           | inr new ↦ inl (here.0, sym new.1)
         ]
@@ -180,7 +180,7 @@ module _ (queues : List Queue) (count owner : ℕ) (queue : Queue) (k : KeptInte
         | inl new_j ↦ new_i.0 ∙ sym new_j.0
         | inr old_j ↦
             let below =
-            place_below j
+            last_pushed_place_below j
             (record { owner = r; queue = old_j.0; index = old_j.2.0; owned = old_j.1; at = old_j.2.1 }) in
             let is : i.place ≡ k.place = ap (λ (z : KeptInterval). z.place) new_i.1 in
             let place = comes.place_is in
@@ -189,7 +189,7 @@ module _ (queues : List Queue) (count owner : ℕ) (queue : Queue) (k : KeptInte
       | inr old_i ↦ elim (has_last r b j at_r has_j) [
         | inl new_j ↦
             let below =
-            place_below i
+            last_pushed_place_below i
             (record { owner = q; queue = old_i.0; index = old_i.2.0; owned = old_i.1; at = old_i.2.1 }) in
             let is : j.place ≡ k.place = ap (λ (z : KeptInterval). z.place) new_j.1 in
             let place = comes.place_is in
@@ -203,11 +203,11 @@ module _ (queues : List Queue) (count owner : ℕ) (queue : Queue) (k : KeptInte
   merged_pushed =
       let place = comes.place_is in
       let below : (j : KeptInterval) → Has (merged_queues queues) j → j.place < k.place =
-      λ j h. let lt = place_below j (merged_lies queues j h) in omega arith in
+      λ j h. let lt = last_pushed_place_below j (merged_lies queues j h) in omega arith in
       let to : (j : KeptInterval) → Has (merged_queues (with_queue queues owner queue k)) j
       → Has (merged_queues queues ++ k ∷ []) j = λ j h.
       (has-append (merged_queues queues) (k ∷ []) j).1
-      (elim (lies_from j (merged_lies (with_queue queues owner queue k) j h)) [
+      (elim (last_pushed_lies_from j (merged_lies (with_queue queues owner queue k) j h)) [
         | inl new ↦ inr (0, ap Some (sym new))
         | inr old ↦ inl (lies_merged queues count are j old)
       ]) in
@@ -244,32 +244,32 @@ module _ (queues : List Queue) (count owner : ℕ) (queue : Queue) (k : KeptInte
       ∙ ap (set (map (λ (q : Queue). q.first + length q.kept) queues) owner) last
 
 -- the owner's entry of a list that has one for each queue
-pub entry_of : (f : Queue → ℕ) (queues : List Queue) (owner : ℕ) (queue : Queue) → slice_get queues owner ≡ Some queue
+pub last_pushed_entry : (f : Queue → ℕ) (queues : List Queue) (owner : ℕ) (queue : Queue) → slice_get queues owner ≡ Some queue
     → slice_index (map f queues) owner ≡ f queue
-entry_of f [] owner queue at = absurd (cc at)
-entry_of f (q ∷ qs) zero queue at = ap f (cc at)
-entry_of f (q ∷ qs) (suc owner) queue at = entry_of f qs owner queue at
+last_pushed_entry f [] owner queue at = absurd (cc at)
+last_pushed_entry f (q ∷ qs) zero queue at = ap f (cc at)
+last_pushed_entry f (q ∷ qs) (suc owner) queue at = last_pushed_entry f qs owner queue at
 
 -- it is what `push` requires: the owner's next one, and not one too many
 pub record IsNextInterval (value : Closings) (i : ClosedInterval) : Type 0 where
   pub owner : i.owner < length value.next
   pub number : i.number ≡ slice_index value.next i.owner
-  pub pages : HasRisingPages i.records
+  pub pages : SentPagesRise i.records
   pub fits : value.pushed < 2 ^ 64 - 1
 
 -- so it is the next one of its queue
 pub pushed_next : {queues : List Queue} {count : ℕ} {value : Closings} {i : ClosedInterval} {owner : ℕ} {queue : Queue}
     → QueuesHold queues count value → IsNextInterval value i → owner ≡ i.owner → queue ≡ get_or queues owner queue
-    → Comes queues count owner queue (record { place = count; interval = i })
+    → ComesLast queues count owner queue (record { place = count; interval = i })
 pushed_next {queues} {count} {value} {i} {owner} {queue} hold next same read =
     let nexts : map (λ (q : Queue). q.first + length q.kept) queues ≡ value.next = ap (λ (c : Closings). c.next) hold.seen in
     let long = length-map queues (λ (q : Queue). q.first + length q.kept) in
     let longs = ap length nexts in
     let in_range = next.owner in
-    let inside : owner < length queues = omega arith in
+    let last_pushed_inside : owner < length queues = omega arith in
     let owned : slice_get queues owner ≡ Some queue =
-    slice_get_read queues (length queues) owner queue refl inside read in
-    let entry = entry_of (λ (q : Queue). q.first + length q.kept) queues owner queue owned in
+    slice_get_read queues (length queues) owner queue refl last_pushed_inside read in
+    let entry = last_pushed_entry (λ (q : Queue). q.first + length q.kept) queues owner queue owned in
     let number : i.number ≡ queue.first + length queue.kept =
     next.number ∙ ap (slice_index value.next) (sym same) ∙ ap (λ (ns : List ℕ). slice_index ns owner) (sym nexts)
     ∙ entry in
@@ -287,7 +287,7 @@ pushed_next {queues} {count} {value} {i} {owner} {queue} hold next same read =
 -- and `push` then does what it says
 pub closings_pushed : {queues : List Queue} {count : ℕ} {value : Closings} {owner : ℕ} {queue : Queue}
     → QueuesHold queues count value → (i : ClosedInterval)
-    → Comes queues count owner queue (record { place = count; interval = i })
+    → ComesLast queues count owner queue (record { place = count; interval = i })
     → queue_closings (with_queue queues owner queue (record { place = count; interval = i })) (count + 1) ≡ pushed value i
 closings_pushed {queues} {count} {value} {owner} {queue} hold i comes =
     let k : KeptInterval = record { place = count; interval = i } in

@@ -7,7 +7,7 @@ use Rattle.base.proofs.Joined.{has-flat_map}
 use Rattle.interval.specs.declared.kept_interval.KeptInterval.{KeptInterval}
 use Rattle.interval.specs.Closings.{Closings}
 use Rattle.interval.specs.Queues.{Queue, merged_queues, queue_closings, IsQueue, IsQueued, AreQueues}
-use Rattle.interval.proofs.Order.RisingByPlace.{Rises, IsApart, has-by_place, has-by_place_from, rises-by_place}
+use Rattle.interval.proofs.Order.RisingByPlace.{Rises, RisesApart, has-by_place, has-by_place_from, rises-by_place}
 
 -- the queues of so many closed intervals hold what contracts see
 pub record QueuesHold (queues : List Queue) (count : ℕ) (value : Closings) : Type 0 where
@@ -21,7 +21,7 @@ sliced_queues {queues} {items} {count} {value} same hold =
     let P : List Queue → Type 0 = λ qs. QueuesHold qs count value in subst P (sym same) hold
 
 -- where an interval lies
-pub record Lies (queues : List Queue) (k : KeptInterval) : Type 0 where
+pub record LiesInMerged (queues : List Queue) (k : KeptInterval) : Type 0 where
   pub owner : ℕ
   pub queue : Queue
   pub index : ℕ
@@ -31,13 +31,13 @@ pub record Lies (queues : List Queue) (k : KeptInterval) : Type 0 where
 abbrev queue_items : Queue → List KeptInterval
 queue_items q = q.kept
 
-lies : (queues : List Queue) (k : KeptInterval) → Has (flat_map queue_items queues) k → Lies queues k
-lies queues k h =
+merged_lies_inside : (queues : List Queue) (k : KeptInterval) → Has (flat_map queue_items queues) k → LiesInMerged queues k
+merged_lies_inside queues k h =
     let w = (has-flat_map queue_items queues k).0 h in
     record { owner = w.1.0; queue = w.0; index = w.2.0; owned = w.1.1; at = w.2.1 }
 
-pub lies_in : (queues : List Queue) (k : KeptInterval) → Lies queues k → Has (flat_map queue_items queues) k
-lies_in queues k l = (has-flat_map queue_items queues k).1 (l.queue, (l.owner, l.owned), (l.index, l.at))
+pub lies_in_merged : (queues : List Queue) (k : KeptInterval) → LiesInMerged queues k → Has (flat_map queue_items queues) k
+lies_in_merged queues k l = (has-flat_map queue_items queues k).1 (l.queue, (l.owner, l.owned), (l.index, l.at))
 
 -- in a queue a closing number stands for one interval
 one_place_merged : {owner count : ℕ} {queue : Queue} {j k : KeptInterval} → IsQueue owner count queue → (i m : ℕ)
@@ -51,8 +51,8 @@ one_place_merged {owner} {count} {queue} {j} {k} is i m at_i at_m same = elim (c
 ]
 
 -- in all queues
-pub one_queued_interval : (queues : List Queue) (count : ℕ) → AreQueues queues count → (j k : KeptInterval) → Lies queues j
-    → Lies queues k → j.place ≡ k.place → j ≡ k
+pub one_queued_interval : (queues : List Queue) (count : ℕ) → AreQueues queues count → (j k : KeptInterval) → LiesInMerged queues j
+    → LiesInMerged queues k → j.place ≡ k.place → j ≡ k
 one_queued_interval queues count are j k a b same =
     let owner = are.apart a.owner b.owner a.queue b.queue j k a.owned b.owned (a.index, a.at) (b.index, b.at) same in
     let queue : b.queue ≡ a.queue =
@@ -61,22 +61,22 @@ one_queued_interval queues count are j k a b same =
     ap (λ (q : Queue). slice_get q.kept b.index) (sym queue) ∙ b.at in
     one_place_merged (are.each a.owner a.queue a.owned) a.index b.index a.at at same
 
-apart_merged : (queues : List Queue) (count : ℕ) → AreQueues queues count → IsApart (flat_map queue_items queues)
-apart_merged queues count are j k h g same = one_queued_interval queues count are j k (lies queues j h) (lies queues k g) same
+apart_merged : (queues : List Queue) (count : ℕ) → AreQueues queues count → RisesApart (flat_map queue_items queues)
+apart_merged queues count are j k h g same = one_queued_interval queues count are j k (merged_lies_inside queues j h) (merged_lies_inside queues k g) same
 
 -- what stands in the merged list
-pub merged_lies : (queues : List Queue) (k : KeptInterval) → Has (merged_queues queues) k → Lies queues k
-merged_lies queues k h = lies queues k (has-by_place (flat_map queue_items queues) k h)
+pub merged_lies : (queues : List Queue) (k : KeptInterval) → Has (merged_queues queues) k → LiesInMerged queues k
+merged_lies queues k h = merged_lies_inside queues k (has-by_place (flat_map queue_items queues) k h)
 
-pub lies_merged : (queues : List Queue) (count : ℕ) → AreQueues queues count → (k : KeptInterval) → Lies queues k
+pub lies_merged : (queues : List Queue) (count : ℕ) → AreQueues queues count → (k : KeptInterval) → LiesInMerged queues k
     → Has (merged_queues queues) k
 lies_merged queues count are k l =
-    has-by_place_from (flat_map queue_items queues) (apart_merged queues count are) k (lies_in queues k l)
+    has-by_place_from (flat_map queue_items queues) (apart_merged queues count are) k (lies_in_merged queues k l)
 
 pub rises-merged : (queues : List Queue) → Rises (merged_queues queues)
 rises-merged queues = rises-by_place (flat_map queue_items queues)
 
 -- what is known of an interval where it lies
-pub queued : (queues : List Queue) (count : ℕ) → AreQueues queues count → (k : KeptInterval) (l : Lies queues k)
+pub queued : (queues : List Queue) (count : ℕ) → AreQueues queues count → (k : KeptInterval) (l : LiesInMerged queues k)
     → IsQueued l.owner count l.queue l.index k
 queued queues count are k l = (are.each l.owner l.queue l.owned).each l.index k l.at

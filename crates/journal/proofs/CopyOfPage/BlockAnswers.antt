@@ -10,14 +10,14 @@ use Rattle.journal.specs.Events.{At}
 use Rattle.journal.specs.WellFormed.{Does}
 use Rattle.journal.specs.ExplainedAnswers.{IsAnswer, Explained}
 use Rattle.journal.specs.PageImages.{Lawful}
-use Rattle.journal.specs.Blocks.{block_write, block_done, IsBlock, BlockAnswers, with_page}
+use Rattle.journal.specs.Blocks.{block_write, block_done, IsBlock, BlockAnswers, block_with_page}
 use Rattle.base.specs.LastWritten.{wrote}
-use Rattle.base.proofs.SlicesAndCounts.{push_cases, push_induction}
+use Rattle.base.proofs.SlicesAndCounts.{slice_push_cases, slice_push_induction}
 use Rattle.base.proofs.LastWritten.{written-append}
-use Rattle.journal.proofs.Order.CountedAndNumbered.{at_within, at_longer, at_last}
+use Rattle.journal.proofs.Order.CountedAndNumbered.{numbered_at_within, numbered_at_longer, numbered_at_last}
 use Rattle.journal.proofs.Order.BlockPasts.{block_front, block_last}
 use Rattle.journal.proofs.CopyOfPage.LawfulImages.{lawful_others, lawful_event}
-use Rattle.journal.proofs.CopyOfPage.LoadAnswers.{load_answers, explained_push}
+use Rattle.journal.proofs.CopyOfPage.LoadAnswers.{load_answers, load_answers_push}
 
 -- a block with one more event does that event's store besides
 pub block_done-push : (s : Sizes) (n : ℕ) (page : List ℕ) (block : List Event) (e : Event)
@@ -28,7 +28,7 @@ block_done-push s n page block e = written-append (λ (x : Event). block_write s
 pub lawful_block : (s : Sizes) (j block : List Event) (p n : ℕ) (base : List ℕ) → IsBlock p block
     → Lawful s j p n base → Lawful s (j ++ block) p n (block_done s n base block)
 lawful_block s j block p n base is lawful =
-    push_induction (λ es. IsBlock p es → Lawful s (j ++ es) p n (block_done s n base es)) (λ _. rw append-nil lawful)
+    slice_push_induction (λ es. IsBlock p es → Lawful s (j ++ es) p n (block_done s n base es)) (λ _. rw append-nil lawful)
     step block is
   where
     step : (es : List Event) (e : Event) → (IsBlock p es → Lawful s (j ++ es) p n (block_done s n base es))
@@ -47,19 +47,19 @@ pub answers_front : (s : Sizes) (j block es : List Event) (p : ℕ) (base : ℕ 
 answers_front s j block es p base x = record {
   lawful = λ k a v d. x.lawful k a v (longer k a v d);
   answers =
-      λ k a v d. let le = at_within block k (event p (Load a v)) d in
+      λ k a v d. let le = numbered_at_within block k (event p (Load a v)) d in
       rw (take-append-le k block es (omega arith)) at (x.answers k a v (longer k a v d));
 }
   where
     longer : (k a v : ℕ) → Does block k p (Load a v) → Does (block ++ es) k p (Load a v)
-    longer k a v = at_longer block es k (event p (Load a v))
+    longer k a v = numbered_at_longer block es k (event p (Load a v))
 
 -- what the last load of a block answers is explained
 last_answer : (s : Sizes) (j es : List Event) (p a v : ℕ) (base : ℕ → List ℕ) → IsBlock p es
     → BlockAnswers s j (es ++ event p (Load a v) ∷ []) p base
     → IsAnswer ((j ++ es) ++ event p (Load a v) ∷ []) (length (j ++ es)) a v
 last_answer s j es p a v base is x =
-    let here = at_last es (event p (Load a v)) in
+    let here = numbered_at_last es (event p (Load a v)) in
     let word = rw (take-append_seam es (event p (Load a v) ∷ [])) at (x.answers (length es) a v here) in
     load_answers (lawful_block s j es p (a / s.words) (base (a / s.words)) is (x.lawful (length es) a v here)) a v refl
     word
@@ -68,14 +68,14 @@ last_answer s j es p a v base is x =
 pub explained_block : (s : Sizes) (j block : List Event) (p : ℕ) (base : ℕ → List ℕ) → IsBlock p block
     → BlockAnswers s j block p base → Explained j → Explained (j ++ block)
 explained_block s j block p base is answers explained =
-    push_induction (λ es. IsBlock p es → BlockAnswers s j es p base → Explained (j ++ es))
+    slice_push_induction (λ es. IsBlock p es → BlockAnswers s j es p base → Explained (j ++ es))
     (λ _ _. rw append-nil explained) step block is answers
   where
     step : (es : List Event) (e : Event) → (IsBlock p es → BlockAnswers s j es p base → Explained (j ++ es))
         → IsBlock p (es ++ e ∷ []) → BlockAnswers s j (es ++ e ∷ []) p base → Explained (j ++ (es ++ e ∷ []))
     step es e ih more x =
         rw (← append_assoc j es (e ∷ []))
-        (explained_push (j ++ es) e (ih front (answers_front s j es (e ∷ []) p base x)) new)
+        (load_answers_push (j ++ es) e (ih front (answers_front s j es (e ∷ []) p base x)) new)
       where
         front : IsBlock p es
         front = block_front p es (e ∷ []) more
@@ -109,12 +109,12 @@ answers_push s j block e p base x new = record { lawful = lawful; answers = answ
   where
     lawful : (k a v : ℕ) → Does (block ++ e ∷ []) k p (Load a v) → Lawful s j p (a / s.words) (base (a / s.words))
     lawful k a v d =
-        elim (push_cases block e k (event p (Load a v)) d) [ inl h ↦ x.lawful k a v h.1 | inr h ↦ (new a v h.1).0 ]
+        elim (slice_push_cases block e k (event p (Load a v)) d) [ inl h ↦ x.lawful k a v h.1 | inr h ↦ (new a v h.1).0 ]
 
     answers : (k a v : ℕ) → Does (block ++ e ∷ []) k p (Load a v)
         → slice_get (block_done s (a / s.words) (base (a / s.words)) (take k (block ++ e ∷ []))) (a % s.words)
         ≡ Some v
-    answers k a v d = elim (push_cases block e k (event p (Load a v)) d) [
+    answers k a v d = elim (slice_push_cases block e k (event p (Load a v)) d) [
       | inl h ↦ (let within : k < length block = h.0 in
           rw (take-append-le k block (e ∷ []) (omega arith)) (x.answers k a v h.1))
       | inr h ↦ rw (h.0, take-append_seam block (e ∷ [])) ((new a v h.1).1)
@@ -130,17 +130,17 @@ answers_rebase s j block p base other same x = record {
 }
 
 -- the page that was put in
-pub with_page_same : (n : ℕ) (page : List ℕ) (base : ℕ → List ℕ) → with_page n page base n ≡ page
+pub with_page_same : (n : ℕ) (page : List ℕ) (base : ℕ → List ℕ) → block_with_page n page base n ≡ page
 with_page_same n page base = rw (eq-eqb n n refl)
 
 -- the other pages
-pub with_page_other : (n m : ℕ) (page : List ℕ) (base : ℕ → List ℕ) → m ≢ n → with_page n page base m ≡ base m
+pub with_page_other : (n m : ℕ) (page : List ℕ) (base : ℕ → List ℕ) → m ≢ n → block_with_page n page base m ≡ base m
 with_page_other n m page base apart = rw (ne_eqb m n apart)
 
 -- another base of a page that the block does not load from
 pub answers_with_page : (s : Sizes) (j block : List Event) (p n : ℕ) (page : List ℕ) (base : ℕ → List ℕ)
     → ((k a v : ℕ) → Does block k p (Load a v) → a / s.words ≢ n) → BlockAnswers s j block p base
-    → BlockAnswers s j block p (with_page n page base)
+    → BlockAnswers s j block p (block_with_page n page base)
 answers_with_page s j block p n page base away =
-    answers_rebase s j block p base (with_page n page base)
+    answers_rebase s j block p base (block_with_page n page base)
     (λ k a v d. with_page_other n (a / s.words) page base (away k a v d))

@@ -9,21 +9,21 @@ use Rattle.journal.specs.Events.{At}
 use Rattle.journal.specs.HappensBeforeEdges.{HappensBefore}
 use Rattle.journal.specs.Pasts.{InPast}
 use Rattle.journal.specs.PageImages.{StoresToPage, InGap}
-use Rattle.journal.specs.BroughtCopy.{Brought, IsCopy, NoGap, Complete}
-use Rattle.base.proofs.SlicesAndCounts.{push_cases}
-use Rattle.base.proofs.Joined.{has-nil, in_order-nil, has_or_not}
-use Rattle.journal.proofs.Order.CountedAndNumbered.{at_longer, at_last}
+use Rattle.journal.specs.BroughtCopy.{Brought, IsCopy, CopyHasNoGap, IsCopyComplete}
+use Rattle.base.proofs.SlicesAndCounts.{slice_push_cases}
+use Rattle.base.proofs.Joined.{has-nil, in_order-nil, joined_has_or_not}
+use Rattle.journal.proofs.Order.CountedAndNumbered.{numbered_at_longer, numbered_at_last}
 use Rattle.journal.proofs.Order.HappensBefore.{before_begins_within, before_longer, before_shorter}
 use Rattle.journal.proofs.Order.EdgesIntoPast.{past_back, past_within, own_in_past}
-use Rattle.journal.proofs.CopyOfPage.Stores.{stores_shorter, stores_at, event_is}
+use Rattle.journal.proofs.CopyOfPage.Stores.{stores_shorter, stores_at, store_event_is}
 use Rattle.journal.proofs.CopyOfPage.LawfulImages.{image_kept}
 
 -- what was brought stays so
 pub brought_longer : (j es : List Event) (p n i : ℕ) → Brought j p n i → Brought (j ++ es) p n i
-brought_longer j es p n i (inl x) = inl (x.0, at_longer j es i x.0 x.1, x.2)
+brought_longer j es p n i (inl x) = inl (x.0, numbered_at_longer j es i x.0 x.1, x.2)
 brought_longer j es p n i (inr x) =
     let f = x.1 in
-    inr (x.0, (f.0, f.1, f.2, at_longer j es x.0 (event p (Fetch f.0 n f.1 f.2)) f.3), before_longer j es x.2)
+    inr (x.0, (f.0, f.1, f.2, numbered_at_longer j es x.0 (event p (Fetch f.0 n f.1 f.2)) f.3), before_longer j es x.2)
 
 -- what was brought is in the past
 pub brought_past : (j : List Event) (p n i : ℕ) → Brought j p n i → InPast j p i
@@ -36,32 +36,32 @@ brought_past j p n i (inr x) =
 pub brought_push : (s : Sizes) (j : List Event) (e : Event) (p n i : ℕ)
     → ((w r d : ℕ) → e ≢ (event p (Fetch w n r d))) → StoresToPage s (j ++ e ∷ []) n i → Brought (j ++ e ∷ []) p n i
     → Brought j p n i ⊎ ((i ≡ length j) × (e.processor ≡ p))
-brought_push s j e p n i no_fetch x (inl m) = elim (push_cases j e i m.0 m.1) [
+brought_push s j e p n i no_fetch x (inl m) = elim (slice_push_cases j e i m.0 m.1) [
   | inl h ↦ inl (inl (m.0, h.1, m.2))
   | inr h ↦ inr (h.0, ap (λ (f : Event). f.processor) h.1 ∙ m.2)
 ]
 brought_push s j e p n i no_fetch x (inr m) =
     let f = m.1 in
-    elim (push_cases j e m.0 (event p (Fetch f.0 n f.1 f.2)) f.3) [
+    elim (slice_push_cases j e m.0 (event p (Fetch f.0 n f.1 f.2)) f.3) [
       | inl h ↦ inl (inr (m.0, (f.0, f.1, f.2, h.1), before_shorter j (e ∷ []) h.0 m.2))
       | inr h ↦ absurd (no_fetch f.0 f.1 f.2 h.1)
     ]
 
 -- the gap is the stores of the past that were not brought
-pub gap_is : (s : Sizes) (j : List Event) (p n i : ℕ)
+pub brought_gap_is : (s : Sizes) (j : List Event) (p n i : ℕ)
     → InGap s j p n i ↔ (InPast j p i × StoresToPage s j n i × (Brought j p n i → ⊥))
-gap_is s j p n i = (
+brought_gap_is s j p n i = (
   λ g. (g.past, g.store, λ b. elim b [ inl m ↦ g.others m | inr f ↦ g.new f.0 f.1 f.2 ]),
   λ x. record
       { store = x.1; others = λ m. x.2 (inl m); past = x.0; new = λ k f before. x.2 (inr (k, f, before)) },
 )
 
 -- a copy that lacks nothing has each store of the past
-pub gapless : (s : Sizes) (j : List Event) (p n : ℕ) (page : List ℕ) → NoGap s j p n → IsCopy s j p n page
-    → Complete s j p n
-gapless s j p n page none copy i x past = elim (has_or_not copy.image.order i) [
+pub brought_without_gap : (s : Sizes) (j : List Event) (p n : ℕ) (page : List ℕ) → CopyHasNoGap s j p n → IsCopy s j p n page
+    → IsCopyComplete s j p n
+brought_without_gap s j p n page none copy i x past = elim (joined_has_or_not copy.image.order i) [
   | inl h ↦ ((copy.image.each i).0 h).0
-  | inr away ↦ absurd (none i ((gap_is s j p n i).1 (past, x, λ b. away ((copy.image.each i).1 (b, x)))))
+  | inr away ↦ absurd (none i ((brought_gap_is s j p n i).1 (past, x, λ b. away ((copy.image.each i).1 (b, x)))))
 ]
 
 -- at the start each copy is the zero page
@@ -98,6 +98,6 @@ copy_kept s j e p n page no_store no_fetch copy = record {
     old i x b = elim (brought_push s j e p n i no_fetch x b) [
       | inl o ↦ o
       | inr m ↦ (let P : ℕ → Type 0 = λ k. At (j ++ e ∷ []) k e in
-          let at = stores_at s (j ++ e ∷ []) n i e (subst P (sym m.0) (at_last j e)) x in
-          absurd (no_store x.address x.value x.in_page (event_is e p (Store x.address x.value) m.1 at.1)))
+          let at = stores_at s (j ++ e ∷ []) n i e (subst P (sym m.0) (numbered_at_last j e)) x in
+          absurd (no_store x.address x.value x.in_page (store_event_is e p (Store x.address x.value) m.1 at.1)))
     ]

@@ -9,23 +9,23 @@ use Rattle.journal.specs.Events.{At}
 use Rattle.journal.specs.HappensBeforeEdges.{HappensBefore}
 use Rattle.journal.specs.Pasts.{InPast}
 use Rattle.journal.specs.WellFormed.{Does}
-use Rattle.journal.specs.PageImages.{StoresToPage, page_write, FetchesPage, Mine, InGap, Lawful}
-use Rattle.journal.specs.BroughtCopy.{Brought, IsCopy, NoGap, Complete}
+use Rattle.journal.specs.PageImages.{StoresToPage, page_write, FetchesPage, IsOwnPlaceOfImage, InGap, Lawful}
+use Rattle.journal.specs.BroughtCopy.{Brought, IsCopy, CopyHasNoGap, IsCopyComplete}
 use Rattle.journal.specs.Blocks.{IsBlock}
 use Rattle.base.specs.InOrderOnce.{Has, InOrder, IsOnce}
 use Rattle.base.specs.MarkedRecords.{records_applied, AreRecordsOf}
-use Rattle.base.proofs.SlicesAndCounts.{append_cases}
+use Rattle.base.proofs.SlicesAndCounts.{slice_append_cases}
 use Rattle.base.proofs.Records.{records_same}
-use Rattle.journal.proofs.Order.CountedAndNumbered.{at_within, at_shorter, at_behind}
+use Rattle.journal.proofs.Order.CountedAndNumbered.{numbered_at_within, numbered_at_shorter, numbered_at_behind}
 use Rattle.journal.proofs.Order.HappensBefore.{before_shorter}
 use Rattle.journal.proofs.Order.EdgesIntoPast.{past_back, past_within, past_others}
 use Rattle.journal.proofs.Order.BlockPasts.{block_past, block_reaches}
 use Rattle.journal.proofs.CopyOfPage.Stores.{stores_longer, stores_shorter}
 use Rattle.journal.proofs.CopyOfPage.LawfulImages.{FillsImage, image_among, image_more}
-use Rattle.journal.proofs.CopyOfPage.Brought.{brought_longer, brought_past, gap_is}
+use Rattle.journal.proofs.CopyOfPage.Brought.{brought_longer, brought_past, brought_gap_is}
 
 -- a lawful copy is one that lacks nothing
-pub copy_of_lawful : (s : Sizes) (j : List Event) (p n : ℕ) (page : List ℕ) → Complete s j p n → Lawful s j p n page
+pub copy_of_lawful : (s : Sizes) (j : List Event) (p n : ℕ) (page : List ℕ) → IsCopyComplete s j p n → Lawful s j p n page
     → IsCopy s j p n page
 copy_of_lawful s j p n page complete lawful = record {
   image = image_among s j (InPast j p) (Brought j p n) n page (λ i x. (complete i x, brought_past j p n i)) lawful;
@@ -33,36 +33,36 @@ copy_of_lawful s j p n page complete lawful = record {
 }
 
 -- a copy that lacks nothing has no gap
-pub complete_no_gap : (s : Sizes) (j : List Event) (p n : ℕ) → Complete s j p n → NoGap s j p n
-complete_no_gap s j p n complete i g = let x = (gap_is s j p n i).0 g in x.2 (complete i x.1 x.0)
+pub complete_no_gap : (s : Sizes) (j : List Event) (p n : ℕ) → IsCopyComplete s j p n → CopyHasNoGap s j p n
+complete_no_gap s j p n complete i g = let x = (brought_gap_is s j p n i).0 g in x.2 (complete i x.1 x.0)
 
 -- events that bring no store to the page
 pub complete_on : (s : Sizes) (j es : List Event) (p n : ℕ)
-    → ((i : ℕ) → StoresToPage s (j ++ es) n i → InPast (j ++ es) p i → InPast j p i) → Complete s j p n
-    → Complete s (j ++ es) p n
+    → ((i : ℕ) → StoresToPage s (j ++ es) n i → InPast (j ++ es) p i → InPast j p i) → IsCopyComplete s j p n
+    → IsCopyComplete s (j ++ es) p n
 complete_on s j es p n nothing complete i x past =
     let old = nothing i x past in
     brought_longer j es p n i (complete i (stores_shorter s j es n i (past_within j p i old) x) old)
 
 -- others' events leave nothing out
 pub complete_others : (s : Sizes) (j es : List Event) (p n : ℕ) → ((k : ℕ) (e : Event) → At es k e → e.processor ≢ p)
-    → Complete s j p n → Complete s (j ++ es) p n
+    → IsCopyComplete s j p n → IsCopyComplete s (j ++ es) p n
 complete_others s j es p n away = complete_on s j es p n (λ i x. (past_others j es p i away).0)
 
 -- a store behind j is the block's own
 block_mine : (s : Sizes) (j block : List Event) (p n i : ℕ) → IsBlock p block → StoresToPage s (j ++ block) n i
-    → length j ≤ i → Mine (j ++ block) p i
+    → length j ≤ i → IsOwnPlaceOfImage (j ++ block) p i
 block_mine s j block p n i is x behind =
     let e : Event = event x.by (Store x.address x.value) in (
       e,
       x.does,
-      elim (append_cases j block i e x.does)
+      elim (slice_append_cases j block i e x.does)
           [ inl h ↦ absurd (omega (arith, h.0)) | inr h ↦ (is h.0 e h.2).0 ],
     )
 
 -- nor does a block
-pub complete_block : (s : Sizes) (j block : List Event) (p n : ℕ) → IsBlock p block → Complete s j p n
-    → Complete s (j ++ block) p n
+pub complete_block : (s : Sizes) (j block : List Event) (p n : ℕ) → IsBlock p block → IsCopyComplete s j p n
+    → IsCopyComplete s (j ++ block) p n
 complete_block s j block p n is complete i x past = elim ((block_past j block p i is).0 past) [
   | inl old ↦ brought_longer j block p n i (complete i (stores_shorter s j block n i (past_within j p i old) x) old)
   | inr b ↦ inl (block_mine s j block p n i is x b.0)
@@ -70,13 +70,13 @@ complete_block s j block p n is complete i x past = elim ((block_past j block p 
 
 -- a block that fetches the page leaves nothing out
 pub complete_fetched : (s : Sizes) (j block : List Event) (p n k : ℕ) → IsBlock p block → FetchesPage block k p n
-    → Complete s (j ++ block) p n
+    → IsCopyComplete s (j ++ block) p n
 complete_fetched s j block p n k is fetch i x past = elim ((block_past j block p i is).0 past) [
   | inl old ↦ inr (
     length j
         + k,
-    (fetch.0, fetch.1, fetch.2, at_behind j block k e fetch.3),
-    (block_reaches j block p i k is (at_within block k e fetch.3)).1
+    (fetch.0, fetch.1, fetch.2, numbered_at_behind j block k e fetch.3),
+    (block_reaches j block p i k is (numbered_at_within block k e fetch.3)).1
         (inl old),
   )
   | inr b ↦ inl (block_mine s j block p n i is x b.0)
@@ -92,27 +92,27 @@ gap_block s j block p n i is none = (there, back)
   where
     there : InGap s (j ++ block) p n i → InGap s j p n i
     there g = elim ((block_past j block p i is).0 g.past) [
-      | inl old ↦ (gap_is s j p n i).1 (
+      | inl old ↦ (brought_gap_is s j p n i).1 (
         old,
         stores_shorter s j block n i (past_within j p i old) g.store,
         λ b.
-            ((gap_is s (j ++ block) p n i).0 g).2 (brought_longer j block p n i b),
+            ((brought_gap_is s (j ++ block) p n i).0 g).2 (brought_longer j block p n i b),
       )
       | inr b ↦ absurd (g.others (block_mine s j block p n i is g.store b.0))
     ]
 
     old : InGap s j p n i → Brought (j ++ block) p n i → ⊥
-    old g (inl m) = g.others (m.0, at_shorter j block i m.0 (past_within j p i g.past) m.1, m.2)
+    old g (inl m) = g.others (m.0, numbered_at_shorter j block i m.0 (past_within j p i g.past) m.1, m.2)
     old g (inr m) =
         let f = m.1 in
-        elim (append_cases j block m.0 (event p (Fetch f.0 n f.1 f.2)) f.3) [
+        elim (slice_append_cases j block m.0 (event p (Fetch f.0 n f.1 f.2)) f.3) [
           | inl h ↦ g.new m.0 (f.0, f.1, f.2, h.1) (before_shorter j block h.0 m.2)
           | inr h ↦ none h.0 f.0 f.1 f.2 h.2
         ]
 
     back : InGap s j p n i → InGap s (j ++ block) p n i
     back g =
-        (gap_is s (j ++ block) p n i).1
+        (brought_gap_is s (j ++ block) p n i).1
         ((block_past j block p i is).1 (inl g.past), stores_longer s j block n i g.store, old g)
 
 -- these places are the gap, each once, in an order that extends happens-before
@@ -122,11 +122,11 @@ pub record FillsGap (s : Sizes) (j : List Event) (p n : ℕ) (places : List ℕ)
   pub extends : InOrder (λ i k. ¬ HappensBefore j k i) places
 
 -- the missing records, applied to a copy, make it lawful
-pub fetched_gap : {s : Sizes} {j : List Event} {p n : ℕ} {page : List ℕ} {groups : List (List ℕ)}
+pub complete_fetched_gap : {s : Sizes} {j : List Event} {p n : ℕ} {page : List ℕ} {groups : List (List ℕ)}
     {records : List (List (ℕ × ℕ))}
     → IsCopy s j p n page → AreRecordsOf (λ (i : ℕ). page_write s (slice_get j i)) groups records
     → FillsGap s j p n (concat groups) → Lawful s j p n (records_applied page records)
-fetched_gap {s} {j} {p} {n} {page} {groups} {records} copy are gap =
+complete_fetched_gap {s} {j} {p} {n} {page} {groups} {records} copy are gap =
     let now = image_more copy.image fills in
     subst (Lawful s j p n) (sym (records_same (λ (i : ℕ). page_write s (slice_get j i)) page are)) now
   where
@@ -134,7 +134,7 @@ fetched_gap {s} {j} {p} {n} {page} {groups} {records} copy are gap =
     fills = record {
       on = λ i x. brought_past j p n i;
       closed = copy.closed;
-      each = λ i. (λ h. (gap_is s j p n i).0 ((gap.each i).0 h), λ x. (gap.each i).1 ((gap_is s j p n i).1 x));
+      each = λ i. (λ h. (brought_gap_is s j p n i).0 ((gap.each i).0 h), λ x. (gap.each i).1 ((brought_gap_is s j p n i).1 x));
       once = gap.once;
       extends = gap.extends;
     }

@@ -12,10 +12,10 @@ use Rattle.journal.specs.PageImages.{StoresToPage, page_write, page_after, IsIma
 use Rattle.journal.specs.Blocks.{block_write}
 use Rattle.base.specs.LastWritten.{wrote}
 use Rattle.base.specs.InOrderOnce.{Has, InOrder, IsOnce}
-use Rattle.base.proofs.Joined.{has-nil, has-cons, has-append, in_order-append, in_order_single, has_or_not}
+use Rattle.base.proofs.Joined.{has-nil, has-cons, has-append, in_order-append, joined_in_order_single, joined_has_or_not}
 use Rattle.base.proofs.OnceWithout.{once-append}
 use Rattle.base.proofs.LastWritten.{written-append}
-use Rattle.journal.proofs.Order.CountedAndNumbered.{at_last}
+use Rattle.journal.proofs.Order.CountedAndNumbered.{numbered_at_last}
 use Rattle.journal.proofs.Order.HappensBefore.{before_shorter}
 use Rattle.journal.proofs.Order.EdgesIntoPast.{past_back, past_within, past_longer, own_past, past_others}
 use Rattle.journal.proofs.CopyOfPage.Stores.{stores_longer, stores_shorter, stores_within, stores_to, stores_at, page_after_longer}
@@ -56,7 +56,7 @@ image_more {s} {j} {among} {among'} {n} {page} {new} image fills = record {
       λ i. (
         λ h. there i ((has-append image.order new i).0 h),
         λ x. (has-append image.order new i).1
-            (back i x.0 x.1 (has_or_not image.order i)),
+            (back i x.0 x.1 (joined_has_or_not image.order i)),
       );
   once = once-append image.order new image.once fills.once (λ i h m. ((fills.each i).0 m).2 ((image.each i).0 h).0);
   extends =
@@ -101,15 +101,15 @@ lawful_quiet s j e n page quiet elsewhere = lawful_on s j (e ∷ []) e.processor
       | inl y ↦ y
       | inr is ↦ (let P : ℕ
           → Type 0 = λ m. At (j ++ e ∷ []) m e in absurd (elsewhere x.address x.value
-          (stores_at s (j ++ e ∷ []) n i e (subst P (sym is) (at_last j e)) x).1 x.in_page))
+          (stores_at s (j ++ e ∷ []) n i e (subst P (sym is) (numbered_at_last j e)) x).1 x.in_page))
     ]
 
 -- what is new to the past by an own store: its place
-store_is_new : (s : Sizes) (j : List Event) (p n a v : ℕ) → a / s.words ≡ n → (i : ℕ)
+image_store_is_new : (s : Sizes) (j : List Event) (p n a v : ℕ) → a / s.words ≡ n → (i : ℕ)
     → Has (length j ∷ []) i
     ↔ (InPast (j ++ event p (Store a v) ∷ []) p i × StoresToPage s (j ++ event p (Store a v) ∷ []) n i
     × (InPast j p i → ⊥))
-store_is_new s j p n a v in_page i =
+image_store_is_new s j p n a v in_page i =
     (λ h. there (elim ((has-cons (length j) [] i).0 h) [ inl e ↦ e | inr m ↦ absurd (has-nil i m) ]), back)
   where
     e : Event
@@ -120,7 +120,7 @@ store_is_new s j p n a v in_page i =
         let P : ℕ → Type 0 = λ m. StoresToPage s (j ++ e ∷ []) n m in (
           (own_past j e i refl).1 (inr (sym is)),
           subst P is
-              (stores_to s (j ++ e ∷ []) n (length j) p a v (at_last j e) in_page),
+              (stores_to s (j ++ e ∷ []) n (length j) p a v (numbered_at_last j e) in_page),
           λ old. let within = past_within
               j p i old in absurd (omega arith),
         )
@@ -135,7 +135,7 @@ lawful_store s j p n page a v in_page lawful =
     let P : Option Event → Type 0 =
     λ x. IsImage s (j ++ e ∷ []) (InPast (j ++ e ∷ []) p) n (wrote page (page_write s x)) in
     let now = image_more old fills in
-    subst P (at_last j e) now
+    subst P (numbered_at_last j e) now
   where
     e : Event
     e = event p (Store a v)
@@ -145,9 +145,9 @@ lawful_store s j p n page a v in_page lawful =
       on = λ i x. past_longer j (e ∷ []) p i;
       closed =
           λ i k x y past before. past_back j p k i (before_shorter j (e ∷ []) (past_within j p i past) before) past;
-      each = store_is_new s j p n a v in_page;
-      once = in_order_single (λ (x y : ℕ). x ≢ y) (length j);
-      extends = in_order_single (λ i k. ¬ HappensBefore (j ++ e ∷ []) k i) (length j);
+      each = image_store_is_new s j p n a v in_page;
+      once = joined_in_order_single (λ (x y : ℕ). x ≢ y) (length j);
+      extends = joined_in_order_single (λ i k. ¬ HappensBefore (j ++ e ∷ []) k i) (length j);
     }
 
     old : IsImage s (j ++ e ∷ []) (InPast j p) n page

@@ -12,17 +12,17 @@ use Rattle.journal.specs.WellFormed.{Does}
 use Rattle.journal.specs.ExplainedAnswers.{IsAnswer, Explained}
 use Rattle.journal.specs.PageImages.{page_write, IsImage, Lawful}
 use Rattle.base.specs.InOrderOnce.{Has}
-use Rattle.base.specs.LastWritten.{LastWrite, Unwritten}
-use Rattle.base.proofs.SlicesAndCounts.{push_cases}
+use Rattle.base.specs.LastWritten.{LastWrite, IsUnwritten}
+use Rattle.base.proofs.SlicesAndCounts.{slice_push_cases}
 use Rattle.base.proofs.SliceSets.{slice_get-replicate_found}
 use Rattle.base.proofs.LastWritten.{word_written}
-use Rattle.journal.proofs.Order.CountedAndNumbered.{at_longer, at_shorter}
+use Rattle.journal.proofs.Order.CountedAndNumbered.{numbered_at_longer, numbered_at_shorter}
 use Rattle.journal.proofs.Order.HappensBefore.{before_goes_forward, before_begins_within, before_longer, before_shorter}
-use Rattle.journal.proofs.Order.EdgesIntoPast.{past_within, reaches_new}
+use Rattle.journal.proofs.Order.EdgesIntoPast.{past_within, past_reaches_new}
 use Rattle.journal.proofs.CopyOfPage.Stores.{store_writes, stores_to, store_at}
 
 -- v was stored at a at one of these places, and no other such store happens after it
-pub record LatestAmong (j : List Event) (among : ℕ → Type 0) (a v : ℕ) : Type 0 where
+pub record LatestAnswerAmong (j : List Event) (among : ℕ → Type 0) (a v : ℕ) : Type 0 where
   pub place : ℕ
   pub by : ℕ
   pub stores : Does j place by (Store a v)
@@ -30,10 +30,10 @@ pub record LatestAmong (j : List Event) (among : ℕ → Type 0) (a v : ℕ) : T
   pub latest : (i q w : ℕ) → Does j i q (Store a w) → among i → ¬ HappensBefore j place i
 
 -- a word of an image is 0 where nothing is stored, or a latest store
-pub image_word : {s : Sizes} {j : List Event} {among : ℕ → Type 0} {n : ℕ} {page : List ℕ} → IsImage s j among n page
+pub load_answers_image_word : {s : Sizes} {j : List Event} {among : ℕ → Type 0} {n : ℕ} {page : List ℕ} → IsImage s j among n page
     → (a v : ℕ) → a / s.words ≡ n → slice_get page (a % s.words) ≡ Some v
-    → ((v ≡ 0) × ((i q w : ℕ) → Does j i q (Store a w) → ¬ among i)) ⊎ LatestAmong j among a v
-image_word {s} {j} {among} {n} {page} image a v in_page h =
+    → ((v ≡ 0) × ((i q w : ℕ) → Does j i q (Store a w) → ¬ among i)) ⊎ LatestAnswerAmong j among a v
+load_answers_image_word {s} {j} {among} {n} {page} image a v in_page h =
     go (word_written f (replicate s.words 0) image.order (a % s.words) v
     (ap (λ (ws : List ℕ). slice_get ws (a % s.words)) (sym image.gives) ∙ h))
   where
@@ -50,8 +50,8 @@ image_word {s} {j} {among} {n} {page} image a v in_page h =
     last l i q w does x (inr (inr less)) before = image.extends x.0 l.place i l.item less x.1 l.at before
 
     go : LastWrite f image.order (a % s.words) v
-        ⊎ ((slice_get (replicate s.words 0) (a % s.words) ≡ Some v) × Unwritten f image.order (a % s.words))
-        → ((v ≡ 0) × ((i q w : ℕ) → Does j i q (Store a w) → ¬ among i)) ⊎ LatestAmong j among a v
+        ⊎ ((slice_get (replicate s.words 0) (a % s.words) ≡ Some v) × IsUnwritten f image.order (a % s.words))
+        → ((v ≡ 0) × ((i q w : ℕ) → Does j i q (Store a w) → ¬ among i)) ⊎ LatestAnswerAmong j among a v
     go (inl l) =
         let x = (image.each l.item).0 (l.place, l.at) in
         inr (record {
@@ -74,25 +74,25 @@ image_word {s} {j} {among} {n} {page} image a v in_page h =
 -- a load of a lawful copy answers what it may
 pub load_answers : {s : Sizes} {j : List Event} {p n : ℕ} {page : List ℕ} → Lawful s j p n page → (a v : ℕ)
     → a / s.words ≡ n → slice_get page (a % s.words) ≡ Some v → IsAnswer (j ++ event p (Load a v) ∷ []) (length j) a v
-load_answers {s} {j} {p} {n} {page} lawful a v in_page h = go (image_word lawful a v in_page h)
+load_answers {s} {j} {p} {n} {page} lawful a v in_page h = go (load_answers_image_word lawful a v in_page h)
   where
     e : Event
     e = event p (Load a v)
 
     past : (i : ℕ) → HappensBefore (j ++ e ∷ []) i (length j) → InPast j p i
-    past i = (reaches_new j e i refl).0
+    past i = (past_reaches_new j e i refl).0
 
     old : (i q w : ℕ) → InPast j p i → Does (j ++ e ∷ []) i q (Store a w) → Does j i q (Store a w)
-    old i q w x d = at_shorter j (e ∷ []) i (event q (Store a w)) (past_within j p i x) d
+    old i q w x d = numbered_at_shorter j (e ∷ []) i (event q (Store a w)) (past_within j p i x) d
 
-    go : ((v ≡ 0) × ((i q w : ℕ) → Does j i q (Store a w) → ¬ InPast j p i)) ⊎ LatestAmong j (InPast j p) a v
+    go : ((v ≡ 0) × ((i q w : ℕ) → Does j i q (Store a w) → ¬ InPast j p i)) ⊎ LatestAnswerAmong j (InPast j p) a v
         → IsAnswer (j ++ e ∷ []) (length j) a v
     go (inl n) = inl (n.0, λ i q w d before. n.1 i q w (old i q w (past i before) d) (past i before))
     go (inr l) = inr (record {
       place = l.place;
       by = l.by;
-      stores = at_longer j (e ∷ []) l.place (event l.by (Store a v)) l.stores;
-      before = (reaches_new j e l.place refl).1 l.here;
+      stores = numbered_at_longer j (e ∷ []) l.place (event l.by (Store a v)) l.stores;
+      before = (past_reaches_new j e l.place refl).1 l.here;
       latest =
           λ i q w d before on. l.latest i q w (old i q w (past i before) d) (past i before)
           (before_shorter j (e ∷ []) (past_within j p i (past i before)) on);
@@ -106,14 +106,14 @@ answer_on j es k a v within answer = go answer
     past i = before_shorter j es within
 
     old : (i q w : ℕ) → HappensBefore j i k → Does (j ++ es) i q (Store a w) → Does j i q (Store a w)
-    old i q w x d = at_shorter j es i (event q (Store a w)) (before_begins_within j x) d
+    old i q w x d = numbered_at_shorter j es i (event q (Store a w)) (before_begins_within j x) d
 
     go : IsAnswer j k a v → IsAnswer (j ++ es) k a v
     go (inl n) = inl (n.0, λ i q w d before. n.1 i q w (old i q w (past i before) d) (past i before))
     go (inr l) = inr (record {
       place = l.place;
       by = l.by;
-      stores = at_longer j es l.place (event l.by (Store a v)) l.stores;
+      stores = numbered_at_longer j es l.place (event l.by (Store a v)) l.stores;
       before = before_longer j es l.before;
       latest =
           λ i q w d before on. l.latest i q w (old i q w (past i before) d) (past i before)
@@ -121,9 +121,9 @@ answer_on j es k a v within answer = go answer
     })
 
 -- an explained journal stays so by an event that is no load, or a load that answers what it may
-pub explained_push : (j : List Event) (e : Event) → Explained j
+pub load_answers_push : (j : List Event) (e : Event) → Explained j
     → ((p a v : ℕ) → e ≡ event p (Load a v) → IsAnswer (j ++ e ∷ []) (length j) a v) → Explained (j ++ e ∷ [])
-explained_push j e explained new k p a v d = elim (push_cases j e k (event p (Load a v)) d) [
+load_answers_push j e explained new k p a v d = elim (slice_push_cases j e k (event p (Load a v)) d) [
   | inl x ↦ answer_on j (e ∷ []) k a v x.0 (explained k p a v x.1)
   | inr x ↦ (let P : ℕ → Type 0 = λ m. IsAnswer (j ++ e ∷ []) m a v in subst P (sym x.0) (new p a v x.1))
 ]

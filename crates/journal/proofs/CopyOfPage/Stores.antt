@@ -12,25 +12,25 @@ use Rattle.journal.specs.PageImages.{StoresToPage, page_write, page_after}
 use Rattle.base.specs.InOrderOnce.{Has}
 use Rattle.base.proofs.SlicesAndCounts.{slice_get-append_left}
 use Rattle.base.proofs.LastWritten.{written_same}
-use Rattle.journal.proofs.Order.CountedAndNumbered.{at_within, at_longer, at_shorter, does_same}
+use Rattle.journal.proofs.Order.CountedAndNumbered.{numbered_at_within, numbered_at_longer, numbered_at_shorter, numbered_does_same}
 
 -- an event with this kind, as what its processor does
-pub does_kind : (j : List Event) (i : ℕ) (e : Event) (k : Kind) → At j i e → e.kind ≡ k → Does j i e.processor k
-does_kind j i e k at is = let P : Kind → Type 0 = λ x. At j i (event e.processor x) in subst P is at
+pub store_does_kind : (j : List Event) (i : ℕ) (e : Event) (k : Kind) → At j i e → e.kind ≡ k → Does j i e.processor k
+store_does_kind j i e k at is = let P : Kind → Type 0 = λ x. At j i (event e.processor x) in subst P is at
 
 -- two stores at one place are one
 pub store_same : (j : List Event) (i p q a b v w : ℕ) → Does j i p (Store a v) → Does j i q (Store b w)
     → (p ≡ q) × (a ≡ b) × (v ≡ w)
 store_same j i p q a b v w h g =
-    let r = does_same j i p q (Store a v) (Store b w) h g in
+    let r = numbered_does_same j i p q (Store a v) (Store b w) h g in
     let e : Store a v ≡ Store b w = r.1 in
-    let same_address : a ≡ b = cc in
+    let store_same_address : a ≡ b = cc in
     let same_value : v ≡ w = cc in
-    (r.0, same_address, same_value)
+    (r.0, store_same_address, same_value)
 
 -- an address is its page and its offset
-pub same_address : (w a b : ℕ) → a / w ≡ b / w → a % w ≡ b % w → a ≡ b
-same_address w a b page offset = sym (div-add-mod' a w) ∙ ap₂ (λ (x y : ℕ). x * w + y) page offset ∙ div-add-mod' b w
+pub store_same_address : (w a b : ℕ) → a / w ≡ b / w → a % w ≡ b % w → a ≡ b
+store_same_address w a b page offset = sym (div-add-mod' a w) ∙ ap₂ (λ (x y : ℕ). x * w + y) page offset ∙ div-add-mod' b w
 
 -- what a store writes in its page
 pub store_writes : (s : Sizes) (j : List Event) (i q a v : ℕ) → Does j i q (Store a v)
@@ -49,31 +49,31 @@ store_at s j n i a v x page writes =
     let e =
     some_pair_parts (x.address % s.words) (a % s.words) x.value v
     (sym (store_writes s j i x.by x.address x.value x.does) ∙ writes) in
-    let same : x.address ≡ a = same_address s.words x.address a (x.in_page ∙ sym page) e.0 in
+    let same : x.address ≡ a = store_same_address s.words x.address a (x.in_page ∙ sym page) e.0 in
     let P : ℕ → ℕ → Type 0 = λ b w. Does j i x.by (Store b w) in
     subst₂ P same e.1 x.does
 
 -- a store to the page stays one as the journal goes on
 pub stores_longer : (s : Sizes) (j es : List Event) (n i : ℕ) → StoresToPage s j n i → StoresToPage s (j ++ es) n i
 stores_longer s j es n i x =
-    stores_to s (j ++ es) n i x.by x.address x.value (at_longer j es i (event x.by (Store x.address x.value)) x.does)
+    stores_to s (j ++ es) n i x.by x.address x.value (numbered_at_longer j es i (event x.by (Store x.address x.value)) x.does)
     x.in_page
 
 -- and was one before it did, at a place of before
 pub stores_shorter : (s : Sizes) (j es : List Event) (n i : ℕ) → i < length j → StoresToPage s (j ++ es) n i
     → StoresToPage s j n i
 stores_shorter s j es n i within x =
-    stores_to s j n i x.by x.address x.value (at_shorter j es i (event x.by (Store x.address x.value)) within x.does)
+    stores_to s j n i x.by x.address x.value (numbered_at_shorter j es i (event x.by (Store x.address x.value)) within x.does)
     x.in_page
 
 -- a store to the page stands within the journal
 pub stores_within : (s : Sizes) (j : List Event) (n i : ℕ) → StoresToPage s j n i → i < length j
-stores_within s j n i x = at_within j i (event x.by (Store x.address x.value)) x.does
+stores_within s j n i x = numbered_at_within j i (event x.by (Store x.address x.value)) x.does
 
 -- a store to the page at the place of an event is what that event does
 pub stores_at : (s : Sizes) (j : List Event) (n i : ℕ) (e : Event) → At j i e → (x : StoresToPage s j n i)
     → (e.processor ≡ x.by) × (e.kind ≡ Store x.address x.value)
-stores_at s j n i e at x = does_same j i e.processor x.by e.kind (Store x.address x.value) at x.does
+stores_at s j n i e at x = numbered_does_same j i e.processor x.by e.kind (Store x.address x.value) at x.does
 
 -- pages of a journal that goes on
 pub page_after_longer : (s : Sizes) (j es : List Event) (page is : List ℕ) → ((i : ℕ) → Has is i → i < length j)
@@ -83,5 +83,5 @@ page_after_longer s j es page is within =
     (λ k i at. ap (page_write s) (slice_get-append_left j es i (within i (k, at))))
 
 -- an event is what its processor does
-pub event_is : (e : Event) (p : ℕ) (k : Kind) → e.processor ≡ p → e.kind ≡ k → e ≡ event p k
-event_is e p k mine is = ap₂ (λ (q : ℕ) (a : Kind). event q a) mine is
+pub store_event_is : (e : Event) (p : ℕ) (k : Kind) → e.processor ≡ p → e.kind ≡ k → e ≡ event p k
+store_event_is e p k mine is = ap₂ (λ (q : ℕ) (a : Kind). event q a) mine is

@@ -10,19 +10,19 @@ use Rattle.journal.specs.Events.{At, is_taking, interval_at}
 use Rattle.journal.specs.WellFormed.{Does}
 use Rattle.journal.specs.Pasts.{InPast}
 use Rattle.journal.specs.Times.{IsTimeOf}
-use Rattle.journal.specs.PageImages.{InGap, StoresToPage, Lawful, HasCount, GapCounts}
-use Rattle.journal.specs.BroughtCopy.{IsCopy, NoGap, Complete}
-use Rattle.journal.specs.Blocks.{block_write, block_done, IsBlock, BlockAnswers, with_page}
+use Rattle.journal.specs.PageImages.{InGap, StoresToPage, Lawful, HasImageCount, GapCounts}
+use Rattle.journal.specs.BroughtCopy.{IsCopy, CopyHasNoGap, IsCopyComplete}
+use Rattle.journal.specs.Blocks.{block_write, block_done, IsBlock, BlockAnswers, block_with_page}
 use Rattle.journal.specs.Counted.{BlockCounts}
 use Rattle.journal.specs.MissingWords.{Missing, MissingInOrder, AreMissingNotices}
-use Rattle.journal.specs.ValidAndStaleCopy.{Touches, IsValidCopy, IsStaleCopy}
+use Rattle.journal.specs.ValidAndStaleCopy.{TouchesCopy, IsValidCopy, IsStaleCopy}
 use Rattle.base.specs.InOrderOnce.{Has}
 use Rattle.base.specs.LastWritten.{wrote}
 use Rattle.base.specs.MarkedRecords.{records_applied}
 use Rattle.base.proofs.Joined.{has-nil}
-use Rattle.base.proofs.SlicesAndCounts.{push_cases, push_induction}
+use Rattle.base.proofs.SlicesAndCounts.{slice_push_cases, slice_push_induction}
 use Rattle.base.proofs.LastWritten.{written_nothing}
-use Rattle.journal.proofs.Order.CountedAndNumbered.{at_longer, at_last}
+use Rattle.journal.proofs.Order.CountedAndNumbered.{numbered_at_longer, numbered_at_last}
 use Rattle.journal.proofs.CopyOfPage.LawfulImages.{lawful_others, lawful_on}
 use Rattle.journal.proofs.CopyOfPage.BlockAnswers.{block_done-push, lawful_block, answers_push, answers_with_page}
 use Rattle.journal.proofs.CopyOfPage.Brought.{copy_start, copy_kept}
@@ -50,7 +50,7 @@ valid_lawful s j block p n base page is valid = rw (valid.gives) (lawful_block s
 
 -- and has all of the past
 pub valid_complete : (s : Sizes) (j block : List Event) (p n : ℕ) (base page : List ℕ) → IsBlock p block
-    → IsValidCopy s j block p n base page → Complete s (j ++ block) p n
+    → IsValidCopy s j block p n base page → IsCopyComplete s (j ++ block) p n
 valid_complete s j block p n base page is valid =
     elim valid.full [
       | inl c ↦ complete_block s j block p n is c
@@ -59,7 +59,7 @@ valid_complete s j block p n base page is valid =
 
 -- so it lacks nothing
 pub valid_no_gap : (s : Sizes) (j block : List Event) (p n : ℕ) (base page : List ℕ) → IsBlock p block
-    → IsValidCopy s j block p n base page → NoGap s (j ++ block) p n
+    → IsValidCopy s j block p n base page → CopyHasNoGap s (j ++ block) p n
 valid_no_gap s j block p n base page is valid =
     complete_no_gap s (j ++ block) p n (valid_complete s j block p n base page is valid)
 
@@ -85,7 +85,7 @@ valid_push s j block e p n base page valid = record {
         | inl c ↦ inl c
         | inr f ↦ inr (
           f.0,
-          (f.1.0, f.1.1, f.1.2, at_longer block (e ∷ []) f.0 (event p (Fetch f.1.0 n f.1.1 f.1.2)) f.1.3),
+          (f.1.0, f.1.1, f.1.2, numbered_at_longer block (e ∷ []) f.0 (event p (Fetch f.1.0 n f.1.1 f.1.2)) f.1.3),
         )
       ];
 }
@@ -122,40 +122,40 @@ valid_load s j block p a v base over page is valid at answers =
         (rw is (valid.lawful, ap (λ (ws : List ℕ). slice_get ws (a % s.words)) (sym valid.gives) ∙ at))
 
 -- a block without events answers no load
-pub answers_start : (s : Sizes) (j : List Event) (p : ℕ) (base : ℕ → List ℕ) → BlockAnswers s j [] p base
-answers_start s j p base =
+pub valid_answers_start : (s : Sizes) (j : List Event) (p : ℕ) (base : ℕ → List ℕ) → BlockAnswers s j [] p base
+valid_answers_start s j p base =
     record {
       lawful = λ k a v d. absurd (none-some (event p (Load a v)) d);
       answers = λ k a v d. absurd (none-some (event p (Load a v)) d);
     }
 
 -- what doesn't touch a page stores nothing in it
-untouched_writes : (s : Sizes) (n : ℕ) (k : Kind) → ¬ Touches s n k → block_write s n k ≡ None
-untouched_writes s n (Store a v) away = rw (ne_eqb (a / s.words) n away)
-untouched_writes s n _ away = refl
+stale_untouched_writes : (s : Sizes) (n : ℕ) (k : Kind) → ¬ TouchesCopy s n k → block_write s n k ≡ None
+stale_untouched_writes s n (Store a v) away = rw (ne_eqb (a / s.words) n away)
+stale_untouched_writes s n _ away = refl
 
 -- events of which none is p's that touches the page keep p's copy
 pub copy_untouched : (s : Sizes) (j es : List Event) (p n : ℕ) (page : List ℕ)
-    → ((k : ℕ) (e : Event) → At es k e → e.processor ≡ p → ¬ Touches s n e.kind) → IsCopy s j p n page
+    → ((k : ℕ) (e : Event) → At es k e → e.processor ≡ p → ¬ TouchesCopy s n e.kind) → IsCopy s j p n page
     → IsCopy s (j ++ es) p n page
 copy_untouched s j es p n page away copy =
-    push_induction (λ xs. ((k : ℕ) (e : Event) → At xs k e → e.processor ≡ p → ¬ Touches s n e.kind)
+    slice_push_induction (λ xs. ((k : ℕ) (e : Event) → At xs k e → e.processor ≡ p → ¬ TouchesCopy s n e.kind)
     → IsCopy s (j ++ xs) p n page)
     (λ _. rw append-nil copy) step es away
   where
-    is_own : (k : Kind) (f : Event) → f ≡ event p k → (f.processor ≡ p → ¬ Touches s n f.kind) → ¬ Touches s n k
-    is_own k f e away = let P : Event → Type 0 = λ g. g.processor ≡ p → ¬ Touches s n g.kind in subst P e away refl
+    is_own : (k : Kind) (f : Event) → f ≡ event p k → (f.processor ≡ p → ¬ TouchesCopy s n f.kind) → ¬ TouchesCopy s n k
+    is_own k f e away = let P : Event → Type 0 = λ g. g.processor ≡ p → ¬ TouchesCopy s n g.kind in subst P e away refl
 
     step : (xs : List Event) (e : Event)
-        → (((k : ℕ) (f : Event) → At xs k f → f.processor ≡ p → ¬ Touches s n f.kind) → IsCopy s (j ++ xs) p n page)
-        → ((k : ℕ) (f : Event) → At (xs ++ e ∷ []) k f → f.processor ≡ p → ¬ Touches s n f.kind)
+        → (((k : ℕ) (f : Event) → At xs k f → f.processor ≡ p → ¬ TouchesCopy s n f.kind) → IsCopy s (j ++ xs) p n page)
+        → ((k : ℕ) (f : Event) → At (xs ++ e ∷ []) k f → f.processor ≡ p → ¬ TouchesCopy s n f.kind)
         → IsCopy s (j ++ (xs ++ e ∷ [])) p n page
     step xs e ih all =
-        let last = all (length xs) e (at_last xs e) in
+        let last = all (length xs) e (numbered_at_last xs e) in
         rw (← append_assoc j xs (e ∷ [])) (copy_kept s (j ++ xs) e p n page
         (λ a v in_page is. is_own (Store a v) e is last in_page)
         (λ w r d is. is_own (Fetch w n r d) e is last refl)
-        (ih (λ k f at. all k f (at_longer xs (e ∷ []) k f at))))
+        (ih (λ k f at. all k f (numbered_at_longer xs (e ∷ []) k f at))))
 
 -- others' events leave a stale copy as it is
 pub stale_others : (s : Sizes) (j es block : List Event) (p n : ℕ) (page : List ℕ) (missing : List Missing)
@@ -170,15 +170,15 @@ stale_others s j es block p n page missing away stale =
 
 -- and so does a further event of the block that doesn't touch the page
 pub stale_push : (s : Sizes) (j block : List Event) (e : Event) (p n : ℕ) (page : List ℕ) (missing : List Missing)
-    → ¬ Touches s n e.kind → IsStaleCopy s j block p n page missing
+    → ¬ TouchesCopy s n e.kind → IsStaleCopy s j block p n page missing
     → IsStaleCopy s j (block ++ e ∷ []) p n page missing
 stale_push s j block e p n page missing away stale =
     record {
       copy = stale.copy;
       lacks = stale.lacks;
-      untouched = λ k f at. elim (push_cases block e k f at) [
+      untouched = λ k f at. elim (slice_push_cases block e k f at) [
         | inl h ↦ stale.untouched k f h.1
-        | inr h ↦ (let P : Event → Type 0 = λ g. ¬ Touches s n g.kind in subst P h.1 away)
+        | inr h ↦ (let P : Event → Type 0 = λ g. ¬ TouchesCopy s n g.kind in subst P h.1 away)
       ];
     }
 
@@ -208,7 +208,7 @@ pub stale_fetched : (s : Sizes) (j block : List Event) (p n w r d : ℕ) (page :
 stale_fetched s j block p n w r d page missing order stale = record {
   lawful = missing_fetched s j p n page missing stale.lacks order stale.copy;
   gives = sym (written_nothing (λ (f : Event). block_write s n f.kind) new (block ++ e ∷ []) nothing);
-  full = inr (length block, (w, r, d, at_last block e));
+  full = inr (length block, (w, r, d, numbered_at_last block e));
 }
   where
     e : Event
@@ -218,14 +218,14 @@ stale_fetched s j block p n w r d page missing order stale = record {
     new = records_applied page (map (λ (x : Missing). x.words) missing)
 
     nothing : (k : ℕ) (f : Event) → At (block ++ e ∷ []) k f → block_write s n f.kind ≡ None
-    nothing k f at = elim (push_cases block e k f at) [
-      | inl h ↦ untouched_writes s n f.kind (stale.untouched k f h.1)
+    nothing k f at = elim (slice_push_cases block e k f at) [
+      | inl h ↦ stale_untouched_writes s n f.kind (stale.untouched k f h.1)
       | inr h ↦ (let P : Event → Type 0 = λ g. block_write s n g.kind ≡ None in subst P h.1 refl)
     ]
 
 -- the fetch's counts are how many owners, intervals and words the missing list has
 pub stale_counted : (s : Sizes) (j block : List Event) (p n writers : ℕ) (page : List ℕ) (missing : List Missing)
-    → MissingInOrder missing → HasCount (λ (q : ℕ). (x : Missing) × Has missing x × (x.owner ≡ q)) writers
+    → MissingInOrder missing → HasImageCount (λ (q : ℕ). (x : Missing) × Has missing x × (x.owner ≡ q)) writers
     → IsStaleCopy s j block p n page missing → BlockCounts s j block p
     → BlockCounts s j
     (block ++ event p (Fetch writers n (length missing) (sum_by (λ (x : Missing). length x.words) missing)) ∷ [])
@@ -256,18 +256,18 @@ stale_counted s j block p n writers page missing order count stale counts =
         )))
 
 -- what the block's loads answer is untouched by a fetch of a page that was stale
-pub answers_fetched : (s : Sizes) (j block : List Event) (p n w r d : ℕ) (page new : List ℕ) (missing : List Missing)
+pub stale_answers_fetched : (s : Sizes) (j block : List Event) (p n w r d : ℕ) (page new : List ℕ) (missing : List Missing)
     (base : ℕ → List ℕ)
     → IsStaleCopy s j block p n page missing → BlockAnswers s j block p base
-    → BlockAnswers s j (block ++ event p (Fetch w n r d) ∷ []) p (with_page n new base)
-answers_fetched s j block p n w r d page new missing base stale answers =
-    answers_push s j block (event p (Fetch w n r d)) p (with_page n new base)
+    → BlockAnswers s j (block ++ event p (Fetch w n r d) ∷ []) p (block_with_page n new base)
+stale_answers_fetched s j block p n w r d page new missing base stale answers =
+    answers_push s j block (event p (Fetch w n r d)) p (block_with_page n new base)
     (answers_with_page s j block p n new base (λ k a v load. stale.untouched k (event p (Load a v)) load) answers)
     (λ a v e. absurd (cc (ap (λ (f : Event). f.kind) e)))
 
 -- without a block a valid copy lacks nothing
 pub valid_full : (s : Sizes) (j : List Event) (p n : ℕ) (base page : List ℕ) → IsValidCopy s j [] p n base page
-    → Complete s j p n
+    → IsCopyComplete s j p n
 valid_full s j p n base page valid =
     elim valid.full [ inl c ↦ c | inr f ↦ absurd (none-some (event p (Fetch f.1.0 n f.1.1 f.1.2)) f.1.3) ]
 
@@ -285,17 +285,17 @@ stale_taken s j p n page k t t' missing new takes time after news stale = record
     e : Event
     e = event p k
 
-    takes_nothing : (m : Kind) → is_taking m ≡ true → ¬ Touches s n m
+    takes_nothing : (m : Kind) → is_taking m ≡ true → ¬ TouchesCopy s n m
     takes_nothing (Load a v) h = absurd (true≢false (sym h))
     takes_nothing (Store a v) h = absurd (true≢false (sym h))
     takes_nothing (Fetch w m r d) h = absurd (true≢false (sym h))
     takes_nothing _ h = λ x. x
 
-    taking : (m : ℕ) (f : Event) → At (e ∷ []) m f → f.processor ≡ p → ¬ Touches s n f.kind
+    taking : (m : ℕ) (f : Event) → At (e ∷ []) m f → f.processor ≡ p → ¬ TouchesCopy s n f.kind
     taking m f at _ =
-        elim (push_cases [] e m f at) [
+        elim (slice_push_cases [] e m f at) [
           | inl h ↦ absurd (none-some f h.1)
-          | inr h ↦ (let P : Event → Type 0 = λ g. ¬ Touches s n g.kind in subst P h.1 (takes_nothing k takes))
+          | inr h ↦ (let P : Event → Type 0 = λ g. ¬ TouchesCopy s n g.kind in subst P h.1 (takes_nothing k takes))
         ]
 
 -- an event by which p gets to know of no store to the page leaves its valid copy so

@@ -16,10 +16,10 @@ use Rattle.journal.specs.Base.{Base, no_base}
 use Rattle.journal.specs.HappensBeforeFrom.{HappensBeforeFrom}
 use Rattle.journal.specs.ExplainedAnswersFrom.{LatestStoreFrom, IsAnswerFrom, ExplainedFrom}
 use Rattle.journal.specs.RacesFrom.{RaceFrom, IsFirstRaceFrom, RaceFreeFrom}
-use Rattle.base.specs.LastWritten.{LastWrite, Unwritten}
+use Rattle.base.specs.LastWritten.{LastWrite, IsUnwritten}
 use Rattle.base.proofs.SlicesAndCounts.{slice_get-take, slice_get-from_take, slice_get-take_within}
 use Rattle.base.proofs.LastWritten.{word_written, length-written}
-use Rattle.journal.proofs.CopyOfPage.Stores.{does_kind, store_same}
+use Rattle.journal.proofs.CopyOfPage.Stores.{store_does_kind, store_same}
 use Rattle.journal.proofs.Flat.StoresUnordered.{flat_store, store_conflicts, not_unordered_from}
 use Rattle.journal.proofs.FromBase.Order.{goes_forward_from}
 use Rattle.journal.proofs.FromBase.Uncut.{uncut_race, uncut_explained}
@@ -30,9 +30,9 @@ record IsExplainedUpTo (b : Base) (j : List Event) (k : ℕ) : Type 0 where
   pub free : (m n : ℕ) → n < k → ¬ RaceFrom b j m n
 
 -- what the last store before a load wrote is what the load answered
-answers_last : {b : Base} {j : List Event} {k p v w : ℕ} → IsExplainedUpTo b j k → (i a : ℕ) → i < k
+flat_answers_last : {b : Base} {j : List Event} {k p v w : ℕ} → IsExplainedUpTo b j k → (i a : ℕ) → i < k
     → Does j i p (Load a v) → LastWrite (λ (e : Event). flat_write e.kind) (take i j) a w → w ≡ v
-answers_last {b} {j} {k} {p} {v} {w} x i a less loads l = go (x.explained i p a v loads)
+flat_answers_last {b} {j} {k} {p} {v} {w} x i a less loads l = go (x.explained i p a v loads)
   where
     before : l.place < i
     before = slice_get-take_within j i l.place l.item l.at
@@ -41,7 +41,7 @@ answers_last {b} {j} {k} {p} {v} {w} x i a less loads l = go (x.explained i p a 
     is = flat_store l.item.kind a w l.writes
 
     stores : Does j l.place l.item.processor (Store a w)
-    stores = does_kind j l.place l.item (Store a w) (slice_get-from_take j i l.place l.item l.at) is
+    stores = store_does_kind j l.place l.item (Store a w) (slice_get-from_take j i l.place l.item l.at) is
 
     ordered : (m q u n y : ℕ) (f : Kind) → m < n → n < k → address_of f ≡ Some a → Does j m q (Store a u)
         → Does j n y f → ¬ (¬ HappensBeforeFrom b j m n)
@@ -96,14 +96,14 @@ flat_up_to_from b j k ranges explained free i p a v loads =
     found : slice_get (memory_after b.memory (take i j)) a ≡ Some word
     found = slice_get-get_or (memory_after b.memory (take i j)) a 0 (rw length-written (ranges i p a v does))
 
-    untouched : (slice_get b.memory a ≡ Some word) × Unwritten f (take i j) a → IsAnswerFrom b j i a v → word ≡ v
+    untouched : (slice_get b.memory a ≡ Some word) × IsUnwritten f (take i j) a → IsAnswerFrom b j i a v → word ≡ v
     untouched n (inl z) = sym (get_or_from_slice_get b.memory a word 0 n.0) ∙ sym z.0
     untouched n (inr x) =
         absurd (n.1 x.place (event x.by (Store a v)) v
         (slice_get-take j i x.place (goes_forward_from b j x.before) ∙ x.stores) refl)
 
-    go : LastWrite f (take i j) a word ⊎ ((slice_get b.memory a ≡ Some word) × Unwritten f (take i j) a) → word ≡ v
-    go (inl l) = answers_last (record { explained = explained; free = free }) i a less does l
+    go : LastWrite f (take i j) a word ⊎ ((slice_get b.memory a ≡ Some word) × IsUnwritten f (take i j) a) → word ≡ v
+    go (inl l) = flat_answers_last (record { explained = explained; free = free }) i a less does l
     go (inr n) = untouched n (explained i p a v does)
 
 -- up to the second event of its first race it replays

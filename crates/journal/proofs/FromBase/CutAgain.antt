@@ -13,17 +13,17 @@ use Rattle.journal.specs.FlatMemory.{memory_after, Replays}
 use Rattle.journal.specs.Base.{Base, no_base}
 use Rattle.journal.specs.RacesFrom.{RaceFreeFrom}
 use Rattle.journal.specs.EpisodeBases.{EndsEpisode, IsBaseAfter, IsBaseOf}
-use Rattle.base.proofs.SlicesAndCounts.{append_cases}
-use Rattle.journal.proofs.Order.CountedAndNumbered.{at_within, at_longer, at_behind, count_of-append}
-use Rattle.journal.proofs.Journals.WellFormedLast.{well_formed_front, each_push}
-use Rattle.journal.proofs.FromBase.FirstAndLast.{Sort, base_sort, counts, even_from, present_left, cut_before}
-use Rattle.journal.proofs.FromBase.Holding.{memory_after-append, base_append}
-use Rattle.journal.proofs.FromBase.Races.{none_begins, race_free}
+use Rattle.base.proofs.SlicesAndCounts.{slice_append_cases}
+use Rattle.journal.proofs.Order.CountedAndNumbered.{numbered_at_within, numbered_at_longer, numbered_at_behind, count_of-append}
+use Rattle.journal.proofs.Journals.WellFormedLast.{well_formed_front, well_formed_push}
+use Rattle.journal.proofs.FromBase.FirstAndLast.{Sort, base_sort, counts, even_from, first_present_left, last_before_cut}
+use Rattle.journal.proofs.FromBase.Holding.{memory_after-append_from, base_append}
+use Rattle.journal.proofs.FromBase.Races.{cut_begins_no_race, race_free}
 
 -- a history replays exactly where what was cut off does, and what is left from the memory after it
-pub replays_append : (start : List ℕ) (c j : List Event)
+pub cut_again_replays : (start : List ℕ) (c j : List Event)
     → Replays start (c ++ j) ↔ (Replays start c × Replays (memory_after start c) j)
-replays_append start c j = ((λ all. (front all, left all)), (λ both. back both.0 both.1))
+cut_again_replays start c j = ((λ all. (front all, left all)), (λ both. back both.0 both.1))
   where
     word : (ws vs : List ℕ) (a v : ℕ) → ws ≡ vs → slice_get ws a ≡ Some v → slice_get vs a ≡ Some v
     word ws vs a v is h = ap (λ (xs : List ℕ). slice_get xs a) (sym is) ∙ h
@@ -33,21 +33,21 @@ replays_append start c j = ((λ all. (front all, left all)), (λ both. back both
 
     behind : (i : ℕ)
         → memory_after start (take (length c + i) (c ++ j)) ≡ memory_after (memory_after start c) (take i j)
-    behind i = ap (memory_after start) (take-append-add c j i) ∙ memory_after-append start c (take i j)
+    behind i = ap (memory_after start) (take-append-add c j i) ∙ memory_after-append_from start c (take i j)
 
     front : Replays start (c ++ j) → Replays start c
     front all i p a v does =
         word (memory_after start (take i (c ++ j))) (memory_after start (take i c)) a v
-        (within i (at_within c i (event p (Load a v)) does))
-        (all i p a v (at_longer c j i (event p (Load a v)) does))
+        (within i (numbered_at_within c i (event p (Load a v)) does))
+        (all i p a v (numbered_at_longer c j i (event p (Load a v)) does))
 
     left : Replays start (c ++ j) → Replays (memory_after start c) j
     left all i p a v does =
         word (memory_after start (take (length c + i) (c ++ j))) (memory_after (memory_after start c) (take i j)) a v
-        (behind i) (all (length c + i) p a v (at_behind c j i (event p (Load a v)) does))
+        (behind i) (all (length c + i) p a v (numbered_at_behind c j i (event p (Load a v)) does))
 
     back : Replays start c → Replays (memory_after start c) j → Replays start (c ++ j)
-    back cut rest i p a v does = elim (append_cases c j i (event p (Load a v)) does) [
+    back cut rest i p a v does = elim (slice_append_cases c j i (event p (Load a v)) does) [
       | inl old ↦ word (memory_after start (take i c)) (memory_after start (take i (c ++ j))) a v
           (sym (within i old.0)) (cut i p a v old.1)
       | inr new ↦ word (memory_after (memory_after start c) (take new.0 j)) (memory_after start (take i (c ++ j))) a v
@@ -58,15 +58,15 @@ replays_append start c j = ((λ all. (front all, left all)), (λ both. back both
 module _ (s : Sizes) (c d : List Event) (b after : Base) (well : WellFormed s (c ++ d))
     (base : IsBaseOf s.processors (addresses s) c b) (ends : EndsEpisode s.processors d) (free : RaceFreeFrom b d)
     (kept : IsBaseAfter b d after) where
-  well_c : WellFormed s c
-  well_c = well_formed_front s c d well
+  cut_again_well_formed : WellFormed s c
+  cut_again_well_formed = well_formed_front s c d well
 
   base_sort_again : Sort s.processors b c
-  base_sort_again = base_sort s c b well_c base
+  base_sort_again = base_sort s c b cut_again_well_formed base
 
-  by_within : ends.by < s.processors
-  by_within =
-      ((each_push s (c ++ ends.front) (event ends.by Arrive)).0 (subst (WellFormed s) (ap
+  cut_again_within : ends.by < s.processors
+  cut_again_within =
+      ((well_formed_push s (c ++ ends.front) (event ends.by Arrive)).0 (subst (WellFormed s) (ap
       (λ (xs : List Event). c ++ xs) ends.arrives
       ∙ sym (append_assoc c ends.front (event ends.by Arrive ∷ [])))
       well)).1.processor
@@ -77,12 +77,12 @@ module _ (s : Sizes) (c d : List Event) (b after : Base) (well : WellFormed s (c
       let x = count_of-append is_arrive c d ends.by in
       let y = count_of-append is_arrive c d q in
       let le = ends.all q within in
-      omega (arith, (n.1 q within).0, (n.1 ends.by by_within).0)
+      omega (arith, (n.1 q within).0, (n.1 ends.by cut_again_within).0)
 
   both_free_from : RaceFree (c ++ d)
   both_free_from =
-      let e = even_from s.processors c d b base_sort_again (present_left s c d well) in
-      (race_free b c d e.0 e.1 (none_begins c d (cut_before s c d b well base_sort_again) base.race_free)).1 free
+      let e = even_from s.processors c d b base_sort_again (first_present_left s c d well) in
+      (race_free b c d e.0 e.1 (cut_begins_no_race c d (last_before_cut s c d b well base_sort_again) base.race_free)).1 free
 
   -- and what is kept after it is what the two leave
   pub base_after : IsBaseOf s.processors (addresses s) (c ++ d) after

@@ -11,13 +11,13 @@ use Rattle.journal.specs.Events.{At, count_of, is_arrive}
 use Rattle.journal.specs.declared.episodes.Episodes.{Episodes}
 use Rattle.journal.specs.EpisodeBases.{EndsEpisode, IsEpisodeCut, NoEpisodeCut}
 use Rattle.journal.specs.Episodes.{AreEpisodes}
-use Rattle.journal.proofs.Order.CountedAndNumbered.{at_same, at_last, at_within}
+use Rattle.journal.proofs.Order.CountedAndNumbered.{numbered_at_same, numbered_at_last, numbered_at_within}
 use Rattle.journal.proofs.Passes.NextClocks.{front_next}
 use Rattle.journal.proofs.Passes.ReachedNextRaces.{count_next}
 
-arrival : (k : Kind) → IsTrue (is_arrive k) → k ≡ Arrive
-arrival Arrive h = refl
-arrival _ h = absurd cc
+episode_end_arrival : (k : Kind) → IsTrue (is_arrive k) → k ≡ Arrive
+episode_end_arrival Arrive h = refl
+episode_end_arrival _ h = absurd cc
 
 -- a journal ends an episode exactly where its last event is an arrival, and every processor has arrived as often
 pub ends_push : (processors : ℕ) (xs : List Event) (e : Event)
@@ -37,10 +37,10 @@ ends_push processors xs e = (there, back)
         let same = ap (λ (ys : List Event). length ys) x.arrives in
         let at : length x.front ≡ length xs = omega arith in
         let is : e ≡ event x.by Arrive =
-        at_same (xs ++ e ∷ []) (length xs) e (event x.by Arrive) (at_last xs e) (subst
+        numbered_at_same (xs ++ e ∷ []) (length xs) e (event x.by Arrive) (numbered_at_last xs e) (subst
         (λ n. At (xs ++ e ∷ []) n (event x.by Arrive)) at (subst
         (λ (ys : List Event). At ys (length x.front) (event x.by Arrive)) (sym x.arrives)
-        (at_last x.front (event x.by Arrive))))
+        (numbered_at_last x.front (event x.by Arrive))))
         in
         let by : e.processor ≡ x.by = ap (λ (y : Event). y.processor) is in (
           ap (λ (y : Event). is_arrive y.kind) is,
@@ -56,30 +56,30 @@ ends_push processors xs e = (there, back)
         record {
           front = xs;
           by = e.processor;
-          arrives = ap (λ k. xs ++ event e.processor k ∷ []) (arrival e.kind x.0);
+          arrives = ap (λ k. xs ++ event e.processor k ∷ []) (episode_end_arrival e.kind x.0);
           all = x.1;
         }
 
 module _ (processors : ℕ) (xs : List Event) (e : Event) where
-  front_is : (n : ℕ) → n ≤ length xs → take n (xs ++ e ∷ []) ≡ take n xs
-  front_is n le = take-append-le n xs (e ∷ []) le
+  episode_end_front : (n : ℕ) → n ≤ length xs → take n (xs ++ e ∷ []) ≡ take n xs
+  episode_end_front n le = take-append-le n xs (e ∷ []) le
 
   episode_whole : take (length xs + 1) (xs ++ e ∷ []) ≡ xs ++ e ∷ []
   episode_whole = ap (λ n. take n (xs ++ e ∷ [])) (sym (length-append xs (e ∷ []))) ∙ take-length (xs ++ e ∷ [])
 
   -- where the journal with one more event ends an episode, it is cut whole
-  pub cut_now : EndsEpisode processors (xs ++ e ∷ []) → IsEpisodeCut processors (xs ++ e ∷ []) (length xs + 1)
-  cut_now ends = record {
+  pub episode_cut_now : EndsEpisode processors (xs ++ e ∷ []) → IsEpisodeCut processors (xs ++ e ∷ []) (length xs + 1)
+  episode_cut_now ends = record {
     within = (let long = length-append xs (e ∷ []) in omega arith);
     ends = subst (EndsEpisode processors) (sym episode_whole) ends;
     last = λ m le x. (let long = length-append xs (e ∷ []) in omega arith);
   }
 
   -- and else it is cut as before
-  pub cut_later : (o : Option ℕ) → ¬ EndsEpisode processors (xs ++ e ∷ [])
+  pub episode_cut_later : (o : Option ℕ) → ¬ EndsEpisode processors (xs ++ e ∷ [])
       → MatchOption o (NoEpisodeCut processors xs) (IsEpisodeCut processors xs)
       → MatchOption o (NoEpisodeCut processors (xs ++ e ∷ [])) (IsEpisodeCut processors (xs ++ e ∷ []))
-  cut_later o isnt h = go o h
+  episode_cut_later o isnt h = go o h
     where
       at_end : (n : ℕ) → length xs < n → n ≤ length (xs ++ e ∷ []) → ¬ EndsEpisode processors (take n (xs ++ e ∷ []))
       at_end n lt le ends =
@@ -91,15 +91,15 @@ module _ (processors : ℕ) (xs : List Event) (e : Event) where
       go None none =
           λ n le ends. elim (cases_lt (length xs) n) [
             | inl lt ↦ at_end n lt le ends
-            | inr old ↦ none n old (subst (EndsEpisode processors) (front_is n old) ends)
+            | inr old ↦ none n old (subst (EndsEpisode processors) (episode_end_front n old) ends)
           ]
       go (Some n) cut = record {
         within = (let long = length-append xs (e ∷ []) in let within = cut.within in omega arith);
-        ends = subst (EndsEpisode processors) (sym (front_is n cut.within)) cut.ends;
+        ends = subst (EndsEpisode processors) (sym (episode_end_front n cut.within)) cut.ends;
         last =
             λ m le ends. elim (cases_lt (length xs) m) [
               | inl lt ↦ absurd (at_end m lt le ends)
-              | inr old ↦ cut.last m old (subst (EndsEpisode processors) (front_is m old) ends)
+              | inr old ↦ cut.last m old (subst (EndsEpisode processors) (episode_end_front m old) ends)
             ];
       }
 
@@ -140,13 +140,13 @@ module _ (processors : ℕ) (events : List Event) (place : ℕ) (e : Event) (at 
   pub episode_ends : IsEpisodeLast
       → AreEpisodes processors (take (place + 1) events) (record { arrivals = new; last = Some (place + 1) })
   episode_ends last =
-      let lt = at_within events place e at in
+      let lt = numbered_at_within events place e at in
       let long : length (take place events) ≡ place = length-take-le place events (omega arith) in
       record {
         arrivals = episode_counted;
         last =
             subst₂ (λ (xs : List Event) (n : ℕ). IsEpisodeCut processors xs n) (sym episode_next) (ap (λ n. n + 1) long)
-            (cut_now processors (take place events) e (last_ends last));
+            (episode_cut_now processors (take place events) e (last_ends last));
       }
 
   pub episode_lasts : ¬ IsEpisodeLast → AreEpisodes processors (take (place + 1) events) (record x { arrivals = new })
@@ -154,5 +154,5 @@ module _ (processors : ℕ) (events : List Event) (place : ℕ) (e : Event) (at 
     arrivals = episode_counted;
     last =
         subst (λ (xs : List Event). MatchOption x.last (NoEpisodeCut processors xs) (λ n. IsEpisodeCut processors xs n)) (sym episode_next)
-        (cut_later processors (take place events) e x.last (λ ends. isnt (ends_last ends)) are.last);
+        (episode_cut_later processors (take place events) e x.last (λ ends. isnt (ends_last ends)) are.last);
   }

@@ -14,13 +14,13 @@ use Rattle.journal.specs.FlatMemory.{flat_write, memory_after}
 use Rattle.journal.specs.Base.{Base}
 use Rattle.journal.specs.ExplainedAnswersFrom.{IsAnswerFrom, ExplainedFrom}
 use Rattle.journal.specs.EpisodeBases.{IsBaseOf}
-use Rattle.base.specs.LastWritten.{written, LastWrite, Unwritten}
-use Rattle.base.proofs.SlicesAndCounts.{append_cases}
+use Rattle.base.specs.LastWritten.{written, LastWrite, IsUnwritten}
+use Rattle.base.proofs.SlicesAndCounts.{slice_append_cases}
 use Rattle.base.proofs.SliceSets.{slice_get-replicate_found}
 use Rattle.base.proofs.LastWritten.{word_written, last_word, last_exists, length-written}
-use Rattle.journal.proofs.Order.CountedAndNumbered.{at_within, at_longer, at_shorter, at_behind}
+use Rattle.journal.proofs.Order.CountedAndNumbered.{numbered_at_within, numbered_at_longer, numbered_at_shorter, numbered_at_behind}
 use Rattle.journal.proofs.Order.HappensBefore.{before_goes_forward, before_begins_within, before_longer, before_shorter}
-use Rattle.journal.proofs.CopyOfPage.Stores.{does_kind, store_same}
+use Rattle.journal.proofs.CopyOfPage.Stores.{store_does_kind, store_same}
 use Rattle.journal.proofs.CopyOfPage.LoadAnswers.{answer_on}
 use Rattle.journal.proofs.Flat.StoresUnordered.{flat_store, not_unordered}
 use Rattle.journal.proofs.FromBase.Order.{IsEvenFrom, before_from, before_back_from}
@@ -30,7 +30,7 @@ abbrev pub flat : Event → Option (ℕ × ℕ)
 flat e = flat_write e.kind
 
 -- an address has a last store among these events, or none
-pub last_write_or_none : (c : List Event) (a : ℕ) → ((v : ℕ) × LastWrite flat c a v) ⊎ Unwritten flat c a
+pub last_write_or_none : (c : List Event) (a : ℕ) → ((v : ℕ) × LastWrite flat c a v) ⊎ IsUnwritten flat c a
 last_write_or_none c a =
     elim (word_written flat (replicate (suc a) 0) c a word found) [ inl l ↦ inl (word, l) | inr n ↦ inr n.1 ]
   where
@@ -50,9 +50,9 @@ last_kept size c a v lt l =
     (last_word flat (replicate size 0) c a v (rw length-replicate lt) l)
 
 -- and 0 where nothing was
-pub none_kept : (size : ℕ) (c : List Event) (a : ℕ) → Unwritten flat c a
+pub last_none_kept : (size : ℕ) (c : List Event) (a : ℕ) → IsUnwritten flat c a
     → slice_index (memory_after (replicate size 0) c) a ≡ 0
-none_kept size c a none =
+last_none_kept size c a none =
     elim (cases_lt a size) [
       | inl lt ↦ go (word_written flat (replicate size 0) c a word (found lt))
       | inr le ↦ sym (unwrap_or-slice_get memory a 0)
@@ -69,26 +69,26 @@ none_kept size c a none =
     found : a < size → slice_get memory a ≡ Some word
     found lt = slice_get-get_or memory a 0 (rw (length-written, length-replicate) lt)
 
-    go : LastWrite flat c a word ⊎ ((slice_get (replicate size 0) a ≡ Some word) × Unwritten flat c a) → word ≡ 0
+    go : LastWrite flat c a word ⊎ ((slice_get (replicate size 0) a ≡ Some word) × IsUnwritten flat c a) → word ≡ 0
     go (inl l) = absurd (none l.place l.item word l.at l.writes)
     go (inr n) = sym (slice_get-replicate_found size 0 word a n.0)
 
 -- what the last write is, as a store
 pub last_stores : (c : List Event) (a v : ℕ) → (l : LastWrite flat c a v)
     → Does c l.place l.item.processor (Store a v)
-last_stores c a v l = does_kind c l.place l.item (Store a v) l.at (flat_store l.item.kind a v l.writes)
+last_stores c a v l = store_does_kind c l.place l.item (Store a v) l.at (flat_store l.item.kind a v l.writes)
 
 -- an answer was one before the journal went on
 explained_front : (c j : List Event) (k a v : ℕ) → k < length c → IsAnswer (c ++ j) k a v → IsAnswer c k a v
 explained_front c j k a v lt (inl none) =
-    inl (none.0, λ i q w does h. none.1 i q w (at_longer c j i (event q (Store a w)) does) (before_longer c j h))
+    inl (none.0, λ i q w does h. none.1 i q w (numbered_at_longer c j i (event q (Store a w)) does) (before_longer c j h))
 explained_front c j k a v lt (inr l) = inr (record {
   place = l.place;
   by = l.by;
-  stores = at_shorter c j l.place (event l.by (Store a v)) (before_begins_within c (before_shorter c j lt l.before)) l.stores;
+  stores = numbered_at_shorter c j l.place (event l.by (Store a v)) (before_begins_within c (before_shorter c j lt l.before)) l.stores;
   before = before_shorter c j lt l.before;
   latest =
-      λ i q w does h on. l.latest i q w (at_longer c j i (event q (Store a w)) does) (before_longer c j h) (before_longer c j on);
+      λ i q w does h on. l.latest i q w (numbered_at_longer c j i (event q (Store a w)) does) (before_longer c j h) (before_longer c j on);
 })
 
 -- the history is well formed; what was cut off has no race, leaves the base, and happens before all that is left
@@ -96,9 +96,9 @@ module _ (s : Sizes) (c j : List Event) (b : Base) (n : ℕ) (well : WellFormed 
     (base : IsBaseOf s.processors (addresses s) c b) (even : IsEvenFrom b c j n)
     (before : (i k : ℕ) → i < length c → k < length j → HappensBefore (c ++ j) i (length c + k)) where
   -- a latest store of what was cut off stored the base's word
-  latest_kept : (m p a v : ℕ) → Does c m p (Store a v)
+  last_latest_kept : (m p a v : ℕ) → Does c m p (Store a v)
       → ((i q w : ℕ) → Does c i q (Store a w) → ¬ HappensBefore c m i) → slice_index b.memory a ≡ v
-  latest_kept m p a v does latest =
+  last_latest_kept m p a v does latest =
       ap (λ (ws : List ℕ). slice_index ws a) base.after.memory
       ∙ last_kept (addresses s) c a l.0 (well m (event p (Store a v)) does).in_range l.1
       ∙ is (cases_order m l.1.place)
@@ -123,23 +123,23 @@ module _ (s : Sizes) (c j : List Event) (b : Base) (n : ℕ) (well : WellFormed 
       inl (
         none.0
             ∙ sym
-            (ap (λ (ws : List ℕ). slice_index ws a) base.after.memory ∙ none_kept (addresses s) c a unwritten),
-        λ i q w does h. none.1 (length c + i) q w (at_behind c j i (event q (Store a w)) does)
+            (ap (λ (ws : List ℕ). slice_index ws a) base.after.memory ∙ last_none_kept (addresses s) c a unwritten),
+        λ i q w does h. none.1 (length c + i) q w (numbered_at_behind c j i (event q (Store a w)) does)
             (before_back_from b c j n even h),
       )
     where
-      unwritten : Unwritten flat c a
+      unwritten : IsUnwritten flat c a
       unwritten m y u at writes =
-          none.1 m y.processor u (at_longer c j m (event y.processor (Store a u))
-          (does_kind c m y (Store a u) at (flat_store y.kind a u writes)))
-          (before m k (at_within c m y at) lt)
-  answer_from k a v lt (inr l) = elim (append_cases c j l.place (event l.by (Store a v)) l.stores) [
+          none.1 m y.processor u (numbered_at_longer c j m (event y.processor (Store a u))
+          (store_does_kind c m y (Store a u) at (flat_store y.kind a u writes)))
+          (before m k (numbered_at_within c m y at) lt)
+  answer_from k a v lt (inr l) = elim (slice_append_cases c j l.place (event l.by (Store a v)) l.stores) [
     | inl cut ↦ inl (
-      sym (latest_kept l.place l.by a v cut.1 (λ i q w does h. l.latest i q w
-          (at_longer c j i (event q (Store a w)) does)
-          (before i k (at_within c i (event q (Store a w)) does) lt) (before_longer c j h))),
-      λ i q w does h. l.latest (length c + i) q w (at_behind c j i (event q (Store a w)) does)
-          (before_back_from b c j n even h) (before l.place i cut.0 (at_within j i (event q (Store a w)) does)),
+      sym (last_latest_kept l.place l.by a v cut.1 (λ i q w does h. l.latest i q w
+          (numbered_at_longer c j i (event q (Store a w)) does)
+          (before i k (numbered_at_within c i (event q (Store a w)) does) lt) (before_longer c j h))),
+      λ i q w does h. l.latest (length c + i) q w (numbered_at_behind c j i (event q (Store a w)) does)
+          (before_back_from b c j n even h) (before l.place i cut.0 (numbered_at_within j i (event q (Store a w)) does)),
     )
     | inr left ↦ inr (record {
       place = left.0;
@@ -148,7 +148,7 @@ module _ (s : Sizes) (c j : List Event) (b : Base) (n : ℕ) (well : WellFormed 
       before =
           before_from b c j n even left.0 k (subst (λ m. HappensBefore (c ++ j) m (length c + k)) left.1 l.before);
       latest =
-          λ i q w does h on. l.latest (length c + i) q w (at_behind c j i (event q (Store a w)) does)
+          λ i q w does h on. l.latest (length c + i) q w (numbered_at_behind c j i (event q (Store a w)) does)
           (before_back_from b c j n even h)
           (subst (λ m. HappensBefore (c ++ j) m (length c + i)) (sym left.1) (before_back_from b c j n even on));
     })
@@ -165,10 +165,10 @@ module _ (s : Sizes) (c j : List Event) (b : Base) (n : ℕ) (well : WellFormed 
       untouched i q w m is does h =
           kept.1 m q w does (before_from b c j n even m k (subst (λ x. HappensBefore (c ++ j) x (length c + k)) is h))
 
-      go : ((w : ℕ) × LastWrite flat c a w) ⊎ Unwritten flat c a → IsAnswer (c ++ j) (length c + k) a v
+      go : ((w : ℕ) × LastWrite flat c a w) ⊎ IsUnwritten flat c a → IsAnswer (c ++ j) (length c + k) a v
       go (inl l) =
           let stores = last_stores c a l.0 l.1 in
-          let in_c = at_within c l.1.place l.1.item l.1.at in
+          let in_c = numbered_at_within c l.1.place l.1.item l.1.at in
           let is : l.0 ≡ v =
           sym (word
           ∙ last_kept (addresses s) c a l.0
@@ -178,10 +178,10 @@ module _ (s : Sizes) (c j : List Event) (b : Base) (n : ℕ) (well : WellFormed 
             place = l.1.place;
             by = l.1.item.processor;
             stores =
-                at_longer c j l.1.place (event l.1.item.processor (Store a v))
+                numbered_at_longer c j l.1.place (event l.1.item.processor (Store a v))
                 (subst (λ w. Does c l.1.place l.1.item.processor (Store a w)) is stores);
             before = before l.1.place k in_c lt;
-            latest = λ i q w does h on. elim (append_cases c j i (event q (Store a w)) does) [
+            latest = λ i q w does h on. elim (slice_append_cases c j i (event q (Store a w)) does) [
               | inl cut ↦ l.1.last i (event q (Store a w)) w (before_goes_forward (c ++ j) on) cut.1 refl
               | inr left ↦ untouched i q w left.0 left.1 left.2 h
             ];
@@ -189,9 +189,9 @@ module _ (s : Sizes) (c j : List Event) (b : Base) (n : ℕ) (well : WellFormed 
       go (inr none) =
           inl (
             word
-                ∙ none_kept (addresses s) c a none,
+                ∙ last_none_kept (addresses s) c a none,
             λ i q w does h. elim
-                (append_cases c j i (event q (Store a w)) does) [
+                (slice_append_cases c j i (event q (Store a w)) does) [
                   | inl cut ↦ none i (event q (Store a w)) w cut.1
                       refl
                   | inr left ↦ untouched i q w left.0 left.1 left.2 h
@@ -200,9 +200,9 @@ module _ (s : Sizes) (c j : List Event) (b : Base) (n : ℕ) (well : WellFormed 
   answer_back_from k a v lt (inr l) = inr (record {
     place = length c + l.place;
     by = l.by;
-    stores = at_behind c j l.place (event l.by (Store a v)) l.stores;
+    stores = numbered_at_behind c j l.place (event l.by (Store a v)) l.stores;
     before = before_back_from b c j n even l.before;
-    latest = λ i q w does h on. elim (append_cases c j i (event q (Store a w)) does) [
+    latest = λ i q w does h on. elim (slice_append_cases c j i (event q (Store a w)) does) [
       | inl cut ↦ (let forward = before_goes_forward (c ++ j) on in omega (arith, cut.0))
       | inr left ↦ l.latest left.0 q w left.2
           (before_from b c j n even left.0 k (subst (λ m. HappensBefore (c ++ j) m (length c + k)) left.1 h))
@@ -217,17 +217,17 @@ module _ (s : Sizes) (c j : List Event) (b : Base) (n : ℕ) (well : WellFormed 
     where
       left : Explained (c ++ j) → ExplainedFrom b j
       left all k p a v does =
-          answer_from k a v (at_within j k (event p (Load a v)) does)
-          (all (length c + k) p a v (at_behind c j k (event p (Load a v)) does))
+          answer_from k a v (numbered_at_within j k (event p (Load a v)) does)
+          (all (length c + k) p a v (numbered_at_behind c j k (event p (Load a v)) does))
 
       back : Explained c → ExplainedFrom b j → Explained (c ++ j)
-      back cut rest k p a v does = elim (append_cases c j k (event p (Load a v)) does) [
+      back cut rest k p a v does = elim (slice_append_cases c j k (event p (Load a v)) does) [
         | inl old ↦ answer_on c j k a v old.0 (cut k p a v old.1)
         | inr new ↦ subst (λ m. IsAnswer (c ++ j) m a v) (sym new.1)
-            (answer_back_from new.0 a v (at_within j new.0 (event p (Load a v)) new.2) (rest new.0 p a v new.2))
+            (answer_back_from new.0 a v (numbered_at_within j new.0 (event p (Load a v)) new.2) (rest new.0 p a v new.2))
       ]
 
       front : Explained (c ++ j) → Explained c
       front all k p a v does =
-          explained_front c j k a v (at_within c k (event p (Load a v)) does)
-          (all k p a v (at_longer c j k (event p (Load a v)) does))
+          explained_front c j k a v (numbered_at_within c k (event p (Load a v)) does)
+          (all k p a v (numbered_at_longer c j k (event p (Load a v)) does))

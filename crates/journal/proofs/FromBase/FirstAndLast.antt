@@ -9,24 +9,24 @@ use Rattle.journal.specs.declared.event.Kind.TheVariants.{Arrive, Depart}
 use Rattle.journal.specs.DidEvent.{event}
 use Rattle.journal.specs.Sizes.{Sizes, addresses}
 use Rattle.journal.specs.Events.{At, count_of, is_arrive, is_depart}
-use Rattle.journal.specs.HappensBeforeEdges.{HappensBefore, MeetAt}
+use Rattle.journal.specs.HappensBeforeEdges.{HappensBefore, EdgesMeetAt}
 use Rattle.journal.specs.HappensBeforeEdges.Link.{same, meets}
 use Rattle.journal.specs.HappensBeforeEdges.HappensBefore.{edge, on}
 use Rattle.journal.specs.WellFormed.{LastIs, WellFormed}
-use Rattle.journal.specs.Base.{Base, arrivals_cut}
-use Rattle.journal.specs.WellFormedFrom.{IsAway}
+use Rattle.journal.specs.Base.{Base, base_arrivals_cut}
+use Rattle.journal.specs.WellFormedFrom.{IsAwayFrom}
 use Rattle.journal.specs.EpisodeBases.{IsBaseOf}
 use Rattle.base.proofs.SlicesAndCounts.{slice_get-take_within, slice_get-from_take}
-use Rattle.journal.proofs.Order.CountedAndNumbered.{at_within, at_longer, at_behind, count_of-past, count_of-within, count_of-front, NumberedAt, numbered}
+use Rattle.journal.proofs.Order.CountedAndNumbered.{numbered_at_within, numbered_at_longer, numbered_at_behind, count_of-past, count_of-within, count_of-front, NumberedAt, numbered}
 use Rattle.journal.proofs.Order.HappensBefore.{before_transitive}
 use Rattle.journal.proofs.Journals.WellFormedLast.{well_formed_front, last_longer}
-use Rattle.journal.proofs.FromBase.Order.{IsEvenFrom, count_left}
+use Rattle.journal.proofs.FromBase.Order.{IsEvenFrom, order_count_left}
 use Rattle.journal.proofs.FromBase.EndedCounts.{AreEnded, ended}
 
 -- nothing was cut off, or an episode's end
 pub data Sort (processors : ℕ) (b : Base) (c : List Event) : Type 0 where
-  none : c ≡ [] → arrivals_cut b ≡ 0 → b.cut ≡ 0 → Sort processors b c
-  some : (n : ℕ) → arrivals_cut b ≡ 1 → b.cut ≢ 0 → AreEnded processors c n → Sort processors b c
+  none : c ≡ [] → base_arrivals_cut b ≡ 0 → b.cut ≡ 0 → Sort processors b c
+  some : (n : ℕ) → base_arrivals_cut b ≡ 1 → b.cut ≢ 0 → AreEnded processors c n → Sort processors b c
 
 pub base_sort : (s : Sizes) (c : List Event) (b : Base) → WellFormed s c → IsBaseOf s.processors (addresses s) c b
     → Sort s.processors b c
@@ -42,7 +42,7 @@ base_sort s c b well base = elim base.ends [
 
 -- how often each processor has arrived and departed in what was cut off
 pub counts : (processors : ℕ) (b : Base) (c : List Event) → Sort processors b c
-    → (n : ℕ) × ((q : ℕ) → q < processors → (count_of is_arrive c q ≡ n) × (count_of is_depart c q + arrivals_cut b ≡ n))
+    → (n : ℕ) × ((q : ℕ) → q < processors → (count_of is_arrive c q ≡ n) × (count_of is_depart c q + base_arrivals_cut b ≡ n))
 counts processors b c (none is arrived_is cut) = (
   0,
   λ q h. (
@@ -68,13 +68,13 @@ even_from processors c j b base_sort present =
     )
 
 -- the events of a well formed journal are by its processors
-pub present_left : (s : Sizes) (c j : List Event) → WellFormed s (c ++ j) → (m : ℕ) (e : Event) → At j m e
+pub first_present_left : (s : Sizes) (c j : List Event) → WellFormed s (c ++ j) → (m : ℕ) (e : Event) → At j m e
     → e.processor < s.processors
-present_left s c j well m e at = (well (length c + m) e (at_behind c j m e at)).processor
+first_present_left s c j well m e at = (well (length c + m) e (numbered_at_behind c j m e at)).processor
 
 -- who has done nothing counts nothing
-pub count_away : (is : Kind → Bool) (j : List Event) (q : ℕ) → IsAway j q → count_of is j q ≡ 0
-count_away is j q away =
+pub last_count_away : (is : Kind → Bool) (j : List Event) (q : ℕ) → IsAwayFrom j q → count_of is j q ≡ 0
+last_count_away is j q away =
     elim (cases_lt 0 (count_of is j q)) [
       | inl lt ↦
           (let n = numbered is j q 0 lt in absurd (away n.place (event q n.kind) n.does refl))
@@ -161,10 +161,10 @@ module _ (s : Sizes) (c j : List Event) (b : Base) (well : WellFormed s (c ++ j)
   -- the first that a processor does behind an episode's end is to depart from it
   pub first_departs : (n q k : ℕ) (r : FirstOf j q k) → AreEnded s.processors c n → r.first.kind ≡ Depart
   first_departs n q k r x =
-      let may = well (length c + r.place) r.first (at_behind c j r.place r.first r.at) in
+      let may = well (length c + r.place) r.first (numbered_at_behind c j r.place r.first r.at) in
       let within : q < s.processors = let lt = may.processor in let mine = r.mine in omega arith in
       let last = x.last q within in
-      let away : IsAway (take r.place j) q =
+      let away : IsAwayFrom (take r.place j) q =
       λ m f at. r.away m f (slice_get-take_within j r.place m f at) (slice_get-from_take j r.place m f at) in
       let here : LastIs (take (length c + r.place) (c ++ j)) r.first.processor last.0 Arrive =
       subst (λ p. LastIs (take (length c + r.place) (c ++ j)) p last.0 Arrive) (sym r.mine) (subst
@@ -177,33 +177,33 @@ module _ (s : Sizes) (c j : List Event) (b : Base) (well : WellFormed s (c ++ j)
       → HappensBefore (c ++ j) l.place (length c + r.place)
   first_meets_last n p q k r x within l =
       let departs = first_departs n q k r x in
-      let in_c = at_within c l.place (event p Arrive) l.last.does in
+      let in_c = numbered_at_within c l.place (event p Arrive) l.last.does in
       let front = count_of-front is_arrive c j l.place p (omega arith) in
       let number = l.number in
-      let left = count_left is_depart c j r.place r.first.processor in
+      let left = order_count_left is_depart c j r.place r.first.processor in
       let away =
-      count_away is_depart (take r.place j) q
+      last_count_away is_depart (take r.place j) q
       (λ y f at. r.away y f (slice_get-take_within j r.place y f at) (slice_get-from_take j r.place y f at))
       in
-      let may = well (length c + r.place) r.first (at_behind c j r.place r.first r.at) in
+      let may = well (length c + r.place) r.first (numbered_at_behind c j r.place r.first r.at) in
       let gone = x.departures r.first.processor may.processor in
       let none = ap (λ y. count_of is_depart (take r.place j) y) r.mine in
-      let meeting : MeetAt (c ++ j) l.place (length c + r.place) (event p Arrive) r.first =
+      let meeting : EdgesMeetAt (c ++ j) l.place (length c + r.place) (event p Arrive) r.first =
       record { arrives = refl; departs = departs; episode = omega arith } in
       edge (record {
         before = omega arith;
         from = event p Arrive;
         to = r.first;
-        from_at = at_longer c j l.place (event p Arrive) l.last.does;
-        to_at = at_behind c j r.place r.first r.at;
+        from_at = numbered_at_longer c j l.place (event p Arrive) l.last.does;
+        to_at = numbered_at_behind c j r.place r.first r.at;
         link = meets meeting;
       })
 
-  pub cut_before : Sort s.processors b c → (i k : ℕ) → i < length c → k < length j
+  pub last_before_cut : Sort s.processors b c → (i k : ℕ) → i < length c → k < length j
       → HappensBefore (c ++ j) i (length c + k)
-  cut_before (none is arrived_is cut) i k lt in_j =
+  last_before_cut (none is arrived_is cut) i k lt in_j =
       absurd (let long = ap (λ (xs : List Event). length xs) is in omega arith)
-  cut_before (some n arrived_is cut x) i k lt in_j = finish (cases_order r.place k)
+  last_before_cut (some n arrived_is cut x) i k lt in_j = finish (cases_order r.place k)
     where
       e : Event
       e = get_or c i (event 0 Arrive)
@@ -236,8 +236,8 @@ module _ (s : Sizes) (c j : List Event) (b : Base) (well : WellFormed s (c ++ j)
             before = before;
             from = e;
             to = event e.processor Arrive;
-            from_at = at_longer c j i e at;
-            to_at = at_longer c j l.place (event e.processor Arrive) l.last.does;
+            from_at = numbered_at_longer c j i e at;
+            to_at = numbered_at_longer c j l.place (event e.processor Arrive) l.last.does;
             link = same refl;
           }))
           met
@@ -254,8 +254,8 @@ module _ (s : Sizes) (c j : List Event) (b : Base) (well : WellFormed s (c ++ j)
             from = r.first;
             to = f;
             from_at =
-                at_behind c j r.place r.first r.at;
-            to_at = at_behind c j k f to;
+                numbered_at_behind c j r.place r.first r.at;
+            to_at = numbered_at_behind c j k f to;
             link = same r.mine;
           })
       finish (inr (inr after)) = absurd (let up = r.up_to in omega arith)

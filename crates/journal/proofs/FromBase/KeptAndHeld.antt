@@ -13,8 +13,8 @@ use Rattle.journal.specs.Events.{At}
 use Rattle.journal.specs.Base.{Base}
 use Rattle.journal.specs.WellFormedFrom.{HoldsFrom, IsSetFrom}
 use Rattle.journal.specs.EpisodeBases.{IsBaseAfter}
-use Rattle.journal.specs.Kept.{base_of, AreCosts, hold_released, holders_after, flags_after, IsKeptAfter}
-use Rattle.base.proofs.SlicesAndCounts.{push_cases, slice_get-append_left, slice_get-last}
+use Rattle.journal.specs.Kept.{kept_base_of, AreCostsKept, kept_hold_released, kept_holders_after, kept_flags_after, IsKeptAfter}
+use Rattle.base.proofs.SlicesAndCounts.{slice_push_cases, slice_get-append_left, slice_get-last}
 use Rattle.base.proofs.FilteredInOrder.{has-filter}
 use Rattle.base.proofs.LastWritten.{length-written}
 use Rattle.journal.specs.FlatMemory.{flat_write}
@@ -23,23 +23,23 @@ use Rattle.journal.proofs.Passes.NextClocks.{front_next}
 
 -- of one event there is one place
 alone : (e f : Event) (n : ℕ) → At (e ∷ []) n f → (n ≡ 0) × (e ≡ f)
-alone e f n at = elim (push_cases [] e n f at) [ inl old ↦ absurd (none-some f old.1) | inr new ↦ new ]
+alone e f n at = elim (slice_push_cases [] e n f at) [ inl old ↦ absurd (none-some f old.1) | inr new ↦ new ]
 
-alone_kind : (q p n : ℕ) (a k : Kind) → At (event q a ∷ []) n (event p k) → (q ≡ p) × (a ≡ k)
-alone_kind q p n a k at =
+kept_alone_kind : (q p n : ℕ) (a k : Kind) → At (event q a ∷ []) n (event p k) → (q ≡ p) × (a ≡ k)
+kept_alone_kind q p n a k at =
     let is = (alone (event q a) (event p k) n at).1 in
     (ap (λ (x : Event). x.processor) is, ap (λ (x : Event). x.kind) is)
 
-has_left : {A : Type 0} (xs : List A) (y x : A) → Has xs x → Has (xs ++ y ∷ []) x
-has_left xs y x has = (has.0, slice_get-append_left xs (y ∷ []) has.0 (slice_get_within xs has.0 x has.1) ∙ has.1)
+kept_has_left : {A : Type 0} (xs : List A) (y x : A) → Has xs x → Has (xs ++ y ∷ []) x
+kept_has_left xs y x has = (has.0, slice_get-append_left xs (y ∷ []) has.0 (slice_get_within xs has.0 x has.1) ∙ has.1)
 
 -- an event that neither acquires nor releases leaves the holders
 held_same : (b : Base) (q p l : ℕ) (k : Kind) → ((m : ℕ) → k ≢ Acquire m) → ((m : ℕ) → k ≢ Release m)
     → Has b.holders (p, l) ↔ HoldsFrom b (event q k ∷ []) p l
 held_same b q p l k no_acquire no_release = (
-  (λ has. inr (record { held = has; keeps = λ n does. no_release l (alone_kind q p n k (Release l) does).1 })),
+  (λ has. inr (record { held = has; keeps = λ n does. no_release l (kept_alone_kind q p n k (Release l) does).1 })),
   (λ h. elim h [
-    | inl holds ↦ absurd (no_acquire l (alone_kind q p holds.place k (Acquire l) holds.acquires).1)
+    | inl holds ↦ absurd (no_acquire l (kept_alone_kind q p holds.place k (Acquire l) holds.acquires).1)
     | inr still ↦ still.held
   ]),
 )
@@ -49,10 +49,10 @@ held_acquired : (b : Base) (q m p l : ℕ)
 held_acquired b q m p l = (there, back)
   where
     there : Has (b.holders ++ (q, m) ∷ []) (p, l) → HoldsFrom b (event q (Acquire m) ∷ []) p l
-    there has = elim (push_cases b.holders (q, m) has.0 (p, l) has.1) [
+    there has = elim (slice_push_cases b.holders (q, m) has.0 (p, l) has.1) [
       | inl old ↦ inr (record {
         held = (has.0, old.1);
-        keeps = λ n does. absurd (let is = (alone_kind q p n (Acquire m) (Release l) does).1 in cc);
+        keeps = λ n does. absurd (let is = (kept_alone_kind q p n (Acquire m) (Release l) does).1 in cc);
       })
       | inr new ↦ (let mine : q ≡ p = ap (λ (x : ℕ × ℕ). x.0) new.1 in
           let same : m ≡ l = ap (λ (x : ℕ × ℕ). x.1) new.1 in
@@ -67,38 +67,38 @@ held_acquired b q m p l = (there, back)
 
     back : HoldsFrom b (event q (Acquire m) ∷ []) p l → Has (b.holders ++ (q, m) ∷ []) (p, l)
     back (inl holds) =
-        let is = alone_kind q p holds.place (Acquire m) (Acquire l) holds.acquires in
+        let is = kept_alone_kind q p holds.place (Acquire m) (Acquire l) holds.acquires in
         let same : m ≡ l = let kinds = is.1 in cc in
         (length b.holders, slice_get-last b.holders (q, m) ∙ ap₂ (λ (x y : ℕ). Some (x, y)) is.0 same)
-    back (inr still) = has_left b.holders (q, m) (p, l) still.held
+    back (inr still) = kept_has_left b.holders (q, m) (p, l) still.held
 
 held_released : (b : Base) (q m p l : ℕ)
-    → Has (hold_released b.holders q m) (p, l) ↔ HoldsFrom b (event q (Release m) ∷ []) p l
+    → Has (kept_hold_released b.holders q m) (p, l) ↔ HoldsFrom b (event q (Release m) ∷ []) p l
 held_released b q m p l = (there, back)
   where
     test : ℕ × ℕ → Bool
     test h = not ((h.0 == q) && (h.1 == m))
 
-    filtered : Has (hold_released b.holders q m) (p, l) ↔ (Has b.holders (p, l) × (test (p, l) ≡ true))
+    filtered : Has (kept_hold_released b.holders q m) (p, l) ↔ (Has b.holders (p, l) × (test (p, l) ≡ true))
     filtered = has-filter (λ (h : ℕ × ℕ). not ((h.0 == q) && (h.1 == m))) b.holders (p, l)
 
     not_both : (p == q) && (l == m) ≡ true → test (p, l) ≡ true → ⊥
     not_both both is = let x = ap (λ y. not y) both in cc
 
-    there : Has (hold_released b.holders q m) (p, l) → HoldsFrom b (event q (Release m) ∷ []) p l
+    there : Has (kept_hold_released b.holders q m) (p, l) → HoldsFrom b (event q (Release m) ∷ []) p l
     there has =
         let x = filtered.0 has in
         inr (record {
           held = x.0;
-          keeps = λ n does. (let is = alone_kind q p n (Release m) (Release l) does in
+          keeps = λ n does. (let is = kept_alone_kind q p n (Release m) (Release l) does in
               let kinds = is.1 in let same : l ≡ m = cc in
               not_both (and_from (p == q) (l == m) (eq-eqb p q (sym is.0)) (eq-eqb l m same))
               x.1);
         })
 
-    back : HoldsFrom b (event q (Release m) ∷ []) p l → Has (hold_released b.holders q m) (p, l)
+    back : HoldsFrom b (event q (Release m) ∷ []) p l → Has (kept_hold_released b.holders q m) (p, l)
     back (inl holds) =
-        absurd (let kinds = (alone_kind q p holds.place (Release m) (Acquire l) holds.acquires).1 in cc)
+        absurd (let kinds = (kept_alone_kind q p holds.place (Release m) (Acquire l) holds.acquires).1 in cc)
     back (inr still) = elim (cases_Bool ((p == q) && (l == m))) [
       | inl both ↦ (let x = and_parts (p == q) (l == m) both in
           absurd (still.keeps 0 (subst₂ (λ (y z : ℕ). At (event q (Release m) ∷ []) 0 (event y (Release z)))
@@ -107,61 +107,61 @@ held_released b q m p l = (there, back)
     ]
 
 held_step : (b : Base) (q p l : ℕ) (k : Kind)
-    → Has (holders_after b.holders q k) (p, l) ↔ HoldsFrom b (event q k ∷ []) p l
+    → Has (kept_holders_after b.holders q k) (p, l) ↔ HoldsFrom b (event q k ∷ []) p l
 held_step b q p l (Acquire m) = held_acquired b q m p l
 held_step b q p l (Release m) = held_released b q m p l
 held_step b q p l k = held_same b q p l k (λ m h. cc) (λ m h. cc)
 
 -- a flag that is found is there
-any_has : (flags : List ℕ) (f : ℕ) → list_any (λ g. g == f) flags ≡ true → Has flags f
-any_has [] f h = absurd cc
-any_has (g ∷ flags) f h =
+kept_any_has : (flags : List ℕ) (f : ℕ) → list_any (λ g. g == f) flags ≡ true → Has flags f
+kept_any_has [] f h = absurd cc
+kept_any_has (g ∷ flags) f h =
     elim (or_cases (g == f) (list_any (λ x. x == f) flags) h) [
       | inl is ↦ (0, ap Some (eqb-true g f is))
-      | inr later ↦ (let has = any_has flags f later in (suc has.0, has.1))
+      | inr later ↦ (let has = kept_any_has flags f later in (suc has.0, has.1))
     ]
 
-set_flag : (b : Base) (q f g : ℕ) (found : Bool) → list_any (λ x. x == f) b.flags ≡ found
+kept_set_flag : (b : Base) (q f g : ℕ) (found : Bool) → list_any (λ x. x == f) b.flags ≡ found
     → Has (cond found b.flags (b.flags ++ f ∷ [])) g ↔ IsSetFrom b (event q (Set f) ∷ []) g
-set_flag b q f g true is = (
+kept_set_flag b q f g true is = (
   (λ has. inl has),
   (λ h. elim h [
     | inl has ↦ has
-    | inr set ↦ (let kinds = (alone_kind q set.1 set.0 (Set f) (Set g) set.2).1 in let same : f ≡ g = cc in
-        subst (Has b.flags) same (any_has b.flags f is))
+    | inr set ↦ (let kinds = (kept_alone_kind q set.1 set.0 (Set f) (Set g) set.2).1 in let same : f ≡ g = cc in
+        subst (Has b.flags) same (kept_any_has b.flags f is))
   ]),
 )
-set_flag b q f g false is = (
-  (λ has. elim (push_cases b.flags f has.0 g has.1)
+kept_set_flag b q f g false is = (
+  (λ has. elim (slice_push_cases b.flags f has.0 g has.1)
       [ inl old ↦ inl (has.0, old.1) | inr new ↦ inr (0, q, ap (λ x. Some (event q (Set x))) new.1) ]),
   (λ h. elim h [
-    | inl has ↦ has_left b.flags f g has
-    | inr set ↦ (let kinds = (alone_kind q set.1 set.0 (Set f) (Set g) set.2).1 in let same : f ≡ g = cc in
+    | inl has ↦ kept_has_left b.flags f g has
+    | inr set ↦ (let kinds = (kept_alone_kind q set.1 set.0 (Set f) (Set g) set.2).1 in let same : f ≡ g = cc in
         (length b.flags, slice_get-last b.flags f ∙ ap Some same))
   ]),
 )
 
-set_step : (b : Base) (q g : ℕ) (k : Kind) → Has (flags_after b.flags k) g ↔ IsSetFrom b (event q k ∷ []) g
-set_step b q g (Set f) = set_flag b q f g (list_any (λ x. x == f) b.flags) refl
-set_step b q g k = (
+kept_set_step : (b : Base) (q g : ℕ) (k : Kind) → Has (kept_flags_after b.flags k) g ↔ IsSetFrom b (event q k ∷ []) g
+kept_set_step b q g (Set f) = kept_set_flag b q f g (list_any (λ x. x == f) b.flags) refl
+kept_set_step b q g k = (
   (λ has. inl has),
   (λ h. elim h
-      [ inl has ↦ has | inr set ↦ absurd (let kinds = (alone_kind q set.1 set.0 k (Set g) set.2).1 in cc) ]),
+      [ inl has ↦ has | inr set ↦ absurd (let kinds = (kept_alone_kind q set.1 set.0 k (Set g) set.2).1 in cc) ]),
 )
 
 -- so what is kept after one more event is what the definition says
 pub kept_step : (old new : Kept) (e : Event) → IsKeptAfter old e new
-    → IsBaseAfter (base_of old) (e ∷ []) (base_of new)
+    → IsBaseAfter (kept_base_of old) (e ∷ []) (kept_base_of new)
 kept_step old new e x = record {
   cut = x.cut;
   memory = x.memory;
   holders =
-      λ p l. (let step = held_step (base_of old) e.processor p l e.kind in (
+      λ p l. (let step = held_step (kept_base_of old) e.processor p l e.kind in (
         (λ has. step.0 (subst (λ hs. Has hs (p, l)) x.holders has)),
         (λ h. subst (λ hs. Has hs (p, l)) (sym x.holders) (step.1 h)),
       ));
   flags =
-      λ f. (let step = set_step (base_of old) e.processor f e.kind in (
+      λ f. (let step = kept_set_step (kept_base_of old) e.processor f e.kind in (
         (λ has. step.0 (subst (λ fs. Has fs f) x.flags has)),
         (λ h. subst (λ fs. Has fs f) (sym x.flags) (step.1 h)),
       ));
@@ -172,8 +172,8 @@ kept_step old new e x = record {
 
 -- after the first events, this is kept
 pub record IsKeptSoFar (start : Kept) (events : List Event) (n : ℕ) (now : Kept) : Type 0 where
-  pub after : IsBaseAfter (base_of start) (take n events) (base_of now)
-  pub spent : AreCosts now.cut now.spent
+  pub after : IsBaseAfter (kept_base_of start) (take n events) (kept_base_of now)
+  pub spent : AreCostsKept now.cut now.spent
 
 -- and the memory is as long
 pub kept_long : (start : Kept) (events : List Event) (n : ℕ) (now : Kept) → IsKeptSoFar start events n now
@@ -183,12 +183,12 @@ kept_long start events n now x =
     ∙ length-written (λ (e : Event). flat_write e.kind) start.memory.items (take n events)
 
 pub kept_next : {start : Kept} {events : List Event} {n : ℕ} {old new : Kept} {e : Event} → At events n e
-    → IsKeptSoFar start events n old → IsKeptAfter old e new → AreCosts new.cut new.spent
+    → IsKeptSoFar start events n old → IsKeptAfter old e new → AreCostsKept new.cut new.spent
     → IsKeptSoFar start events (n + 1) new
 kept_next {start} {events} {n} {old} {new} {e} at so after spent = record {
   after =
-      subst (λ (xs : List Event). IsBaseAfter (base_of start) xs (base_of new)) (sym (front_next events n e at))
-      (base_append (base_of start) (base_of old) (base_of new) (take n events) (e ∷ []) so.after
+      subst (λ (xs : List Event). IsBaseAfter (kept_base_of start) xs (kept_base_of new)) (sym (front_next events n e at))
+      (base_append (kept_base_of start) (kept_base_of old) (kept_base_of new) (take n events) (e ∷ []) so.after
       (kept_step old new e after));
   spent = spent;
 }

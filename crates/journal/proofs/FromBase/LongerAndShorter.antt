@@ -4,14 +4,14 @@ use Rattle.std.proofs.lemmas.Bool.{cases_lt}
 use Rattle.std.proofs.lemmas.List.{take-append-le}
 use Rattle.journal.specs.declared.event.Event.{Event}
 use Rattle.journal.specs.Events.{is_arrive, is_depart}
-use Rattle.journal.specs.Base.{Base, arrivals_cut}
+use Rattle.journal.specs.Base.{Base, base_arrivals_cut}
 use Rattle.journal.specs.HappensBeforeFrom.{LinkFrom, EdgeFrom, HappensBeforeFrom}
 use Rattle.journal.specs.HappensBeforeFrom.LinkFrom.{same, lets, meets}
 use Rattle.journal.specs.HappensBeforeFrom.HappensBeforeFrom.{edge, on}
 use Rattle.journal.specs.RacesFrom.{RaceFrom, IsFirstRaceFrom}
 use Rattle.journal.specs.EpisodeBases.{EndsEpisode, IsEpisodeCut}
 use Rattle.journal.specs.Episodes.{IsRaceOfEpisodes}
-use Rattle.journal.proofs.Order.CountedAndNumbered.{at_within, at_longer, at_shorter, count_of-front}
+use Rattle.journal.proofs.Order.CountedAndNumbered.{numbered_at_within, numbered_at_longer, numbered_at_shorter, count_of-front}
 
 module _ (b : Base) (j es : List Event) where
   link_longer_from : (i k : ℕ) (e f : Event) → i ≤ length j → k ≤ length j → LinkFrom b j i k e f
@@ -22,7 +22,7 @@ module _ (b : Base) (j es : List Event) where
       meets (record {
         arrives = m.arrives;
         departs = m.departs;
-        episode = ap (λ n. n + arrivals_cut b) (count_of-front is_arrive j es i e.processor hi) ∙ m.episode
+        episode = ap (λ n. n + base_arrivals_cut b) (count_of-front is_arrive j es i e.processor hi) ∙ m.episode
             ∙ sym (count_of-front is_depart j es k f.processor hk);
       })
 
@@ -34,20 +34,20 @@ module _ (b : Base) (j es : List Event) where
       meets (record {
         arrives = m.arrives;
         departs = m.departs;
-        episode = sym (ap (λ n. n + arrivals_cut b) (count_of-front is_arrive j es i e.processor hi)) ∙ m.episode
+        episode = sym (ap (λ n. n + base_arrivals_cut b) (count_of-front is_arrive j es i e.processor hi)) ∙ m.episode
             ∙ count_of-front is_depart j es k f.processor hk;
       })
 
   edge_longer_from : {i k : ℕ} → EdgeFrom b j i k → EdgeFrom b (j ++ es) i k
   edge_longer_from {i} {k} e =
-      let x = at_within j i e.from e.from_at in
-      let y = at_within j k e.to e.to_at in
+      let x = numbered_at_within j i e.from e.from_at in
+      let y = numbered_at_within j k e.to e.to_at in
       record {
         before = e.before;
         from = e.from;
         to = e.to;
-        from_at = at_longer j es i e.from e.from_at;
-        to_at = at_longer j es k e.to e.to_at;
+        from_at = numbered_at_longer j es i e.from e.from_at;
+        to_at = numbered_at_longer j es k e.to e.to_at;
         link = link_longer_from i k e.from e.to (omega arith) (omega arith) e.link;
       }
 
@@ -59,8 +59,8 @@ module _ (b : Base) (j es : List Event) where
         before = e.before;
         from = e.from;
         to = e.to;
-        from_at = at_shorter j es i e.from hi e.from_at;
-        to_at = at_shorter j es k e.to h e.to_at;
+        from_at = numbered_at_shorter j es i e.from hi e.from_at;
+        to_at = numbered_at_shorter j es k e.to h e.to_at;
         link = link_shorter_from i k e.from e.to (omega arith) (omega arith) e.link;
       }
 
@@ -78,11 +78,11 @@ module _ (b : Base) (j es : List Event) where
     before = r.before;
     first = r.first;
     second = r.second;
-    first_at = at_longer j es i r.first r.first_at;
-    second_at = at_longer j es k r.second r.second_at;
+    first_at = numbered_at_longer j es i r.first r.first_at;
+    second_at = numbered_at_longer j es k r.second r.second_at;
     apart = r.apart;
     conflict = r.conflict;
-    unordered = λ h. r.unordered (shorter_from (at_within j k r.second r.second_at) h);
+    unordered = λ h. r.unordered (shorter_from (numbered_at_within j k r.second r.second_at) h);
   }
 
   race_shorter_from : (i k : ℕ) → k < length j → RaceFrom b (j ++ es) i k → RaceFrom b j i k
@@ -92,8 +92,8 @@ module _ (b : Base) (j es : List Event) where
         before = r.before;
         first = r.first;
         second = r.second;
-        first_at = at_shorter j es i r.first (omega arith) r.first_at;
-        second_at = at_shorter j es k r.second lt r.second_at;
+        first_at = numbered_at_shorter j es i r.first (omega arith) r.first_at;
+        second_at = numbered_at_shorter j es k r.second lt r.second_at;
         apart = r.apart;
         conflict = r.conflict;
         unordered = λ h. r.unordered (longer_from h);
@@ -102,7 +102,7 @@ module _ (b : Base) (j es : List Event) where
   -- the first race stays the first one
   pub first_race_longer : (i k : ℕ) → IsFirstRaceFrom b j i k → IsFirstRaceFrom b (j ++ es) i k
   first_race_longer i k first =
-      let lt = at_within j k first.race.second first.race.second_at in
+      let lt = numbered_at_within j k first.race.second first.race.second_at in
       record {
         race = race_longer_from i k first.race;
         least_second =
@@ -126,9 +126,9 @@ part_race_longer processors b j es i k r =
     }
 
 -- and it is that of the part that a cut takes
-pub part_race : (processors : ℕ) (b : Base) (j : List Event) (n i k : ℕ) → IsEpisodeCut processors j n
+pub longer_part_race : (processors : ℕ) (b : Base) (j : List Event) (n i k : ℕ) → IsEpisodeCut processors j n
     → IsRaceOfEpisodes processors b j i k → IsFirstRaceFrom b (take n j) i k
-part_race processors b j n i k cut r =
+longer_part_race processors b j n i k cut r =
     let le : r.count ≤ n = cut.last r.count r.within r.ends in
     let more : List Event = drop r.count (take n j) in
     subst (λ (xs : List Event). IsFirstRaceFrom b xs i k)

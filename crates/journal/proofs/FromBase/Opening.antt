@@ -11,11 +11,11 @@ use Rattle.journal.specs.Events.{At, address_of, count_of, is_arrive, is_depart}
 use Rattle.journal.specs.WellFormed.{Does}
 use Rattle.journal.specs.InRange.{ProcessorsInRange}
 use Rattle.journal.specs.Races.{Race, IsFirstRace, RaceFree}
-use Rattle.journal.specs.Base.{Base, arrivals_cut}
+use Rattle.journal.specs.Base.{Base, base_arrivals_cut}
 use Rattle.journal.specs.RacesFrom.{IsFirstRaceFrom, RaceFreeFrom}
 use Rattle.journal.specs.Opening.{IsOpening}
-use Rattle.base.proofs.SlicesAndCounts.{append_cases, slice_get-drop, slice_get-from_take}
-use Rattle.journal.proofs.Order.CountedAndNumbered.{at_within, does_same, count_of-within, numbered}
+use Rattle.base.proofs.SlicesAndCounts.{slice_append_cases, slice_get-drop, slice_get-from_take}
+use Rattle.journal.proofs.Order.CountedAndNumbered.{numbered_at_within, numbered_does_same, count_of-within, numbered}
 use Rattle.journal.proofs.FromBase.Order.{IsEvenFrom}
 use Rattle.journal.proofs.FromBase.Races.{race_split, race_free, first_race}
 
@@ -25,11 +25,11 @@ opening_behind n m xs i e at = sym (slice_get-drop xs n i) ∙ slice_get-from_ta
 
 module _ (processors : ℕ) (xs : List Event) (x : IsOpening processors xs) where
   -- where a processor does something, it is its arrival
-  here : (i q : ℕ) (k : Kind) → Does xs i q k → (i ≡ q) × (k ≡ Arrive)
-  here i q k does =
-      let within = at_within xs i (event q k) does in
+  opening_here : (i q : ℕ) (k : Kind) → Does xs i q k → (i ≡ q) × (k ≡ Arrive)
+  opening_here i q k does =
+      let within = numbered_at_within xs i (event q k) does in
       let long = x.long in
-      let is = does_same xs i q i k Arrive does (x.each i (omega arith)) in
+      let is = numbered_does_same xs i q i k Arrive does (x.each i (omega arith)) in
       (sym is.0, is.1)
 
   opening_arrives_once : (q : ℕ) → q < processors → count_of is_arrive xs q ≡ 1
@@ -39,7 +39,7 @@ module _ (processors : ℕ) (xs : List Event) (x : IsOpening processors xs) wher
         (let first = numbered is_arrive xs q 0 (omega arith) in
         let second = numbered is_arrive xs q 1 more in
         let same : first.place ≡ second.place =
-        (here first.place q first.kind first.does).0 ∙ sym (here second.place q second.kind second.does).0 in
+        (opening_here first.place q first.kind first.does).0 ∙ sym (opening_here second.place q second.kind second.does).0 in
         let number = first.number in
         let other = second.number in
         let alike = ap (λ n. count_of is_arrive (take n xs) q) same in
@@ -50,10 +50,10 @@ module _ (processors : ℕ) (xs : List Event) (x : IsOpening processors xs) wher
   opening_departs_never q = elim (cases_lt 0 (count_of is_depart xs q)) [
     | inr le ↦ omega arith
     | inl more ↦ (let n = numbered is_depart xs q 0 more in let counts = n.counts in
-        absurd (cc (counts, ap (λ k. is_depart k) (here n.place q n.kind n.does).1)))
+        absurd (cc (counts, ap (λ k. is_depart k) (opening_here n.place q n.kind n.does).1)))
   ]
 
-  pub opening_even : (b : Base) (j : List Event) → arrivals_cut b ≡ 1 → ProcessorsInRange processors j → IsEvenFrom b xs j 1
+  pub opening_even : (b : Base) (j : List Event) → base_arrivals_cut b ≡ 1 → ProcessorsInRange processors j → IsEvenFrom b xs j 1
   opening_even b j one present = record {
     arrivals = λ m e at. opening_arrives_once e.processor (present m e at);
     departures = λ m e at. (let none = opening_departs_never e.processor in omega arith);
@@ -61,9 +61,9 @@ module _ (processors : ℕ) (xs : List Event) (x : IsOpening processors xs) wher
 
   -- and no race begins there
   pub opening_races : (j : List Event) (i k : ℕ) → i < length xs → ¬ Race (xs ++ j) i k
-  opening_races j i k lt r = elim (append_cases xs j i r.first r.first_at) [
+  opening_races j i k lt r = elim (slice_append_cases xs j i r.first r.first_at) [
     | inr left ↦ absurd (omega (arith, left.1))
-    | inl first ↦ (let is = (here i r.first.processor r.first.kind first.1).1 in
+    | inl first ↦ (let is = (opening_here i r.first.processor r.first.kind first.1).1 in
         none-some r.conflict.address (sym (ap (λ a. address_of a) is) ∙ r.conflict.first))
   ]
 
@@ -117,13 +117,13 @@ module _ (b : Base) (checked j : List Event) (size : ℕ) (x : IsOpened b checke
   pub first_from : (i k : ℕ) → IsFirstRace checked i k
       → (size ≤ i) × (size ≤ k) × IsFirstRaceFrom b j (i - size) (k - size)
   first_from i k first =
-      let here = subst (λ xs. IsFirstRace xs i k) x.is first in
-      let split = race_split b x.opening j x.number x.even x.none i k here.race in
+      let opening_here = subst (λ xs. IsFirstRace xs i k) x.is first in
+      let split = race_split b x.opening j x.number x.even x.none i k opening_here.race in
       let long = x.long in
       let from : i ≡ length x.opening + (i - size) = omega (arith, split.2) in
       let to : k ≡ length x.opening + (k - size) = omega (arith, split.3) in (
         omega (arith, split.2),
         omega (arith, split.3),
         (first_race b x.opening j x.number x.even x.none (i - size) (k - size)).0
-            (subst₂ (IsFirstRace (x.opening ++ j)) from to here),
+            (subst₂ (IsFirstRace (x.opening ++ j)) from to opening_here),
       )

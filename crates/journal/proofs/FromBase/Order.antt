@@ -8,28 +8,28 @@ use Rattle.journal.specs.HappensBeforeEdges.{Link, Edge, HappensBefore}
 use Rattle.journal.specs.HappensBeforeEdges.Link.{same, lets, meets}
 use Rattle.journal.specs.HappensBeforeEdges.HappensBefore.{edge, on}
 use Rattle.journal.specs.Pasts.{UpTo, InPast}
-use Rattle.journal.specs.Base.{Base, arrivals_cut}
+use Rattle.journal.specs.Base.{Base, base_arrivals_cut}
 use Rattle.journal.specs.HappensBeforeFrom.{LinkFrom, EdgeFrom, HappensBeforeFrom, UpToFrom, InPastFrom}
 use Rattle.journal.specs.HappensBeforeFrom.LinkFrom.{same as same_from, lets as lets_from, meets as meets_from}
 use Rattle.journal.specs.HappensBeforeFrom.HappensBeforeFrom.{edge as edge_base, on as on_base}
-use Rattle.base.proofs.SlicesAndCounts.{slice_get-append_right, append_cases}
-use Rattle.journal.proofs.Order.CountedAndNumbered.{at_behind, count_of-append}
+use Rattle.base.proofs.SlicesAndCounts.{slice_get-append_right, slice_append_cases}
+use Rattle.journal.proofs.Order.CountedAndNumbered.{numbered_at_behind, count_of-append}
 use Rattle.journal.proofs.Order.HappensBefore.{before_goes_forward}
 
 -- what stands behind what was cut off stands in what is left
-pub at_left : (c j : List Event) (m : ℕ) (e : Event) → At (c ++ j) (length c + m) e → At j m e
-at_left c j m e h = sym (slice_get-append_right c j m) ∙ h
+pub order_at_left : (c j : List Event) (m : ℕ) (e : Event) → At (c ++ j) (length c + m) e → At j m e
+order_at_left c j m e h = sym (slice_get-append_right c j m) ∙ h
 
 -- a count up to a place of what is left
-pub count_left : (is : Kind → Bool) (c j : List Event) (i q : ℕ)
+pub order_count_left : (is : Kind → Bool) (c j : List Event) (i q : ℕ)
     → count_of is (take (length c + i) (c ++ j)) q ≡ count_of is c q + count_of is (take i j) q
-count_left is c j i q =
+order_count_left is c j i q =
     ap (λ (xs : List Event). count_of is xs q) (take-append-add c j i) ∙ count_of-append is c (take i j) q
 
 -- whoever did what is left has arrived so often in what was cut off, and departed as often but for the base's arrival
 pub record IsEvenFrom (b : Base) (c j : List Event) (n : ℕ) : Type 0 where
   pub arrivals : (m : ℕ) (e : Event) → At j m e → count_of is_arrive c e.processor ≡ n
-  pub departures : (m : ℕ) (e : Event) → At j m e → count_of is_depart c e.processor + arrivals_cut b ≡ n
+  pub departures : (m : ℕ) (e : Event) → At j m e → count_of is_depart c e.processor + base_arrivals_cut b ≡ n
 
 -- happens-before from a base goes forward
 pub goes_forward_from : (b : Base) (j : List Event) {i k : ℕ} → HappensBeforeFrom b j i k → i < k
@@ -42,8 +42,8 @@ module _ (b : Base) (c j : List Event) (n : ℕ) (even : IsEvenFrom b c j n) whe
   link_from i k e f at to (same s) = same_from s
   link_from i k e f at to (lets l) = lets_from l
   link_from i k e f at to (meets m) =
-      let x = count_left is_arrive c j i e.processor in
-      let y = count_left is_depart c j k f.processor in
+      let x = order_count_left is_arrive c j i e.processor in
+      let y = order_count_left is_depart c j k f.processor in
       let z = even.arrivals i e at in
       let w = even.departures k f to in
       let is = m.episode in
@@ -54,8 +54,8 @@ module _ (b : Base) (c j : List Event) (n : ℕ) (even : IsEvenFrom b c j n) whe
   link_back_from i k e f at to (same_from s) = same s
   link_back_from i k e f at to (lets_from l) = lets l
   link_back_from i k e f at to (meets_from m) =
-      let x = count_left is_arrive c j i e.processor in
-      let y = count_left is_depart c j k f.processor in
+      let x = order_count_left is_arrive c j i e.processor in
+      let y = order_count_left is_depart c j k f.processor in
       let z = even.arrivals i e at in
       let w = even.departures k f to in
       let is = m.episode in
@@ -63,8 +63,8 @@ module _ (b : Base) (c j : List Event) (n : ℕ) (even : IsEvenFrom b c j n) whe
 
   edge_from : (i k : ℕ) → Edge (c ++ j) (length c + i) (length c + k) → EdgeFrom b j i k
   edge_from i k e =
-      let at = at_left c j i e.from e.from_at in
-      let to = at_left c j k e.to e.to_at in
+      let at = order_at_left c j i e.from e.from_at in
+      let to = order_at_left c j k e.to e.to_at in
       let before = e.before in
       record {
         before = omega arith;
@@ -82,23 +82,23 @@ module _ (b : Base) (c j : List Event) (n : ℕ) (even : IsEvenFrom b c j n) whe
         before = omega arith;
         from = e.from;
         to = e.to;
-        from_at = at_behind c j i e.from e.from_at;
-        to_at = at_behind c j k e.to e.to_at;
+        from_at = numbered_at_behind c j i e.from e.from_at;
+        to_at = numbered_at_behind c j k e.to e.to_at;
         link = link_back_from i k e.from e.to e.from_at e.to_at e.link;
       }
 
-  before_at : {x y : ℕ} → HappensBefore (c ++ j) x y → (i k : ℕ) → x ≡ length c + i → y ≡ length c + k
+  order_before_at : {x y : ℕ} → HappensBefore (c ++ j) x y → (i k : ℕ) → x ≡ length c + i → y ≡ length c + k
       → HappensBeforeFrom b j i k
-  before_at (edge e) i k is to = edge_base (edge_from i k (subst₂ (Edge (c ++ j)) is to e))
-  before_at (on {m = m} h e) i k is to =
+  order_before_at (edge e) i k is to = edge_base (edge_from i k (subst₂ (Edge (c ++ j)) is to e))
+  order_before_at (on {m = m} h e) i k is to =
       let lt = before_goes_forward (c ++ j) h in
       let between : m ≡ length c + (m - length c) = omega arith in
-      on_base (before_at h i (m - length c) is between)
+      on_base (order_before_at h i (m - length c) is between)
       (edge_from (m - length c) k (subst₂ (Edge (c ++ j)) between to e))
 
   -- the order of what is left is the same, read from the history or from the base
   pub before_from : (i k : ℕ) → HappensBefore (c ++ j) (length c + i) (length c + k) → HappensBeforeFrom b j i k
-  before_from i k h = before_at h i k refl refl
+  before_from i k h = order_before_at h i k refl refl
 
   pub before_back_from : {i k : ℕ} → HappensBeforeFrom b j i k → HappensBefore (c ++ j) (length c + i) (length c + k)
   before_back_from (edge_base e) = edge (edge_back_from _ _ e)
@@ -117,7 +117,7 @@ module _ (b : Base) (c j : List Event) (n : ℕ) (even : IsEvenFrom b c j n) whe
 
   -- and so are pasts
   pub past_from : (p i : ℕ) → InPast (c ++ j) p (length c + i) → InPastFrom b j p i
-  past_from p i x = elim (append_cases c j x.own x.event x.at) [
+  past_from p i x = elim (slice_append_cases c j x.own x.event x.at) [
     | inl cut ↦ absurd (too_early cut.0 x.reaches)
     | inr left ↦ record {
       own = left.0;
@@ -137,7 +137,7 @@ module _ (b : Base) (c j : List Event) (n : ℕ) (even : IsEvenFrom b c j n) whe
       record {
         own = length c + x.own;
         event = x.event;
-        at = at_behind c j x.own x.event x.at;
+        at = numbered_at_behind c j x.own x.event x.at;
         mine = x.mine;
         reaches = up_back_from i x.own x.reaches;
       }

@@ -8,7 +8,7 @@ use Rattle.std.proofs.lemmas.Option.{slice_get_within, slice_get-get_or, slice_g
 use Rattle.journal.specs.declared.event.Event.{Event}
 use Rattle.journal.specs.declared.event.Kind.TheVariants.{Store}
 use Rattle.base.specs.InOrderOnce.{Has, InOrder}
-use Rattle.base.specs.LastWritten.{LastWrite, Unwritten}
+use Rattle.base.specs.LastWritten.{LastWrite, IsUnwritten}
 use Rattle.journal.specs.DidEvent.{event}
 use Rattle.journal.specs.Sizes.{Sizes, addresses}
 use Rattle.journal.specs.Events.{At}
@@ -21,16 +21,16 @@ use Rattle.journal.specs.PageImages.{StoresToPage, page_write, page_after, Lawfu
 use Rattle.journal.specs.Base.{Base}
 use Rattle.journal.specs.HappensBeforeFrom.{InPastFrom}
 use Rattle.journal.specs.PageImagesFrom.{LawfulFrom}
-use Rattle.base.proofs.SlicesAndCounts.{slice_get-append_left, slice_get-append_right, slice_get-take, slice_get-drop, append_cases}
-use Rattle.base.proofs.SliceSets.{slice_get-replicate_found, same_places}
+use Rattle.base.proofs.SlicesAndCounts.{slice_get-append_left, slice_get-append_right, slice_get-take, slice_get-drop, slice_append_cases}
+use Rattle.base.proofs.SliceSets.{slice_get-replicate_found, slice_sets_same}
 use Rattle.base.proofs.LastWritten.{word_written, last_word, last_alone, last_exists, length-written, written-append, written_map, written_same}
 use Rattle.base.proofs.Joined.{has-map}
 use Rattle.base.proofs.Halves.{Halves, halves}
-use Rattle.journal.proofs.Order.CountedAndNumbered.{at_behind}
+use Rattle.journal.proofs.Order.CountedAndNumbered.{numbered_at_behind}
 use Rattle.journal.proofs.Order.HappensBefore.{before_longer}
-use Rattle.journal.proofs.CopyOfPage.Stores.{does_kind, store_writes, stores_to, store_at, stores_longer, stores_shorter, stores_within, page_after_longer}
+use Rattle.journal.proofs.CopyOfPage.Stores.{store_does_kind, store_writes, stores_to, store_at, stores_longer, stores_shorter, stores_within, page_after_longer}
 use Rattle.journal.proofs.Flat.StoresUnordered.{flat_store, not_unordered}
-use Rattle.journal.proofs.FromBase.Order.{IsEvenFrom, at_left, before_back_from, past_from, past_back_from}
+use Rattle.journal.proofs.FromBase.Order.{IsEvenFrom, order_at_left, before_back_from, past_from, past_back_from}
 use Rattle.journal.proofs.FromBase.ExplainedByLast.{flat}
 
 -- a word of a page of the memory
@@ -66,8 +66,8 @@ module _ (s : Sizes) (c : List Event) (n : ℕ) (low : List ℕ) (free : RaceFre
     page_stores_as : (k v : ℕ) (x : StoresToPage s c n k) → in_page k ≡ Some (o, v) → Does c k x.by (Store page_address v)
     page_stores_as k v x writes = store_at s c n k page_address v x page_is (writes ∙ ap (λ y. Some (y, v)) (sym page_offset_is))
 
-    last_flat : (v : ℕ) → LastWrite in_page low o v → LastWrite flat c page_address v
-    last_flat v l =
+    page_last_flat : (v : ℕ) → LastWrite in_page low o v → LastWrite flat c page_address v
+    page_last_flat v l =
         record { place = l.item; item = event x.by (Store page_address v); at = stores; writes = refl; last = later }
       where
         x : StoresToPage s c n l.item
@@ -80,7 +80,7 @@ module _ (s : Sizes) (c : List Event) (n : ℕ) (low : List ℕ) (free : RaceFre
         later k y u lt at writes = is (cases_order l.place has.0)
           where
             does : Does c k y.processor (Store page_address u)
-            does = does_kind c k y (Store page_address u) at (flat_store y.kind page_address u writes)
+            does = store_does_kind c k y (Store page_address u) at (flat_store y.kind page_address u writes)
 
             has : Has low k
             has = (each k).1 (stores_to s c n k y.processor page_address u does page_is)
@@ -94,10 +94,10 @@ module _ (s : Sizes) (c : List Event) (n : ℕ) (low : List ℕ) (free : RaceFre
                 (free l.item k) (extends has.0 l.place k l.item before has.1 l.at)
 
     last_page : (v : ℕ) → LastWrite flat c page_address v → LastWrite in_page low o v
-    last_page v l = subst (λ w. LastWrite in_page low o w) (last_alone flat c page_address w.0 v (last_flat w.0 w.1) l) w.1
+    last_page v l = subst (λ w. LastWrite in_page low o w) (last_alone flat c page_address w.0 v (page_last_flat w.0 w.1) l) w.1
       where
         does : Does c l.place l.item.processor (Store page_address v)
-        does = does_kind c l.place l.item (Store page_address v) l.at (flat_store l.item.kind page_address v l.writes)
+        does = store_does_kind c l.place l.item (Store page_address v) l.at (flat_store l.item.kind page_address v l.writes)
 
         has : Has low l.place
         has = (each l.place).1 (stores_to s c n l.place l.item.processor page_address v does page_is)
@@ -126,19 +126,19 @@ module _ (s : Sizes) (c : List Event) (n : ℕ) (low : List ℕ) (free : RaceFre
         found_kept =
             slice_get-get_or (memory_after (replicate size 0) c) page_address 0 (rw (length-written, length-replicate) lt)
 
-        zero_kept : word ≡ 0 → Unwritten in_page low o
+        zero_kept : word ≡ 0 → IsUnwritten in_page low o
             → LastWrite flat c page_address kept
-            ⊎ ((slice_get (replicate size 0) page_address ≡ Some kept) × Unwritten flat c page_address)
+            ⊎ ((slice_get (replicate size 0) page_address ≡ Some kept) × IsUnwritten flat c page_address)
             → word ≡ kept
         zero_kept is none (inl l) = let x = last_page kept l in absurd (none x.place x.item kept x.at x.writes)
         zero_kept is none (inr z) = is ∙ slice_get-replicate_found size 0 kept page_address z.0
 
         go : LastWrite in_page low o word
-            ⊎ ((slice_get (replicate s.words 0) o ≡ Some word) × Unwritten in_page low o)
+            ⊎ ((slice_get (replicate s.words 0) o ≡ Some word) × IsUnwritten in_page low o)
             → slice_get (page_after s c (replicate s.words 0) low) o
             ≡ slice_get (memory_after (replicate size 0) c) page_address
         go (inl l) =
-            found ∙ sym (last_word flat (replicate size 0) c page_address word (rw length-replicate lt) (last_flat word l))
+            found ∙ sym (last_word flat (replicate size 0) c page_address word (rw length-replicate lt) (page_last_flat word l))
         go (inr z) =
             found
             ∙ ap Some (zero_kept (sym (slice_get-replicate_found s.words 0 word o z.0)) z.1
@@ -149,7 +149,7 @@ module _ (s : Sizes) (c : List Event) (n : ℕ) (low : List ℕ) (free : RaceFre
       → page_after s c (replicate s.words 0) low
       ≡ take s.words (drop (n * s.words) (memory_after (replicate (addresses s) 0) c))
   page_kept lt =
-      same_places (page_after s c (replicate s.words 0) low)
+      slice_sets_same (page_after s c (replicate s.words 0) low)
       (take s.words (drop (n * s.words) (memory_after (replicate (addresses s) 0) c))) each_word
     where
       each_word : (o : ℕ)
@@ -170,9 +170,9 @@ module _ (s : Sizes) (c j : List Event) (b : Base) (m : ℕ) (even : IsEvenFrom 
     (before : (i k : ℕ) → i < length c → k < length j → HappensBefore (c ++ j) i (length c + k)) (p : ℕ)
     (known : (i : ℕ) → i < length c → InPast (c ++ j) p i) (n : ℕ) where
   -- what was cut off comes first in any order that extends happens-before
-  cut_first : (order : List ℕ) → ((i : ℕ) → Has order i → i < length (c ++ j))
+  page_cut_first : (order : List ℕ) → ((i : ℕ) → Has order i → i < length (c ++ j))
       → InOrder (λ i k. ¬ HappensBefore (c ++ j) k i) order → Halves (length c) order
-  cut_first order within extends = halves (length c) order (λ x y i k lt at to le. elim (cases_lt k (length c)) [
+  page_cut_first order within extends = halves (length c) order (λ x y i k lt at to le. elim (cases_lt k (length c)) [
     | inr past ↦ past
     | inl early ↦ (let all = length-append c j in
         let is : length c + (i - length c) ≡ i = omega arith in
@@ -182,25 +182,25 @@ module _ (s : Sizes) (c j : List Event) (b : Base) (m : ℕ) (even : IsEvenFrom 
 
   module _ (page : List ℕ) (lawful : Lawful s (c ++ j) p n page) where
     page_halves : Halves (length c) lawful.order
-    page_halves = cut_first lawful.order (λ i has. stores_within s (c ++ j) n i ((lawful.each i).0 has).1) lawful.extends
+    page_halves = page_cut_first lawful.order (λ i has. stores_within s (c ++ j) n i ((lawful.each i).0 has).1) lawful.extends
 
-    at_low : (k i : ℕ) → slice_get page_halves.low k ≡ Some i → slice_get lawful.order k ≡ Some i
-    at_low k i at =
+    page_at_low : (k i : ℕ) → slice_get page_halves.low k ≡ Some i → slice_get lawful.order k ≡ Some i
+    page_at_low k i at =
         ap (λ (xs : List ℕ). slice_get xs k) page_halves.are
         ∙ slice_get-append_left page_halves.low (map (λ x. length c + x) page_halves.high) k (slice_get_within page_halves.low k i at) ∙ at
 
-    at_high : (k i : ℕ) → slice_get page_halves.high k ≡ Some i
+    page_at_high : (k i : ℕ) → slice_get page_halves.high k ≡ Some i
         → slice_get lawful.order (length page_halves.low + k) ≡ Some (length c + i)
-    at_high k i at =
+    page_at_high k i at =
         ap (λ (xs : List ℕ). slice_get xs (length page_halves.low + k)) page_halves.are
         ∙ slice_get-append_right page_halves.low (map (λ x. length c + x) page_halves.high) k
         ∙ slice_get-map (λ x. length c + x) page_halves.high k ∙ ap (option_map (λ x. length c + x)) at
 
-    low_each : (i : ℕ) → Has page_halves.low i ↔ StoresToPage s c n i
-    low_each i = (
-      (λ has. stores_shorter s c j n i (page_halves.below i has) ((lawful.each i).0 (has.0, at_low has.0 i has.1)).1),
+    page_low_each : (i : ℕ) → Has page_halves.low i ↔ StoresToPage s c n i
+    page_low_each i = (
+      (λ has. stores_shorter s c j n i (page_halves.below i has) ((lawful.each i).0 (has.0, page_at_low has.0 i has.1)).1),
       (λ x. let lt = stores_within s c n i x in let has = (lawful.each i).1 (known i lt, stores_longer s c j n i x) in
-          elim (append_cases page_halves.low (map (λ y. length c + y) page_halves.high) has.0 i
+          elim (slice_append_cases page_halves.low (map (λ y. length c + y) page_halves.high) has.0 i
           (ap (λ (xs : List ℕ). slice_get xs has.0) (sym page_halves.are) ∙ has.1)) [
             | inl low ↦ (has.0, low.1)
             | inr high ↦
@@ -210,20 +210,20 @@ module _ (s : Sizes) (c j : List Event) (b : Base) (m : ℕ) (even : IsEvenFrom 
 
     page_stores_left : (i : ℕ) → StoresToPage s (c ++ j) n (length c + i) → StoresToPage s j n i
     page_stores_left i x =
-        stores_to s j n i x.by x.address x.value (at_left c j i (event x.by (Store x.address x.value)) x.does)
+        stores_to s j n i x.by x.address x.value (order_at_left c j i (event x.by (Store x.address x.value)) x.does)
         x.in_page
 
     page_stores_behind : (i : ℕ) → StoresToPage s j n i → StoresToPage s (c ++ j) n (length c + i)
     page_stores_behind i x =
         stores_to s (c ++ j) n (length c + i) x.by x.address x.value
-        (at_behind c j i (event x.by (Store x.address x.value)) x.does) x.in_page
+        (numbered_at_behind c j i (event x.by (Store x.address x.value)) x.does) x.in_page
 
-    high_each : (i : ℕ) → Has page_halves.high i ↔ (InPastFrom b j p i × StoresToPage s j n i)
-    high_each i = (
-      (λ has. let x = (lawful.each (length c + i)).0 (length page_halves.low + has.0, at_high has.0 i has.1) in
+    page_high_each : (i : ℕ) → Has page_halves.high i ↔ (InPastFrom b j p i × StoresToPage s j n i)
+    page_high_each i = (
+      (λ has. let x = (lawful.each (length c + i)).0 (length page_halves.low + has.0, page_at_high has.0 i has.1) in
           (past_from b c j m even p i x.0, page_stores_left i x.1)),
       (λ x. let has = (lawful.each (length c + i)).1 (past_back_from b c j m even p i x.0, page_stores_behind i x.1) in
-          elim (append_cases page_halves.low (map (λ y. length c + y) page_halves.high) has.0 (length c + i)
+          elim (slice_append_cases page_halves.low (map (λ y. length c + y) page_halves.high) has.0 (length c + i)
           (ap (λ (xs : List ℕ). slice_get xs has.0) (sym page_halves.are) ∙ has.1)) [
             | inl low ↦ absurd (let lt = page_halves.below (length c + i) (has.0, low.1) in omega arith)
             | inr high ↦ (let y = (has-map (λ y. length c + y) page_halves.high (length c + i)).0 (high.0, high.2) in
@@ -247,19 +247,19 @@ module _ (s : Sizes) (c j : List Event) (b : Base) (m : ℕ) (even : IsEvenFrom 
     pub lawful_from : n < s.pages → LawfulFrom s b j p n page
     lawful_from lt = record {
       order = page_halves.high;
-      each = high_each;
+      each = page_high_each;
       once =
           λ x y i k less at to same. lawful.once (length page_halves.low + x) (length page_halves.low + y) (length c + i) (length c + k)
-          (omega arith) (at_high x i at) (at_high y k to) (ap (λ z. length c + z) same);
+          (omega arith) (page_at_high x i at) (page_at_high y k to) (ap (λ z. length c + z) same);
       extends =
           λ x y i k less at to back. lawful.extends (length page_halves.low + x) (length page_halves.low + y) (length c + i)
-          (length c + k) (omega arith) (at_high x i at) (at_high y k to) (before_back_from b c j m even back);
+          (length c + k) (omega arith) (page_at_high x i at) (page_at_high y k to) (before_back_from b c j m even back);
       gives =
           gives_page
-          ∙ ap (λ (ws : List ℕ). page_after s j ws page_halves.high) (page_kept s c n page_halves.low free low_each low_extends lt
+          ∙ ap (λ (ws : List ℕ). page_after s j ws page_halves.high) (page_kept s c n page_halves.low free page_low_each low_extends lt
           ∙ ap (λ (ws : List ℕ). take s.words (drop (n * s.words) ws)) (sym kept));
     }
       where
         low_extends : InOrder (λ i k. ¬ HappensBefore c k i) page_halves.low
         low_extends x y i k less at to back =
-            lawful.extends x y i k less (at_low x i at) (at_low y k to) (before_longer c j back)
+            lawful.extends x y i k less (page_at_low x i at) (page_at_low y k to) (before_longer c j back)

@@ -5,10 +5,10 @@ use Rattle.journal.specs.HappensBeforeEdges.{HappensBefore}
 use Rattle.journal.specs.Races.{Race, IsFirstRace, RaceFree}
 use Rattle.journal.specs.Base.{Base}
 use Rattle.journal.specs.RacesFrom.{RaceFrom, IsFirstRaceFrom, RaceFreeFrom}
-use Rattle.base.proofs.SlicesAndCounts.{append_cases}
-use Rattle.journal.proofs.Order.CountedAndNumbered.{at_within, at_behind}
+use Rattle.base.proofs.SlicesAndCounts.{slice_append_cases}
+use Rattle.journal.proofs.Order.CountedAndNumbered.{numbered_at_within, numbered_at_behind}
 use Rattle.journal.proofs.Order.HappensBefore.{before_longer}
-use Rattle.journal.proofs.FromBase.Order.{IsEvenFrom, at_left, before_from, before_back_from}
+use Rattle.journal.proofs.FromBase.Order.{IsEvenFrom, order_at_left, before_from, before_back_from}
 
 module _ (b : Base) (c j : List Event) (n : ℕ) (even : IsEvenFrom b c j n) where
   pub race_from : (i k : ℕ) → Race (c ++ j) (length c + i) (length c + k) → RaceFrom b j i k
@@ -16,8 +16,8 @@ module _ (b : Base) (c j : List Event) (n : ℕ) (even : IsEvenFrom b c j n) whe
     before = (let lt = r.before in omega arith);
     first = r.first;
     second = r.second;
-    first_at = at_left c j i r.first r.first_at;
-    second_at = at_left c j k r.second r.second_at;
+    first_at = order_at_left c j i r.first r.first_at;
+    second_at = order_at_left c j k r.second r.second_at;
     apart = r.apart;
     conflict = r.conflict;
     unordered = λ h. r.unordered (before_back_from b c j n even h);
@@ -28,8 +28,8 @@ module _ (b : Base) (c j : List Event) (n : ℕ) (even : IsEvenFrom b c j n) whe
     before = (let lt = r.before in omega arith);
     first = r.first;
     second = r.second;
-    first_at = at_behind c j i r.first r.first_at;
-    second_at = at_behind c j k r.second r.second_at;
+    first_at = numbered_at_behind c j i r.first r.first_at;
+    second_at = numbered_at_behind c j k r.second r.second_at;
     apart = r.apart;
     conflict = r.conflict;
     unordered = λ h. r.unordered (before_from b c j n even i k h);
@@ -37,9 +37,9 @@ module _ (b : Base) (c j : List Event) (n : ℕ) (even : IsEvenFrom b c j n) whe
 
 -- a race of a front is one of the whole, where both its places stand in the front
 pub race_shorter : (c j : List Event) (i k : ℕ) → k < length c → Race (c ++ j) i k → Race c i k
-race_shorter c j i k lt r = elim (append_cases c j i r.first r.first_at) [
+race_shorter c j i k lt r = elim (slice_append_cases c j i r.first r.first_at) [
   | inr left ↦ absurd (let before = r.before in omega (arith, left.1))
-  | inl first ↦ elim (append_cases c j k r.second r.second_at) [
+  | inl first ↦ elim (slice_append_cases c j k r.second r.second_at) [
     | inr left ↦ absurd (omega (arith, left.1))
     | inl second ↦ record {
       before = r.before;
@@ -56,13 +56,13 @@ race_shorter c j i k lt r = elim (append_cases c j i r.first r.first_at) [
 ]
 
 -- where what was cut off has no race and happens before all that is left, no race begins in it
-pub none_begins : (c j : List Event)
+pub cut_begins_no_race : (c j : List Event)
     → ((i k : ℕ) → i < length c → k < length j → HappensBefore (c ++ j) i (length c + k)) → RaceFree c → (i k : ℕ)
     → i < length c → ¬ Race (c ++ j) i k
-none_begins c j before free i k lt r = elim (append_cases c j k r.second r.second_at) [
+cut_begins_no_race c j before free i k lt r = elim (slice_append_cases c j k r.second r.second_at) [
   | inl cut ↦ free i k (race_shorter c j i k cut.0 r)
   | inr to ↦ r.unordered
-      (subst (λ m. HappensBefore (c ++ j) i m) (sym to.1) (before i to.0 lt (at_within j to.0 r.second to.2)))
+      (subst (λ m. HappensBefore (c ++ j) i m) (sym to.1) (before i to.0 lt (numbered_at_within j to.0 r.second to.2)))
 ]
 
 -- where no race begins in what was cut off, each is one of what is left
@@ -70,7 +70,7 @@ module _ (b : Base) (c j : List Event) (n : ℕ) (even : IsEvenFrom b c j n)
     (none : (i k : ℕ) → i < length c → ¬ Race (c ++ j) i k) where
   pub race_split : (i k : ℕ) → Race (c ++ j) i k
       → (x y : ℕ) × (i ≡ length c + x) × (k ≡ length c + y) × RaceFrom b j x y
-  race_split i k r = elim (append_cases c j i r.first r.first_at) [
+  race_split i k r = elim (slice_append_cases c j i r.first r.first_at) [
     | inl cut ↦ absurd (none i k cut.0 r)
     | inr from ↦ (let before = r.before in
         let to : k ≡ length c + (k - length c) = omega (arith, from.1) in (

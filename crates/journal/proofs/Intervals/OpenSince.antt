@@ -6,13 +6,13 @@ use Rattle.std.proofs.lemmas.List.Sums.{fold-append}
 use Rattle.std.proofs.Math.Seq.{take-append_seam}
 use Rattle.journal.specs.declared.event.Event.{Event}
 use Rattle.journal.specs.Events.{At, is_closing, count_of, interval_at}
-use Rattle.journal.specs.ContentsSince.{with_next, since}
+use Rattle.journal.specs.ContentsSince.{contents_with_next, since}
 use Rattle.base.specs.InOrderOnce.{Has, InOrder}
-use Rattle.base.proofs.SlicesAndCounts.{push_cases, push_induction, slice_get-append_left}
-use Rattle.base.proofs.Joined.{has-nil, has-append, has-cons, in_order-nil, in_order-append, in_order_single}
-use Rattle.base.proofs.FilteredInOrder.{map_same}
-use Rattle.journal.proofs.Order.CountedAndNumbered.{at_within, at_last, at_longer, count_of-append, count_of-front, count_of-take-le}
-use Rattle.journal.proofs.Times.Times.{count_of-one}
+use Rattle.base.proofs.SlicesAndCounts.{slice_push_cases, slice_push_induction, slice_get-append_left}
+use Rattle.base.proofs.Joined.{has-nil, has-append, has-cons, in_order-nil, in_order-append, joined_in_order_single}
+use Rattle.base.proofs.FilteredInOrder.{in_order_map_same}
+use Rattle.journal.proofs.Order.CountedAndNumbered.{numbered_at_within, numbered_at_last, numbered_at_longer, count_of-append, count_of-front, count_of-take-le}
+use Rattle.journal.proofs.Times.Times.{count_of-one_time}
 
 -- p's event at place i is of its open interval, and closes none
 pub record IsOpenAt (j : List Event) (p i : ℕ) : Type 0 where
@@ -29,15 +29,15 @@ pub record AreOpen (j : List Event) (p : ℕ) (places : List ℕ) : Type 0 where
   pub events : ◌≡◌ {A = List (Option Event)} (map (slice_get j) places) (map Some (since j p))
 
 -- one more event
-pub since-push : (j : List Event) (e : Event) (p : ℕ) → since (j ++ e ∷ []) p ≡ with_next p (since j p) e
-since-push j e p = fold-append (with_next p) [] j (e ∷ [])
+pub since-push : (j : List Event) (e : Event) (p : ℕ) → since (j ++ e ∷ []) p ≡ contents_with_next p (since j p) e
+since-push j e p = fold-append (contents_with_next p) [] j (e ∷ [])
 
-next_others : (p : ℕ) (es start : List Event) → ((k : ℕ) (e : Event) → At es k e → e.processor ≢ p)
-    → fold (with_next p) start es ≡ start
-next_others p [] start away = refl
-next_others p (e ∷ es) start away =
-    ap (λ (xs : List Event). fold (with_next p) xs es) (one (e.processor == p) refl)
-    ∙ next_others p es start (λ k. away (suc k))
+open_next_others : (p : ℕ) (es start : List Event) → ((k : ℕ) (e : Event) → At es k e → e.processor ≢ p)
+    → fold (contents_with_next p) start es ≡ start
+open_next_others p [] start away = refl
+open_next_others p (e ∷ es) start away =
+    ap (λ (xs : List Event). fold (contents_with_next p) xs es) (one (e.processor == p) refl)
+    ∙ open_next_others p es start (λ k. away (suc k))
   where
     one : (b : Bool) → (e.processor == p) ≡ b → cond b (cond (is_closing e.kind) [] (start ++ e ∷ [])) start ≡ start
     one true is = absurd (away 0 e refl (eqb-true e.processor p is))
@@ -46,7 +46,7 @@ next_others p (e ∷ es) start away =
 -- others' events
 pub since_others : (j es : List Event) (p : ℕ) → ((k : ℕ) (e : Event) → At es k e → e.processor ≢ p)
     → since (j ++ es) p ≡ since j p
-since_others j es p away = fold-append (with_next p) [] j es ∙ next_others p es (since j p) away
+since_others j es p away = fold-append (contents_with_next p) [] j es ∙ open_next_others p es (since j p) away
 
 -- an own event that closes the interval
 pub since_closing : (j : List Event) (e : Event) (p : ℕ) → e.processor ≡ p → is_closing e.kind ≡ true
@@ -59,31 +59,31 @@ pub since_inner : (j : List Event) (e : Event) (p : ℕ) → e.processor ≡ p �
 since_inner j e p mine inner = since-push j e p ∙ (rw (eq-eqb e.processor p mine, inner))
 
 -- how many intervals p has closed by one more event
-closed_more : (j : List Event) (e : Event) (p : ℕ) → (e.processor ≡ p → is_closing e.kind ≡ false)
+open_closed_more : (j : List Event) (e : Event) (p : ℕ) → (e.processor ≡ p → is_closing e.kind ≡ false)
     → count_of is_closing (j ++ e ∷ []) p ≡ count_of is_closing j p
-closed_more j e p inner =
+open_closed_more j e p inner =
     let sum = count_of-append is_closing j (e ∷ []) p in
-    elim (count_of-one is_closing e p)
+    elim (count_of-one_time is_closing e p)
     [ inl none ↦ omega arith | inr one ↦ absurd (true≢false (sym one.1 ∙ inner one.0)) ]
 
 -- an open place of before, in a journal with one more event that closes none of p's intervals
 open_longer : (j : List Event) (e : Event) (p i : ℕ) → (e.processor ≡ p → is_closing e.kind ≡ false) → IsOpenAt j p i
     → IsOpenAt (j ++ e ∷ []) p i
 open_longer j e p i inner x =
-    let within = at_within j i x.event x.at in
+    let within = numbered_at_within j i x.event x.at in
     record {
       event = x.event;
-      at = at_longer j (e ∷ []) i x.event x.at;
+      at = numbered_at_longer j (e ∷ []) i x.event x.at;
       mine = x.mine;
       open_at = x.open_at;
       number =
-          count_of-front is_closing j (e ∷ []) i p (omega arith) ∙ x.number ∙ sym (closed_more j e p inner);
+          count_of-front is_closing j (e ∷ []) i p (omega arith) ∙ x.number ∙ sym (open_closed_more j e p inner);
     }
 
 -- an open place is one of before, or the last
 open_cases : (j : List Event) (e : Event) (p i : ℕ) → (e.processor ≡ p → is_closing e.kind ≡ false)
     → IsOpenAt (j ++ e ∷ []) p i → IsOpenAt j p i ⊎ ((i ≡ length j) × (e.processor ≡ p))
-open_cases j e p i inner x = elim (push_cases j e i x.event x.at) [
+open_cases j e p i inner x = elim (slice_push_cases j e i x.event x.at) [
   | inl h ↦ (let within : i < length j = h.0 in
       inl (record {
         event = x.event;
@@ -91,17 +91,17 @@ open_cases j e p i inner x = elim (push_cases j e i x.event x.at) [
         mine = x.mine;
         open_at = x.open_at;
         number = sym (count_of-front is_closing j (e ∷ []) i p (omega arith)) ∙ x.number
-            ∙ closed_more j e p inner;
+            ∙ open_closed_more j e p inner;
       }))
   | inr h ↦ inr (h.0, ap (λ (f : Event). f.processor) h.1 ∙ x.mine)
 ]
 
 -- the events at places of before
-events_longer : (j : List Event) (e : Event) (p : ℕ) (places : List ℕ) → AreOpen j p places
+open_events_longer : (j : List Event) (e : Event) (p : ℕ) (places : List ℕ) → AreOpen j p places
     → ◌≡◌ {A = List (Option Event)} (map (slice_get (j ++ e ∷ [])) places) (map Some (since j p))
-events_longer j e p places open_places =
-    map_same (slice_get (j ++ e ∷ [])) (slice_get j) places (λ i h. let x = (open_places.each i).0 h in
-    slice_get-append_left j (e ∷ []) i (at_within j i x.event x.at))
+open_events_longer j e p places open_places =
+    in_order_map_same (slice_get (j ++ e ∷ [])) (slice_get j) places (λ i h. let x = (open_places.each i).0 h in
+    slice_get-append_left j (e ∷ []) i (numbered_at_within j i x.event x.at))
     ∙ open_places.events
 
 open_other : (j : List Event) (e : Event) (p : ℕ) (places : List ℕ) → e.processor ≢ p → AreOpen j p places
@@ -116,7 +116,7 @@ open_other j e p places away open_places = record {
       );
   rising = open_places.rising;
   events =
-      events_longer j e p places open_places
+      open_events_longer j e p places open_places
       ∙ ap (map Some) (sym (since-push j e p ∙ rw (ne_eqb e.processor p away)));
 }
 
@@ -129,7 +129,7 @@ open_closed j e p mine closes = record {
 }
   where
     none : (i : ℕ) → IsOpenAt (j ++ e ∷ []) p i → ⊥
-    none i x = elim (push_cases j e i x.event x.at) [
+    none i x = elim (slice_push_cases j e i x.event x.at) [
       | inl h ↦ (let front : interval_at (j ++ e ∷ []) p i
           ≡ interval_at j p i = count_of-front is_closing j (e ∷ []) i p (omega (arith, h.0)) in
           let most : interval_at j p i ≤ count_of is_closing j p = count_of-take-le is_closing j i p in
@@ -156,11 +156,11 @@ open_more j e p places mine inner open_places = record {
       );
   rising =
       in_order-append (λ i m. i < m) places (length j ∷ []) open_places.rising
-      (in_order_single (λ i m. i < m) (length j)) before;
+      (joined_in_order_single (λ i m. i < m) (length j)) before;
   events =
       map-append (slice_get (j ++ e ∷ [])) places (length j ∷ [])
-      ∙ ap₂ (λ (xs ys : List (Option Event)). xs ++ ys) (events_longer j e p places open_places)
-      (ap (λ (x : Option Event). x ∷ []) (at_last j e))
+      ∙ ap₂ (λ (xs ys : List (Option Event)). xs ++ ys) (open_events_longer j e p places open_places)
+      (ap (λ (x : Option Event). x ∷ []) (numbered_at_last j e))
       ∙ sym (map-append Some (since j p) (e ∷ [])) ∙ ap (map Some) (sym (since_inner j e p mine inner));
 }
   where
@@ -168,24 +168,24 @@ open_more j e p places mine inner open_places = record {
     last i is =
         subst (IsOpenAt (j ++ e ∷ []) p) is (record {
           event = e;
-          at = at_last j e;
+          at = numbered_at_last j e;
           mine = mine;
           open_at = inner;
           number = ap (λ (xs : List Event). count_of is_closing xs p) (take-append_seam j (e ∷ []))
-              ∙ sym (closed_more j e p (λ _. inner));
+              ∙ sym (open_closed_more j e p (λ _. inner));
         })
 
     before : (a b : ℕ) → Has places a → Has (length j ∷ []) b → a < b
     before a b old new =
         let x = (open_places.each a).0 old in
-        let within = at_within j a x.event x.at in
+        let within = numbered_at_within j a x.event x.at in
         let is : length j ≡ b =
         elim ((has-cons (length j) [] b).0 new) [ inl same ↦ same | inr none ↦ absurd (has-nil b none) ] in
         omega arith
 
 -- the events since the last closing one stand at places of their own
 pub open_places : (j : List Event) (p : ℕ) → (places : List ℕ) × AreOpen j p places
-open_places j p = push_induction (λ xs. (places : List ℕ) × AreOpen xs p places) ([], start) step j
+open_places j p = slice_push_induction (λ xs. (places : List ℕ) × AreOpen xs p places) ([], start) step j
   where
     start : AreOpen [] p []
     start =
@@ -211,6 +211,6 @@ open_places j p = push_induction (λ xs. (places : List ℕ) × AreOpen xs p pla
 pub since_under : (j es block : List Event) (p : ℕ) → ((k : ℕ) (e : Event) → At es k e → e.processor ≢ p)
     → since ((j ++ es) ++ block) p ≡ since (j ++ block) p
 since_under j es block p away =
-    fold-append (with_next p) [] (j ++ es) block
-    ∙ ap (λ (xs : List Event). fold (with_next p) xs block) (since_others j es p away)
-    ∙ sym (fold-append (with_next p) [] j block)
+    fold-append (contents_with_next p) [] (j ++ es) block
+    ∙ ap (λ (xs : List Event). fold (contents_with_next p) xs block) (since_others j es p away)
+    ∙ sym (fold-append (contents_with_next p) [] j block)

@@ -16,19 +16,19 @@ use Rattle.journal.specs.ContentsSince.{since, StoresInInterval, IsContent}
 use Rattle.base.specs.InOrderOnce.{Has}
 use Rattle.base.specs.LastWritten.{written}
 use Rattle.base.specs.MarkedRecords.{IsRecordOf}
-use Rattle.base.proofs.SlicesAndCounts.{push_cases}
+use Rattle.base.proofs.SlicesAndCounts.{slice_push_cases}
 use Rattle.base.proofs.Joined.{has-nil}
 use Rattle.base.proofs.FilteredInOrder.{has-filter, in_order-filter}
 use Rattle.base.proofs.LastWritten.{written_map, written_filter, written_same, last_exists}
 use Rattle.base.proofs.Records.{record_moved}
-use Rattle.journal.proofs.Order.CountedAndNumbered.{at_within, at_longer, at_shorter, count_of-front, count_of-mono}
-use Rattle.journal.proofs.CopyOfPage.Stores.{does_kind, store_writes, page_after_longer}
+use Rattle.journal.proofs.Order.CountedAndNumbered.{numbered_at_within, numbered_at_longer, numbered_at_shorter, count_of-front, count_of-mono}
+use Rattle.journal.proofs.CopyOfPage.Stores.{store_does_kind, store_writes, page_after_longer}
 use Rattle.journal.proofs.Intervals.OpenSince.{AreOpen, open_places}
 
 -- what the event at a place, if there is one, stores in page n
-abbrev pub write_at : Sizes → ℕ → Option Event → Option (ℕ × ℕ)
-write_at s n None = None
-write_at s n (Some e) = block_write s n e.kind
+abbrev pub store_write_at : Sizes → ℕ → Option Event → Option (ℕ × ℕ)
+store_write_at s n None = None
+store_write_at s n (Some e) = block_write s n e.kind
 
 -- what stores in page n is a store to it
 pub write_in_store : (s : Sizes) (n : ℕ) (k : Kind) → is_some (block_write s n k) ≡ true
@@ -47,57 +47,57 @@ pub store_in : (s : Sizes) (n a v : ℕ) → a / s.words ≡ n → block_write s
 store_in s n a v page = rw (eq-eqb (a / s.words) n page)
 
 -- what picks nothing writes nothing
-none_picked : (o : Option (ℕ × ℕ)) → is_some o ≡ false → o ≡ None
-none_picked None h = refl
-none_picked (Some p) h = absurd (true≢false h)
+store_none_picked : (o : Option (ℕ × ℕ)) → is_some o ≡ false → o ≡ None
+store_none_picked None h = refl
+store_none_picked (Some p) h = absurd (true≢false h)
 
 -- the test of a place for a store to page n
-picks : Sizes → ℕ → List Event → ℕ → Bool
-picks s n j i = is_some (write_at s n (slice_get j i))
+store_picks : Sizes → ℕ → List Event → ℕ → Bool
+store_picks s n j i = is_some (store_write_at s n (slice_get j i))
 
 -- a picked place has a store to the page
-picked_store : (s : Sizes) (n : ℕ) (j : List Event) (i : ℕ) (e : Event) → At j i e → picks s n j i ≡ true
+picked_store : (s : Sizes) (n : ℕ) (j : List Event) (i : ℕ) (e : Event) → At j i e → store_picks s n j i ≡ true
     → (a v : ℕ) × Does j i e.processor (Store a v) × (a / s.words ≡ n)
-unfolding picks
+unfolding store_picks
 picked_store s n j i e at h =
-    let x = write_in_store s n e.kind (ap (λ (o : Option Event). is_some (write_at s n o)) (sym at) ∙ h) in
-    (x.0, x.1, does_kind j i e (Store x.0 x.1) at x.2, x.3)
+    let x = write_in_store s n e.kind (ap (λ (o : Option Event). is_some (store_write_at s n o)) (sym at) ∙ h) in
+    (x.0, x.1, store_does_kind j i e (Store x.0 x.1) at x.2, x.3)
 
 -- the writes of the open interval's events are those of the picked places
-same_writes : (s : Sizes) (n : ℕ) (j : List Event) (p : ℕ) (places : List ℕ) (page : List ℕ) → AreOpen j p places
+store_same_writes : (s : Sizes) (n : ℕ) (j : List Event) (p : ℕ) (places : List ℕ) (page : List ℕ) → AreOpen j p places
     → written (λ (e : Event). block_write s n e.kind) page (since j p)
-    ≡ written (λ (i : ℕ). page_write s (slice_get j i)) page (filter (picks s n j) places)
-unfolding picks
-same_writes s n j p places page open_at =
-    sym (written_map (write_at s n) Some page (since j p))
-    ∙ ap (written (write_at s n) page) (sym open_at.events)
-    ∙ written_map (write_at s n) (slice_get j) page places
-    ∙ sym (written_filter (λ (i : ℕ). write_at s n (slice_get j i)) (picks s n j) page places
-    (λ i h. none_picked (write_at s n (slice_get j i)) h))
-    ∙ written_same (λ (i : ℕ). write_at s n (slice_get j i)) (λ (i : ℕ). page_write s (slice_get j i)) page
-    (filter (picks s n j) places)
-    (λ k i at. same i (slice_get j i) refl ((has-filter (picks s n j) places i).0 (k, at)).1)
+    ≡ written (λ (i : ℕ). page_write s (slice_get j i)) page (filter (store_picks s n j) places)
+unfolding store_picks
+store_same_writes s n j p places page open_at =
+    sym (written_map (store_write_at s n) Some page (since j p))
+    ∙ ap (written (store_write_at s n) page) (sym open_at.events)
+    ∙ written_map (store_write_at s n) (slice_get j) page places
+    ∙ sym (written_filter (λ (i : ℕ). store_write_at s n (slice_get j i)) (store_picks s n j) page places
+    (λ i h. store_none_picked (store_write_at s n (slice_get j i)) h))
+    ∙ written_same (λ (i : ℕ). store_write_at s n (slice_get j i)) (λ (i : ℕ). page_write s (slice_get j i)) page
+    (filter (store_picks s n j) places)
+    (λ k i at. same i (slice_get j i) refl ((has-filter (store_picks s n j) places i).0 (k, at)).1)
   where
-    same : (i : ℕ) (o : Option Event) → slice_get j i ≡ o → is_some (write_at s n (slice_get j i)) ≡ true
-        → write_at s n (slice_get j i) ≡ page_write s (slice_get j i)
-    same i None e h = absurd (true≢false (sym h ∙ ap (λ (o : Option Event). is_some (write_at s n o)) e))
+    same : (i : ℕ) (o : Option Event) → slice_get j i ≡ o → is_some (store_write_at s n (slice_get j i)) ≡ true
+        → store_write_at s n (slice_get j i) ≡ page_write s (slice_get j i)
+    same i None e h = absurd (true≢false (sym h ∙ ap (λ (o : Option Event). is_some (store_write_at s n o)) e))
     same i (Some f) e h =
-        ap (write_at s n) e
-        ∙ (write_in_store s n f.kind (ap (λ (o : Option Event). is_some (write_at s n o)) (sym e) ∙ h)).4
+        ap (store_write_at s n) e
+        ∙ (write_in_store s n f.kind (ap (λ (o : Option Event). is_some (store_write_at s n o)) (sym e) ∙ h)).4
         ∙ ap (page_write s) (sym e)
 
 -- the record of the events since the last closing one is the content of the open interval
 pub since_content : (s : Sizes) (j : List Event) (p n : ℕ) (words : List (ℕ × ℕ))
     → IsRecordOf (λ (e : Event). block_write s n e.kind) (since j p) words
     → IsContent s j p (count_of is_closing j p) n words
-unfolding picks
+unfolding store_picks
 since_content s j p n words record_of = record {
-  places = filter (picks s n j) places;
+  places = filter (store_picks s n j) places;
   each = λ i. (there i, back i);
-  rising = in_order-filter (λ i m. i < m) (picks s n j) places open_at.rising;
+  rising = in_order-filter (λ i m. i < m) (store_picks s n j) places open_at.rising;
   sums =
       record_moved (λ (e : Event). block_write s n e.kind) (λ (i : ℕ). page_write s (slice_get j i)) (since j p)
-      (filter (picks s n j) places) words (λ page. same_writes s n j p places page open_at) record_of;
+      (filter (store_picks s n j) places) words (λ page. store_same_writes s n j p places page open_at) record_of;
 }
   where
     places : List ℕ
@@ -106,22 +106,22 @@ since_content s j p n words record_of = record {
     open_at : AreOpen j p places
     open_at = (open_places j p).1
 
-    there : (i : ℕ) → Has (filter (picks s n j) places) i → StoresInInterval s j p (count_of is_closing j p) n i
+    there : (i : ℕ) → Has (filter (store_picks s n j) places) i → StoresInInterval s j p (count_of is_closing j p) n i
     there i h =
-        let m = (has-filter (picks s n j) places i).0 h in
+        let m = (has-filter (store_picks s n j) places i).0 h in
         let x = (open_at.each i).0 m.0 in
         let y = picked_store s n j i x.event x.at m.1 in
         let P : ℕ → Type 0 = λ q. Does j i q (Store y.0 y.1) in
         (y.0, y.1, subst P x.mine y.2, y.3, x.number)
 
-    back : (i : ℕ) → StoresInInterval s j p (count_of is_closing j p) n i → Has (filter (picks s n j) places) i
+    back : (i : ℕ) → StoresInInterval s j p (count_of is_closing j p) n i → Has (filter (store_picks s n j) places) i
     back i x =
         let e : Event = event p (Store x.0 x.1) in
-        (has-filter (picks s n j) places i).1 (
+        (has-filter (store_picks s n j) places i).1 (
           (open_at.each i).1
               (record { event = e; at = x.2; mine = refl; open_at = refl; number = x.4 }),
           ap
-              (λ (o : Option Event). is_some (write_at s n o)) x.2
+              (λ (o : Option Event). is_some (store_write_at s n o)) x.2
               ∙ ap is_some (store_in s n x.0 x.1 x.3),
         )
 
@@ -130,8 +130,8 @@ pub stores_in_longer : (s : Sizes) (j es : List Event) (q k n i : ℕ) → Store
     → StoresInInterval s (j ++ es) q k n i
 stores_in_longer s j es q k n i x =
     let e : Event = event q (Store x.0 x.1) in
-    let within = at_within j i e x.2 in
-    (x.0, x.1, at_longer j es i e x.2, x.3, count_of-front is_closing j es i q (omega arith) ∙ x.4)
+    let within = numbered_at_within j i e x.2 in
+    (x.0, x.1, numbered_at_longer j es i e x.2, x.3, count_of-front is_closing j es i q (omega arith) ∙ x.4)
 
 -- and was one before
 pub stores_in_shorter : (s : Sizes) (j es : List Event) (q k n i : ℕ) → i < length j → StoresInInterval s (j ++ es) q k n i
@@ -139,7 +139,7 @@ pub stores_in_shorter : (s : Sizes) (j es : List Event) (q k n i : ℕ) → i < 
 stores_in_shorter s j es q k n i within x = (
   x.0,
   x.1,
-  at_shorter j es i (event q (Store x.0 x.1)) within x.2,
+  numbered_at_shorter j es i (event q (Store x.0 x.1)) within x.2,
   x.3,
   sym
       (count_of-front is_closing j es i q (omega arith))
@@ -166,14 +166,14 @@ content_on s j es q k n words within content = record {
 }
   where
     inside : (i : ℕ) → Has content.places i → i < length j
-    inside i h = let x = (content.each i).0 h in at_within j i (event q (Store x.0 x.1)) x.2
+    inside i h = let x = (content.each i).0 h in numbered_at_within j i (event q (Store x.0 x.1)) x.2
 
 -- through the closing event
 pub content_closing : (s : Sizes) (j : List Event) (e : Event) (q k n : ℕ) (words : List (ℕ × ℕ))
     → is_closing e.kind ≡ true → IsContent s j q k n words → IsContent s (j ++ e ∷ []) q k n words
 content_closing s j e q k n words closes = content_on s j (e ∷ []) q k n words (λ i x.
     let f : Event = event q (Store x.0 x.1) in
-    elim (push_cases j e i f x.2)
+    elim (slice_push_cases j e i f x.2)
     [ inl h ↦ h.0 | inr h ↦ absurd (true≢false (sym closes ∙ ap (λ (g : Event). is_closing g.kind) h.1)) ])
 
 -- and, once the interval is closed, through all events

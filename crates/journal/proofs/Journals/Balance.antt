@@ -9,20 +9,20 @@ use Rattle.journal.specs.DidEvent.{event}
 use Rattle.journal.specs.Sizes.{Sizes}
 use Rattle.journal.specs.Events.{At, count_of, is_arrive, is_depart}
 use Rattle.journal.specs.WellFormed.{LastIs, Allowed, MayFollow, WellFormed}
-use Rattle.base.proofs.SlicesAndCounts.{push_induction, push_cases}
+use Rattle.base.proofs.SlicesAndCounts.{slice_push_induction, slice_push_cases}
 use Rattle.journal.proofs.Order.CountedAndNumbered.{count_of-append}
-use Rattle.journal.proofs.Times.Times.{count_of-one}
-use Rattle.journal.proofs.Journals.WellFormedLast.{each_push, last_unique, last_now, last_longer, last_shorter}
+use Rattle.journal.proofs.Times.Times.{count_of-one_time}
+use Rattle.journal.proofs.Journals.WellFormedLast.{well_formed_push, last_unique, last_now, last_longer, last_shorter}
 
 -- p's arrivals and departures
 pub record IsBalanced (j : List Event) (p : ℕ) : Type 0 where
   pub waiting : (i : ℕ) → LastIs j p i Arrive → count_of is_arrive j p ≡ count_of is_depart j p + 1
   pub going : ((i : ℕ) → ¬ LastIs j p i Arrive) → count_of is_arrive j p ≡ count_of is_depart j p
 
-kind_sorts : (k : Kind) → (k ≡ Arrive) ⊎ ((k ≡ Depart) ⊎ ((is_arrive k ≡ false) × (is_depart k ≡ false)))
-kind_sorts Arrive = inl refl
-kind_sorts Depart = inr (inl refl)
-kind_sorts _ = inr (inr (refl, refl))
+balance_kind_sorts : (k : Kind) → (k ≡ Arrive) ⊎ ((k ≡ Depart) ⊎ ((is_arrive k ≡ false) × (is_depart k ≡ false)))
+balance_kind_sorts Arrive = inl refl
+balance_kind_sorts Depart = inr (inl refl)
+balance_kind_sorts _ = inr (inr (refl, refl))
 
 others_balance : (j : List Event) (e : Event) (p : ℕ) → e.processor ≢ p → IsBalanced j p → IsBalanced (j ++ e ∷ []) p
 others_balance j e p isnt b =
@@ -39,22 +39,22 @@ others_balance j e p isnt b =
   where
     away : (m : ℕ) (f : Event) → At (e ∷ []) m f → f.processor ≢ p
     away m f at same =
-        elim (push_cases [] e m f at)
+        elim (slice_push_cases [] e m f at)
         [ inl old ↦ absurd (none-some f old.1) | inr new ↦ isnt (ap (λ x. x.processor) new.1 ∙ same) ]
 
     none_arrive : count_of is_arrive (e ∷ []) p ≡ 0
-    none_arrive = elim (count_of-one is_arrive e p) [ inl none ↦ none | inr one ↦ absurd (isnt one.0) ]
+    none_arrive = elim (count_of-one_time is_arrive e p) [ inl none ↦ none | inr one ↦ absurd (isnt one.0) ]
 
     none_depart : count_of is_depart (e ∷ []) p ≡ 0
-    none_depart = elim (count_of-one is_depart e p) [ inl none ↦ none | inr one ↦ absurd (isnt one.0) ]
+    none_depart = elim (count_of-one_time is_depart e p) [ inl none ↦ none | inr one ↦ absurd (isnt one.0) ]
 
 -- p's own event counts one where it is of these kinds
-count_own : (is : Kind → Bool) (k : Kind) (p : ℕ) → count_of is (event p k ∷ []) p ≡ cond (is k) 1 0
-count_own is k p = let own = eq-eqb p p refl in rw own (omega arith)
+balance_count_own : (is : Kind → Bool) (k : Kind) (p : ℕ) → count_of is (event p k ∷ []) p ≡ cond (is k) 1 0
+balance_count_own is k p = let own = eq-eqb p p refl in rw own (omega arith)
 
 own_balance : (s : Sizes) (j : List Event) (p : ℕ) (k : Kind) → MayFollow s j (event p k) → IsBalanced j p
     → IsBalanced (j ++ event p k ∷ []) p
-own_balance s j p k may b = elim (kind_sorts k) [
+own_balance s j p k may b = elim (balance_kind_sorts k) [
   | inl arrive ↦ record {
     waiting = λ i last. arrived arrive;
     going = λ none. absurd
@@ -73,12 +73,12 @@ own_balance s j p k may b = elim (kind_sorts k) [
     arrives : count_of is_arrive (j ++ event p k ∷ []) p ≡ count_of is_arrive j p + cond (is_arrive k) 1 0
     arrives =
         count_of-append is_arrive j (event p k ∷ []) p
-        ∙ ap (λ n. count_of is_arrive j p + n) (count_own is_arrive k p)
+        ∙ ap (λ n. count_of is_arrive j p + n) (balance_count_own is_arrive k p)
 
     departs : count_of is_depart (j ++ event p k ∷ []) p ≡ count_of is_depart j p + cond (is_depart k) 1 0
     departs =
         count_of-append is_depart j (event p k ∷ []) p
-        ∙ ap (λ n. count_of is_depart j p + n) (count_own is_depart k p)
+        ∙ ap (λ n. count_of is_depart j p + n) (balance_count_own is_depart k p)
 
     now : LastIs (j ++ event p k ∷ []) p (length j) k
     now = last_now j (event p k)
@@ -115,14 +115,14 @@ own_balance s j p k may b = elim (kind_sorts k) [
 -- in a well formed journal a processor is balanced
 pub balanced : (s : Sizes) (j : List Event) (p : ℕ) → WellFormed s j → IsBalanced j p
 balanced s j p =
-    push_induction (λ xs. WellFormed s xs → IsBalanced xs p)
+    slice_push_induction (λ xs. WellFormed s xs → IsBalanced xs p)
     (λ well. record { waiting = λ i last. absurd (none-some (event p Arrive) last.does); going = λ none. refl })
     step j
   where
     step : (xs : List Event) (e : Event) → (WellFormed s xs → IsBalanced xs p) → WellFormed s (xs ++ e ∷ [])
         → IsBalanced (xs ++ e ∷ []) p
     step xs e ih well =
-        let both = (each_push s xs e).0 well in
+        let both = (well_formed_push s xs e).0 well in
         elim (cases_eq e.processor p) [
           | inl is ↦ (let P : ℕ
               → Type 0 = λ q. IsBalanced xs q → IsBalanced (xs ++ e ∷ []) q in subst P is

@@ -8,14 +8,14 @@ use Rattle.journal.specs.Waits.{awaited}
 use Rattle.journal.specs.Deadlocks.{DeadlockLaw}
 
 -- what answers a call that waits is an event of taking
-pub answers_taking : (a c k : Kind) → awaited a ≡ Some c → AnswersCall a k → IsTrue (is_taking k)
-answers_taking (Ask l) c k h r = subst (λ b. IsTrue (is_taking b)) (sym r) refl
-answers_taking Arrive c k h r = subst (λ b. IsTrue (is_taking b)) (sym r) refl
-answers_taking (Watch f) c k h r = subst (λ b. IsTrue (is_taking b)) (sym r) refl
-answers_taking _ c k h r = absurd cc
+pub deadlock_answers_taking : (a c k : Kind) → awaited a ≡ Some c → AnswersCall a k → IsTrue (is_taking k)
+deadlock_answers_taking (Ask l) c k h r = subst (λ b. IsTrue (is_taking b)) (sym r) refl
+deadlock_answers_taking Arrive c k h r = subst (λ b. IsTrue (is_taking b)) (sym r) refl
+deadlock_answers_taking (Watch f) c k h r = subst (λ b. IsTrue (is_taking b)) (sym r) refl
+deadlock_answers_taking _ c k h r = absurd cc
 
 pub deadlock_law : DeadlockLaw
 deadlock_law s j e dead may =
     let w = dead.waits e.processor may.processor in
     dead.not_ready e.processor
-    (e.kind, answers_taking w.1 w.2 e.kind w.4 (may.answers w.0 w.1 w.3), may.allowed)
+    (e.kind, deadlock_answers_taking w.1 w.2 e.kind w.4 (may.answers w.0 w.1 w.3), may.allowed)

@@ -12,9 +12,9 @@ use Rattle.journal.specs.WellFormed.{Does, Holds, WellFormed}
 use Rattle.journal.specs.Pasts.{UpTo, UpToSome}
 use Rattle.journal.specs.Times.{IsTimeIn, IsTimeOf}
 use Rattle.journal.specs.Brings.{SomeDoes}
-use Rattle.base.proofs.SlicesAndCounts.{slice_get-take, slice_get-take_within, slice_get-from_take, push_cases}
-use Rattle.journal.proofs.Order.CountedAndNumbered.{at_last, does_same}
-use Rattle.journal.proofs.Order.EdgesIntoPast.{up_to_back}
+use Rattle.base.proofs.SlicesAndCounts.{slice_get-take, slice_get-take_within, slice_get-from_take, slice_push_cases}
+use Rattle.journal.proofs.Order.CountedAndNumbered.{numbered_at_last, numbered_does_same}
+use Rattle.journal.proofs.Order.EdgesIntoPast.{past_up_to_back}
 use Rattle.journal.proofs.Times.Times.{time_same}
 use Rattle.journal.proofs.Times.PushesCovered.{time_at_last}
 use Rattle.journal.proofs.Journals.WellFormedLast.{well_formed_take}
@@ -27,18 +27,18 @@ holds_take j n p l h lt = record {
   keeps = λ k after does. h.keeps k after (slice_get-from_take j n k (event p (Release l)) does);
 }
 
-not_held_before : (s : Sizes) (j : List Event) → WellFormed s j → (p q l : ℕ) (a : Holds j p l) (b : Holds j q l)
+holding_not_held_before : (s : Sizes) (j : List Event) → WellFormed s j → (p q l : ℕ) (a : Holds j p l) (b : Holds j q l)
     → a.place < b.place → ⊥
-not_held_before s j well p q l a b lt =
+holding_not_held_before s j well p q l a b lt =
     (well b.place (event q (Acquire l)) b.acquires).allowed.2.free p (holds_take j b.place p l a lt)
 
 -- a lock has at most one holder
 pub holds_alone : (s : Sizes) (j : List Event) → WellFormed s j → (p q l : ℕ) → Holds j p l → Holds j q l → p ≡ q
 holds_alone s j well p q l a b = elim (cases_order a.place b.place) [
-  | inl is ↦ (does_same j b.place p q (Acquire l) (Acquire l) (subst (λ m. Does j m p (Acquire l)) is a.acquires)
+  | inl is ↦ (numbered_does_same j b.place p q (Acquire l) (Acquire l) (subst (λ m. Does j m p (Acquire l)) is a.acquires)
       b.acquires).0
   | inr apart ↦ elim apart
-      [ inl lt ↦ absurd (not_held_before s j well p q l a b lt) | inr lt ↦ absurd (not_held_before s j well q p l b a lt) ]
+      [ inl lt ↦ absurd (holding_not_held_before s j well p q l a b lt) | inr lt ↦ absurd (holding_not_held_before s j well q p l b a lt) ]
 ]
 
 -- two releases of a lock are ordered
@@ -46,7 +46,7 @@ pub releases_ordered : {p q l : ℕ} → (s : Sizes) (j : List Event) → WellFo
     → Does j m p (Release l) → Does j k q (Release l) → HappensBefore j m k
 releases_ordered {p} {q} {l} s j well m k lt first second = elim (cases_order m h.place) [
   | inl is ↦ absurd
-      (cc ((does_same j h.place p q (Release l) (Acquire l) (subst (λ x. Does j x p (Release l)) is first) taken).1))
+      (cc ((numbered_does_same j h.place p q (Release l) (Acquire l) (subst (λ x. Does j x p (Release l)) is first) taken).1))
   | inr apart ↦ elim apart [ inl before ↦ between before | inr after ↦ absurd (held after) ]
 ]
   where
@@ -103,20 +103,20 @@ release_time s j e l t is well time =
     (time_at_last j e t time)
   where
     releases : Does (j ++ e ∷ []) (length j) e.processor (Release l)
-    releases = subst (λ k. Does (j ++ e ∷ []) (length j) e.processor k) is (at_last j e)
+    releases = subst (λ k. Does (j ++ e ∷ []) (length j) e.processor k) is (numbered_at_last j e)
 
     there : (i : ℕ) → UpTo (j ++ e ∷ []) (length j) i → UpToSome (j ++ e ∷ []) (SomeDoes (j ++ e ∷ []) (Release l)) i
     there i h = (length j, (e.processor, releases), h)
 
     last : (k : ℕ) → SomeDoes (j ++ e ∷ []) (Release l) k → UpTo (j ++ e ∷ []) (length j) k
-    last k h = elim (push_cases j e k (event h.0 (Release l)) h.1) [
+    last k h = elim (slice_push_cases j e k (event h.0 (Release l)) h.1) [
       | inl old ↦ inr (releases_ordered s (j ++ e ∷ []) well k (length j) old.0 h.1 releases)
       | inr new ↦ inl new.0
     ]
 
     step : (i k : ℕ) → UpTo (j ++ e ∷ []) (length j) k → UpTo (j ++ e ∷ []) k i → UpTo (j ++ e ∷ []) (length j) i
     step i k up (inl here) = subst (λ m. UpTo (j ++ e ∷ []) (length j) m) (sym here) up
-    step i k up (inr h) = up_to_back (j ++ e ∷ []) i k (length j) h up
+    step i k up (inr h) = past_up_to_back (j ++ e ∷ []) i k (length j) h up
 
     back : (i : ℕ) → UpToSome (j ++ e ∷ []) (SomeDoes (j ++ e ∷ []) (Release l)) i → UpTo (j ++ e ∷ []) (length j) i
     back i h = step i h.0 (last h.0 h.1) h.2

@@ -5,16 +5,16 @@ use Rattle.journal.specs.declared.event.Kind.TheVariants.{Acquire, Release}
 use Rattle.journal.specs.DidEvent.{event}
 use Rattle.journal.specs.Events.{At}
 use Rattle.journal.specs.WellFormed.{Does, Holds}
-use Rattle.base.proofs.SlicesAndCounts.{append_cases}
-use Rattle.journal.proofs.Order.CountedAndNumbered.{at_longer}
+use Rattle.base.proofs.SlicesAndCounts.{slice_append_cases}
+use Rattle.journal.proofs.Order.CountedAndNumbered.{numbered_at_longer}
 
 module _ (j es : List Event) (p l : ℕ) where
   -- who holds a lock that it doesn't release still holds it
   pub holds_over : ((k : ℕ) → ¬ Does es k p (Release l)) → Holds j p l → Holds (j ++ es) p l
   holds_over kept h = record {
     place = h.place;
-    acquires = at_longer j es h.place (event p (Acquire l)) h.acquires;
-    keeps = λ k lt does. elim (append_cases j es k (event p (Release l)) does) [
+    acquires = numbered_at_longer j es h.place (event p (Acquire l)) h.acquires;
+    keeps = λ k lt does. elim (slice_append_cases j es k (event p (Release l)) does) [
       | inl old ↦ h.keeps k lt old.1
       | inr new ↦ kept new.0 new.2
     ];
@@ -22,11 +22,11 @@ module _ (j es : List Event) (p l : ℕ) where
 
   -- and who doesn't acquire one held it before
   pub holds_before : ((k : ℕ) → ¬ Does es k p (Acquire l)) → Holds (j ++ es) p l → Holds j p l
-  holds_before idle h = elim (append_cases j es h.place (event p (Acquire l)) h.acquires) [
+  holds_before idle h = elim (slice_append_cases j es h.place (event p (Acquire l)) h.acquires) [
     | inl old ↦ record {
       place = h.place;
       acquires = old.1;
-      keeps = λ k lt does. h.keeps k lt (at_longer j es k (event p (Release l)) does);
+      keeps = λ k lt does. h.keeps k lt (numbered_at_longer j es k (event p (Release l)) does);
     }
     | inr new ↦ absurd (idle new.0 new.2)
   ]

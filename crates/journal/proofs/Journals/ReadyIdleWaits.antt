@@ -8,17 +8,17 @@ use Rattle.journal.specs.DidEvent.{event}
 use Rattle.journal.specs.Sizes.{Sizes}
 use Rattle.journal.specs.Events.{At, is_taking, is_closing}
 use Rattle.journal.specs.WellFormed.{KindInRange, LastIs, AnswersCall, Allowed, MayFollow, WellFormed}
-use Rattle.journal.specs.Waits.{awaited, IsIdle}
-use Rattle.base.proofs.SlicesAndCounts.{push_induction}
-use Rattle.journal.proofs.Order.CountedAndNumbered.{at_longer, at_last}
-use Rattle.journal.proofs.Journals.WellFormedLast.{each_push, last_unique, last_now}
+use Rattle.journal.specs.Waits.{awaited, WaitsForNothing}
+use Rattle.base.proofs.SlicesAndCounts.{slice_push_induction}
+use Rattle.journal.proofs.Order.CountedAndNumbered.{numbered_at_longer, numbered_at_last}
+use Rattle.journal.proofs.Journals.WellFormedLast.{well_formed_push, last_unique, last_now}
 
 -- what is awaited is what answers
-pub awaited_answers : (a k : Kind) → awaited a ≡ Some k → AnswersCall a k
-awaited_answers (Ask l) k h = sym (same_Some (Acquire l) k h)
-awaited_answers Arrive k h = sym (same_Some Depart k h)
-awaited_answers (Watch f) k h = sym (same_Some (Await f) k h)
-awaited_answers _ k h = tt
+pub waits_awaited_answers : (a k : Kind) → awaited a ≡ Some k → AnswersCall a k
+waits_awaited_answers (Ask l) k h = sym (same_Some (Acquire l) k h)
+waits_awaited_answers Arrive k h = sym (same_Some Depart k h)
+waits_awaited_answers (Watch f) k h = sym (same_Some (Await f) k h)
+waits_awaited_answers _ k h = tt
 
 -- after a call that doesn't wait comes anything
 pub idle_answers : (a k : Kind) → awaited a ≡ None → AnswersCall a k
@@ -44,9 +44,9 @@ waits_for s j p (Await f) h a = record { place = a.0; call = Watch f; last = a.3
 waits_for s j p _ h a = absurd cc
 
 -- what a processor is allowed to take may follow
-pub taking_follows : (s : Sizes) (j : List Event) (p : ℕ) (k : Kind) → WellFormed s j → IsTrue (is_taking k)
+pub ready_taking_follows : (s : Sizes) (j : List Event) (p : ℕ) (k : Kind) → WellFormed s j → IsTrue (is_taking k)
     → Allowed s j p k → MayFollow s j (event p k)
-taking_follows s j p k well taking allowed =
+ready_taking_follows s j p k well taking allowed =
     let w = waits_for s j p k taking allowed in
     let call = well w.place (event p w.call) w.last.does in
     record {
@@ -54,12 +54,12 @@ taking_follows s j p k well taking allowed =
       in_range = w.in_range call.in_range;
       answers =
           λ i b last. subst (λ a. AnswersCall a k) (last_unique j p w.place i w.call b w.last last).1
-          (awaited_answers w.call k w.awaits);
+          (waits_awaited_answers w.call k w.awaits);
       allowed = allowed;
     }
 
 -- of an idle processor what is in range and allowed may follow
-pub idle_follows : (s : Sizes) (j : List Event) (p : ℕ) (k : Kind) → p < s.processors → IsIdle j p → KindInRange s k
+pub idle_follows : (s : Sizes) (j : List Event) (p : ℕ) (k : Kind) → p < s.processors → WaitsForNothing j p → KindInRange s k
     → Allowed s j p k → MayFollow s j (event p k)
 idle_follows s j p k within idle range allowed =
     record {
@@ -69,12 +69,12 @@ idle_follows s j p k within idle range allowed =
       allowed = allowed;
     }
 
-quiet_allowed : (s : Sizes) (j : List Event) (p : ℕ) (k : Kind) → is_taking k ≡ false → is_closing k ≡ false
+idle_quiet_allowed : (s : Sizes) (j : List Event) (p : ℕ) (k : Kind) → is_taking k ≡ false → is_closing k ≡ false
     → Allowed s j p k
-quiet_allowed s j p (Load a v) h g = tt
-quiet_allowed s j p (Store a v) h g = tt
-quiet_allowed s j p (Fetch w n r d) h g = tt
-quiet_allowed s j p _ h g = absurd cc
+idle_quiet_allowed s j p (Load a v) h g = tt
+idle_quiet_allowed s j p (Store a v) h g = tt
+idle_quiet_allowed s j p (Fetch w n r d) h g = tt
+idle_quiet_allowed s j p _ h g = absurd cc
 
 quiet_idle : (k : Kind) → is_closing k ≡ false → awaited k ≡ None
 quiet_idle (Ask l) g = absurd cc
@@ -83,40 +83,40 @@ quiet_idle (Watch f) g = absurd cc
 quiet_idle _ g = refl
 
 -- p's event at place k of the block is a load, a store or a fetch, within the sizes
-pub record IsPlainAt (s : Sizes) (p : ℕ) (e : Event) : Type 0 where
+pub record IsIdlePlainAt (s : Sizes) (p : ℕ) (e : Event) : Type 0 where
   pub mine : e.processor ≡ p
   pub takes : is_taking e.kind ≡ false
   pub closes : is_closing e.kind ≡ false
   pub in_range : KindInRange s e.kind
 
 -- loads, stores and fetches of an idle processor keep a journal well formed, and the processor idle
-pub plain_block : (s : Sizes) (j block : List Event) (p : ℕ) → p < s.processors → WellFormed s j → IsIdle j p
-    → ((k : ℕ) (e : Event) → At block k e → IsPlainAt s p e) → WellFormed s (j ++ block) × IsIdle (j ++ block) p
-plain_block s j block p within well idle =
-    push_induction
-    (λ es. ((k : ℕ) (e : Event) → At es k e → IsPlainAt s p e) → WellFormed s (j ++ es) × IsIdle (j ++ es) p)
+pub idle_plain_block : (s : Sizes) (j block : List Event) (p : ℕ) → p < s.processors → WellFormed s j → WaitsForNothing j p
+    → ((k : ℕ) (e : Event) → At block k e → IsIdlePlainAt s p e) → WellFormed s (j ++ block) × WaitsForNothing (j ++ block) p
+idle_plain_block s j block p within well idle =
+    slice_push_induction
+    (λ es. ((k : ℕ) (e : Event) → At es k e → IsIdlePlainAt s p e) → WellFormed s (j ++ es) × WaitsForNothing (j ++ es) p)
     start step block
   where
-    start : ((k : ℕ) (e : Event) → At [] k e → IsPlainAt s p e) → WellFormed s (j ++ []) × IsIdle (j ++ []) p
+    start : ((k : ℕ) (e : Event) → At [] k e → IsIdlePlainAt s p e) → WellFormed s (j ++ []) × WaitsForNothing (j ++ []) p
     start plain = rw append-nil (well, idle)
 
-    pushed : (es : List Event) (e : Event) → IsPlainAt s p e → WellFormed s es → IsIdle es p
-        → WellFormed s (es ++ e ∷ []) × IsIdle (es ++ e ∷ []) p
+    pushed : (es : List Event) (e : Event) → IsIdlePlainAt s p e → WellFormed s es → WaitsForNothing es p
+        → WellFormed s (es ++ e ∷ []) × WaitsForNothing (es ++ e ∷ []) p
     pushed es e x w i =
         let same : (event p e.kind) ≡ e = ap (λ q. event q e.kind) (sym x.mine) in
         let may =
         subst (λ f. MayFollow s es f) same
-        (idle_follows s es p e.kind within i x.in_range (quiet_allowed s es p e.kind x.takes x.closes)) in
+        (idle_follows s es p e.kind within i x.in_range (idle_quiet_allowed s es p e.kind x.takes x.closes)) in
         let last = subst (λ q. LastIs (es ++ e ∷ []) q (length es) e.kind) x.mine (last_now es e) in (
-          (each_push s es e).1 (w, may),
+          (well_formed_push s es e).1 (w, may),
           λ m a now. subst (λ b. awaited b ≡ None)
               (last_unique (es ++ e ∷ []) p (length es) m e.kind a last now).1 (quiet_idle e.kind x.closes),
         )
 
     step : (es : List Event) (e : Event)
-        → (((k : ℕ) (f : Event) → At es k f → IsPlainAt s p f) → WellFormed s (j ++ es) × IsIdle (j ++ es) p)
-        → ((k : ℕ) (f : Event) → At (es ++ e ∷ []) k f → IsPlainAt s p f)
-        → WellFormed s (j ++ (es ++ e ∷ [])) × IsIdle (j ++ (es ++ e ∷ [])) p
+        → (((k : ℕ) (f : Event) → At es k f → IsIdlePlainAt s p f) → WellFormed s (j ++ es) × WaitsForNothing (j ++ es) p)
+        → ((k : ℕ) (f : Event) → At (es ++ e ∷ []) k f → IsIdlePlainAt s p f)
+        → WellFormed s (j ++ (es ++ e ∷ [])) × WaitsForNothing (j ++ (es ++ e ∷ [])) p
     step es e ih plain =
-        let old = ih (λ k f at. plain k f (at_longer es (e ∷ []) k f at)) in
-        rw append_assoc at (pushed (j ++ es) e (plain (length es) e (at_last es e)) old.0 old.1)
+        let old = ih (λ k f at. plain k f (numbered_at_longer es (e ∷ []) k f at)) in
+        rw append_assoc at (pushed (j ++ es) e (plain (length es) e (numbered_at_last es e)) old.0 old.1)

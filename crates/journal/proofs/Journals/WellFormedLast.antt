@@ -11,8 +11,8 @@ use Rattle.journal.specs.DidEvent.{event}
 use Rattle.journal.specs.Sizes.{Sizes}
 use Rattle.journal.specs.Events.{At}
 use Rattle.journal.specs.WellFormed.{Does, LastIs, Holds, MayFollow, WellFormed}
-use Rattle.base.proofs.SlicesAndCounts.{slice_get-take_within, slice_get-from_take, push_cases, append_cases, push_induction}
-use Rattle.journal.proofs.Order.CountedAndNumbered.{at_within, at_longer, at_last, does_same}
+use Rattle.base.proofs.SlicesAndCounts.{slice_get-take_within, slice_get-from_take, slice_push_cases, slice_append_cases, slice_push_induction}
+use Rattle.journal.proofs.Order.CountedAndNumbered.{numbered_at_within, numbered_at_longer, numbered_at_last, numbered_does_same}
 
 -- the empty journal is well formed
 pub well_formed_empty : (s : Sizes) → WellFormed s []
@@ -28,19 +28,19 @@ well_formed_take s j n well k e at =
 -- and each beginning
 pub well_formed_front : (s : Sizes) (j es : List Event) → WellFormed s (j ++ es) → WellFormed s j
 well_formed_front s j es well k e at =
-    let lt = at_within j k e at in
-    subst (λ xs. MayFollow s xs e) (take-append-le k j es (omega arith)) (well k e (at_longer j es k e at))
+    let lt = numbered_at_within j k e at in
+    subst (λ xs. MayFollow s xs e) (take-append-le k j es (omega arith)) (well k e (numbered_at_longer j es k e at))
 
 -- a journal with one more event is well formed exactly where the journal is, and the event may follow
-pub each_push : (s : Sizes) (j : List Event) (e : Event)
+pub well_formed_push : (s : Sizes) (j : List Event) (e : Event)
     → WellFormed s (j ++ e ∷ []) ↔ (WellFormed s j × MayFollow s j e)
-each_push s j e = ((λ well. (well_formed_front s j (e ∷ []) well, last well)), (λ both. back both.0 both.1))
+well_formed_push s j e = ((λ well. (well_formed_front s j (e ∷ []) well, last well)), (λ both. back both.0 both.1))
   where
     last : WellFormed s (j ++ e ∷ []) → MayFollow s j e
-    last well = subst (λ xs. MayFollow s xs e) (take-append_seam j (e ∷ [])) (well (length j) e (at_last j e))
+    last well = subst (λ xs. MayFollow s xs e) (take-append_seam j (e ∷ [])) (well (length j) e (numbered_at_last j e))
 
     back : WellFormed s j → MayFollow s j e → WellFormed s (j ++ e ∷ [])
-    back well may k f at = elim (push_cases j e k f at) [
+    back well may k f at = elim (slice_push_cases j e k f at) [
       | inl old ↦ (let lt = old.0 in
           subst (λ xs. MayFollow s xs f) (sym (take-append-le k j (e ∷ []) (omega arith))) (well k f old.1))
       | inr new ↦ subst (λ g. MayFollow s (take k (j ++ e ∷ [])) g) new.1 (subst (λ xs. MayFollow s xs e)
@@ -50,7 +50,7 @@ each_push s j e = ((λ well. (well_formed_front s j (e ∷ []) well, last well))
 -- a processor has one last event
 pub last_unique : (j : List Event) (p i k : ℕ) (a b : Kind) → LastIs j p i a → LastIs j p k b → (i ≡ k) × (a ≡ b)
 last_unique j p i k a b x y = elim (cases_order i k) [
-  | inl is ↦ (is, (does_same j k p p a b (subst (λ m. Does j m p a) is x.does) y.does).1)
+  | inl is ↦ (is, (numbered_does_same j k p p a b (subst (λ m. Does j m p a) is x.does) y.does).1)
   | inr apart ↦ elim apart [
     | inl lt ↦ absurd (x.last k (event p b) lt y.does refl)
     | inr lt ↦ absurd (y.last i (event p a) lt x.does refl)
@@ -61,9 +61,9 @@ last_unique j p i k a b x y = elim (cases_order i k) [
 pub last_now : (j : List Event) (e : Event) → LastIs (j ++ e ∷ []) e.processor (length j) e.kind
 last_now j e =
     record {
-      does = at_last j e;
-      last = λ m f lt at. (let within = at_within (j ++ e ∷ []) m f at in
-          elim (push_cases j e m f at)
+      does = numbered_at_last j e;
+      last = λ m f lt at. (let within = numbered_at_within (j ++ e ∷ []) m f at in
+          elim (slice_push_cases j e m f at)
           [ inl old ↦ absurd (omega (arith, old.0)) | inr new ↦ absurd (omega (arith, new.0)) ]);
     }
 
@@ -71,15 +71,15 @@ last_now j e =
 pub last_longer : (j es : List Event) (p i : ℕ) (a : Kind) → ((m : ℕ) (f : Event) → At es m f → f.processor ≢ p)
     → LastIs j p i a → LastIs (j ++ es) p i a
 last_longer j es p i a away x = record {
-  does = at_longer j es i (event p a) x.does;
+  does = numbered_at_longer j es i (event p a) x.does;
   last =
-      λ m f lt at. elim (append_cases j es m f at) [ inl old ↦ x.last m f lt old.1 | inr new ↦ away new.0 f new.2 ];
+      λ m f lt at. elim (slice_append_cases j es m f at) [ inl old ↦ x.last m f lt old.1 | inr new ↦ away new.0 f new.2 ];
 }
 
 pub last_shorter : (j es : List Event) (p i : ℕ) (a : Kind) → ((m : ℕ) (f : Event) → At es m f → f.processor ≢ p)
     → LastIs (j ++ es) p i a → LastIs j p i a
-last_shorter j es p i a away x = elim (append_cases j es i (event p a) x.does) [
-  | inl old ↦ record { does = old.1; last = λ m f lt at. x.last m f lt (at_longer j es m f at) }
+last_shorter j es p i a away x = elim (slice_append_cases j es i (event p a) x.does) [
+  | inl old ↦ record { does = old.1; last = λ m f lt at. x.last m f lt (numbered_at_longer j es m f at) }
   | inr new ↦ absurd (away new.0 (event p a) new.2 refl)
 ]
 
@@ -87,13 +87,13 @@ last_shorter j es p i a away x = elim (append_cases j es i (event p a) x.does) [
 pub last_or_none : (j : List Event) (p : ℕ)
     → ((i : ℕ) × (a : Kind) × LastIs j p i a) ⊎ ((m : ℕ) (f : Event) → At j m f → f.processor ≢ p)
 last_or_none j p =
-    push_induction
+    slice_push_induction
     (λ xs. ((i : ℕ) × (a : Kind) × LastIs xs p i a) ⊎ ((m : ℕ) (f : Event) → At xs m f → f.processor ≢ p))
     (inr (λ m f at. absurd (none-some f at))) step j
   where
     away : (e : Event) → e.processor ≢ p → (m : ℕ) (f : Event) → At (e ∷ []) m f → f.processor ≢ p
     away e isnt m f at same =
-        elim (push_cases [] e m f at)
+        elim (slice_push_cases [] e m f at)
         [ inl old ↦ absurd (none-some f old.1) | inr new ↦ isnt (ap (λ x. x.processor) new.1 ∙ same) ]
 
     step : (xs : List Event) (e : Event)
@@ -104,43 +104,43 @@ last_or_none j p =
       | inl is ↦ inl (length xs, e.kind, subst (λ q. LastIs (xs ++ e ∷ []) q (length xs) e.kind) is (last_now xs e))
       | inr isnt ↦ elim ih [
         | inl x ↦ inl (x.0, x.1, last_longer xs (e ∷ []) p x.0 x.1 (away e isnt) x.2)
-        | inr none ↦ inr (λ m f at same. elim (push_cases xs e m f at)
+        | inr none ↦ inr (λ m f at same. elim (slice_push_cases xs e m f at)
             [ inl old ↦ none m f old.1 same | inr new ↦ isnt (ap (λ x. x.processor) new.1 ∙ same) ])
       ]
     ]
 
 -- who acquires a lock holds it
-pub holds_now : (j : List Event) (p l : ℕ) → Holds (j ++ event p (Acquire l) ∷ []) p l
-holds_now j p l = record {
+pub well_formed_holds_now : (j : List Event) (p l : ℕ) → Holds (j ++ event p (Acquire l) ∷ []) p l
+well_formed_holds_now j p l = record {
   place = length j;
-  acquires = at_last j (event p (Acquire l));
+  acquires = numbered_at_last j (event p (Acquire l));
   keeps =
-      λ k lt does. elim (push_cases j (event p (Acquire l)) k (event p (Release l)) does)
+      λ k lt does. elim (slice_push_cases j (event p (Acquire l)) k (event p (Release l)) does)
       [ inl old ↦ omega (arith, old.0) | inr new ↦ omega (arith, new.0) ];
 }
 
 -- and holds it until its release
-pub holds_longer : (j : List Event) (e : Event) (p l : ℕ) → e ≢ (event p (Release l)) → Holds j p l
+pub well_formed_holds_longer : (j : List Event) (e : Event) (p l : ℕ) → e ≢ (event p (Release l)) → Holds j p l
     → Holds (j ++ e ∷ []) p l
-holds_longer j e p l isnt h = record {
+well_formed_holds_longer j e p l isnt h = record {
   place = h.place;
-  acquires = at_longer j (e ∷ []) h.place (event p (Acquire l)) h.acquires;
+  acquires = numbered_at_longer j (e ∷ []) h.place (event p (Acquire l)) h.acquires;
   keeps =
-      λ k lt does. elim (push_cases j e k (event p (Release l)) does)
+      λ k lt does. elim (slice_push_cases j e k (event p (Release l)) does)
       [ inl old ↦ h.keeps k lt old.1 | inr new ↦ isnt new.1 ];
 }
 
 -- who holds a lock after an event held it before, and does not release it, or acquires it
-pub holds_cases : (j : List Event) (e : Event) (p l : ℕ) → Holds (j ++ e ∷ []) p l
+pub well_formed_holds_cases : (j : List Event) (e : Event) (p l : ℕ) → Holds (j ++ e ∷ []) p l
     → (Holds j p l × (e ≢ (event p (Release l)))) ⊎ (e ≡ event p (Acquire l))
-holds_cases j e p l h = elim (push_cases j e h.place (event p (Acquire l)) h.acquires) [
+well_formed_holds_cases j e p l h = elim (slice_push_cases j e h.place (event p (Acquire l)) h.acquires) [
   | inl old ↦ inl (
     record {
       place = h.place;
       acquires = old.1;
-      keeps = λ k lt does. h.keeps k lt (at_longer j (e ∷ []) k (event p (Release l)) does);
+      keeps = λ k lt does. h.keeps k lt (numbered_at_longer j (e ∷ []) k (event p (Release l)) does);
     },
-    λ is. h.keeps (length j) old.0 (subst (λ f. At (j ++ e ∷ []) (length j) f) is (at_last j e)),
+    λ is. h.keeps (length j) old.0 (subst (λ f. At (j ++ e ∷ []) (length j) f) is (numbered_at_last j e)),
   )
   | inr new ↦ inr new.1
 ]
@@ -154,7 +154,7 @@ last_cases j e p i a x = elim (cases_eq e.processor p) [
       inl (is, same.0, same.1))
   | inr isnt ↦ inr (
     isnt,
-    last_shorter j (e ∷ []) p i a (λ m f at same. elim (push_cases [] e m f at)
+    last_shorter j (e ∷ []) p i a (λ m f at same. elim (slice_push_cases [] e m f at)
         [ inl old ↦ absurd (none-some f old.1) | inr new ↦ isnt (ap (λ y. y.processor) new.1 ∙ same) ])
         x,
   )

@@ -9,18 +9,18 @@ use Rattle.journal.specs.DidEvent.{event}
 use Rattle.journal.specs.Sizes.{Sizes}
 use Rattle.journal.specs.Events.{At}
 use Rattle.journal.specs.WellFormed.{Does}
-use Rattle.journal.specs.PageImages.{InGap, HasCount, StoredInGap, GapCounts}
+use Rattle.journal.specs.PageImages.{InGap, HasImageCount, StoredInGapOfImage, GapCounts}
 use Rattle.journal.specs.Blocks.{IsBlock}
 use Rattle.journal.specs.Counted.{AreCounted, BlockCounts}
-use Rattle.base.proofs.SlicesAndCounts.{push_cases, push_induction}
-use Rattle.journal.proofs.Order.CountedAndNumbered.{at_within, at_longer, at_shorter, at_last}
+use Rattle.base.proofs.SlicesAndCounts.{slice_push_cases, slice_push_induction}
+use Rattle.journal.proofs.Order.CountedAndNumbered.{numbered_at_within, numbered_at_longer, numbered_at_shorter, numbered_at_last}
 use Rattle.journal.proofs.Order.BlockPasts.{block_front, block_last}
 use Rattle.journal.proofs.CopyOfPage.CompleteBlocks.{gap_block}
-use Rattle.journal.proofs.Missing.GapsTaken.{gaps_of_others, stored_on}
+use Rattle.journal.proofs.Missing.GapsTaken.{gaps_of_others, gap_stored_longer}
 
 -- a count of other values that are the same
 pub count_of_same : {A : Type 0} (values others : A → Type 0) (n : ℕ) → ((x : A) → values x ↔ others x)
-    → HasCount values n → HasCount others n
+    → HasImageCount values n → HasImageCount others n
 count_of_same values others n same c =
     record {
       list = c.list;
@@ -34,19 +34,19 @@ pub counts_on : {s : Sizes} {j : List Event} {p n w r d : ℕ} → GapCounts s j
     → ((i : ℕ) → InGap s (j ++ es) p n i ↔ InGap s j p n i) → GapCounts s (j ++ es) p n w r d
 counts_on {s} {j} {p} {n} {w} {r} {d} c es same = record {
   writers_are =
-      count_of_same (λ (q : ℕ). (k : ℕ) × (a : ℕ) × StoredInGap s j p n (q, k, a))
-      (λ (q : ℕ). (k : ℕ) × (a : ℕ) × StoredInGap s (j ++ es) p n (q, k, a)) w
+      count_of_same (λ (q : ℕ). (k : ℕ) × (a : ℕ) × StoredInGapOfImage s j p n (q, k, a))
+      (λ (q : ℕ). (k : ℕ) × (a : ℕ) × StoredInGapOfImage s (j ++ es) p n (q, k, a)) w
       (λ q. (λ x. (x.0, x.1, (on (q, x.0, x.1)).1 x.2), λ x. (x.0, x.1, (on (q, x.0, x.1)).0 x.2))) c.writers_are;
   records_are =
-      count_of_same (λ (x : ℕ × ℕ). (a : ℕ) × StoredInGap s j p n (x.0, x.1, a))
-      (λ (x : ℕ × ℕ). (a : ℕ) × StoredInGap s (j ++ es) p n (x.0, x.1, a)) r
+      count_of_same (λ (x : ℕ × ℕ). (a : ℕ) × StoredInGapOfImage s j p n (x.0, x.1, a))
+      (λ (x : ℕ × ℕ). (a : ℕ) × StoredInGapOfImage s (j ++ es) p n (x.0, x.1, a)) r
       (λ x. (λ g. (g.0, (on (x.0, x.1, g.0)).1 g.1), λ g. (g.0, (on (x.0, x.1, g.0)).0 g.1))) c.records_are;
   words_are =
-      count_of_same (StoredInGap s j p n) (StoredInGap s (j ++ es) p n) d (λ z. ((on z).1, (on z).0)) c.words_are;
+      count_of_same (StoredInGapOfImage s j p n) (StoredInGapOfImage s (j ++ es) p n) d (λ z. ((on z).1, (on z).0)) c.words_are;
 }
   where
-    on : (z : ℕ × ℕ × ℕ) → StoredInGap s (j ++ es) p n z ↔ StoredInGap s j p n z
-    on = stored_on s j es p n same
+    on : (z : ℕ × ℕ × ℕ) → StoredInGapOfImage s (j ++ es) p n z ↔ StoredInGapOfImage s j p n z
+    on = gap_stored_longer s j es p n same
 
 -- so others' events
 pub counts_others : {s : Sizes} {j : List Event} {p n w r d : ℕ} → GapCounts s j p n w r d → (es : List Event)
@@ -61,7 +61,7 @@ counted_start s k p n w r d f = absurd (none-some (event p (Fetch w n r d)) f)
 pub counted_push : (s : Sizes) (j : List Event) (e : Event)
     → ((p n w r d : ℕ) → e ≡ event p (Fetch w n r d) → GapCounts s j p n w r d) → AreCounted s j
     → AreCounted s (j ++ e ∷ [])
-counted_push s j e new old k p n w r d f = elim (push_cases j e k (event p (Fetch w n r d)) f) [
+counted_push s j e new old k p n w r d f = elim (slice_push_cases j e k (event p (Fetch w n r d)) f) [
   | inl h ↦ (let within : k < length j = h.0 in rw (take-append-le k j (e ∷ []) (omega arith)) (old k p n w r d h.1))
   | inr h ↦ rw (h.0, take-append_seam j (e ∷ [])) (new p n w r d h.1)
 ]
@@ -89,34 +89,34 @@ block_counts_push s j block e p new c = record { counts = counts; first = first 
   where
     counts : (k n w r d : ℕ) → Does (block ++ e ∷ []) k p (Fetch w n r d) → GapCounts s j p n w r d
     counts k n w r d f =
-        elim (push_cases block e k (event p (Fetch w n r d)) f)
+        elim (slice_push_cases block e k (event p (Fetch w n r d)) f)
         [ inl h ↦ c.counts k n w r d h.1 | inr h ↦ (new n w r d h.1).0 ]
 
     first : (i k n w r d w' r' d' : ℕ) → i < k → Does (block ++ e ∷ []) k p (Fetch w n r d)
         → ¬ Does (block ++ e ∷ []) i p (Fetch w' n r' d')
-    first i k n w r d w' r' d' less f g = elim (push_cases block e k (event p (Fetch w n r d)) f) [
+    first i k n w r d w' r' d' less f g = elim (slice_push_cases block e k (event p (Fetch w n r d)) f) [
       | inl h ↦ (let within : k < length block = h.0 in
           c.first i k n w r d w' r' d' less h.1
-          (at_shorter block (e ∷ []) i (event p (Fetch w' n r' d')) (omega arith) g))
+          (numbered_at_shorter block (e ∷ []) i (event p (Fetch w' n r' d')) (omega arith) g))
       | inr h ↦ (let last : k ≡ length block = h.0 in
           (new n w r d h.1).1 i w' r' d'
-          (at_shorter block (e ∷ []) i (event p (Fetch w' n r' d')) (omega arith) g))
+          (numbered_at_shorter block (e ∷ []) i (event p (Fetch w' n r' d')) (omega arith) g))
     ]
 
 -- a block whose fetches count so is counted behind a counted journal
 pub counted_block : (s : Sizes) (j block : List Event) (p : ℕ) → IsBlock p block → BlockCounts s j block p
     → AreCounted s j → AreCounted s (j ++ block)
 counted_block s j block p is c old =
-    push_induction (λ es. IsBlock p es → BlockCounts s j es p → AreCounted s (j ++ es)) (λ _ _. rw append-nil old)
+    slice_push_induction (λ es. IsBlock p es → BlockCounts s j es p → AreCounted s (j ++ es)) (λ _ _. rw append-nil old)
     step block is c
   where
     front : (es : List Event) (e : Event) → BlockCounts s j (es ++ e ∷ []) p → BlockCounts s j es p
     front es e x = record {
-      counts = λ k n w r d f. x.counts k n w r d (at_longer es (e ∷ []) k (event p (Fetch w n r d)) f);
+      counts = λ k n w r d f. x.counts k n w r d (numbered_at_longer es (e ∷ []) k (event p (Fetch w n r d)) f);
       first =
           λ i k n w r d w' r' d' less f g. x.first i k n w r d w' r' d' less
-          (at_longer es (e ∷ []) k (event p (Fetch w n r d)) f)
-          (at_longer es (e ∷ []) i (event p (Fetch w' n r' d')) g);
+          (numbered_at_longer es (e ∷ []) k (event p (Fetch w n r d)) f)
+          (numbered_at_longer es (e ∷ []) i (event p (Fetch w' n r' d')) g);
     }
 
     last : (es : List Event) (e : Event) → IsBlock p (es ++ e ∷ []) → BlockCounts s j (es ++ e ∷ []) p
@@ -124,13 +124,13 @@ counted_block s j block p is c old =
     last es e more x q n w r d i =
         let mine : q ≡ p = sym (ap (λ (f : Event). f.processor) i) ∙ (block_last p es e more).0 in
         let fetch : ℕ → Event = λ m. event m (Fetch w n r d) in
-        let own : Does (es ++ e ∷ []) (length es) p (Fetch w n r d) = at_last es e ∙ ap Some (i ∙ ap fetch mine) in
+        let own : Does (es ++ e ∷ []) (length es) p (Fetch w n r d) = numbered_at_last es e ∙ ap Some (i ∙ ap fetch mine) in
         let P : ℕ → Type 0 = λ m. GapCounts s (j ++ es) m n w r d in
         subst P (sym mine) (counts_on (x.counts (length es) n w r d own) es
         (λ k. gap_block s j es p n k (block_front p es (e ∷ []) more)
         (λ m w' r' d' g. x.first m (length es) n w r d w' r' d'
-        (at_within es m (event p (Fetch w' n r' d')) g) own
-        (at_longer es (e ∷ []) m (event p (Fetch w' n r' d')) g))))
+        (numbered_at_within es m (event p (Fetch w' n r' d')) g) own
+        (numbered_at_longer es (e ∷ []) m (event p (Fetch w' n r' d')) g))))
 
     step : (es : List Event) (e : Event) → (IsBlock p es → BlockCounts s j es p → AreCounted s (j ++ es))
         → IsBlock p (es ++ e ∷ []) → BlockCounts s j (es ++ e ∷ []) p → AreCounted s (j ++ (es ++ e ∷ []))

@@ -4,14 +4,14 @@ use Rattle.std.proofs.lemmas.List.{length-map}
 use Rattle.std.proofs.lemmas.List.Concat.{length-flat_map}
 use Rattle.journal.specs.declared.event.Event.{Event}
 use Rattle.journal.specs.Sizes.{Sizes}
-use Rattle.journal.specs.PageImages.{Lawful, HasCount, StoredInGap, GapCounts}
+use Rattle.journal.specs.PageImages.{Lawful, HasImageCount, StoredInGapOfImage, GapCounts}
 use Rattle.journal.specs.BroughtCopy.{IsCopy}
 use Rattle.journal.specs.ContentsSince.{IsContent}
-use Rattle.journal.specs.MissingWords.{IsPlaced, Missing, MissingInOrder, AreMissing}
+use Rattle.journal.specs.MissingWords.{IsMissingPlaced, Missing, MissingInOrder, AreMissing}
 use Rattle.base.specs.InOrderOnce.{Has, InOrder, IsOnce}
 use Rattle.base.specs.MarkedRecords.{records_applied}
-use Rattle.base.proofs.Joined.{has-flat_map, in_order-flat_map, has-map, in_order-map, in_order_weaker}
-use Rattle.journal.proofs.CopyOfPage.CompleteBlocks.{fetched_gap}
+use Rattle.base.proofs.Joined.{has-flat_map, in_order-flat_map, has-map, in_order-map, joined_in_weaker_order}
+use Rattle.journal.proofs.CopyOfPage.CompleteBlocks.{complete_fetched_gap}
 use Rattle.journal.proofs.Missing.Placed.{placed_once}
 use Rattle.journal.proofs.Intervals.StoreContents.{content_word, content_has}
 use Rattle.journal.proofs.CopyOfPage.Stores.{store_same}
@@ -25,7 +25,7 @@ pub missing_fetched : (s : Sizes) (j : List Event) (p n : ℕ) (page : List ℕ)
 missing_fetched s j p n page missing are order copy =
     let g = groups_of s j n missing are.contents in
     let e = groups_extend s j n missing g.0 are.placed order g.1 in
-    fetched_gap copy g.1.records_of
+    complete_fetched_gap copy g.1.records_of
     (record { each = groups_gap s j p n missing g.0 are g.1; once = e.0; extends = e.1 })
 
 -- an interval's owner and number
@@ -37,12 +37,12 @@ abbrev pub stored_labels : Sizes → ℕ → Missing → List (ℕ × ℕ × ℕ
 stored_labels s n x = map (λ (w : ℕ × ℕ). (x.owner, x.number, n * s.words + w.0)) x.words
 
 -- of two intervals with two closing numbers the labels differ
-labels_apart : (j : List Event) (x y : Missing) → IsPlaced j x.owner x.number x.place
-    → IsPlaced j y.owner y.number y.place → x.place < y.place → label x ≢ label y
+labels_apart : (j : List Event) (x y : Missing) → IsMissingPlaced j x.owner x.number x.place
+    → IsMissingPlaced j y.owner y.number y.place → x.place < y.place → label x ≢ label y
 labels_apart j x y here there less same =
     let owners : x.owner ≡ y.owner = ap (λ (l : ℕ × ℕ). l.0) same in
     let numbers : x.number ≡ y.number = ap (λ (l : ℕ × ℕ). l.1) same in
-    let P : ℕ → ℕ → Type 0 = λ q k. IsPlaced j q k x.place in
+    let P : ℕ → ℕ → Type 0 = λ q k. IsMissingPlaced j q k x.place in
     let e = placed_once j y.owner y.number x.place y.place (subst₂ P owners numbers here) there in
     omega arith
 
@@ -50,14 +50,14 @@ labels_apart j x y here there less same =
 pub labels_once : (s : Sizes) (j : List Event) (p n : ℕ) (missing : List Missing) → AreMissing s j p n missing
     → MissingInOrder missing → IsOnce (map label missing)
 labels_once s j p n missing are order =
-    in_order-map (λ (a b : ℕ × ℕ). a ≢ b) label missing (in_order_weaker (λ (x y : Missing). x.place < y.place)
+    in_order-map (λ (a b : ℕ × ℕ). a ≢ b) label missing (joined_in_weaker_order (λ (x y : Missing). x.place < y.place)
     (λ (x y : Missing). label x ≢ label y) missing
     (λ x y h g less. labels_apart j x y (are.placed x h) (are.placed y g) less) order)
 
 -- the owners of the missing intervals are those who stored in the gap
 pub writers_counted : (s : Sizes) (j : List Event) (p n writers : ℕ) (missing : List Missing)
-    → AreMissing s j p n missing → HasCount (λ (q : ℕ). (x : Missing) × Has missing x × (x.owner ≡ q)) writers
-    → HasCount (λ (q : ℕ). (k : ℕ) × (a : ℕ) × StoredInGap s j p n (q, k, a)) writers
+    → AreMissing s j p n missing → HasImageCount (λ (q : ℕ). (x : Missing) × Has missing x × (x.owner ≡ q)) writers
+    → HasImageCount (λ (q : ℕ). (k : ℕ) × (a : ℕ) × StoredInGapOfImage s j p n (q, k, a)) writers
 writers_counted s j p n writers missing are count =
     record {
       list = count.list;
@@ -67,16 +67,16 @@ writers_counted s j p n writers missing are count =
     }
   where
     there : (q : ℕ) → ((x : Missing) × Has missing x × (x.owner ≡ q))
-        → (k : ℕ) × (a : ℕ) × StoredInGap s j p n (q, k, a)
+        → (k : ℕ) × (a : ℕ) × StoredInGapOfImage s j p n (q, k, a)
     there q x = let r = (are.each q x.0.number).0 (x.0, x.1, x.2, refl) in (x.0.number, r.0, r.1)
 
-    back : (q : ℕ) → ((k : ℕ) × (a : ℕ) × StoredInGap s j p n (q, k, a))
+    back : (q : ℕ) → ((k : ℕ) × (a : ℕ) × StoredInGapOfImage s j p n (q, k, a))
         → (x : Missing) × Has missing x × (x.owner ≡ q)
     back q x = let r = (are.each q x.0).1 (x.1, x.2) in (r.0, r.1, r.2)
 
 -- the records are as many as the missing intervals
 pub records_counted : (s : Sizes) (j : List Event) (p n : ℕ) (missing : List Missing) → AreMissing s j p n missing
-    → MissingInOrder missing → HasCount (λ (x : ℕ × ℕ). (a : ℕ) × StoredInGap s j p n (x.0, x.1, a)) (length missing)
+    → MissingInOrder missing → HasImageCount (λ (x : ℕ × ℕ). (a : ℕ) × StoredInGapOfImage s j p n (x.0, x.1, a)) (length missing)
 records_counted s j p n missing are order =
     record {
       list = map label missing;
@@ -86,18 +86,18 @@ records_counted s j p n missing are order =
     }
   where
     there : (l : ℕ × ℕ) → ((x : Missing) × Has missing x × (label x ≡ l))
-        → (a : ℕ) × StoredInGap s j p n (l.0, l.1, a)
+        → (a : ℕ) × StoredInGapOfImage s j p n (l.0, l.1, a)
     there l x = (are.each l.0 l.1).0 (x.0, x.1, ap (λ (m : ℕ × ℕ). m.0) x.2, ap (λ (m : ℕ × ℕ). m.1) x.2)
 
-    back : (l : ℕ × ℕ) → ((a : ℕ) × StoredInGap s j p n (l.0, l.1, a)) → (x : Missing) × Has missing x × (label x ≡ l)
+    back : (l : ℕ × ℕ) → ((a : ℕ) × StoredInGapOfImage s j p n (l.0, l.1, a)) → (x : Missing) × Has missing x × (label x ≡ l)
     back l x = let r = (are.each l.0 l.1).1 x in (r.0, r.1, ap₂ (λ (q k : ℕ). (q, k)) r.2 r.3)
 
 -- an interval's stored words are its stores in the gap
-pub stored_in_gap : (s : Sizes) (j : List Event) (p n : ℕ) (missing : List Missing) (z : ℕ × ℕ × ℕ)
-    → AreMissing s j p n missing → ((x : Missing) × Has missing x × Has (stored_labels s n x) z) ↔ StoredInGap s j p n z
-stored_in_gap s j p n missing z are = (there, back)
+pub labels_stored_in_gap : (s : Sizes) (j : List Event) (p n : ℕ) (missing : List Missing) (z : ℕ × ℕ × ℕ)
+    → AreMissing s j p n missing → ((x : Missing) × Has missing x × Has (stored_labels s n x) z) ↔ StoredInGapOfImage s j p n z
+labels_stored_in_gap s j p n missing z are = (there, back)
   where
-    there : ((x : Missing) × Has missing x × Has (stored_labels s n x) z) → StoredInGap s j p n z
+    there : ((x : Missing) × Has missing x × Has (stored_labels s n x) z) → StoredInGapOfImage s j p n z
     there h =
         let x = h.0 in
         let w = (has-map (λ (w : ℕ × ℕ). (x.owner, x.number, n * s.words + w.0)) x.words z).0 h.2 in
@@ -107,11 +107,11 @@ stored_in_gap s j p n missing z are = (there, back)
         let address : y.1.0 ≡ n * s.words + w.0.0 =
         sym (div-add-mod' y.1.0 s.words)
         ∙ ap₂ (λ (a b : ℕ). a * s.words + b) y.1.3 (ap (λ (v : ℕ × ℕ). v.0) y.2) in
-        let here : StoredInGap s j p n (x.owner, x.number, y.1.0) = (y.0, y.1.1, y.1.2, whole, y.1.4) in
-        let P : ℕ → Type 0 = λ a. StoredInGap s j p n (x.owner, x.number, a) in
-        subst (StoredInGap s j p n) w.2 (subst P address here)
+        let here : StoredInGapOfImage s j p n (x.owner, x.number, y.1.0) = (y.0, y.1.1, y.1.2, whole, y.1.4) in
+        let P : ℕ → Type 0 = λ a. StoredInGapOfImage s j p n (x.owner, x.number, a) in
+        subst (StoredInGapOfImage s j p n) w.2 (subst P address here)
 
-    back : StoredInGap s j p n z → (x : Missing) × Has missing x × Has (stored_labels s n x) z
+    back : StoredInGapOfImage s j p n z → (x : Missing) × Has missing x × Has (stored_labels s n x) z
     back g =
         let m = (are.each z.0 z.1).1 (z.2, g) in
         let x = m.0 in
@@ -135,14 +135,14 @@ stored_in_gap s j p n missing z are = (there, back)
 
 -- the words are as many as those of the missing intervals
 pub words_counted : (s : Sizes) (j : List Event) (p n : ℕ) (missing : List Missing) → AreMissing s j p n missing
-    → MissingInOrder missing → HasCount (StoredInGap s j p n) (sum_by (λ (x : Missing). length x.words) missing)
+    → MissingInOrder missing → HasImageCount (StoredInGapOfImage s j p n) (sum_by (λ (x : Missing). length x.words) missing)
 words_counted s j p n missing are order = record {
   list = flat_map (stored_labels s n) missing;
   each =
       λ z. (
-        λ h. (stored_in_gap s j p n missing z are).0 ((has-flat_map (stored_labels s n) missing z).0 h),
+        λ h. (labels_stored_in_gap s j p n missing z are).0 ((has-flat_map (stored_labels s n) missing z).0 h),
         λ g.
-            (has-flat_map (stored_labels s n) missing z).1 ((stored_in_gap s j p n missing z are).1 g),
+            (has-flat_map (stored_labels s n) missing z).1 ((labels_stored_in_gap s j p n missing z are).1 g),
       );
   once = in_order-flat_map (λ (a b : ℕ × ℕ × ℕ). a ≢ b) (stored_labels s n) missing each across;
   length_is = length-flat_map (stored_labels s n) missing ∙ (simp length-map);
@@ -151,7 +151,7 @@ words_counted s j p n missing are order = record {
     each : (x : Missing) → Has missing x → IsOnce (stored_labels s n x)
     each x h =
         in_order-map (λ (a b : ℕ × ℕ × ℕ). a ≢ b) (λ (w : ℕ × ℕ). (x.owner, x.number, n * s.words + w.0)) x.words
-        (in_order_weaker (λ (a b : ℕ × ℕ). a.0 < b.0) (λ (a b : ℕ × ℕ). ◌≢◌ {A = ℕ × ℕ × ℕ}
+        (joined_in_weaker_order (λ (a b : ℕ × ℕ). a.0 < b.0) (λ (a b : ℕ × ℕ). ◌≢◌ {A = ℕ × ℕ × ℕ}
         (x.owner, x.number, n * s.words + a.0) (x.owner, x.number, n * s.words + b.0))
         x.words (λ a b _ _ less same.
         let e : n * s.words + a.0 ≡ n * s.words + b.0 = ap (λ (l : ℕ × ℕ × ℕ). l.2) same in
@@ -168,7 +168,7 @@ words_counted s j p n missing are order = record {
 -- a fetch's counts are how many owners, intervals and words the missing list has
 pub missing_counts : (s : Sizes) (j : List Event) (p n writers : ℕ) (missing : List Missing)
     → AreMissing s j p n missing → MissingInOrder missing
-    → HasCount (λ (q : ℕ). (x : Missing) × Has missing x × (x.owner ≡ q)) writers
+    → HasImageCount (λ (q : ℕ). (x : Missing) × Has missing x × (x.owner ≡ q)) writers
     → GapCounts s j p n writers (length missing) (sum_by (λ (x : Missing). length x.words) missing)
 missing_counts s j p n writers missing are order count =
     record {

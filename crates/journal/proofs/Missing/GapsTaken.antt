@@ -12,23 +12,23 @@ use Rattle.journal.specs.WellFormed.{Does}
 use Rattle.journal.specs.Pasts.{UpTo, InPast}
 use Rattle.journal.specs.Times.{ClosesAt, IsTimeOf}
 use Rattle.journal.specs.ClosedIntervals.{ClosedAt}
-use Rattle.journal.specs.PageImages.{StoresToPage, FetchesPage, Mine, InGap, StoredInGap}
+use Rattle.journal.specs.PageImages.{StoresToPage, FetchesPage, IsOwnPlaceOfImage, InGap, StoredInGapOfImage}
 use Rattle.journal.specs.ContentsSince.{StoresInInterval}
 use Rattle.journal.specs.BroughtCopy.{Brought}
-use Rattle.base.proofs.SlicesAndCounts.{append_cases, push_cases}
-use Rattle.journal.proofs.Order.CountedAndNumbered.{at_within, at_longer, at_shorter, at_same, does_same, count_of-front}
+use Rattle.base.proofs.SlicesAndCounts.{slice_append_cases, slice_push_cases}
+use Rattle.journal.proofs.Order.CountedAndNumbered.{numbered_at_within, numbered_at_longer, numbered_at_shorter, numbered_at_same, numbered_does_same, count_of-front}
 use Rattle.journal.proofs.Order.HappensBefore.{before_shorter}
-use Rattle.journal.proofs.Order.EdgesIntoPast.{up_to_back, past_within, past_longer, own_in_past, past_others}
-use Rattle.journal.proofs.Times.LeavingCloses.{LeavesAt, leaving_at, own_order}
+use Rattle.journal.proofs.Order.EdgesIntoPast.{past_up_to_back, past_within, past_longer, own_in_past, past_others}
+use Rattle.journal.proofs.Times.LeavingCloses.{LeavesAt, leaving_at, leaving_own_order}
 use Rattle.journal.proofs.Times.PushesCovered.{covered}
 use Rattle.journal.proofs.CopyOfPage.Stores.{stores_to, stores_within, stores_longer, stores_shorter}
-use Rattle.journal.proofs.CopyOfPage.Brought.{brought_longer, brought_past, brought_push, gap_is}
+use Rattle.journal.proofs.CopyOfPage.Brought.{brought_longer, brought_past, brought_push, brought_gap_is}
 use Rattle.journal.proofs.Times.Closing.{closes_first, closed_past}
 use Rattle.journal.proofs.Times.IntervalNumbers.{closes_interval, number_closed}
 
 -- another processor's event is not one's own
-pub not_mine : (j : List Event) (p q i : ℕ) (a : Kind) → Does j i q a → q ≢ p → ¬ Mine j p i
-not_mine j p q i a does apart m = apart (ap (λ (e : Event). e.processor) (at_same j i (event q a) m.0 does m.1) ∙ m.2)
+pub gap_not_mine : (j : List Event) (p q i : ℕ) (a : Kind) → Does j i q a → q ≢ p → ¬ IsOwnPlaceOfImage j p i
+gap_not_mine j p q i a does apart m = apart (ap (λ (e : Event). e.processor) (numbered_at_same j i (event q a) m.0 does m.1) ∙ m.2)
 
 -- a store in the gap is another processor's
 pub gaps_apart : (s : Sizes) (j : List Event) (p n q i a v : ℕ) → InGap s j p n i → Does j i q (Store a v) → q ≢ p
@@ -42,25 +42,25 @@ gaps_of_others s j es p n i away = (there, back)
     there : InGap s (j ++ es) p n i → InGap s j p n i
     there g =
         let past = (past_others j es p i away).0 g.past in
-        (gap_is s j p n i).1 (
+        (brought_gap_is s j p n i).1 (
           past,
           stores_shorter s j es n i (past_within j p i past) g.store,
           λ b.
-              ((gap_is s (j ++ es) p n i).0 g).2 (brought_longer j es p n i b),
+              ((brought_gap_is s (j ++ es) p n i).0 g).2 (brought_longer j es p n i b),
         )
 
     old : InGap s j p n i → Brought (j ++ es) p n i → ⊥
-    old g (inl m) = g.others (m.0, at_shorter j es i m.0 (past_within j p i g.past) m.1, m.2)
+    old g (inl m) = g.others (m.0, numbered_at_shorter j es i m.0 (past_within j p i g.past) m.1, m.2)
     old g (inr m) =
         let f = m.1 in
         let e : Event = event p (Fetch f.0 n f.1 f.2) in
-        elim (append_cases j es m.0 e f.3) [
+        elim (slice_append_cases j es m.0 e f.3) [
           | inl h ↦ g.new m.0 (f.0, f.1, f.2, h.1) (before_shorter j es h.0 m.2)
           | inr h ↦ away h.0 e h.2 refl
         ]
 
     back : InGap s j p n i → InGap s (j ++ es) p n i
-    back g = (gap_is s (j ++ es) p n i).1 ((past_others j es p i away).1 g.past, stores_longer s j es n i g.store, old g)
+    back g = (brought_gap_is s (j ++ es) p n i).1 ((past_others j es p i away).1 g.past, stores_longer s j es n i g.store, old g)
 
 -- an event by which p gets to know of others' adds what lies between p's timestamps before and after it
 pub gap_taken : (s : Sizes) (j : List Event) (p n q i a v : ℕ) (k : Kind) (t t' : ℕ → ℕ) → is_taking k ≡ true
@@ -73,7 +73,7 @@ gap_taken s j p n q i a v k t t' takes time after does page apart = (there, back
     e = event p k
 
     within : i < length j
-    within = at_within j i (event q (Store a v)) does
+    within = numbered_at_within j i (event q (Store a v)) does
 
     store : StoresToPage s (j ++ e ∷ []) n i
     store = stores_longer s j (e ∷ []) n i (stores_to s j n i q a v does page)
@@ -85,7 +85,7 @@ gap_taken s j p n q i a v k t t' takes time after does page apart = (there, back
     number = count_of-front is_closing j (e ∷ []) i q (le_of_lt within)
 
     new : InPast (j ++ e ∷ []) p i ↔ (interval_at (j ++ e ∷ []) q i < t' q)
-    new = covered (j ++ e ∷ []) p q i (Store a v) t' after (at_longer j (e ∷ []) i (event q (Store a v)) does) apart
+    new = covered (j ++ e ∷ []) p q i (Store a v) t' after (numbered_at_longer j (e ∷ []) i (event q (Store a v)) does) apart
 
     not_fetch : (w r d : ℕ) → e ≢ (event p (Fetch w n r d))
     not_fetch w r d is = true≢false (sym takes ∙ ap (λ (f : Event). is_taking f.kind) is)
@@ -99,21 +99,21 @@ gap_taken s j p n q i a v k t t' takes time after does page apart = (there, back
     there g =
         let less = new.0 g.past in
         elim (cases_lt (interval_at j q i) (t q)) [
-          | inl known ↦ inl ((gap_is s j p n i).1 (
+          | inl known ↦ inl ((brought_gap_is s j p n i).1 (
             old.1 known,
             stores_to s j n i q a v does page,
             λ b.
-                ((gap_is s (j ++ e ∷ []) p n i).0 g).2 (brought_longer j (e ∷ []) p n i b),
+                ((brought_gap_is s (j ++ e ∷ []) p n i).0 g).2 (brought_longer j (e ∷ []) p n i b),
           ))
           | inr from ↦ inr (from, omega (arith, less, number))
         ]
 
     back : InGap s j p n i ⊎ ((t q ≤ interval_at j q i) × (interval_at j q i < t' q)) → InGap s (j ++ e ∷ []) p n i
     back (inl g) =
-        (gap_is s (j ++ e ∷ []) p n i).1
-        (past_longer j (e ∷ []) p i g.past, store, λ b. ((gap_is s j p n i).0 g).2 (brought_old b))
+        (brought_gap_is s (j ++ e ∷ []) p n i).1
+        (past_longer j (e ∷ []) p i g.past, store, λ b. ((brought_gap_is s j p n i).0 g).2 (brought_old b))
     back (inr x) =
-        (gap_is s (j ++ e ∷ []) p n i).1 (
+        (brought_gap_is s (j ++ e ∷ []) p n i).1 (
           new.1 (omega (arith, x.1, number)),
           store,
           λ b. let less = old.0
@@ -142,15 +142,15 @@ nothing_taken {j} {p} {k} {t} {t'} l s n none i x past =
 
     last : length j ≤ i → ⊥
     last from =
-        elim (push_cases j e i f x.does) [
+        elim (slice_push_cases j e i f x.does) [
           | inl h ↦ (let less = h.0 in omega arith)
           | inr h ↦ true≢false (sym l.takes ∙ ap (λ (g : Event). is_taking g.kind) h.1)
         ]
 
     old : i < length j → (x.by ≡ p) ⊎ (x.by ≢ p) → InPast j p i
-    old within (inl mine) = own_in_past j p i f (at_shorter j (e ∷ []) i f within x.does) mine
+    old within (inl mine) = own_in_past j p i f (numbered_at_shorter j (e ∷ []) i f within x.does) mine
     old within (inr apart) =
-        let does : Does j i x.by (Store x.address x.value) = at_shorter j (e ∷ []) i f within x.does in
+        let does : Does j i x.by (Store x.address x.value) = numbered_at_shorter j (e ∷ []) i f within x.does in
         let number : interval_at (j ++ e ∷ []) x.by i ≡ interval_at j x.by i =
         count_of-front is_closing j (e ∷ []) i x.by (le_of_lt within) in
         let less = (covered (j ++ e ∷ []) p x.by i (Store x.address x.value) t' l.after x.does apart).0 past in
@@ -160,11 +160,11 @@ nothing_taken {j} {p} {k} {t} {t'} l s n none i x past =
         ]
 
 -- with one store of an interval the gap has all of them
-pub gaps_whole : (s : Sizes) (j : List Event) (p n : ℕ) (z : ℕ × ℕ × ℕ) (m : ℕ) → StoredInGap s j p n z
+pub gaps_whole : (s : Sizes) (j : List Event) (p n : ℕ) (z : ℕ × ℕ × ℕ) (m : ℕ) → StoredInGapOfImage s j p n z
     → StoresInInterval s j z.0 z.1 n m → InGap s j p n m
 gaps_whole s j p n z m stored x = record {
   store = stores_to s j n m z.0 x.0 x.1 x.2 x.3;
-  others = not_mine j p z.0 m (Store x.0 x.1) x.2 apart;
+  others = gap_not_mine j p z.0 m (Store x.0 x.1) x.2 apart;
   past =
       (closed_past j p z.0 m c.0 (Store x.0 x.1) second x.2 apart).1
       ((closed_past j p z.0 i c.0 (Store z.2 stored.1) first does apart).0 g.past);
@@ -198,29 +198,29 @@ gaps_whole s j p n z m stored x = record {
     before f fetch l =
         let least = closes_first second x.2 l.from l.closes in
         let less = first.before in
-        elim (up_to_back j i l.close f
-        (own_order j z.0 i l.close (Store z.2 stored.1) l.closes.kind does l.closes.does (omega arith)) l.inside) [
+        elim (past_up_to_back j i l.close f
+        (leaving_own_order j z.0 i l.close (Store z.2 stored.1) l.closes.kind does l.closes.does (omega arith)) l.inside) [
           | inl is ↦ (let P : ℕ
-              → Type 0 = λ y. Does j y z.0 (Store z.2 stored.1) in absurd (apart (does_same j f z.0 p
+              → Type 0 = λ y. Does j y z.0 (Store z.2 stored.1) in absurd (apart (numbered_does_same j f z.0 p
               (Store z.2 stored.1) (Fetch fetch.0 n fetch.1 fetch.2) (subst P is does) fetch.3).0))
           | inr h ↦ h
         ]
 
 -- where the gap is the same, so are the stores in it
-pub stored_on : (s : Sizes) (j es : List Event) (p n : ℕ) → ((i : ℕ) → InGap s (j ++ es) p n i ↔ InGap s j p n i)
-    → (z : ℕ × ℕ × ℕ) → StoredInGap s (j ++ es) p n z ↔ StoredInGap s j p n z
-stored_on s j es p n same z = (there, back)
+pub gap_stored_longer : (s : Sizes) (j es : List Event) (p n : ℕ) → ((i : ℕ) → InGap s (j ++ es) p n i ↔ InGap s j p n i)
+    → (z : ℕ × ℕ × ℕ) → StoredInGapOfImage s (j ++ es) p n z ↔ StoredInGapOfImage s j p n z
+gap_stored_longer s j es p n same z = (there, back)
   where
     number : (i : ℕ) → i < length j → interval_at (j ++ es) z.0 i ≡ interval_at j z.0 i
     number i within = count_of-front is_closing j es i z.0 (le_of_lt within)
 
-    there : StoredInGap s (j ++ es) p n z → StoredInGap s j p n z
+    there : StoredInGapOfImage s (j ++ es) p n z → StoredInGapOfImage s j p n z
     there g =
         let old = (same g.0).0 g.3 in
         let within = stores_within s j n g.0 old.store in
-        (g.0, g.1, at_shorter j es g.0 (event z.0 (Store z.2 g.1)) within g.2, old, sym (number g.0 within) ∙ g.4)
+        (g.0, g.1, numbered_at_shorter j es g.0 (event z.0 (Store z.2 g.1)) within g.2, old, sym (number g.0 within) ∙ g.4)
 
-    back : StoredInGap s j p n z → StoredInGap s (j ++ es) p n z
+    back : StoredInGapOfImage s j p n z → StoredInGapOfImage s (j ++ es) p n z
     back g =
         let within = stores_within s j n g.0 g.3.store in
-        (g.0, g.1, at_longer j es g.0 (event z.0 (Store z.2 g.1)) g.2, (same g.0).1 g.3, number g.0 within ∙ g.4)
+        (g.0, g.1, numbered_at_longer j es g.0 (event z.0 (Store z.2 g.1)) g.2, (same g.0).1 g.3, number g.0 within ∙ g.4)

@@ -11,10 +11,10 @@ use Rattle.journal.specs.Times.{ClosesAt}
 use Rattle.journal.specs.ClosedIntervals.{ClosedAt}
 use Rattle.journal.specs.PageImages.{page_write, InGap}
 use Rattle.journal.specs.ContentsSince.{StoresInInterval, IsContent}
-use Rattle.journal.specs.MissingWords.{IsPlaced, Missing, MissingInOrder, AreMissing}
+use Rattle.journal.specs.MissingWords.{IsMissingPlaced, Missing, MissingInOrder, AreMissing}
 use Rattle.base.specs.InOrderOnce.{Has, InOrder, IsOnce}
 use Rattle.base.specs.MarkedRecords.{AreRecordsOf, none, more}
-use Rattle.base.proofs.Joined.{has_concat, in_order_concat}
+use Rattle.base.proofs.Joined.{joined_has, joined_in_order}
 use Rattle.journal.proofs.Order.HappensBefore.{before_goes_forward}
 use Rattle.journal.proofs.Times.Closing.{closing_extends, closed_once}
 use Rattle.journal.proofs.Times.IntervalNumbers.{closes_interval}
@@ -69,7 +69,7 @@ groups_of s j n (y ∷ missing) contents =
 -- the places of all groups are the gap
 pub groups_gap : (s : Sizes) (j : List Event) (p n : ℕ) (missing : List Missing) (groups : List (List ℕ))
     → AreMissing s j p n missing → AreGroups s j n missing groups → (i : ℕ) → Has (concat groups) i ↔ InGap s j p n i
-groups_gap s j p n missing groups are of i = (λ h. there ((has_concat groups i).0 h), back)
+groups_gap s j p n missing groups are of i = (λ h. there ((joined_has groups i).0 h), back)
   where
     there : ((g : List ℕ) × Has groups g × Has g i) → InGap s j p n i
     there h =
@@ -89,23 +89,23 @@ groups_gap s j p n missing groups are of i = (λ h. there ((has_concat groups i)
         let Q : ℕ → ℕ → Type 0 = λ q k. StoresInInterval s j q k n i in
         let here : StoresInInterval s j m.0.owner m.0.number n i =
         subst₂ Q (sym m.2) (sym m.3) (w.address, w.value, w.does, w.in_page, refl) in
-        (has_concat groups i).1 (f.0, (m.1.0, f.1), (r.2 i).1 (subst P (sym same) here))
+        (joined_has groups i).1 (f.0, (m.1.0, f.1), (r.2 i).1 (subst P (sym same) here))
 
 -- a store of a closed interval, with its closing event
-pub store_closed : (s : Sizes) (j : List Event) (q k n i c : ℕ) → StoresInInterval s j q k n i → ClosesAt j q c
+pub group_store_closed : (s : Sizes) (j : List Event) (q k n i c : ℕ) → StoresInInterval s j q k n i → ClosesAt j q c
     → interval_at j q c ≡ k → ClosedAt j i c
-store_closed s j q k n i c x closes number =
+group_store_closed s j q k n i c x closes number =
     closes_interval j q i c (Store x.0 x.1) x.2 (λ h. true≢false (sym h)) closes (x.4 ∙ sym number)
 
 -- of two intervals in closing order, the stores of the second don't happen before those of the first
 pub groups_extend : (s : Sizes) (j : List Event) (n : ℕ) (missing : List Missing) (groups : List (List ℕ))
-    → ((x : Missing) → Has missing x → IsPlaced j x.owner x.number x.place) → MissingInOrder missing
+    → ((x : Missing) → Has missing x → IsMissingPlaced j x.owner x.number x.place) → MissingInOrder missing
     → AreGroups s j n missing groups → IsOnce (concat groups) × InOrder (λ i k. ¬ HappensBefore j k i) (concat groups)
 groups_extend s j n missing groups placed order of = (
-  in_order_concat (λ (i k : ℕ). i ≢ k) groups
+  joined_in_order (λ (i k : ℕ). i ≢ k) groups
       (λ g h x y a b less at to same. let r = of.of h.0 g h.1 in let up = r.3 x y a b less at to in omega arith)
       apart,
-  in_order_concat (λ i k. ¬ HappensBefore j k i) groups (λ g h x y a b less at to before. let r = of.of h.0 g h.1 in
+  joined_in_order (λ i k. ¬ HappensBefore j k i) groups (λ g h x y a b less at to before. let r = of.of h.0 g h.1 in
       let up = r.3 x y a b less at to in let down = before_goes_forward j before in omega arith)
       extends,
 )
@@ -119,8 +119,8 @@ groups_extend s j n missing groups placed order of = (
         let d = placed t.0 (y, t.1) in (
           c.at,
           d.at,
-          store_closed s j r.0.owner r.0.number n a c.at ((r.2 a).0 in_g) c.closes c.number,
-          store_closed s
+          group_store_closed s j r.0.owner r.0.number n a c.at ((r.2 a).0 in_g) c.closes c.number,
+          group_store_closed s
               j t.0.owner t.0.number n b d.at ((t.2 b).0 in_h) d.closes d.number,
           placed_before j r.0.owner
               r.0.number r.0.place t.0.owner t.0.number t.0.place c d (order x y r.0 t.0 less r.1 t.1),

@@ -1,6 +1,6 @@
 -- What each kind of event does to the missing intervals.
 use Rattle.std.proofs.Common.{ℕ, ◌≡◌, ◌≢◌, ◌<◌, ◌≤◌, ◌⊎◌, ◌↔◌, ◌/◌, inl, inr, List, [], ◌∷◌, ◌++◌, arith, refl, sym, ap, ◌∙◌, le_of_lt, true≢false}
-use Rattle.base.proofs.SlicesAndCounts.{push_cases}
+use Rattle.base.proofs.SlicesAndCounts.{slice_push_cases}
 use Rattle.journal.specs.declared.event.Event.{Event}
 use Rattle.journal.specs.declared.event.Kind.{Kind}
 use Rattle.journal.specs.declared.event.Kind.TheVariants.{Store, Fetch}
@@ -8,22 +8,22 @@ use Rattle.journal.specs.DidEvent.{event}
 use Rattle.journal.specs.Sizes.{Sizes}
 use Rattle.journal.specs.Events.{At, is_closing, is_taking, interval_at}
 use Rattle.journal.specs.WellFormed.{Does}
-use Rattle.journal.specs.PageImages.{InGap, StoredInGap}
-use Rattle.journal.specs.BroughtCopy.{NoGap}
+use Rattle.journal.specs.PageImages.{InGap, StoredInGapOfImage}
+use Rattle.journal.specs.BroughtCopy.{CopyHasNoGap}
 use Rattle.journal.specs.Blocks.{IsBlock}
 use Rattle.journal.specs.ContentsSince.{StoresInInterval, IsContent}
 use Rattle.journal.specs.MissingWords.{Missing, AreMissing, AreMissingNotices}
 use Rattle.base.specs.InOrderOnce.{Has}
 use Rattle.base.proofs.Joined.{has-nil, has-append}
-use Rattle.journal.proofs.Order.CountedAndNumbered.{at_within, at_longer, count_of-front, count_of-within}
+use Rattle.journal.proofs.Order.CountedAndNumbered.{numbered_at_within, numbered_at_longer, count_of-front, count_of-within}
 use Rattle.journal.proofs.CopyOfPage.Stores.{store_same}
 use Rattle.journal.proofs.CopyOfPage.CompleteBlocks.{gap_block}
 use Rattle.journal.proofs.Missing.Placed.{placed_longer}
-use Rattle.journal.proofs.Missing.GapsTaken.{Learns, gaps_apart, gaps_of_others, gap_taken, stored_on}
+use Rattle.journal.proofs.Missing.GapsTaken.{Learns, gaps_apart, gaps_of_others, gap_taken, gap_stored_longer}
 use Rattle.journal.proofs.Intervals.StoreContents.{content_on, content_closed}
 
 -- nothing is missing where there is no gap
-pub none_missing : (s : Sizes) (j : List Event) (p n : ℕ) → NoGap s j p n → AreMissing s j p n []
+pub none_missing : (s : Sizes) (j : List Event) (p n : ℕ) → CopyHasNoGap s j p n → AreMissing s j p n []
 none_missing s j p n none =
     record {
       each = λ q k. (λ x. absurd (has-nil x.0 x.1), λ x. absurd (none x.1.0 x.1.3));
@@ -68,9 +68,9 @@ missing_on s j es p n missing same are = record {
   each =
       λ q k. (
         λ x. let g = (are.each q k).0 x in
-            (g.0, (stored_on s j es p n same (q, k, g.0)).1 g.1),
+            (g.0, (gap_stored_longer s j es p n same (q, k, g.0)).1 g.1),
         λ g. (are.each q k).1
-            (g.0, (stored_on s j es p n same (q, k, g.0)).0 g.1),
+            (g.0, (gap_stored_longer s j es p n same (q, k, g.0)).0 g.1),
       );
   placed = λ x h. placed_longer j es x.owner x.number x.place (are.placed x h);
   contents = missing_contents_on s j es p n missing are;
@@ -106,24 +106,24 @@ missing_taken {s} {j} {p} {n} {k} {t} {t'} {missing} {new} l news are =
     e = event p k
 
     at_e : (q i a v : ℕ) → Does j i q (Store a v) → Does (j ++ e ∷ []) i q (Store a v)
-    at_e q i a v = at_longer j (e ∷ []) i (event q (Store a v))
+    at_e q i a v = numbered_at_longer j (e ∷ []) i (event q (Store a v))
 
     number : (q i a v : ℕ) → Does j i q (Store a v) → interval_at (j ++ e ∷ []) q i ≡ interval_at j q i
     number q i a v does =
-        count_of-front is_closing j (e ∷ []) i q (le_of_lt (at_within j i (event q (Store a v)) does))
+        count_of-front is_closing j (e ∷ []) i q (le_of_lt (numbered_at_within j i (event q (Store a v)) does))
 
     old : (q i a v : ℕ) → Does (j ++ e ∷ []) i q (Store a v) → Does j i q (Store a v)
     old q i a v does =
-        elim (push_cases j e i (event q (Store a v)) does)
+        elim (slice_push_cases j e i (event q (Store a v)) does)
         [ inl h ↦ h.1 | inr h ↦ absurd (true≢false (sym l.takes ∙ ap (λ (f : Event). is_taking f.kind) h.1)) ]
 
     now_on : (x : Missing) → Has new x → IsContent s (j ++ e ∷ []) x.owner x.number n x.words
     now_on x h =
         content_on s j (e ∷ []) x.owner x.number n x.words
-        (λ i y. at_within j i (event x.owner (Store y.0 y.1)) (old x.owner i y.0 y.1 y.2)) (news.contents x h)
+        (λ i y. numbered_at_within j i (event x.owner (Store y.0 y.1)) (old x.owner i y.0 y.1 y.2)) (news.contents x h)
 
-    from_gap : (q m : ℕ) → ((a : ℕ) × StoredInGap s j p n (q, m, a))
-        → (a : ℕ) × StoredInGap s (j ++ e ∷ []) p n (q, m, a)
+    from_gap : (q m : ℕ) → ((a : ℕ) × StoredInGapOfImage s j p n (q, m, a))
+        → (a : ℕ) × StoredInGapOfImage s (j ++ e ∷ []) p n (q, m, a)
     from_gap q m x =
         let g = x.1 in
         let apart = gaps_apart s j p n q g.0 x.0 g.1 g.3 g.2 in
@@ -144,7 +144,7 @@ missing_taken {s} {j} {p} {n} {k} {t} {t'} {missing} {new} l news are =
         )
 
     from_new : (q m : ℕ) → ((i : ℕ) × StoresInInterval s j q m n i × (q ≢ p) × (t q ≤ m) × (m < t' q))
-        → (a : ℕ) × StoredInGap s (j ++ e ∷ []) p n (q, m, a)
+        → (a : ℕ) × StoredInGapOfImage s (j ++ e ∷ []) p n (q, m, a)
     from_new q m x =
         let w = x.1 in
         let same = w.4 in
@@ -163,7 +163,7 @@ missing_taken {s} {j} {p} {n} {k} {t} {t'} {missing} {new} l news are =
         )
 
     there : (q m : ℕ) (x : Missing) → x.owner ≡ q → x.number ≡ m → Has missing x ⊎ Has new x
-        → (a : ℕ) × StoredInGap s (j ++ e ∷ []) p n (q, m, a)
+        → (a : ℕ) × StoredInGapOfImage s (j ++ e ∷ []) p n (q, m, a)
     there q m x mine is (inl h) = from_gap q m ((are.each q m).0 (x, h, mine, is))
     there q m x mine is (inr h) = from_new q m ((news.each q m).0 (x, h, mine, is))
 
@@ -174,7 +174,7 @@ missing_taken {s} {j} {p} {n} {k} {t} {t'} {missing} {new} l news are =
     add q m (inl x) = (x.0, (has-append missing new x.0).1 (inl x.1), x.2, x.3)
     add q m (inr x) = (x.0, (has-append missing new x.0).1 (inr x.1), x.2, x.3)
 
-    back : (q m : ℕ) → ((a : ℕ) × StoredInGap s (j ++ e ∷ []) p n (q, m, a))
+    back : (q m : ℕ) → ((a : ℕ) × StoredInGapOfImage s (j ++ e ∷ []) p n (q, m, a))
         → (x : Missing) × Has (missing ++ new) x × (x.owner ≡ q) × (x.number ≡ m)
     back q m x =
         let g = x.1 in

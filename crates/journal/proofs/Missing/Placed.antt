@@ -6,18 +6,18 @@ use Rattle.std.proofs.lemmas.List.{take-append-le}
 use Rattle.journal.specs.declared.event.Event.{Event}
 use Rattle.journal.specs.DidEvent.{event}
 use Rattle.journal.specs.Events.{is_closing, count_of}
-use Rattle.journal.specs.MissingWords.{closed_count, IsPlaced}
+use Rattle.journal.specs.MissingWords.{missing_closed_count, IsMissingPlaced}
 use Rattle.base.proofs.SlicesAndCounts.{count_by-mono}
-use Rattle.journal.proofs.Order.CountedAndNumbered.{at_within, at_longer, at_last, count_of-front}
-use Rattle.journal.proofs.Times.IntervalNumbers.{same_closer}
+use Rattle.journal.proofs.Order.CountedAndNumbered.{numbered_at_within, numbered_at_longer, numbered_at_last, count_of-front}
+use Rattle.journal.proofs.Times.IntervalNumbers.{interval_number_closer}
 
 -- what comes later changes no front
-pub closed_count_front : (j es : List Event) (i : ℕ) → i ≤ length j
-    → closed_count (take i (j ++ es)) ≡ closed_count (take i j)
-closed_count_front j es i le = ap closed_count (take-append-le i j es le)
+pub placed_closed_count_front : (j es : List Event) (i : ℕ) → i ≤ length j
+    → missing_closed_count (take i (j ++ es)) ≡ missing_closed_count (take i j)
+placed_closed_count_front j es i le = ap missing_closed_count (take-append-le i j es le)
 
 -- a lower closing number is closed earlier
-pub placed_before : (j : List Event) (q k a r m b : ℕ) (x : IsPlaced j q k a) (y : IsPlaced j r m b) → a < b
+pub placed_before : (j : List Event) (q k a r m b : ℕ) (x : IsMissingPlaced j q k a) (y : IsMissingPlaced j r m b) → a < b
     → x.at < y.at
 placed_before j q k a r m b x y less = elim (cases_lt x.at y.at) [
   | inl h ↦ h
@@ -26,31 +26,31 @@ placed_before j q k a r m b x y less = elim (cases_lt x.at y.at) [
 ]
 
 -- an interval has one closing number
-pub placed_once : (j : List Event) (q k a b : ℕ) → IsPlaced j q k a → IsPlaced j q k b → a ≡ b
+pub placed_once : (j : List Event) (q k a b : ℕ) → IsMissingPlaced j q k a → IsMissingPlaced j q k b → a ≡ b
 placed_once j q k a b x y =
     sym x.before
-    ∙ ap (λ (m : ℕ). closed_count (take m j))
-    (same_closer j q x.at y.at x.closes y.closes (x.number ∙ sym y.number))
+    ∙ ap (λ (m : ℕ). missing_closed_count (take m j))
+    (interval_number_closer j q x.at y.at x.closes y.closes (x.number ∙ sym y.number))
     ∙ y.before
 
 -- it keeps it as the journal goes on
-pub placed_longer : (j es : List Event) (q k a : ℕ) → IsPlaced j q k a → IsPlaced (j ++ es) q k a
+pub placed_longer : (j es : List Event) (q k a : ℕ) → IsMissingPlaced j q k a → IsMissingPlaced (j ++ es) q k a
 placed_longer j es q k a x =
     let e : Event = event q x.closes.kind in
-    let within = le_of_lt (at_within j x.at e x.closes.does) in
+    let within = le_of_lt (numbered_at_within j x.at e x.closes.does) in
     record {
       at = x.at;
-      closes = record { kind = x.closes.kind; does = at_longer j es x.at e x.closes.does; closes = x.closes.closes };
+      closes = record { kind = x.closes.kind; does = numbered_at_longer j es x.at e x.closes.does; closes = x.closes.closes };
       number = count_of-front is_closing j es x.at q within ∙ x.number;
-      before = closed_count_front j es x.at within ∙ x.before;
+      before = placed_closed_count_front j es x.at within ∙ x.before;
     }
 
 -- a closing event closes its processor's open interval, after all that were closed before
 pub placed_now : (j : List Event) (e : Event) → is_closing e.kind ≡ true
-    → IsPlaced (j ++ e ∷ []) e.processor (count_of is_closing j e.processor) (closed_count j)
+    → IsMissingPlaced (j ++ e ∷ []) e.processor (count_of is_closing j e.processor) (missing_closed_count j)
 placed_now j e closes = record {
   at = length j;
-  closes = record { kind = e.kind; does = at_last j e; closes = closes };
+  closes = record { kind = e.kind; does = numbered_at_last j e; closes = closes };
   number = ap (λ (xs : List Event). count_of is_closing xs e.processor) (take-append_seam j (e ∷ []));
-  before = ap closed_count (take-append_seam j (e ∷ []));
+  before = ap missing_closed_count (take-append_seam j (e ∷ []));
 }

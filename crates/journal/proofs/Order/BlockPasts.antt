@@ -6,25 +6,25 @@ use Rattle.journal.specs.Events.{is_taking}
 use Rattle.journal.specs.HappensBeforeEdges.{HappensBefore}
 use Rattle.journal.specs.Pasts.{InPast}
 use Rattle.journal.specs.Blocks.{IsBlock}
-use Rattle.base.proofs.SlicesAndCounts.{push_induction}
-use Rattle.journal.proofs.Order.CountedAndNumbered.{at_longer, at_last}
+use Rattle.base.proofs.SlicesAndCounts.{slice_push_induction}
+use Rattle.journal.proofs.Order.CountedAndNumbered.{numbered_at_longer, numbered_at_last}
 use Rattle.journal.proofs.Order.HappensBefore.{before_extension}
-use Rattle.journal.proofs.Order.EdgesIntoPast.{own_past, reaches_new}
+use Rattle.journal.proofs.Order.EdgesIntoPast.{own_past, past_reaches_new}
 
 -- a front of a block is one
 pub block_front : (p : ℕ) (block es : List Event) → IsBlock p (block ++ es) → IsBlock p block
-block_front p block es is k e at = is k e (at_longer block es k e at)
+block_front p block es is k e at = is k e (numbered_at_longer block es k e at)
 
 -- the last event of a block
 pub block_last : (p : ℕ) (block : List Event) (e : Event) → IsBlock p (block ++ e ∷ [])
     → (e.processor ≡ p) × (is_taking e.kind ≡ false)
-block_last p block e is = is (length block) e (at_last block e)
+block_last p block e is = is (length block) e (numbered_at_last block e)
 
 -- the past after a block is the past before it, and the block
 pub block_past : (j block : List Event) (p i : ℕ) → IsBlock p block
     → InPast (j ++ block) p i ↔ (InPast j p i ⊎ ((length j ≤ i) × (i < length j + length block)))
 block_past j block p i =
-    push_induction
+    slice_push_induction
     (λ es. IsBlock p es → InPast (j ++ es) p i ↔ (InPast j p i ⊎ ((length j ≤ i) × (i < length j + length es))))
     start step block
   where
@@ -73,7 +73,7 @@ block_past j block p i =
 pub block_reaches : (j block : List Event) (p i m : ℕ) → IsBlock p block → m < length block
     → HappensBefore (j ++ block) i (length j + m) ↔ (InPast j p i ⊎ ((length j ≤ i) × (i < length j + m)))
 block_reaches j block p i m =
-    push_induction (λ es. IsBlock p es → m < length es
+    slice_push_induction (λ es. IsBlock p es → m < length es
     → HappensBefore (j ++ es) i (length j + m) ↔ (InPast j p i ⊎ ((length j ≤ i) × (i < length j + m))))
     (λ is h. absurd (omega arith)) step block
   where
@@ -83,7 +83,7 @@ block_reaches j block p i m =
     now es e is at =
         let l = block_last p es e is in
         let P : ℕ → Type 0 = λ q. HappensBefore ((j ++ es) ++ e ∷ []) i (length (j ++ es)) ↔ InPast (j ++ es) q i in
-        let new = subst P l.0 (reaches_new (j ++ es) e i l.1) in
+        let new = subst P l.0 (past_reaches_new (j ++ es) e i l.1) in
         let past = block_past j es p i (block_front p es (e ∷ []) is) in
         let long = length-append j es in
         let here : length (j ++ es) ≡ length j + m = omega arith in

@@ -11,36 +11,36 @@ use Rattle.journal.specs.WellFormed.{Does}
 use Rattle.base.proofs.SlicesAndCounts.{slice_get-append_left, slice_get-append_right, slice_get-last, count_by-append, count_by-mono, count_by-take-le, count_by-past, count_by-within, counted}
 
 -- an event stands within its journal
-pub at_within : (j : List Event) (k : ℕ) (e : Event) → At j k e → k < length j
-at_within j k e h = slice_get_within j k e h
+pub numbered_at_within : (j : List Event) (k : ℕ) (e : Event) → At j k e → k < length j
+numbered_at_within j k e h = slice_get_within j k e h
 
 -- one event stands at a place
-pub at_same : (j : List Event) (k : ℕ) (e f : Event) → At j k e → At j k f → e ≡ f
-at_same j k e f h g = same_Some e f (sym h ∙ g)
+pub numbered_at_same : (j : List Event) (k : ℕ) (e f : Event) → At j k e → At j k f → e ≡ f
+numbered_at_same j k e f h g = same_Some e f (sym h ∙ g)
 
 -- events keep their places as a journal goes on
-pub at_longer : (j es : List Event) (k : ℕ) (e : Event) → At j k e → At (j ++ es) k e
-at_longer j es k e h = slice_get-append_left j es k (at_within j k e h) ∙ h
+pub numbered_at_longer : (j es : List Event) (k : ℕ) (e : Event) → At j k e → At (j ++ es) k e
+numbered_at_longer j es k e h = slice_get-append_left j es k (numbered_at_within j k e h) ∙ h
 
-pub at_shorter : (j es : List Event) (k : ℕ) (e : Event) → k < length j → At (j ++ es) k e → At j k e
-at_shorter j es k e lt h = sym (slice_get-append_left j es k lt) ∙ h
+pub numbered_at_shorter : (j es : List Event) (k : ℕ) (e : Event) → k < length j → At (j ++ es) k e → At j k e
+numbered_at_shorter j es k e lt h = sym (slice_get-append_left j es k lt) ∙ h
 
 -- what follows stands behind
-pub at_behind : (j es : List Event) (m : ℕ) (e : Event) → At es m e → At (j ++ es) (length j + m) e
-at_behind j es m e h = slice_get-append_right j es m ∙ h
+pub numbered_at_behind : (j es : List Event) (m : ℕ) (e : Event) → At es m e → At (j ++ es) (length j + m) e
+numbered_at_behind j es m e h = slice_get-append_right j es m ∙ h
 
 -- the event that is pushed stands last
-pub at_last : (j : List Event) (e : Event) → At (j ++ e ∷ []) (length j) e
-at_last j e = slice_get-last j e
+pub numbered_at_last : (j : List Event) (e : Event) → At (j ++ e ∷ []) (length j) e
+numbered_at_last j e = slice_get-last j e
 
 -- an event as what its processor does
-pub does_at : (j : List Event) (k p : ℕ) (e : Event) → At j k e → e.processor ≡ p → Does j k p e.kind
-does_at j k p e h mine = let P : ℕ → Type 0 = λ q. At j k (event q e.kind) in subst P mine h
+pub numbered_does_at : (j : List Event) (k p : ℕ) (e : Event) → At j k e → e.processor ≡ p → Does j k p e.kind
+numbered_does_at j k p e h mine = let P : ℕ → Type 0 = λ q. At j k (event q e.kind) in subst P mine h
 
 -- two doings at one place are one
-pub does_same : (j : List Event) (k p q : ℕ) (a b : Kind) → Does j k p a → Does j k q b → (p ≡ q) × (a ≡ b)
-does_same j k p q a b h g =
-    let e = at_same j k (event p a) (event q b) h g in
+pub numbered_does_same : (j : List Event) (k p q : ℕ) (a b : Kind) → Does j k p a → Does j k q b → (p ≡ q) × (a ≡ b)
+numbered_does_same j k p q a b h g =
+    let e = numbered_at_same j k (event p a) (event q b) h g in
     (ap (λ x. x.processor) e, ap (λ x. x.kind) e)
 
 -- a count over a journal that goes on
@@ -90,7 +90,7 @@ numbered is j q n h =
     record {
       place = c.place;
       kind = c.item.kind;
-      does = does_at j c.place q c.item c.at (eqb-true c.item.processor q both.0);
+      does = numbered_does_at j c.place q c.item c.at (eqb-true c.item.processor q both.0);
       counts = both.1;
       number = c.before;
     }

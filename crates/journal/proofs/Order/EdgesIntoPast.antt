@@ -12,18 +12,18 @@ use Rattle.journal.specs.HappensBeforeEdges.HappensBefore.{edge, on}
 use Rattle.journal.specs.WellFormed.{Does}
 use Rattle.journal.specs.Pasts.{UpTo, InPast}
 use Rattle.journal.specs.Brings.{ArrivesAt, BringsFrom, Brings}
-use Rattle.base.proofs.SlicesAndCounts.{push_cases, append_cases}
-use Rattle.journal.proofs.Order.CountedAndNumbered.{at_within, at_same, at_longer, at_shorter, at_last, count_of-front}
+use Rattle.base.proofs.SlicesAndCounts.{slice_push_cases, slice_append_cases}
+use Rattle.journal.proofs.Order.CountedAndNumbered.{numbered_at_within, numbered_at_same, numbered_at_longer, numbered_at_shorter, numbered_at_last, count_of-front}
 use Rattle.journal.proofs.Order.HappensBefore.{before_begins_within, before_transitive, before_longer, before_shorter}
 
 -- a past is closed backwards
-pub up_to_back : (j : List Event) (i k m : ℕ) → HappensBefore j i k → UpTo j m k → UpTo j m i
-up_to_back j i k m h (inl e) = inr (subst (λ x. HappensBefore j i x) e h)
-up_to_back j i k m h (inr g) = inr (before_transitive j h g)
+pub past_up_to_back : (j : List Event) (i k m : ℕ) → HappensBefore j i k → UpTo j m k → UpTo j m i
+past_up_to_back j i k m h (inl e) = inr (subst (λ x. HappensBefore j i x) e h)
+past_up_to_back j i k m h (inr g) = inr (before_transitive j h g)
 
 pub past_back : (j : List Event) (p i k : ℕ) → HappensBefore j i k → InPast j p k → InPast j p i
 past_back j p i k h x =
-    record { own = x.own; event = x.event; at = x.at; mine = x.mine; reaches = up_to_back j i k x.own h x.reaches }
+    record { own = x.own; event = x.event; at = x.at; mine = x.mine; reaches = past_up_to_back j i k x.own h x.reaches }
 
 -- what is up to the start of an edge happens before its end
 pub edge_on : (j : List Event) (i m k : ℕ) → UpTo j m i → Edge j m k → HappensBefore j i k
@@ -31,21 +31,21 @@ edge_on j i m k (inl e) d = edge (subst (λ x. Edge j x k) (sym e) d)
 edge_on j i m k (inr h) d = on h d
 
 -- a past stays as the journal goes on
-pub up_to_longer : (j es : List Event) (k i : ℕ) → UpTo j k i → UpTo (j ++ es) k i
-up_to_longer j es k i (inl e) = inl e
-up_to_longer j es k i (inr h) = inr (before_longer j es h)
+pub past_up_to_longer : (j es : List Event) (k i : ℕ) → UpTo j k i → UpTo (j ++ es) k i
+past_up_to_longer j es k i (inl e) = inl e
+past_up_to_longer j es k i (inr h) = inr (before_longer j es h)
 
-pub up_to_shorter : (j es : List Event) (k i : ℕ) → k < length j → UpTo (j ++ es) k i → UpTo j k i
-up_to_shorter j es k i lt (inl e) = inl e
-up_to_shorter j es k i lt (inr h) = inr (before_shorter j es lt h)
+pub past_up_to_shorter : (j es : List Event) (k i : ℕ) → k < length j → UpTo (j ++ es) k i → UpTo j k i
+past_up_to_shorter j es k i lt (inl e) = inl e
+past_up_to_shorter j es k i lt (inr h) = inr (before_shorter j es lt h)
 
 -- what is up to a place of the journal stands in it
-pub up_to_within : (j : List Event) (k i : ℕ) → k < length j → UpTo j k i → i < length j
-up_to_within j k i lt (inl e) = omega arith
-up_to_within j k i lt (inr h) = before_begins_within j h
+pub past_up_to_within : (j : List Event) (k i : ℕ) → k < length j → UpTo j k i → i < length j
+past_up_to_within j k i lt (inl e) = omega arith
+past_up_to_within j k i lt (inr h) = before_begins_within j h
 
 pub past_within : (j : List Event) (p i : ℕ) → InPast j p i → i < length j
-past_within j p i x = up_to_within j x.own i (at_within j x.own x.event x.at) x.reaches
+past_within j p i x = past_up_to_within j x.own i (numbered_at_within j x.own x.event x.at) x.reaches
 
 -- a processor's own events are in its past
 pub own_in_past : (j : List Event) (p i : ℕ) (e : Event) → At j i e → e.processor ≡ p → InPast j p i
@@ -56,9 +56,9 @@ past_longer j es p i x =
     record {
       own = x.own;
       event = x.event;
-      at = at_longer j es x.own x.event x.at;
+      at = numbered_at_longer j es x.own x.event x.at;
       mine = x.mine;
-      reaches = up_to_longer j es x.own i x.reaches;
+      reaches = past_up_to_longer j es x.own i x.reaches;
     }
 
 -- a past is the same in every journal that goes on without the processor
@@ -67,27 +67,27 @@ pub past_others : (j es : List Event) (p i : ℕ) → ((m : ℕ) (e : Event) →
 past_others j es p i away = (back, past_longer j es p i)
   where
     back : InPast (j ++ es) p i → InPast j p i
-    back x = elim (append_cases j es x.own x.event x.at) [
+    back x = elim (slice_append_cases j es x.own x.event x.at) [
       | inl a ↦ record {
         own = x.own;
         event = x.event;
         at = a.1;
         mine = x.mine;
-        reaches = up_to_shorter j es x.own i a.0 x.reaches;
+        reaches = past_up_to_shorter j es x.own i a.0 x.reaches;
       }
       | inr b ↦ absurd (away b.0 x.event b.2 x.mine)
     ]
 
-lets_source : (j : List Event) (m q p : ℕ) (a b : Kind) → Does j m q a → LetsThrough a b → BringsFrom j p b m
-lets_source j m q p (Release l) (Acquire n) d h = let P : ℕ → Type 0 = λ x. Does j m q (Release x) in (q, subst P h d)
-lets_source j m q p (Set f) (Await g) d h = let P : ℕ → Type 0 = λ x. Does j m q (Set x) in (q, subst P h d)
-lets_source j m q p _ _ d h = absurd h
+edge_lets_source : (j : List Event) (m q p : ℕ) (a b : Kind) → Does j m q a → LetsThrough a b → BringsFrom j p b m
+edge_lets_source j m q p (Release l) (Acquire n) d h = let P : ℕ → Type 0 = λ x. Does j m q (Release x) in (q, subst P h d)
+edge_lets_source j m q p (Set f) (Await g) d h = let P : ℕ → Type 0 = λ x. Does j m q (Set x) in (q, subst P h d)
+edge_lets_source j m q p _ _ d h = absurd h
 
-link_source : (j : List Event) (e f : Event) (m : ℕ) → At j m f → m < length j → Link (j ++ e ∷ []) m (length j) f e
+edge_link_source : (j : List Event) (e f : Event) (m : ℕ) → At j m f → m < length j → Link (j ++ e ∷ []) m (length j) f e
     → (f.processor ≡ e.processor) ⊎ BringsFrom j e.processor e.kind m
-link_source j e f m at lt (same s) = inl s
-link_source j e f m at lt (lets l) = inr (lets_source j m f.processor e.processor f.kind e.kind at l)
-link_source j e f m at lt (meets x) =
+edge_link_source j e f m at lt (same s) = inl s
+edge_link_source j e f m at lt (lets l) = inr (edge_lets_source j m f.processor e.processor f.kind e.kind at l)
+edge_link_source j e f m at lt (meets x) =
     let P : Kind → Type 0 = λ k. Does j m f.processor k in
     let front = count_of-front is_arrive j (e ∷ []) m f.processor (omega arith) in
     let whole = ap (λ (xs : List Event). count_of is_depart xs e.processor) (take-append_seam j (e ∷ [])) in
@@ -96,13 +96,13 @@ link_source j e f m at lt (meets x) =
     inr (subst (λ k. BringsFrom j e.processor k m) (sym x.departs) (f.processor, now))
 
 -- what an event brings reaches it
-source_link : (j : List Event) (p m : ℕ) (b : Kind) → BringsFrom j p b m
+edge_source_link : (j : List Event) (p m : ℕ) (b : Kind) → BringsFrom j p b m
     → (f : Event) × At j m f × Link (j ++ event p b ∷ []) m (length j) f (event p b)
-source_link j p m (Acquire l) h = (event h.0 (Release l), h.1, lets refl)
-source_link j p m (Await f) h = (event h.0 (Set f), h.1, lets refl)
-source_link j p m Depart h =
+edge_source_link j p m (Acquire l) h = (event h.0 (Release l), h.1, lets refl)
+edge_source_link j p m (Await f) h = (event h.0 (Set f), h.1, lets refl)
+edge_source_link j p m Depart h =
     let e : Event = event p Depart in
-    let lt = at_within j m (event h.0 Arrive) h.1.does in
+    let lt = numbered_at_within j m (event h.0 Arrive) h.1.does in
     let front = count_of-front is_arrive j (e ∷ []) m h.0 (omega arith) in
     let whole = ap (λ (xs : List Event). count_of is_depart xs p) (take-append_seam j (e ∷ [])) in (
       event h.0 Arrive,
@@ -110,17 +110,17 @@ source_link j p m Depart h =
       meets
           (record { arrives = refl; departs = refl; episode = front ∙ h.1.number ∙ sym whole }),
     )
-source_link j p m _ h = absurd h
+edge_source_link j p m _ h = absurd h
 
 last_edge : (j : List Event) (e f : Event) (m : ℕ) → At j m f → Link (j ++ e ∷ []) m (length j) f e
     → Edge (j ++ e ∷ []) m (length j)
 last_edge j e f m at l =
     record {
-      before = at_within j m f at;
+      before = numbered_at_within j m f at;
       from = f;
       to = e;
-      from_at = at_longer j (e ∷ []) m f at;
-      to_at = at_last j e;
+      from_at = numbered_at_longer j (e ∷ []) m f at;
+      to_at = numbered_at_last j e;
       link = l;
     }
 
@@ -128,10 +128,10 @@ by_edge : (j : List Event) (e : Event) (i m : ℕ) → UpTo (j ++ e ∷ []) m i 
     → InPast j e.processor i ⊎ Brings j e.processor e.kind i
 by_edge j e i m up d =
     let lt = d.before in
-    let at = at_shorter j (e ∷ []) m d.from lt d.from_at in
-    let is = at_same (j ++ e ∷ []) (length j) d.to e d.to_at (at_last j e) in
-    let old = up_to_shorter j (e ∷ []) m i lt up in
-    elim (link_source j e d.from m at lt (subst (λ x. Link (j ++ e ∷ []) m (length j) d.from x) is d.link)) [
+    let at = numbered_at_shorter j (e ∷ []) m d.from lt d.from_at in
+    let is = numbered_at_same (j ++ e ∷ []) (length j) d.to e d.to_at (numbered_at_last j e) in
+    let old = past_up_to_shorter j (e ∷ []) m i lt up in
+    elim (edge_link_source j e d.from m at lt (subst (λ x. Link (j ++ e ∷ []) m (length j) d.from x) is d.link)) [
       | inl mine ↦ inl (record { own = m; event = d.from; at = at; mine = mine; reaches = old })
       | inr source ↦ inr (m, source, old)
     ]
@@ -142,17 +142,17 @@ into_last j e i k is (edge d) = by_edge j e i i (inl refl) (subst (λ x. Edge (j
 into_last j e i k is (on {m = m} h d) = by_edge j e i m (inr h) (subst (λ x. Edge (j ++ e ∷ []) m x) is d)
 
 -- what happens before the event that is pushed is its processor's past and what it brings
-pub reaches_push : (j : List Event) (e : Event) (i : ℕ)
+pub past_reaches_push : (j : List Event) (e : Event) (i : ℕ)
     → HappensBefore (j ++ e ∷ []) i (length j) ↔ (InPast j e.processor i ⊎ Brings j e.processor e.kind i)
-reaches_push j e i = (into_last j e i (length j) refl, ⊎_back)
+past_reaches_push j e i = (into_last j e i (length j) refl, ⊎_back)
   where
     ⊎_back : InPast j e.processor i ⊎ Brings j e.processor e.kind i → HappensBefore (j ++ e ∷ []) i (length j)
     ⊎_back (inl x) =
-        edge_on (j ++ e ∷ []) i x.own (length j) (up_to_longer j (e ∷ []) x.own i x.reaches)
+        edge_on (j ++ e ∷ []) i x.own (length j) (past_up_to_longer j (e ∷ []) x.own i x.reaches)
         (last_edge j e x.event x.own x.at (same x.mine))
     ⊎_back (inr b) =
-        let s = source_link j e.processor b.0 e.kind b.1 in
-        edge_on (j ++ e ∷ []) i b.0 (length j) (up_to_longer j (e ∷ []) b.0 i b.2) (last_edge j e s.0 b.0 s.1 s.2)
+        let s = edge_source_link j e.processor b.0 e.kind b.1 in
+        edge_on (j ++ e ∷ []) i b.0 (length j) (past_up_to_longer j (e ∷ []) b.0 i b.2) (last_edge j e s.0 b.0 s.1 s.2)
 
 -- the past after an event: the past before it, what it brings, and itself
 pub past_push : (j : List Event) (e : Event) (i : ℕ)
@@ -161,40 +161,40 @@ past_push j e i = (there, back)
   where
     last : UpTo (j ++ e ∷ []) (length j) i → (i ≡ length j) ⊎ (InPast j e.processor i ⊎ Brings j e.processor e.kind i)
     last (inl is) = inl is
-    last (inr h) = inr ((reaches_push j e i).0 h)
+    last (inr h) = inr ((past_reaches_push j e i).0 h)
 
     there : InPast (j ++ e ∷ []) e.processor i
         → (i ≡ length j) ⊎ (InPast j e.processor i ⊎ Brings j e.processor e.kind i)
-    there x = elim (push_cases j e x.own x.event x.at) [
+    there x = elim (slice_push_cases j e x.own x.event x.at) [
       | inl a ↦ inr (inl (record {
         own = x.own;
         event = x.event;
         at = a.1;
         mine = x.mine;
-        reaches = up_to_shorter j (e ∷ []) x.own i a.0 x.reaches;
+        reaches = past_up_to_shorter j (e ∷ []) x.own i a.0 x.reaches;
       }))
       | inr b ↦ last (subst (λ m. UpTo (j ++ e ∷ []) m i) b.0 x.reaches)
     ]
 
     back : (i ≡ length j) ⊎ (InPast j e.processor i ⊎ Brings j e.processor e.kind i)
         → InPast (j ++ e ∷ []) e.processor i
-    back (inl is) = record { own = length j; event = e; at = at_last j e; mine = refl; reaches = inl is }
+    back (inl is) = record { own = length j; event = e; at = numbered_at_last j e; mine = refl; reaches = inl is }
     back (inr b) =
-        record { own = length j; event = e; at = at_last j e; mine = refl; reaches = inr ((reaches_push j e i).1 b) }
+        record { own = length j; event = e; at = numbered_at_last j e; mine = refl; reaches = inr ((past_reaches_push j e i).1 b) }
 
 -- an event that takes nothing brings nothing
-pub brings_none : (j : List Event) (p i : ℕ) (k : Kind) → is_taking k ≡ false → Brings j p k i → ⊥
-brings_none j p i (Acquire l) h b = cc
-brings_none j p i Depart h b = cc
-brings_none j p i (Await f) h b = cc
-brings_none j p i _ h b = b.1
+pub past_brings_none : (j : List Event) (p i : ℕ) (k : Kind) → is_taking k ≡ false → Brings j p k i → ⊥
+past_brings_none j p i (Acquire l) h b = cc
+past_brings_none j p i Depart h b = cc
+past_brings_none j p i (Await f) h b = cc
+past_brings_none j p i _ h b = b.1
 
 -- what happens before a new event that takes nothing is its processor's past
-pub reaches_new : (j : List Event) (e : Event) (i : ℕ) → is_taking e.kind ≡ false
+pub past_reaches_new : (j : List Event) (e : Event) (i : ℕ) → is_taking e.kind ≡ false
     → HappensBefore (j ++ e ∷ []) i (length j) ↔ InPast j e.processor i
-reaches_new j e i quiet = (
-  λ h. elim ((reaches_push j e i).0 h) [ inl x ↦ x | inr b ↦ absurd (brings_none j e.processor i e.kind quiet b) ],
-  λ x. (reaches_push j e i).1 (inl x),
+past_reaches_new j e i quiet = (
+  λ h. elim ((past_reaches_push j e i).0 h) [ inl x ↦ x | inr b ↦ absurd (past_brings_none j e.processor i e.kind quiet b) ],
+  λ x. (past_reaches_push j e i).1 (inl x),
 )
 
 -- the past after an event that takes nothing has that event besides
@@ -206,7 +206,7 @@ own_past j e i quiet = (there, back)
     there x =
         elim ((past_push j e i).0 x) [
           | inl is ↦ inr is
-          | inr y ↦ elim y [ inl z ↦ inl z | inr b ↦ absurd (brings_none j e.processor i e.kind quiet b) ]
+          | inr y ↦ elim y [ inl z ↦ inl z | inr b ↦ absurd (past_brings_none j e.processor i e.kind quiet b) ]
         ]
 
     back : InPast j e.processor i ⊎ (i ≡ length j) → InPast (j ++ e ∷ []) e.processor i
@@ -214,6 +214,6 @@ own_past j e i quiet = (there, back)
     back (inr is) = (past_push j e i).1 (inl is)
 
 -- what happens before a place is up to the start of an edge into it
-pub last_step : (j : List Event) (i k : ℕ) → HappensBefore j i k → (m : ℕ) × UpTo j m i × Edge j m k
-last_step j i k (edge d) = (i, inl refl, d)
-last_step j i k (on {m = m} h d) = (m, inr h, d)
+pub past_last_step : (j : List Event) (i k : ℕ) → HappensBefore j i k → (m : ℕ) × UpTo j m i × Edge j m k
+past_last_step j i k (edge d) = (i, inl refl, d)
+past_last_step j i k (on {m = m} h d) = (m, inr h, d)

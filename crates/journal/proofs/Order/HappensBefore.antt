@@ -5,7 +5,7 @@ use Rattle.journal.specs.Events.{is_arrive, is_depart}
 use Rattle.journal.specs.HappensBeforeEdges.{Link, Edge, HappensBefore}
 use Rattle.journal.specs.HappensBeforeEdges.Link.{same, lets, meets}
 use Rattle.journal.specs.HappensBeforeEdges.HappensBefore.{edge, on}
-use Rattle.journal.proofs.Order.CountedAndNumbered.{at_within, at_longer, at_shorter, count_of-front}
+use Rattle.journal.proofs.Order.CountedAndNumbered.{numbered_at_within, numbered_at_longer, numbered_at_shorter, count_of-front}
 
 -- happens-before goes forward
 pub before_goes_forward : (j : List Event) {i k : ℕ} → HappensBefore j i k → i < k
@@ -14,8 +14,8 @@ before_goes_forward j (on h e) = lt_trans (before_goes_forward j h) e.before
 
 -- what something happens before stands in the journal
 pub before_ends_within : (j : List Event) {i k : ℕ} → HappensBefore j i k → k < length j
-before_ends_within j (edge e) = at_within j _ e.to e.to_at
-before_ends_within j (on h e) = at_within j _ e.to e.to_at
+before_ends_within j (edge e) = numbered_at_within j _ e.to e.to_at
+before_ends_within j (on h e) = numbered_at_within j _ e.to e.to_at
 
 -- what happens before something stands in the journal
 pub before_begins_within : (j : List Event) {i k : ℕ} → HappensBefore j i k → i < length j
@@ -26,11 +26,11 @@ pub before_transitive : (j : List Event) {i m k : ℕ} → HappensBefore j i m �
 before_transitive j h (edge e) = on h e
 before_transitive j h (on g e) = on (before_transitive j h g) e
 
-link_longer : (j es : List Event) (i k : ℕ) (e f : Event) → i ≤ length j → k ≤ length j → Link j i k e f
+before_link_longer : (j es : List Event) (i k : ℕ) (e f : Event) → i ≤ length j → k ≤ length j → Link j i k e f
     → Link (j ++ es) i k e f
-link_longer j es i k e f hi hk (same s) = same s
-link_longer j es i k e f hi hk (lets l) = lets l
-link_longer j es i k e f hi hk (meets m) =
+before_link_longer j es i k e f hi hk (same s) = same s
+before_link_longer j es i k e f hi hk (lets l) = lets l
+before_link_longer j es i k e f hi hk (meets m) =
     meets (record {
       arrives = m.arrives;
       departs = m.departs;
@@ -38,11 +38,11 @@ link_longer j es i k e f hi hk (meets m) =
           ∙ sym (count_of-front is_depart j es k f.processor hk);
     })
 
-link_shorter : (j es : List Event) (i k : ℕ) (e f : Event) → i ≤ length j → k ≤ length j → Link (j ++ es) i k e f
+before_link_shorter : (j es : List Event) (i k : ℕ) (e f : Event) → i ≤ length j → k ≤ length j → Link (j ++ es) i k e f
     → Link j i k e f
-link_shorter j es i k e f hi hk (same s) = same s
-link_shorter j es i k e f hi hk (lets l) = lets l
-link_shorter j es i k e f hi hk (meets m) =
+before_link_shorter j es i k e f hi hk (same s) = same s
+before_link_shorter j es i k e f hi hk (lets l) = lets l
+before_link_shorter j es i k e f hi hk (meets m) =
     meets (record {
       arrives = m.arrives;
       departs = m.departs;
@@ -51,43 +51,43 @@ link_shorter j es i k e f hi hk (meets m) =
     })
 
 -- edges stay
-pub edge_longer : (j es : List Event) {i k : ℕ} → Edge j i k → Edge (j ++ es) i k
-edge_longer j es {i} {k} e =
-    let a = at_within j i e.from e.from_at in
-    let b = at_within j k e.to e.to_at in
+pub before_edge_longer : (j es : List Event) {i k : ℕ} → Edge j i k → Edge (j ++ es) i k
+before_edge_longer j es {i} {k} e =
+    let a = numbered_at_within j i e.from e.from_at in
+    let b = numbered_at_within j k e.to e.to_at in
     record {
       before = e.before;
       from = e.from;
       to = e.to;
-      from_at = at_longer j es i e.from e.from_at;
-      to_at = at_longer j es k e.to e.to_at;
-      link = link_longer j es i k e.from e.to (omega arith) (omega arith) e.link;
+      from_at = numbered_at_longer j es i e.from e.from_at;
+      to_at = numbered_at_longer j es k e.to e.to_at;
+      link = before_link_longer j es i k e.from e.to (omega arith) (omega arith) e.link;
     }
 
 -- and no new ones come between old places
-pub edge_shorter : (j es : List Event) {i k : ℕ} → k < length j → Edge (j ++ es) i k → Edge j i k
-edge_shorter j es {i} {k} h e =
+pub before_edge_shorter : (j es : List Event) {i k : ℕ} → k < length j → Edge (j ++ es) i k → Edge j i k
+before_edge_shorter j es {i} {k} h e =
     let lt = e.before in
     let hi : i < length j = omega arith in
     record {
       before = e.before;
       from = e.from;
       to = e.to;
-      from_at = at_shorter j es i e.from hi e.from_at;
-      to_at = at_shorter j es k e.to h e.to_at;
-      link = link_shorter j es i k e.from e.to (omega arith) (omega arith) e.link;
+      from_at = numbered_at_shorter j es i e.from hi e.from_at;
+      to_at = numbered_at_shorter j es k e.to h e.to_at;
+      link = before_link_shorter j es i k e.from e.to (omega arith) (omega arith) e.link;
     }
 
 -- happens-before stays
 pub before_longer : (j es : List Event) {i k : ℕ} → HappensBefore j i k → HappensBefore (j ++ es) i k
-before_longer j es (edge e) = edge (edge_longer j es e)
-before_longer j es (on h e) = on (before_longer j es h) (edge_longer j es e)
+before_longer j es (edge e) = edge (before_edge_longer j es e)
+before_longer j es (on h e) = on (before_longer j es h) (before_edge_longer j es e)
 
 -- and what happened before an old place did so before
 pub before_shorter : (j es : List Event) {i k : ℕ} → k < length j → HappensBefore (j ++ es) i k → HappensBefore j i k
-before_shorter j es lt (edge e) = edge (edge_shorter j es lt e)
+before_shorter j es lt (edge e) = edge (before_edge_shorter j es lt e)
 before_shorter j es lt (on h e) =
-    let before = e.before in on (before_shorter j es (lt_trans e.before lt) h) (edge_shorter j es lt e)
+    let before = e.before in on (before_shorter j es (lt_trans e.before lt) h) (before_edge_shorter j es lt e)
 
 -- happens-before is the same in every journal that begins with this one
 pub before_extension : (j es : List Event) (i k : ℕ) → k < length j → HappensBefore (j ++ es) i k ↔ HappensBefore j i k

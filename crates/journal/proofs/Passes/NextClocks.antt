@@ -15,19 +15,19 @@ use Rattle.journal.specs.ClockEntry.{entry, EntryClosedAt, EntryJoinedAt}
 use Rattle.journal.specs.declared.numbered.Numbered.{Numbered}
 use Rattle.journal.specs.Numbered.{numbered_entry}
 use Rattle.journal.specs.Clocks.{AreClocks, ClocksArrived}
-use Rattle.base.proofs.SlicesAndCounts.{push_cases, take-suc_at}
+use Rattle.base.proofs.SlicesAndCounts.{slice_push_cases, take-suc_at}
 use Rattle.journal.proofs.Order.CountedAndNumbered.{count_of-append}
-use Rattle.journal.proofs.Times.Times.{time_equal, time_none, count_of-one}
+use Rattle.journal.proofs.Times.Times.{time_equal, time_none, count_of-one_time}
 use Rattle.journal.proofs.Times.PushesCovered.{time_push, others_keep_time, own_time_quiet}
 use Rattle.journal.proofs.Passes.ReachedNextRaces.{cond-and_true, cond-and_false}
-use Rattle.journal.proofs.Times.KeptArrives.{kind_kept, kind_joins, arrivals_kept, arrivals_others, arrival_joins}
+use Rattle.journal.proofs.Times.KeptArrives.{kind_kept, kept_kind_joins, arrivals_kept, arrives_others_time, arrives_joins_time}
 
 -- entry q of what an event of p of this kind brings, by the kept timestamps
-abbrev pub brought_entry : Clocks → ℕ → Kind → ℕ → ℕ
-brought_entry c p (Acquire l) q = numbered_entry c.locks l q
-brought_entry c p (Await f) q = numbered_entry c.flags f q
-brought_entry c p Depart q = entry c.episodes.items (slice_index c.departures p - c.gone) q
-brought_entry c p _ q = 0
+abbrev pub next_clock_brought_entry : Clocks → ℕ → Kind → ℕ → ℕ
+next_clock_brought_entry c p (Acquire l) q = numbered_entry c.locks l q
+next_clock_brought_entry c p (Await f) q = numbered_entry c.flags f q
+next_clock_brought_entry c p Depart q = entry c.episodes.items (slice_index c.departures p - c.gone) q
+next_clock_brought_entry c p _ q = 0
 
 -- what locks, flags and episodes keep, after an event of p of this kind that left p at this timestamp
 abbrev pub KeepsClocks : Clocks → Numbered → Numbered → List (List ℕ) → ℕ → (ℕ → ℕ) → Kind → Type 0
@@ -43,33 +43,33 @@ KeepsClocks c locks flags episodes p own Arrive =
 KeepsClocks c locks flags episodes p own _ = (locks ≡ c.locks) × (flags ≡ c.flags) × (episodes ≡ c.episodes.items)
 
 -- no entry is past the number of events
-pub time_small : (j : List Event) (among : ℕ → Type 0) (t : ℕ → ℕ) (q : ℕ) → IsTimeIn j among t → t q ≤ length j
-time_small j among t q a =
+pub next_clock_time_small : (j : List Event) (among : ℕ → Type 0) (t : ℕ → ℕ) (q : ℕ) → IsTimeIn j among t → t q ≤ length j
+next_clock_time_small j among t q a =
     let top = a.within q in
     let all = count_by-le-length (λ (e : Event). (e.processor == q) && is_closing e.kind) j in
     omega arith
 
-one_event : (e f : Event) (k : Kind) (m : ℕ) → At (e ∷ []) m f → e.kind ≢ k → f.kind ≢ k
-one_event e f k m at isnt same =
-    elim (push_cases [] e m f at) [ inl old ↦ absurd (cc (old.1)) | inr new ↦ isnt (ap (λ x. x.kind) new.1 ∙ same) ]
+next_clock_one_event : (e f : Event) (k : Kind) (m : ℕ) → At (e ∷ []) m f → e.kind ≢ k → f.kind ≢ k
+next_clock_one_event e f k m at isnt same =
+    elim (slice_push_cases [] e m f at) [ inl old ↦ absurd (cc (old.1)) | inr new ↦ isnt (ap (λ x. x.kind) new.1 ∙ same) ]
 
-one_other : (e f : Event) (p m : ℕ) → At (e ∷ []) m f → e.processor ≢ p → f.processor ≢ p
-one_other e f p m at isnt same =
-    elim (push_cases [] e m f at)
+next_clock_one_others : (e f : Event) (p m : ℕ) → At (e ∷ []) m f → e.processor ≢ p → f.processor ≢ p
+next_clock_one_others e f p m at isnt same =
+    elim (slice_push_cases [] e m f at)
     [ inl old ↦ absurd (cc (old.1)) | inr new ↦ isnt (ap (λ x. x.processor) new.1 ∙ same) ]
 
 -- what the kept timestamps say that an event brings is the time of what it brings
-pub brought_time : (j : List Event) (c : Clocks) (p : ℕ) (k : Kind) → AreClocks j c → p < c.present
-    → IsTimeIn j (Brings j p k) (brought_entry c p k)
-brought_time j c p (Acquire l) a h = a.locks l
-brought_time j c p (Await f) a h = a.flags f
-brought_time j c p Depart a h =
+pub next_clock_brought_time : (j : List Event) (c : Clocks) (p : ℕ) (k : Kind) → AreClocks j c → p < c.present
+    → IsTimeIn j (Brings j p k) (next_clock_brought_entry c p k)
+next_clock_brought_time j c p (Acquire l) a h = a.locks l
+next_clock_brought_time j c p (Await f) a h = a.flags f
+next_clock_brought_time j c p Depart a h =
     let few = a.few in
     let P : ℕ → Type 0 =
     λ n. IsTimeIn j (UpToSome j (SomeArrives j n)) (entry c.episodes.items (slice_index c.departures p - c.gone))
     in
     subst P (a.departures p (omega arith)) (a.episodes (slice_index c.departures p) (a.left p h))
-brought_time j c p _ a h = time_none j (UpToSome j (λ _. ⊥)) (λ i x. x.1)
+next_clock_brought_time j c p _ a h = time_none j (UpToSome j (λ _. ⊥)) (λ i x. x.1)
 
 -- kept timestamps, one for each kind k n
 abbrev AreKeptClocks : List Event → (ℕ → Kind) → (ℕ → ℕ → ℕ) → Type 0
@@ -79,21 +79,21 @@ AreKeptClocks j k times = (n : ℕ) → IsTimeIn j (UpToSome j (SomeDoes j (k n)
 abbrev AreGatheredClocks : List Event → List (List ℕ) → ℕ → Type 0
 AreGatheredClocks j xs gone = (n : ℕ) → gone ≤ n → IsTimeIn j (UpToSome j (SomeArrives j n)) (entry xs (n - gone))
 
-kept_same : (j : List Event) (e : Event) (k : ℕ → Kind) (xs ys : ℕ → ℕ → ℕ) → ((n : ℕ) → e.kind ≢ k n) → ys ≡ xs
+next_clock_kept_same : (j : List Event) (e : Event) (k : ℕ → Kind) (xs ys : ℕ → ℕ → ℕ) → ((n : ℕ) → e.kind ≢ k n) → ys ≡ xs
     → AreKeptClocks j k xs → AreKeptClocks (j ++ e ∷ []) k ys
-kept_same j e k xs ys isnt same a n =
+next_clock_kept_same j e k xs ys isnt same a n =
     subst (λ zs. IsTimeIn (j ++ e ∷ []) (UpToSome (j ++ e ∷ []) (SomeDoes (j ++ e ∷ []) (k n))) (zs n)) (sym same)
-    (kind_kept j (e ∷ []) (k n) (xs n) (λ m f at. one_event e f (k n) m at (isnt n)) (a n))
+    (kind_kept j (e ∷ []) (k n) (xs n) (λ m f at. next_clock_one_event e f (k n) m at (isnt n)) (a n))
 
-kept_joined : {m : ℕ} {xs ys : ℕ → ℕ → ℕ} {own : ℕ → ℕ} → (j : List Event) (p : ℕ) (k : ℕ → Kind)
+next_clock_kept_joined : {m : ℕ} {xs ys : ℕ → ℕ → ℕ} {own : ℕ → ℕ} → (j : List Event) (p : ℕ) (k : ℕ → Kind)
     → ((n : ℕ) → n ≢ m → k m ≢ k n) → IsTimeOf (j ++ event p (k m) ∷ []) p own → EntryJoinedAt xs ys m own
     → AreKeptClocks j k xs → AreKeptClocks (j ++ event p (k m) ∷ []) k ys
-kept_joined {m} {xs} {ys} {own} j p k apart time joined a n = elim (cases_eq n m) [
+next_clock_kept_joined {m} {xs} {ys} {own} j p k apart time joined a n = elim (cases_eq n m) [
   | inl is ↦ subst (λ x. IsTimeIn now (UpToSome now (SomeDoes now (k x))) (ys x)) (sym is) (time_equal now
       (UpToSome now (SomeDoes now (k m))) (λ q. max (xs m q) (own q)) (ys m) (λ q. sym (joined.joined q))
-      (kind_joins j e (xs m) own (a m) time))
+      (kept_kind_joins j e (xs m) own (a m) time))
   | inr isnt ↦ time_equal now (UpToSome now (SomeDoes now (k n))) (xs n) (ys n) (λ q. sym (joined.same n q isnt))
-      (kind_kept j (e ∷ []) (k n) (xs n) (λ i f at. one_event e f (k n) i at (apart n isnt)) (a n))
+      (kind_kept j (e ∷ []) (k n) (xs n) (λ i f at. next_clock_one_event e f (k n) i at (apart n isnt)) (a n))
 ]
   where
     e : Event
@@ -102,12 +102,12 @@ kept_joined {m} {xs} {ys} {own} j p k apart time joined a n = elim (cases_eq n m
     now : List Event
     now = j ++ event p (k m) ∷ []
 
-gathered_same : (j : List Event) (e : Event) (xs ys : List (List ℕ)) (gone : ℕ) → e.kind ≢ Arrive → ys ≡ xs
+next_clock_gathered_same : (j : List Event) (e : Event) (xs ys : List (List ℕ)) (gone : ℕ) → e.kind ≢ Arrive → ys ≡ xs
     → AreGatheredClocks j xs gone → AreGatheredClocks (j ++ e ∷ []) ys gone
-gathered_same j e xs ys gone isnt same a n le =
+next_clock_gathered_same j e xs ys gone isnt same a n le =
     subst (λ zs. IsTimeIn (j ++ e ∷ []) (UpToSome (j ++ e ∷ []) (SomeArrives (j ++ e ∷ []) n)) (entry zs (n - gone)))
     (sym same)
-    (arrivals_kept j (e ∷ []) n (entry xs (n - gone)) (λ m f at. one_event e f Arrive m at isnt) (a n le))
+    (arrivals_kept j (e ∷ []) n (entry xs (n - gone)) (λ m f at. next_clock_one_event e f Arrive m at isnt) (a n le))
 
 -- p is one of the processors, the timestamps c are those of the journal j, and d has as many
 pub record StepsClocks (j : List Event) (c d : Clocks) (p : ℕ) : Type 0 where
@@ -121,7 +121,7 @@ record AreNext (c d : Clocks) (p : ℕ) (k : Kind) : Type 0 where
   pub gone : d.gone ≡ c.gone
   pub own : (q : ℕ)
       → entry d.processors.items p q
-      ≡ max (entry c.processors.items p q) (brought_entry c p k q) + cond ((p == q) && is_closing k) 1 0
+      ≡ max (entry c.processors.items p q) (next_clock_brought_entry c p k q) + cond ((p == q) && is_closing k) 1 0
   pub others : (m q : ℕ) → m ≢ p → entry d.processors.items m q ≡ entry c.processors.items m q
   pub keeps : KeepsClocks c d.locks d.flags d.episodes.items p (entry d.processors.items p) k
   pub arrivals : (q : ℕ) → slice_index d.arrivals q ≡ slice_index c.arrivals q + cond ((p == q) && is_arrive k) 1 0
@@ -131,28 +131,28 @@ record AreNext (c d : Clocks) (p : ℕ) (k : Kind) : Type 0 where
 steps_within : {j : List Event} {c d : Clocks} {p : ℕ} → StepsClocks j c d p → p < 16
 steps_within s = (let few = s.so_far.few in let h = s.present in omega arith)
 
-own_time : {j : List Event} {c d : Clocks} {p : ℕ} {k : Kind} → StepsClocks j c d p → AreNext c d p k
+next_clock_own_time : {j : List Event} {c d : Clocks} {p : ℕ} {k : Kind} → StepsClocks j c d p → AreNext c d p k
     → IsTimeOf (j ++ event p k ∷ []) p (entry d.processors.items p)
-own_time {j} {c} {d} {p} {k} s n =
+next_clock_own_time {j} {c} {d} {p} {k} s n =
     time_equal (j ++ event p k ∷ []) (InPast (j ++ event p k ∷ []) p)
-    (λ q. max (entry c.processors.items p q) (brought_entry c p k q) + count_of is_closing (event p k ∷ []) q)
+    (λ q. max (entry c.processors.items p q) (next_clock_brought_entry c p k q) + count_of is_closing (event p k ∷ []) q)
     (entry d.processors.items p) (λ q. omega (arith, n.own q)) (time_push j (event p k) (entry c.processors.items p)
-    (brought_entry c p k) (s.so_far.times p (steps_within s)) (brought_time j c p k s.so_far s.present))
+    (next_clock_brought_entry c p k) (s.so_far.times p (steps_within s)) (next_clock_brought_time j c p k s.so_far s.present))
 
 times_next : {j : List Event} {c d : Clocks} {p : ℕ} {k : Kind} → StepsClocks j c d p → AreNext c d p k → (m : ℕ)
     → m < 16 → IsTimeOf (j ++ event p k ∷ []) m (entry d.processors.items m)
 times_next {j} {c} {d} {p} {k} s n m within = elim (cases_eq m p) [
-  | inl is ↦ subst (λ x. IsTimeOf (j ++ event p k ∷ []) x (entry d.processors.items x)) (sym is) (own_time s n)
+  | inl is ↦ subst (λ x. IsTimeOf (j ++ event p k ∷ []) x (entry d.processors.items x)) (sym is) (next_clock_own_time s n)
   | inr isnt ↦ time_equal (j ++ event p k ∷ []) (InPast (j ++ event p k ∷ []) m) (entry c.processors.items m)
       (entry d.processors.items m) (λ q. sym (n.others m q isnt)) (others_keep_time j (event p k ∷ []) m
-      (entry c.processors.items m) (λ i f at. one_other (event p k) f m i at (λ same. isnt (sym same)))
+      (entry c.processors.items m) (λ i f at. next_clock_one_others (event p k) f m i at (λ same. isnt (sym same)))
       (s.so_far.times m within))
 ]
 
 -- an arrival joins its timestamp into what its episode keeps
-gathered_joined : {j : List Event} {c d : Clocks} {p : ℕ} → StepsClocks j c d p → AreNext c d p Arrive
+next_clock_gathered_joined : {j : List Event} {c d : Clocks} {p : ℕ} → StepsClocks j c d p → AreNext c d p Arrive
     → AreGatheredClocks (j ++ event p Arrive ∷ []) d.episodes.items c.gone
-gathered_joined {j} {c} {d} {p} s next n le = elim (cases_eq n m) [
+next_clock_gathered_joined {j} {c} {d} {p} s next n le = elim (cases_eq n m) [
   | inl is ↦
       (let here = next.keeps.2 (omega arith) in
       let place : n - c.gone ≡ m - c.gone = omega arith in
@@ -164,10 +164,10 @@ gathered_joined {j} {c} {d} {p} s next n le = elim (cases_eq n m) [
       subst (λ x. IsTimeIn now (UpToSome now (SomeArrives now x)) (entry ys (n - c.gone))) (sym (is ∙ number))
       (time_equal now (UpToSome now (SomeArrives now (count_of is_arrive j p)))
       (λ q. max (entry xs (n - c.gone) q) (own q)) (entry ys (n - c.gone)) entries
-      (arrival_joins j e (entry xs (n - c.gone)) own refl old (own_time s next))))
+      (arrives_joins_time j e (entry xs (n - c.gone)) own refl old (next_clock_own_time s next))))
   | inr isnt ↦ time_equal now (UpToSome now (SomeArrives now n)) (entry xs (n - c.gone)) (entry ys (n - c.gone))
       (others isnt)
-      (arrivals_others j e n (entry xs (n - c.gone)) (λ eq. isnt (sym (number ∙ eq))) (s.so_far.episodes n le))
+      (arrives_others_time j e n (entry xs (n - c.gone)) (λ eq. isnt (sym (number ∙ eq))) (s.so_far.episodes n le))
 ]
   where
     e : Event
@@ -212,43 +212,43 @@ record AreKeptNext (j : List Event) (d : Clocks) : Type 0 where
 kept_clocks_next : {j : List Event} {c d : Clocks} {p : ℕ} → (k : Kind) → StepsClocks j c d p → AreNext c d p k
     → AreKeptNext (j ++ event p k ∷ []) d
 kept_clocks_next {j} {c} {d} {p} (Release l) s n = record {
-  locks = kept_joined j p (λ m. Release m) (λ m isnt same. isnt cc) (own_time s n) n.keeps.0 s.so_far.locks;
+  locks = next_clock_kept_joined j p (λ m. Release m) (λ m isnt same. isnt cc) (next_clock_own_time s n) n.keeps.0 s.so_far.locks;
   flags =
-      kept_same j (event p (Release l)) (λ f. Set f) (numbered_entry c.flags) (numbered_entry d.flags) (λ m same. absurd cc)
+      next_clock_kept_same j (event p (Release l)) (λ f. Set f) (numbered_entry c.flags) (numbered_entry d.flags) (λ m same. absurd cc)
       (ap numbered_entry n.keeps.1) s.so_far.flags;
   episodes =
-      subst (λ x. AreGatheredClocks (j ++ event p (Release l) ∷ []) d.episodes.items x) (sym n.gone) (gathered_same j
+      subst (λ x. AreGatheredClocks (j ++ event p (Release l) ∷ []) d.episodes.items x) (sym n.gone) (next_clock_gathered_same j
       (event p (Release l)) c.episodes.items d.episodes.items c.gone (λ same. absurd cc) n.keeps.2 s.so_far.episodes);
 }
 kept_clocks_next {j} {c} {d} {p} (Set f) s n = record {
   locks =
-      kept_same j (event p (Set f)) (λ m. Release m) (numbered_entry c.locks) (numbered_entry d.locks) (λ m same. absurd cc)
+      next_clock_kept_same j (event p (Set f)) (λ m. Release m) (numbered_entry c.locks) (numbered_entry d.locks) (λ m same. absurd cc)
       (ap numbered_entry n.keeps.0) s.so_far.locks;
-  flags = kept_joined j p (λ m. Set m) (λ m isnt same. isnt cc) (own_time s n) n.keeps.1 s.so_far.flags;
+  flags = next_clock_kept_joined j p (λ m. Set m) (λ m isnt same. isnt cc) (next_clock_own_time s n) n.keeps.1 s.so_far.flags;
   episodes =
-      subst (λ x. AreGatheredClocks (j ++ event p (Set f) ∷ []) d.episodes.items x) (sym n.gone) (gathered_same j
+      subst (λ x. AreGatheredClocks (j ++ event p (Set f) ∷ []) d.episodes.items x) (sym n.gone) (next_clock_gathered_same j
       (event p (Set f)) c.episodes.items d.episodes.items c.gone (λ same. absurd cc) n.keeps.2 s.so_far.episodes);
 }
 kept_clocks_next {j} {c} {d} {p} Arrive s n = record {
   locks =
-      kept_same j (event p Arrive) (λ m. Release m) (numbered_entry c.locks) (numbered_entry d.locks) (λ m same. absurd cc)
+      next_clock_kept_same j (event p Arrive) (λ m. Release m) (numbered_entry c.locks) (numbered_entry d.locks) (λ m same. absurd cc)
       (ap numbered_entry n.keeps.0) s.so_far.locks;
   flags =
-      kept_same j (event p Arrive) (λ f. Set f) (numbered_entry c.flags) (numbered_entry d.flags) (λ m same. absurd cc)
+      next_clock_kept_same j (event p Arrive) (λ f. Set f) (numbered_entry c.flags) (numbered_entry d.flags) (λ m same. absurd cc)
       (ap numbered_entry n.keeps.1) s.so_far.flags;
   episodes =
-      subst (λ x. AreGatheredClocks (j ++ event p Arrive ∷ []) d.episodes.items x) (sym n.gone) (gathered_joined s n);
+      subst (λ x. AreGatheredClocks (j ++ event p Arrive ∷ []) d.episodes.items x) (sym n.gone) (next_clock_gathered_joined s n);
 }
 kept_clocks_next {j} {c} {d} {p} k s n = record {
   locks =
-      kept_same j (event p k) (λ m. Release m) (numbered_entry c.locks) (numbered_entry d.locks) (λ m same. absurd cc)
+      next_clock_kept_same j (event p k) (λ m. Release m) (numbered_entry c.locks) (numbered_entry d.locks) (λ m same. absurd cc)
       (ap numbered_entry n.keeps.0) s.so_far.locks;
   flags =
-      kept_same j (event p k) (λ f. Set f) (numbered_entry c.flags) (numbered_entry d.flags) (λ m same. absurd cc)
+      next_clock_kept_same j (event p k) (λ f. Set f) (numbered_entry c.flags) (numbered_entry d.flags) (λ m same. absurd cc)
       (ap numbered_entry n.keeps.1) s.so_far.flags;
   episodes =
       subst (λ x. AreGatheredClocks (j ++ event p k ∷ []) d.episodes.items x) (sym n.gone)
-      (gathered_same j (event p k) c.episodes.items d.episodes.items c.gone (λ same. absurd cc) n.keeps.2 s.so_far.episodes);
+      (next_clock_gathered_same j (event p k) c.episodes.items d.episodes.items c.gone (λ same. absurd cc) n.keeps.2 s.so_far.episodes);
 }
 
 -- after the event the timestamps are those of the journal with it
@@ -276,16 +276,16 @@ clocks_next {j} {c} {d} {p} {k} s n =
           (n.departures q) (a.departures q within);
     }
 
-quiet_no_arrive : (k : Kind) → is_closing k ≡ false → is_arrive k ≡ false
-quiet_no_arrive Arrive h = absurd cc
-quiet_no_arrive _ h = refl
+next_clock_no_arrive : (k : Kind) → is_closing k ≡ false → is_arrive k ≡ false
+next_clock_no_arrive Arrive h = absurd cc
+next_clock_no_arrive _ h = refl
 
-quiet_no_depart : (k : Kind) → is_taking k ≡ false → is_depart k ≡ false
-quiet_no_depart Depart h = absurd cc
-quiet_no_depart _ h = refl
+next_clock_no_depart : (k : Kind) → is_taking k ≡ false → is_depart k ≡ false
+next_clock_no_depart Depart h = absurd cc
+next_clock_no_depart _ h = refl
 
 -- what closes takes nothing
-closing_brings_nothing : (c : Clocks) (p : ℕ) (k : Kind) → is_closing k ≡ true → (q : ℕ) → brought_entry c p k q ≡ 0
+closing_brings_nothing : (c : Clocks) (p : ℕ) (k : Kind) → is_closing k ≡ true → (q : ℕ) → next_clock_brought_entry c p k q ≡ 0
 closing_brings_nothing c p (Acquire l) h q = absurd cc
 closing_brings_nothing c p (Await f) h q = absurd cc
 closing_brings_nothing c p Depart h q = absurd cc
@@ -304,31 +304,31 @@ clocks_plain j e c takes closes a = record {
   left = a.left;
   times = times;
   locks =
-      kept_same j e (λ l. Release l) (numbered_entry c.locks) (numbered_entry c.locks)
+      next_clock_kept_same j e (λ l. Release l) (numbered_entry c.locks) (numbered_entry c.locks)
       (λ l same. absurd (cc (closes, ap (λ k. is_closing k) same))) refl a.locks;
   flags =
-      kept_same j e (λ f. Set f) (numbered_entry c.flags) (numbered_entry c.flags)
+      next_clock_kept_same j e (λ f. Set f) (numbered_entry c.flags) (numbered_entry c.flags)
       (λ f same. absurd (cc (closes, ap (λ k. is_closing k) same))) refl a.flags;
   episodes =
-      gathered_same j e c.episodes.items c.episodes.items c.gone
+      next_clock_gathered_same j e c.episodes.items c.episodes.items c.gone
       (λ same. absurd (cc (closes, ap (λ k. is_closing k) same))) refl a.episodes;
   arrivals =
-      λ q h. (let none = none_of is_arrive q (quiet_no_arrive e.kind closes) in
+      λ q h. (let none = none_of is_arrive q (next_clock_no_arrive e.kind closes) in
       let sum = count_of-append is_arrive j (e ∷ []) q in let now = a.arrivals q h in omega arith);
   departures =
-      λ q h. (let none = none_of is_depart q (quiet_no_depart e.kind takes) in
+      λ q h. (let none = none_of is_depart q (next_clock_no_depart e.kind takes) in
       let sum = count_of-append is_depart j (e ∷ []) q in let now = a.departures q h in omega arith);
 }
   where
     none_of : (is : Kind → Bool) (q : ℕ) → is e.kind ≡ false → count_of is (e ∷ []) q ≡ 0
-    none_of is q no_one = elim (count_of-one is e q) [ inl none ↦ none | inr one ↦ absurd (cc (no_one, one.1)) ]
+    none_of is q no_one = elim (count_of-one_time is e q) [ inl none ↦ none | inr one ↦ absurd (cc (no_one, one.1)) ]
 
     times : (p : ℕ) → p < 16 → IsTimeOf (j ++ e ∷ []) p (entry c.processors.items p)
     times p h = elim (cases_eq p e.processor) [
       | inl is ↦ subst (λ x. IsTimeOf (j ++ e ∷ []) x (entry c.processors.items x)) (sym is) (own_time_quiet j e
           (entry c.processors.items e.processor) takes closes (a.times e.processor (subst (λ x. x < 16) is h)))
       | inr isnt ↦ others_keep_time j (e ∷ []) p (entry c.processors.items p)
-          (λ i f at. one_other e f p i at (λ same. isnt (sym same))) (a.times p h)
+          (λ i f at. next_clock_one_others e f p i at (λ same. isnt (sym same))) (a.times p h)
     ]
 
 -- the front of a journal with the event at its end
@@ -337,11 +337,11 @@ pub front_next : (events : List Event) (place : ℕ) (e : Event) → At events p
 front_next events place e at = ap (λ n. take n events) (add-one place) ∙ take-suc_at events place e at
 
 -- there is room for one more in its own entry
-pub own_room : (j : List Event) (c : Clocks) (p : ℕ) → p < c.present → length j < 2 ^ 22 → AreClocks j c
+pub next_clock_own_room : (j : List Event) (c : Clocks) (p : ℕ) → p < c.present → length j < 2 ^ 22 → AreClocks j c
     → entry c.processors.items p p < 2 ^ 22
-own_room j c p h few a =
+next_clock_own_room j c p h few a =
     let few_processors = a.few in
-    let small = time_small j (InPast j p) (entry c.processors.items p) p (a.times p (omega arith)) in
+    let small = next_clock_time_small j (InPast j p) (entry c.processors.items p) p (a.times p (omega arith)) in
     omega arith
 
 -- the timestamps after an event that closes p's interval, without meeting anybody
@@ -372,7 +372,7 @@ closed_next {j} {c} {d} {p} k closes stays s rest closed keeps =
 -- after an event that takes what a lock or a flag keeps
 pub taken_next : {j : List Event} {c d : Clocks} {p : ℕ} → (k : Kind) → is_closing k ≡ false → is_depart k ≡ false
     → StepsClocks j c d p → d ≡ record c { processors = d.processors }
-    → EntryJoinedAt (entry c.processors.items) (entry d.processors.items) p (brought_entry c p k)
+    → EntryJoinedAt (entry c.processors.items) (entry d.processors.items) p (next_clock_brought_entry c p k)
     → KeepsClocks c d.locks d.flags d.episodes.items p (entry d.processors.items p) k
     → AreClocks (j ++ event p k ∷ []) d
 taken_next {j} {c} {d} {p} k closes goes s rest joined keeps =
@@ -384,7 +384,7 @@ taken_next {j} {c} {d} {p} k closes goes s rest joined keeps =
       others = joined.same;
       keeps = keeps;
       arrivals =
-          λ q. (let none = cond-and_false (p == q) (is_arrive k) (quiet_no_arrive k closes) in
+          λ q. (let none = cond-and_false (p == q) (is_arrive k) (next_clock_no_arrive k closes) in
           let same = ap (λ x. slice_index x.arrivals q) rest in omega arith);
       departures =
           λ q. (let none = cond-and_false (p == q) (is_depart k) goes in
@@ -412,7 +412,7 @@ arrived_next {j} {c} {d} {p} s rest closed arrived =
 -- after a departure
 pub departed_next : {j : List Event} {c d : Clocks} {p : ℕ} → StepsClocks j c d p
     → d ≡ record c { processors = d.processors; departures = d.departures }
-    → EntryJoinedAt (entry c.processors.items) (entry d.processors.items) p (brought_entry c p Depart)
+    → EntryJoinedAt (entry c.processors.items) (entry d.processors.items) p (next_clock_brought_entry c p Depart)
     → ((q : ℕ) → slice_index d.departures q ≡ slice_index c.departures q + cond (p == q) 1 0)
     → AreClocks (j ++ event p Depart ∷ []) d
 departed_next {j} {c} {d} {p} s rest joined counted =

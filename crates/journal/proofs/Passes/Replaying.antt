@@ -10,7 +10,7 @@ use Rattle.journal.specs.declared.event.Event.{Event}
 use Rattle.journal.specs.declared.event.Kind.TheVariants.{Load}
 use Rattle.journal.specs.DidEvent.{event}
 use Rattle.journal.specs.WellFormed.{Does}
-use Rattle.journal.specs.FlatMemory.{memory_after, flat_write, AnswersWord}
+use Rattle.journal.specs.FlatMemory.{memory_after, flat_write, AnswersFlatWord}
 
 -- the memory is that after the first n events, and their loads answer its words
 pub record ReplaysSoFar (start memory : List ℕ) (events : List Event) (n : ℕ) : Type 0 where
@@ -19,9 +19,9 @@ pub record ReplaysSoFar (start memory : List ℕ) (events : List Event) (n : ℕ
       → slice_get (memory_after start (take i events)) a ≡ Some v
 
 -- the memory after one more event
-pub memory_after-suc : (start : List ℕ) (events : List Event) (n : ℕ) (e : Event) → slice_get events n ≡ Some e
+pub replaying_memory_after-suc : (start : List ℕ) (events : List Event) (n : ℕ) (e : Event) → slice_get events n ≡ Some e
     → memory_after start (take (n + 1) events) ≡ wrote (memory_after start (take n events)) (flat_write e.kind)
-memory_after-suc start events n e at =
+replaying_memory_after-suc start events n e at =
     rw (
       add-one,
       take-suc_at events n e at,
@@ -32,15 +32,15 @@ memory_after-suc start events n e at =
 
 -- one more event that answers
 pub replays-suc : (start memory : List ℕ) (events : List Event) (n : ℕ) (e : Event) → slice_get events n ≡ Some e
-    → ReplaysSoFar start memory events n → AnswersWord memory e.kind
+    → ReplaysSoFar start memory events n → AnswersFlatWord memory e.kind
     → ReplaysSoFar start (wrote memory (flat_write e.kind)) events (n + 1)
 replays-suc start memory events n e at so answers = record {
-  memory_is = rw (memory_after-suc start events n e at, so.memory_is) refl;
+  memory_is = rw (replaying_memory_after-suc start events n e at, so.memory_is) refl;
   loads = below_more _ _ so.loads (λ p a v does. rw (← so.memory_is) (answers_load p a v does));
 }
   where
     answers_load : (p a v : ℕ) → Does events n p (Load a v) → slice_get memory a ≡ Some v
     answers_load p a v does =
         let same : e ≡ event p (Load a v) = same_Some e (event p (Load a v)) (sym at ∙ does) in
-        let P : Kind → Type 0 = λ k. AnswersWord memory k in
+        let P : Kind → Type 0 = λ k. AnswersFlatWord memory k in
         subst P (ap (λ x. x.kind) same) answers

@@ -4,8 +4,8 @@ use Rattle.journal.specs.declared.event.Event.{Event}
 use Rattle.journal.specs.Events.{At, is_closing}
 use Rattle.journal.specs.Times.{IsTimeOf}
 use Rattle.journal.specs.Blocks.{IsBlock}
-use Rattle.base.proofs.SlicesAndCounts.{push_induction}
-use Rattle.journal.proofs.Order.CountedAndNumbered.{at_longer, at_last}
+use Rattle.base.proofs.SlicesAndCounts.{slice_push_induction}
+use Rattle.journal.proofs.Order.CountedAndNumbered.{numbered_at_longer, numbered_at_last}
 use Rattle.journal.proofs.Order.BlockPasts.{block_front, block_last}
 use Rattle.journal.proofs.Times.PushesCovered.{own_time_quiet}
 
@@ -13,7 +13,7 @@ use Rattle.journal.proofs.Times.PushesCovered.{own_time_quiet}
 pub block_time : (j block : List Event) (p : ℕ) (t : ℕ → ℕ) → IsBlock p block
     → ((k : ℕ) (e : Event) → At block k e → is_closing e.kind ≡ false) → IsTimeOf j p t → IsTimeOf (j ++ block) p t
 block_time j block p t is inner time =
-    push_induction
+    slice_push_induction
     (λ es. IsBlock p es → ((k : ℕ) (e : Event) → At es k e → is_closing e.kind ≡ false) → IsTimeOf (j ++ es) p t)
     (λ x y. rw append-nil time) step block is inner
   where
@@ -23,6 +23,6 @@ block_time j block p t is inner time =
         → IsTimeOf (j ++ (es ++ e ∷ [])) p t
     step es e ih block_is quiet =
         let last = block_last p es e block_is in
-        let old = ih (block_front p es (e ∷ []) block_is) (λ k f at. quiet k f (at_longer es (e ∷ []) k f at)) in
+        let old = ih (block_front p es (e ∷ []) block_is) (λ k f at. quiet k f (numbered_at_longer es (e ∷ []) k f at)) in
         let P : ℕ → Type 0 = λ q. IsTimeOf (j ++ es) q t → IsTimeOf ((j ++ es) ++ e ∷ []) q t in
-        rw append_assoc at (subst P last.0 (own_time_quiet (j ++ es) e t last.1 (quiet (length es) e (at_last es e))) old)
+        rw append_assoc at (subst P last.0 (own_time_quiet (j ++ es) e t last.1 (quiet (length es) e (numbered_at_last es e))) old)

@@ -11,14 +11,14 @@ use Rattle.journal.specs.HappensBeforeEdges.{HappensBefore}
 use Rattle.journal.specs.Pasts.{InPast}
 use Rattle.journal.specs.ClosedIntervals.{ClosedAt}
 use Rattle.journal.specs.Times.{ClosesAt}
-use Rattle.journal.proofs.Order.CountedAndNumbered.{at_same, does_at}
+use Rattle.journal.proofs.Order.CountedAndNumbered.{numbered_at_same, numbered_does_at}
 use Rattle.journal.proofs.Order.HappensBefore.{before_goes_forward}
 use Rattle.journal.proofs.Order.EdgesIntoPast.{past_back}
-use Rattle.journal.proofs.Times.LeavingCloses.{LeavesAt, path_leaves, leaving, own_order}
+use Rattle.journal.proofs.Times.LeavingCloses.{LeavesAt, path_leaves, leaving, leaving_own_order}
 
 -- no earlier closing event of the processor closes the interval
-pub closer_least : (j : List Event) (i c m : ℕ) (x : ClosedAt j i c) → i ≤ m → ClosesAt j x.event.processor m → c ≤ m
-closer_least j i c m x from closes =
+pub closing_event_least : (j : List Event) (i c m : ℕ) (x : ClosedAt j i c) → i ≤ m → ClosesAt j x.event.processor m → c ≤ m
+closing_event_least j i c m x from closes =
     elim (cases_lt m c) [ inl less ↦ absurd (go less (cases_order i m)) | inr le ↦ le ]
   where
     f : Event
@@ -27,7 +27,7 @@ closer_least j i c m x from closes =
     go : m < c → (i ≡ m) ⊎ ((i < m) ⊎ (m < i)) → ⊥
     go less (inl e) =
         let P : ℕ → Type 0 = λ k. At j k x.event in
-        x.open_at (ap (λ (g : Event). is_closing g.kind) (at_same j m x.event f (subst P e x.at) closes.does)
+        x.open_at (ap (λ (g : Event). is_closing g.kind) (numbered_at_same j m x.event f (subst P e x.at) closes.does)
         ∙ closes.closes)
     go less (inr (inl after)) = x.none_between m f after less closes.does refl closes.closes
     go less (inr (inr before)) = omega arith
@@ -36,7 +36,7 @@ closer_least j i c m x from closes =
 pub closer_closes : (j : List Event) (i c : ℕ) (x : ClosedAt j i c) → ClosesAt j x.event.processor c
 closer_closes j i c x =
     record
-    { kind = x.closer.kind; does = does_at j c x.event.processor x.closer x.closer_at x.mine; closes = x.closes }
+    { kind = x.closer.kind; does = numbered_does_at j c x.event.processor x.closer x.closer_at x.mine; closes = x.closes }
 
 -- closing order extends happens-before
 pub closing_extends : (j : List Event) (i k c d : ℕ) → ClosedAt j i c → ClosedAt j k d → (c < d) ⊎ ((c ≡ d) × (i < k))
@@ -52,22 +52,22 @@ closing_extends j i k c d x y order before = go (cases_eq y.event.processor x.ev
     go : (y.event.processor ≡ x.event.processor) ⊎ (y.event.processor ≢ x.event.processor) → ⊥
     go (inl mine) =
         let P : ℕ
-        → Type 0 = λ q. ClosesAt j q c in late (closer_least j k d c y
+        → Type 0 = λ q. ClosesAt j q c in late (closing_event_least j k d c y
         (let less = x.before in omega (arith, forward, less))
         (subst P (sym mine) (closer_closes j i c x)))
     go (inr apart) =
         let l = path_leaves j y.event.processor before y.event x.event y.at x.at refl (λ s. apart (sym s)) in
-        let least = closer_least j k d l.close y l.from l.closes in
+        let least = closing_event_least j k d l.close y l.from l.closes in
         let up = before_goes_forward j l.inside in
         let less = x.before in
         late (omega (arith, least, up, less))
 
 -- another processor's event is in a past exactly where the closing event of its interval is
-pub interval_past : (j : List Event) (p i c : ℕ) (x : ClosedAt j i c) → x.event.processor ≢ p
+pub closing_interval_past : (j : List Event) (p i c : ℕ) (x : ClosedAt j i c) → x.event.processor ≢ p
     → InPast j p i ↔ InPast j p c
-interval_past j p i c x apart = (
+closing_interval_past j p i c x apart = (
   there,
-  λ h. past_back j p i c (own_order j x.event.processor i c x.event.kind (closer_closes j i c x).kind x.at
+  λ h. past_back j p i c (leaving_own_order j x.event.processor i c x.event.kind (closer_closes j i c x).kind x.at
       (closer_closes j i c x).does x.before)
       h,
 )
@@ -81,27 +81,27 @@ interval_past j p i c x apart = (
         go : (c ≡ l.close) ⊎ ((c < l.close) ⊎ (l.close < c)) → InPast j p c
         go (inl e) = subst (InPast j p) (sym e) l.inside
         go (inr (inl less)) =
-            past_back j p c l.close (own_order j x.event.processor c l.close (closer_closes j i c x).kind
+            past_back j p c l.close (leaving_own_order j x.event.processor c l.close (closer_closes j i c x).kind
             l.closes.kind (closer_closes j i c x).does l.closes.does less)
             l.inside
-        go (inr (inr less)) = let least = closer_least j i c l.close x l.from l.closes in absurd (omega arith)
+        go (inr (inr less)) = let least = closing_event_least j i c l.close x l.from l.closes in absurd (omega arith)
 
 -- whose interval is closed
 pub closed_of : (j : List Event) (q i c : ℕ) (a : Kind) (x : ClosedAt j i c) → Does j i q a → x.event.processor ≡ q
-closed_of j q i c a x does = ap (λ (e : Event). e.processor) (at_same j i x.event (event q a) x.at does)
+closed_of j q i c a x does = ap (λ (e : Event). e.processor) (numbered_at_same j i x.event (event q a) x.at does)
 
 -- the closing event is the processor's first from the event on
 pub closes_first : {j : List Event} {q i c m : ℕ} {a : Kind} → ClosedAt j i c → Does j i q a → i ≤ m → ClosesAt j q m
     → c ≤ m
 closes_first {j} {q} {i} {c} {m} {a} x does from closes =
     let P : ℕ
-    → Type 0 = λ r. ClosesAt j r m in closer_least j i c m x from
+    → Type 0 = λ r. ClosesAt j r m in closing_event_least j i c m x from
     (subst P (sym (closed_of j q i c a x does)) closes)
 
 -- q's event is in another's past exactly where the closing event of its interval is
 pub closed_past : (j : List Event) (p q i c : ℕ) (a : Kind) → ClosedAt j i c → Does j i q a → q ≢ p
     → InPast j p i ↔ InPast j p c
-closed_past j p q i c a x does apart = interval_past j p i c x (λ e. apart (sym (closed_of j q i c a x does) ∙ e))
+closed_past j p q i c a x does apart = closing_interval_past j p i c x (λ e. apart (sym (closed_of j q i c a x does) ∙ e))
 
 -- an interval is closed at one place
 pub closed_once : (j : List Event) (i c d : ℕ) → ClosedAt j i c → ClosedAt j i d → c ≡ d
@@ -110,6 +110,6 @@ closed_once j i c d x y =
     let less = x.before in
     let later = y.before in
     let P : ℕ → ℕ → Type 0 = λ q m. ClosesAt j q m in
-    let up = closer_least j i c d x (omega arith) (subst (λ q. P q d) (sym same) (closer_closes j i d y)) in
-    let down = closer_least j i d c y (omega arith) (subst (λ q. P q c) same (closer_closes j i c x)) in
+    let up = closing_event_least j i c d x (omega arith) (subst (λ q. P q d) (sym same) (closer_closes j i d y)) in
+    let down = closing_event_least j i d c y (omega arith) (subst (λ q. P q c) same (closer_closes j i c x)) in
     omega arith

@@ -5,7 +5,7 @@ use Rattle.journal.specs.declared.event.Event.{Event}
 use Rattle.journal.specs.Events.{At, is_closing, interval_at}
 use Rattle.journal.specs.ClosedIntervals.{ClosedAt}
 use Rattle.journal.specs.Times.{ClosesAt}
-use Rattle.journal.proofs.Order.CountedAndNumbered.{count_of-mono, count_of-past, count_of-within, numbered, does_at, does_same}
+use Rattle.journal.proofs.Order.CountedAndNumbered.{count_of-mono, count_of-past, count_of-within, numbered, numbered_does_at, numbered_does_same}
 use Rattle.journal.proofs.Times.LeavingCloses.{leaving}
 use Rattle.journal.specs.WellFormed.{Does}
 use Rattle.journal.specs.Pasts.{InPast}
@@ -13,9 +13,9 @@ use Rattle.journal.specs.declared.event.Kind.{Kind}
 use Rattle.journal.specs.DidEvent.{event}
 
 -- closing events of one processor with one number are one
-pub same_closer : (j : List Event) (q c d : ℕ) → ClosesAt j q c → ClosesAt j q d
+pub interval_number_closer : (j : List Event) (q c d : ℕ) → ClosesAt j q c → ClosesAt j q d
     → interval_at j q c ≡ interval_at j q d → c ≡ d
-same_closer j q c d x y same = elim (cases_order c d) [
+interval_number_closer j q c d x y same = elim (cases_order c d) [
   | inl e ↦ e
   | inr apart ↦ elim apart [
     | inl less ↦ (let past = count_of-past is_closing j c d q x.kind x.does x.closes less in absurd (omega arith))
@@ -43,7 +43,7 @@ closes_interval j q i c a does open_at closes same =
     before (inl e) =
         let P : ℕ → Type 0 = λ m. Does j m q a in
         absurd
-        (open_at (ap is_closing (does_same j c q q a closes.kind (subst P e does) closes.does).1 ∙ closes.closes))
+        (open_at (ap is_closing (numbered_does_same j c q q a closes.kind (subst P e does) closes.does).1 ∙ closes.closes))
     before (inr (inl less)) = less
     before (inr (inr less)) =
         let past = count_of-past is_closing j c i q closes.kind closes.does closes.closes less in absurd (omega arith)
@@ -51,7 +51,7 @@ closes_interval j q i c a does open_at closes same =
     none : (m : ℕ) (f : Event) → i < m → m < c → At j m f → f.processor ≡ q → is_closing f.kind ≢ true
     none m f after less at mine is =
         let up = count_of-mono is_closing j i m q (le_of_lt after) in
-        let past = count_of-past is_closing j m c q f.kind (does_at j m q f at mine) is less in
+        let past = count_of-past is_closing j m c q f.kind (numbered_does_at j m q f at mine) is less in
         omega arith
 
 -- another processor's event in a past has a closing event with its number

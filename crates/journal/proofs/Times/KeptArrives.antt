@@ -9,9 +9,9 @@ use Rattle.journal.specs.Events.{At, count_of, is_arrive}
 use Rattle.journal.specs.Pasts.{UpTo, UpToSome}
 use Rattle.journal.specs.Times.{IsTimeIn, IsTimeOf}
 use Rattle.journal.specs.Brings.{SomeDoes, ArrivesAt, SomeArrives}
-use Rattle.base.proofs.SlicesAndCounts.{push_cases, append_cases}
-use Rattle.journal.proofs.Order.CountedAndNumbered.{at_within, at_longer, at_last, count_of-front}
-use Rattle.journal.proofs.Order.EdgesIntoPast.{up_to_longer, up_to_shorter, up_to_within}
+use Rattle.base.proofs.SlicesAndCounts.{slice_push_cases, slice_append_cases}
+use Rattle.journal.proofs.Order.CountedAndNumbered.{numbered_at_within, numbered_at_longer, numbered_at_last, count_of-front}
+use Rattle.journal.proofs.Order.EdgesIntoPast.{past_up_to_longer, past_up_to_shorter, past_up_to_within}
 use Rattle.journal.proofs.Times.Times.{time_same, time_joined, time_longer}
 use Rattle.journal.proofs.Times.PushesCovered.{time_at_last}
 
@@ -21,13 +21,13 @@ pub kept_others : (j es : List Event) (some others : ℕ → Type 0) (t : ℕ �
     → IsTimeIn (j ++ es) (UpToSome (j ++ es) others) t
 kept_others j es some others t inside is a =
     time_longer j es (UpToSome j some) (UpToSome (j ++ es) others) t (λ i lt. (there i, back i))
-    (λ i h. (let b = back i h in up_to_within j b.0 i (inside b.0 b.1) b.2)) a
+    (λ i h. (let b = back i h in past_up_to_within j b.0 i (inside b.0 b.1) b.2)) a
   where
     there : (i : ℕ) → UpToSome j some i → UpToSome (j ++ es) others i
-    there i h = (h.0, (is h.0).0 h.1, up_to_longer j es h.0 i h.2)
+    there i h = (h.0, (is h.0).0 h.1, past_up_to_longer j es h.0 i h.2)
 
     back : (i : ℕ) → UpToSome (j ++ es) others i → UpToSome j some i
-    back i h = let old = (is h.0).1 h.1 in (h.0, old, up_to_shorter j es h.0 i (inside h.0 old) h.2)
+    back i h = let old = (is h.0).1 h.1 in (h.0, old, past_up_to_shorter j es h.0 i (inside h.0 old) h.2)
 
 -- with the event that is pushed among them, they join its timestamp
 pub kept_now : {j : List Event} {t u : ℕ → ℕ} → (e : Event) (some others : ℕ → Type 0)
@@ -51,11 +51,11 @@ kept_now {j} {t} {u} e some others inside is a b =
         [ inl old ↦ inl (h.0, old, h.2) | inr new ↦ inr (subst (λ m. UpTo (j ++ e ∷ []) m i) new h.2) ]
 
 -- what someone does stands in the journal
-pub some_within : (j : List Event) (k : Kind) (i : ℕ) → SomeDoes j k i → i < length j
-some_within j k i h = at_within j i (event h.0 k) h.1
+pub arrives_some_within : (j : List Event) (k : Kind) (i : ℕ) → SomeDoes j k i → i < length j
+arrives_some_within j k i h = numbered_at_within j i (event h.0 k) h.1
 
 pub arrives_within : (j : List Event) (n i : ℕ) → SomeArrives j n i → i < length j
-arrives_within j n i h = at_within j i (event h.0 Arrive) h.1.does
+arrives_within j n i h = numbered_at_within j i (event h.0 Arrive) h.1.does
 
 -- other events leave who does this
 pub does_kept : (j es : List Event) (k : Kind) (i : ℕ) → ((m : ℕ) (f : Event) → At es m f → f.kind ≢ k)
@@ -63,44 +63,44 @@ pub does_kept : (j es : List Event) (k : Kind) (i : ℕ) → ((m : ℕ) (f : Eve
 does_kept j es k i away = (there, back)
   where
     there : SomeDoes j k i → SomeDoes (j ++ es) k i
-    there h = (h.0, at_longer j es i (event h.0 k) h.1)
+    there h = (h.0, numbered_at_longer j es i (event h.0 k) h.1)
 
     back : SomeDoes (j ++ es) k i → SomeDoes j k i
     back h =
-        elim (append_cases j es i (event h.0 k) h.1)
+        elim (slice_append_cases j es i (event h.0 k) h.1)
         [ inl a ↦ (h.0, a.1) | inr b ↦ absurd (away b.0 (event h.0 k) b.2 refl) ]
 
 -- an event of this kind is one more
-pub does_now : (j : List Event) (e : Event) (i : ℕ)
+pub arrives_does_now : (j : List Event) (e : Event) (i : ℕ)
     → SomeDoes (j ++ e ∷ []) e.kind i ↔ (SomeDoes j e.kind i ⊎ (i ≡ length j))
-does_now j e i = (there, back)
+arrives_does_now j e i = (there, back)
   where
     there : SomeDoes (j ++ e ∷ []) e.kind i → SomeDoes j e.kind i ⊎ (i ≡ length j)
-    there h = elim (push_cases j e i (event h.0 e.kind) h.1) [ inl a ↦ inl (h.0, a.1) | inr b ↦ inr b.0 ]
+    there h = elim (slice_push_cases j e i (event h.0 e.kind) h.1) [ inl a ↦ inl (h.0, a.1) | inr b ↦ inr b.0 ]
 
     back : SomeDoes j e.kind i ⊎ (i ≡ length j) → SomeDoes (j ++ e ∷ []) e.kind i
-    back (inl h) = (h.0, at_longer j (e ∷ []) i (event h.0 e.kind) h.1)
-    back (inr is) = (e.processor, subst (λ m. At (j ++ e ∷ []) m e) (sym is) (at_last j e))
+    back (inl h) = (h.0, numbered_at_longer j (e ∷ []) i (event h.0 e.kind) h.1)
+    back (inr is) = (e.processor, subst (λ m. At (j ++ e ∷ []) m e) (sym is) (numbered_at_last j e))
 
 -- a lock or flag keeps its time under events of other kinds
 pub kind_kept : (j es : List Event) (k : Kind) (t : ℕ → ℕ) → ((m : ℕ) (f : Event) → At es m f → f.kind ≢ k)
     → IsTimeIn j (UpToSome j (SomeDoes j k)) t → IsTimeIn (j ++ es) (UpToSome (j ++ es) (SomeDoes (j ++ es) k)) t
 kind_kept j es k t away a =
-    kept_others j es (SomeDoes j k) (SomeDoes (j ++ es) k) t (some_within j k) (λ i. does_kept j es k i away) a
+    kept_others j es (SomeDoes j k) (SomeDoes (j ++ es) k) t (arrives_some_within j k) (λ i. does_kept j es k i away) a
 
 -- a release or a set joins its timestamp
-pub kind_joins : (j : List Event) (e : Event) (t u : ℕ → ℕ) → IsTimeIn j (UpToSome j (SomeDoes j e.kind)) t
+pub kept_kind_joins : (j : List Event) (e : Event) (t u : ℕ → ℕ) → IsTimeIn j (UpToSome j (SomeDoes j e.kind)) t
     → IsTimeOf (j ++ e ∷ []) e.processor u
     → IsTimeIn (j ++ e ∷ []) (UpToSome (j ++ e ∷ []) (SomeDoes (j ++ e ∷ []) e.kind)) (λ q. max (t q) (u q))
-kind_joins j e t u a b =
-    kept_now e (SomeDoes j e.kind) (SomeDoes (j ++ e ∷ []) e.kind) (some_within j e.kind) (λ i. does_now j e i) a b
+kept_kind_joins j e t u a b =
+    kept_now e (SomeDoes j e.kind) (SomeDoes (j ++ e ∷ []) e.kind) (arrives_some_within j e.kind) (λ i. arrives_does_now j e i) a b
 
 arrives_longer : (j es : List Event) (n i : ℕ) → SomeArrives j n i → SomeArrives (j ++ es) n i
 arrives_longer j es n i h =
     let lt = arrives_within j n i h in (
       h.0,
       record {
-        does = at_longer j es i (event h.0 Arrive) h.1.does;
+        does = numbered_at_longer j es i (event h.0 Arrive) h.1.does;
         number = count_of-front is_arrive j es i h.0 (omega arith) ∙ h.1.number;
       },
     )
@@ -117,14 +117,14 @@ arrives_kept j es n i away = (arrives_longer j es n i, back)
   where
     back : SomeArrives (j ++ es) n i → SomeArrives j n i
     back h =
-        elim (append_cases j es i (event h.0 Arrive) h.1.does) [
+        elim (slice_append_cases j es i (event h.0 Arrive) h.1.does) [
           | inl a ↦ arrives_shorter j es n h.0 i a.0 a.1 h.1
           | inr b ↦ absurd (away b.0 (event h.0 Arrive) b.2 refl)
         ]
 
-last_number : (j : List Event) (e : Event) (n q i : ℕ) → i ≡ length j → e.processor ≡ q
+arrives_last_number : (j : List Event) (e : Event) (n q i : ℕ) → i ≡ length j → e.processor ≡ q
     → ArrivesAt (j ++ e ∷ []) n q i → count_of is_arrive j e.processor ≡ n
-last_number j e n q i is mine h =
+arrives_last_number j e n q i is mine h =
     let all = ap (λ (xs : List Event). count_of is_arrive xs e.processor) (take-append_seam j (e ∷ [])) in
     let P : ℕ → ℕ → Type 0 = λ m x. count_of is_arrive (take m (j ++ e ∷ [])) x ≡ n in
     sym all ∙ subst (λ m. P m e.processor) is (subst (λ x. P i x) (sym mine) h.number)
@@ -135,9 +135,9 @@ pub arrives_others : (j : List Event) (e : Event) (n i : ℕ) → count_of is_ar
 arrives_others j e n i away = (arrives_longer j (e ∷ []) n i, back)
   where
     back : SomeArrives (j ++ e ∷ []) n i → SomeArrives j n i
-    back h = elim (push_cases j e i (event h.0 Arrive) h.1.does) [
+    back h = elim (slice_push_cases j e i (event h.0 Arrive) h.1.does) [
       | inl a ↦ arrives_shorter j (e ∷ []) n h.0 i a.0 a.1 h.1
-      | inr b ↦ absurd (away (last_number j e n h.0 i b.0 (ap (λ x. x.processor) b.1) h.1))
+      | inr b ↦ absurd (away (arrives_last_number j e n h.0 i b.0 (ap (λ x. x.processor) b.1) h.1))
     ]
 
 -- an arrival at an episode is one more
@@ -149,7 +149,7 @@ arrives_now j e i arrive = (there, back)
     there : SomeArrives (j ++ e ∷ []) (count_of is_arrive j e.processor) i
         → SomeArrives j (count_of is_arrive j e.processor) i ⊎ (i ≡ length j)
     there h =
-        elim (push_cases j e i (event h.0 Arrive) h.1.does) [
+        elim (slice_push_cases j e i (event h.0 Arrive) h.1.does) [
           | inl a ↦ inl
               (arrives_shorter j (e ∷ []) (count_of is_arrive j e.processor) h.0 i a.0 a.1 h.1)
           | inr b ↦ inr b.0
@@ -158,7 +158,7 @@ arrives_now j e i arrive = (there, back)
     now : ArrivesAt (j ++ e ∷ []) (count_of is_arrive j e.processor) e.processor (length j)
     now =
         record {
-          does = subst (λ k. At (j ++ e ∷ []) (length j) (event e.processor k)) arrive (at_last j e);
+          does = subst (λ k. At (j ++ e ∷ []) (length j) (event e.processor k)) arrive (numbered_at_last j e);
           number = ap (λ (xs : List Event). count_of is_arrive xs e.processor) (take-append_seam j (e ∷ []));
         }
 
@@ -177,20 +177,20 @@ arrivals_kept j es n t away a =
     (λ i. arrives_kept j es n i away) a
 
 -- and under arrivals at other episodes
-pub arrivals_others : (j : List Event) (e : Event) (n : ℕ) (t : ℕ → ℕ) → count_of is_arrive j e.processor ≢ n
+pub arrives_others_time : (j : List Event) (e : Event) (n : ℕ) (t : ℕ → ℕ) → count_of is_arrive j e.processor ≢ n
     → IsTimeIn j (UpToSome j (SomeArrives j n)) t
     → IsTimeIn (j ++ e ∷ []) (UpToSome (j ++ e ∷ []) (SomeArrives (j ++ e ∷ []) n)) t
-arrivals_others j e n t away a =
+arrives_others_time j e n t away a =
     kept_others j (e ∷ []) (SomeArrives j n) (SomeArrives (j ++ e ∷ []) n) t (arrives_within j n)
     (λ i. arrives_others j e n i away) a
 
 -- an arrival joins its timestamp
-pub arrival_joins : (j : List Event) (e : Event) (t u : ℕ → ℕ) → e.kind ≡ Arrive
+pub arrives_joins_time : (j : List Event) (e : Event) (t u : ℕ → ℕ) → e.kind ≡ Arrive
     → IsTimeIn j (UpToSome j (SomeArrives j (count_of is_arrive j e.processor))) t
     → IsTimeOf (j ++ e ∷ []) e.processor u
     → IsTimeIn (j ++ e ∷ []) (UpToSome (j ++ e ∷ []) (SomeArrives (j ++ e ∷ []) (count_of is_arrive j e.processor)))
     (λ q. max (t q) (u q))
-arrival_joins j e t u arrive a b =
+arrives_joins_time j e t u arrive a b =
     kept_now e (SomeArrives j (count_of is_arrive j e.processor))
     (SomeArrives (j ++ e ∷ []) (count_of is_arrive j e.processor))
     (arrives_within j (count_of is_arrive j e.processor)) (λ i. arrives_now j e i arrive) a b

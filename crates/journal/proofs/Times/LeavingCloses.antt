@@ -12,7 +12,7 @@ use Rattle.journal.specs.HappensBeforeEdges.HappensBefore.{edge, on}
 use Rattle.journal.specs.WellFormed.{Does}
 use Rattle.journal.specs.Pasts.{UpTo, InPast}
 use Rattle.journal.specs.Times.{ClosesAt}
-use Rattle.journal.proofs.Order.CountedAndNumbered.{at_same, does_at}
+use Rattle.journal.proofs.Order.CountedAndNumbered.{numbered_at_same, numbered_does_at}
 use Rattle.journal.proofs.Order.HappensBefore.{before_goes_forward}
 
 lets_closing : (a b : Kind) → LetsThrough a b → IsTrue (is_closing a)
@@ -36,14 +36,14 @@ pub record LeavesAt (j : List Event) (q i : ℕ) (among : ℕ → Type 0) : Type
 
 closes_from : (j : List Event) (q i : ℕ) (e : Event) → At j i e → e.processor ≡ q → IsTrue (is_closing e.kind)
     → ClosesAt j q i
-closes_from j q i e at mine h = record { kind = e.kind; does = does_at j i q e at mine; closes = h }
+closes_from j q i e at mine h = record { kind = e.kind; does = numbered_does_at j i q e at mine; closes = h }
 
 -- a path that leaves a processor passes a closing event of it
 pub path_leaves : (j : List Event) (q : ℕ) {i k : ℕ} → HappensBefore j i k → (e f : Event) → At j i e → At j k f
     → e.processor ≡ q → f.processor ≢ q → LeavesAt j q i (λ c. HappensBefore j c k)
 path_leaves j q {i} {k} (edge d) e f at to mine away =
-    let from = at_same j i d.from e d.from_at at in
-    let into = at_same j k d.to f d.to_at to in
+    let from = numbered_at_same j i d.from e d.from_at at in
+    let into = numbered_at_same j k d.to f d.to_at to in
     let apart : d.from.processor ≡ d.to.processor → ⊥ =
     λ s. away (ap (λ x. x.processor) (sym into) ∙ sym s ∙ ap (λ x. x.processor) from ∙ mine) in
     let closing = link_leaves j i k d.from d.to d.link apart in
@@ -54,7 +54,7 @@ path_leaves j q {i} {k} (edge d) e f at to mine away =
       inside = edge d;
     }
 path_leaves j q {i} {k} (on {m = m} h d) e f at to mine away = elim (cases_eq d.from.processor q) [
-  | inl is ↦ (let into = at_same j k d.to f d.to_at to in
+  | inl is ↦ (let into = numbered_at_same j k d.to f d.to_at to in
       let apart : d.from.processor ≡ d.to.processor → ⊥ = λ s. away (ap (λ x. x.processor) (sym into) ∙ sym s ∙ is) in
       let closing = link_leaves j m k d.from d.to d.link apart in
       let lt = before_goes_forward j h in
@@ -74,7 +74,7 @@ leaving j p q i a does apart x = go x.reaches
 
     go : UpTo j x.own i → LeavesAt j q i (InPast j p)
     go (inl is) =
-        let here = at_same j x.own x.event (event q a) x.at (subst (λ m. At j m (event q a)) is does) in
+        let here = numbered_at_same j x.own x.event (event q a) x.at (subst (λ m. At j m (event q a)) is does) in
         absurd (away (ap (λ y. y.processor) here))
     go (inr h) =
         let c = path_leaves j q h (event q a) x.event does x.at refl away in
@@ -89,23 +89,23 @@ leaving j p q i a does apart x = go x.reaches
 pub leaving_at : {p q : ℕ} {a b : Kind} → (j : List Event) (k i : ℕ) → Does j i q a → Does j k p b → q ≢ p → UpTo j k i
     → LeavesAt j q i (UpTo j k)
 leaving_at {p} {q} {a} {b} j k i does at apart (inl is) =
-    let here = at_same j k (event p b) (event q a) at (subst (λ m. At j m (event q a)) is does) in
+    let here = numbered_at_same j k (event p b) (event q a) at (subst (λ m. At j m (event q a)) is does) in
     absurd (apart (sym (ap (λ y. y.processor) here)))
 leaving_at {p} {q} {a} {b} j k i does at apart (inr h) =
     let c = path_leaves j q h (event q a) (event p b) does at refl (λ s. apart (sym s)) in
     record { close = c.close; from = c.from; closes = c.closes; inside = inr c.inside }
 
 -- of a processor's two events the first happens before the second
-pub own_order : (j : List Event) (q i c : ℕ) (a b : Kind) → Does j i q a → Does j c q b → i < c → HappensBefore j i c
-own_order j q i c a b does to lt =
+pub leaving_own_order : (j : List Event) (q i c : ℕ) (a b : Kind) → Does j i q a → Does j c q b → i < c → HappensBefore j i c
+leaving_own_order j q i c a b does to lt =
     edge (record { before = lt; from = event q a; to = event q b; from_at = does; to_at = to; link = same refl })
 
 -- a set of places that is closed backwards has, with a closing event of a processor, its events before
-pub back_own : {j : List Event} {among : ℕ → Type 0} {q i : ℕ} {a : Kind}
+pub leaving_back_own : {j : List Event} {among : ℕ → Type 0} {q i : ℕ} {a : Kind}
     → ((m n : ℕ) → HappensBefore j m n → among n → among m) → Does j i q a → LeavesAt j q i among → among i
-back_own {j} {among} {q} {i} {a} back does l = elim (cases_eq i l.close) [
+leaving_back_own {j} {among} {q} {i} {a} back does l = elim (cases_eq i l.close) [
   | inl is ↦ subst among (sym is) l.inside
   | inr isnt ↦
       let from = l.from in
-      back i l.close (own_order j q i l.close a l.closes.kind does l.closes.does (omega arith)) l.inside
+      back i l.close (leaving_own_order j q i l.close a l.closes.kind does l.closes.does (omega arith)) l.inside
 ]

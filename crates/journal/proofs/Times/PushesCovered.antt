@@ -11,11 +11,11 @@ use Rattle.journal.specs.WellFormed.{Does}
 use Rattle.journal.specs.Pasts.{UpTo, InPast}
 use Rattle.journal.specs.Times.{ClosesAt, IsTimeIn, IsTimeOf, IsTimeAt}
 use Rattle.journal.specs.Brings.{Brings}
-use Rattle.base.proofs.SlicesAndCounts.{push_cases}
-use Rattle.journal.proofs.Order.CountedAndNumbered.{at_last, does_at, count_of-append, count_of-front, count_of-mono, count_of-past, count_of-within, numbered}
-use Rattle.journal.proofs.Order.EdgesIntoPast.{past_back, past_push, reaches_push, own_in_past, past_within, past_others, brings_none}
-use Rattle.journal.proofs.Times.LeavingCloses.{LeavesAt, leaving, back_own}
-use Rattle.journal.proofs.Times.Times.{time_longer, time_equal, time_none, count_of-one}
+use Rattle.base.proofs.SlicesAndCounts.{slice_push_cases}
+use Rattle.journal.proofs.Order.CountedAndNumbered.{numbered_at_last, numbered_does_at, count_of-append, count_of-front, count_of-mono, count_of-past, count_of-within, numbered}
+use Rattle.journal.proofs.Order.EdgesIntoPast.{past_back, past_push, past_reaches_push, own_in_past, past_within, past_others, past_brings_none}
+use Rattle.journal.proofs.Times.LeavingCloses.{LeavesAt, leaving, leaving_back_own}
+use Rattle.journal.proofs.Times.Times.{time_longer, time_equal, time_none, count_of-one_time}
 
 -- a processor's own entry counts its closing events
 pub own_time_entry : (j : List Event) (p : ℕ) (t : ℕ → ℕ) → IsTimeOf j p t → t p ≡ count_of is_closing j p
@@ -50,7 +50,7 @@ time_push j e t u a b = record { covers = covers; within = within }
       | inl x ↦ (past_push j e i).1 (inr (inl ((a.covers q i c).1 x)))
       | inr no_t ↦ elim (cases_lt (interval_at j q i) (u q)) [
         | inl x ↦ (past_push j e i).1 (inr (inr ((b.covers q i c).1 x)))
-        | inr no_u ↦ elim (count_of-one is_closing e q) [
+        | inr no_u ↦ elim (count_of-one_time is_closing e q) [
           | inl none ↦ absurd (omega arith)
           | inr one ↦ (past_push j e i).1
               (inr (inl (own_in_past j e.processor i (event q c.kind) c.does (sym one.0))))
@@ -76,13 +76,13 @@ time_push j e t u a b = record { covers = covers; within = within }
         let all = ap (λ (xs : List Event). count_of is_closing xs q) (take-append_seam j (e ∷ [])) in
         let number : interval_at (j ++ e ∷ []) q i ≡ count_of is_closing j q =
         ap (λ x. interval_at (j ++ e ∷ []) q x) is ∙ all in
-        let more = count_of-within is_closing (e ∷ []) 0 q e.kind (does_at (e ∷ []) 0 q e refl mine.0) mine.1 in
+        let more = count_of-within is_closing (e ∷ []) 0 q e.kind (numbered_does_at (e ∷ []) 0 q e refl mine.0) mine.1 in
         omega arith
 
     covers : (q i : ℕ) → ClosesAt (j ++ e ∷ []) q i
         → InPast (j ++ e ∷ []) e.processor i
         ↔ (interval_at (j ++ e ∷ []) q i < max (t q) (u q) + count_of is_closing (e ∷ []) q)
-    covers q i c = elim (push_cases j e i (event q c.kind) c.does) [
+    covers q i c = elim (slice_push_cases j e i (event q c.kind) c.does) [
       | inl old ↦
           (let number = count_of-front is_closing j (e ∷ []) i q (let lt = old.0 in omega arith) in
           let closes : ClosesAt j q i = record { kind = c.kind; does = old.1; closes = c.closes } in
@@ -99,7 +99,7 @@ time_push j e t u a b = record { covers = covers; within = within }
 
 -- an event that takes nothing brings the empty time
 pub brings_no_time : (j : List Event) (p : ℕ) (k : Kind) → is_taking k ≡ false → IsTimeIn j (Brings j p k) (λ _. 0)
-brings_no_time j p k quiet = time_none j (Brings j p k) (λ i h. brings_none j p i k quiet h)
+brings_no_time j p k quiet = time_none j (Brings j p k) (λ i h. past_brings_none j p i k quiet h)
 
 -- an event that neither takes nor closes leaves its processor's timestamp
 pub own_time_quiet : (j : List Event) (e : Event) (t : ℕ → ℕ) → is_taking e.kind ≡ false → is_closing e.kind ≡ false
@@ -109,7 +109,7 @@ own_time_quiet j e t quiet inner a =
     same (time_push j e t (λ _. 0) a (brings_no_time j e.processor e.kind quiet))
   where
     same : (q : ℕ) → max (t q) 0 + count_of is_closing (e ∷ []) q ≡ t q
-    same q = elim (count_of-one is_closing e q) [ inl none ↦ omega arith | inr one ↦ cc (inner, one.1) ]
+    same q = elim (count_of-one_time is_closing e q) [ inl none ↦ omega arith | inr one ↦ cc (inner, one.1) ]
 
 -- a closing event adds one to the own entry
 pub own_time_closing : (j : List Event) (e : Event) (t : ℕ → ℕ) → is_taking e.kind ≡ false → IsTimeOf j e.processor t
@@ -127,7 +127,7 @@ own_time_taking j e t u inner a b =
     (λ q. max (t q) (u q) + count_of is_closing (e ∷ []) q) (λ q. max (t q) (u q)) same (time_push j e t u a b)
   where
     same : (q : ℕ) → max (t q) (u q) + count_of is_closing (e ∷ []) q ≡ max (t q) (u q)
-    same q = elim (count_of-one is_closing e q) [ inl none ↦ omega arith | inr one ↦ cc (inner, one.1) ]
+    same q = elim (count_of-one_time is_closing e q) [ inl none ↦ omega arith | inr one ↦ cc (inner, one.1) ]
 
 -- after its event, a processor's timestamp is that event's
 pub time_at_last : (j : List Event) (e : Event) (t : ℕ → ℕ) → IsTimeOf (j ++ e ∷ []) e.processor t
@@ -135,10 +135,10 @@ pub time_at_last : (j : List Event) (e : Event) (t : ℕ → ℕ) → IsTimeOf (
 time_at_last j e t a = record { covers = covers; within = a.within }
   where
     there : (i : ℕ) → UpTo (j ++ e ∷ []) (length j) i → InPast (j ++ e ∷ []) e.processor i
-    there i h = record { own = length j; event = e; at = at_last j e; mine = refl; reaches = h }
+    there i h = record { own = length j; event = e; at = numbered_at_last j e; mine = refl; reaches = h }
 
     back : (i : ℕ) → InPast (j ++ e ∷ []) e.processor i → UpTo (j ++ e ∷ []) (length j) i
-    back i x = elim ((past_push j e i).0 x) [ inl is ↦ inl is | inr y ↦ inr ((reaches_push j e i).1 y) ]
+    back i x = elim ((past_push j e i).0 x) [ inl is ↦ inl is | inr y ↦ inr ((past_reaches_push j e i).1 y) ]
 
     covers : (q i : ℕ) → ClosesAt (j ++ e ∷ []) q i
         → UpTo (j ++ e ∷ []) (length j) i ↔ (interval_at (j ++ e ∷ []) q i < t q)
@@ -168,7 +168,7 @@ covered_in {j} {among} {t} {q} {i} {a} time back does leaves = (there, here)
         let from : n.place < i → ⊥ =
         λ before. (let up = count_of-past is_closing j n.place i q n.kind n.does n.counts before in omega arith)
         in
-        back_own back does (record { close = n.place; from = omega arith; closes = closes; inside = inside })
+        leaving_back_own back does (record { close = n.place; from = omega arith; closes = closes; inside = inside })
 
 -- another's event is in a processor's past exactly where the timestamp counts its interval
 pub covered : (j : List Event) (p q i : ℕ) (a : Kind) (t : ℕ → ℕ) → IsTimeOf j p t → Does j i q a → q ≢ p

@@ -7,16 +7,16 @@ use Rattle.journal.specs.declared.event.Kind.{Kind}
 use Rattle.journal.specs.DidEvent.{event}
 use Rattle.journal.specs.Events.{count_of, interval_at, is_closing}
 use Rattle.journal.specs.Times.{ClosesAt, IsTimeIn}
-use Rattle.journal.proofs.Order.CountedAndNumbered.{at_shorter, count_of-append, count_of-front, count_of-mono, numbered}
+use Rattle.journal.proofs.Order.CountedAndNumbered.{numbered_at_shorter, count_of-append, count_of-front, count_of-mono, numbered}
 
-pub closes_shorter : (j es : List Event) (q i : ℕ) → i < length j → ClosesAt (j ++ es) q i → ClosesAt j q i
-closes_shorter j es q i lt c =
-    record { kind = c.kind; does = at_shorter j es i (event q c.kind) lt c.does; closes = c.closes }
+pub time_closes_shorter : (j es : List Event) (q i : ℕ) → i < length j → ClosesAt (j ++ es) q i → ClosesAt j q i
+time_closes_shorter j es q i lt c =
+    record { kind = c.kind; does = numbered_at_shorter j es i (event q c.kind) lt c.does; closes = c.closes }
 
 -- an interval behind a journal has a number past it
-pub interval_behind : (j es : List Event) (q i : ℕ) → length j ≤ i
+pub time_interval_behind : (j es : List Event) (q i : ℕ) → length j ≤ i
     → count_of is_closing j q ≤ interval_at (j ++ es) q i
-interval_behind j es q i h =
+time_interval_behind j es q i h =
     let up = count_of-mono is_closing (j ++ es) (length j) i q h in
     let all = ap (λ (xs : List Event). count_of is_closing xs q) (take-append_seam j es) in
     omega arith
@@ -93,11 +93,11 @@ time_longer j es some others t is old a = record { covers = covers; within = wit
     covers : (q i : ℕ) → ClosesAt (j ++ es) q i → others i ↔ (interval_at (j ++ es) q i < t q)
     covers q i c = elim (cases_lt i (length j)) [
       | inl lt ↦
-          (let here = a.covers q i (closes_shorter j es q i lt c) in
+          (let here = a.covers q i (time_closes_shorter j es q i lt c) in
           let number = count_of-front is_closing j es i q (omega arith) in
           (λ h. (let below = here.0 ((is i lt).1 h) in omega arith), λ below. (is i lt).0 (here.1 (omega arith))))
       | inr le ↦
-          (let past = interval_behind j es q i le in
+          (let past = time_interval_behind j es q i le in
           let top = a.within q in
           (λ h. (let lt = old i h in absurd (omega arith)), λ below. absurd (omega arith)))
     ]
@@ -106,9 +106,9 @@ time_longer j es some others t is old a = record { covers = covers; within = wit
     within q = let top = a.within q in let sum = count_of-append is_closing j es q in omega arith
 
 -- one event counts one where it is the processor's and of these kinds, and else nothing
-pub count_of-one : (is : Kind → Bool) (e : Event) (q : ℕ)
+pub count_of-one_time : (is : Kind → Bool) (e : Event) (q : ℕ)
     → (count_of is (e ∷ []) q ≡ 0) ⊎ ((e.processor ≡ q) × IsTrue (is e.kind) × (count_of is (e ∷ []) q ≡ 1))
-count_of-one is e q = go ((e.processor == q) && is e.kind) refl
+count_of-one_time is e q = go ((e.processor == q) && is e.kind) refl
   where
     go : (b : Bool) → ((e.processor == q) && is e.kind) ≡ b
         → (count_of is (e ∷ []) q ≡ 0) ⊎ ((e.processor ≡ q) × IsTrue (is e.kind) × (count_of is (e ∷ []) q ≡ 1))

@@ -9,7 +9,7 @@ use Rattle.journal.specs.Events.{At}
 use Rattle.journal.specs.HappensBeforeEdges.{HappensBefore}
 use Rattle.journal.specs.WellFormed.{Does}
 use Rattle.journal.specs.ExplainedAnswers.{IsAnswer, LatestStore, Untouched}
-use Rattle.journal.proofs.Order.CountedAndNumbered.{at_last, at_longer, at_same, at_within, at_shorter, does_same}
+use Rattle.journal.proofs.Order.CountedAndNumbered.{numbered_at_last, numbered_at_longer, numbered_at_same, numbered_at_within, numbered_at_shorter, numbered_does_same}
 use Rattle.journal.proofs.Order.HappensBefore.{before_goes_forward}
 use Rattle.judge.specs.Sources.Latest.{IsLatest}
 use Rattle.judge.specs.Sources.Answers.{IsValue}
@@ -56,7 +56,7 @@ answers_law j k a v = (there, back)
         let stores =
         subst (λ n. Does j n x.0 (Store a l.value)) l.place
         (subst (λ n. Does j l.store.place n (Store a l.value)) l.by l.store.stores) in
-        let same = does_same j x.1 x.0 x.0 (Store a l.value) (Store a v) stores x.3 in
+        let same = numbered_does_same j x.1 x.0 x.0 (Store a l.value) (Store a v) stores x.3 in
         inr (subst (LatestStore j k a) (stored_same a l.value a v same.1) l.store)
 
 -- a latest store of a load that comes next stands in the journal
@@ -65,7 +65,7 @@ pub latest_at : (j : List Event) (p a v q i : ℕ) (x : IsLatest (did j p (Load 
 latest_at j p a v q i x =
     let lt = before_goes_forward (did j p (Load a v)) x.store.before in
     let is = x.place in
-    at_shorter j (event p (Load a v) ∷ []) i (event q (Store a x.value)) (omega arith)
+    numbered_at_shorter j (event p (Load a v) ∷ []) i (event q (Store a x.value)) (omega arith)
     (subst (λ n. Does (did j p (Load a v)) n q (Store a x.value)) x.place
     (subst (λ n. Does (did j p (Load a v)) x.store.place n (Store a x.value)) x.by x.store.stores))
 
@@ -78,13 +78,13 @@ module _ (j : List Event) (p a v : ℕ) (Marked : ℕ → ℕ → Type 0)
   pub marked_within : (q i : ℕ) → Marked q i → i < length j
   marked_within q i at =
       let x = (tells q i).0 at in
-      at_within j i (event q (Store a x.value)) (latest_at j p a v q i x)
+      numbered_at_within j i (event q (Store a x.value)) (latest_at j p a v q i x)
 
   -- the value of a marked store may be answered
   pub marked_answer : (q i b : ℕ) (e : Event) → Marked q i → At j i e → e.kind ≡ Store b v → IsNext
   marked_answer q i b e at there is =
       let x = (tells q i).0 at in
-      let same = at_same j i (event q (Store a x.value)) e (latest_at j p a v q i x) there in
+      let same = numbered_at_same j i (event q (Store a x.value)) e (latest_at j p a v q i x) there in
       let value = stored_same a x.value b v (ap (λ (y : Event). y.kind) same ∙ is) in
       inr (subst (LatestStore (did j p (Load a v)) (length j) a) value x.store)
 
@@ -127,7 +127,7 @@ stays_law j es k a v within = (there, back)
           let lt = before_goes_forward j l.store.before in
           let is = l.place in
           (answers_law j k a v).1
-          (inr (x.0, x.1, l, at_shorter j es x.1 (event x.0 (Store a v)) (omega arith) x.3)))
+          (inr (x.0, x.1, l, numbered_at_shorter j es x.1 (event x.0 (Store a v)) (omega arith) x.3)))
     ]
 
     back : IsAnswer j k a v → IsAnswer (j ++ es) k a v
@@ -138,7 +138,7 @@ stays_law j es k a v within = (there, back)
         x.0,
         x.1,
         latest_longer j es k a x.0 x.1 within x.2,
-        at_longer j es x.1 (event x.0 (Store a v)) x.3,
+        numbered_at_longer j es x.1 (event x.0 (Store a v)) x.3,
       ))
     ]
 
@@ -146,12 +146,12 @@ stays_law j es k a v within = (there, back)
 pub answer_in : (events : List Event) (k a v : ℕ) (e : Event) → At events k e
     → IsAnswer (take k events ++ e ∷ []) (length (take k events)) a v ↔ IsAnswer events k a v
 answer_in events k a v e at =
-    let lt = at_within events k e at in
+    let lt = numbered_at_within events k e at in
     let long : length (take k events) ≡ k = length-take-le k events (omega arith) in
     let split : (take k events ++ e ∷ []) ++ drop (suc k) events ≡ events =
     ap (λ xs. xs ++ drop (suc k) events) (sym (take-suc_at events k e at)) ∙ take-append-drop (suc k) events in
     let within =
-    at_within (take k events ++ e ∷ []) (length (take k events)) e (at_last (take k events) e) in
+    numbered_at_within (take k events ++ e ∷ []) (length (take k events)) e (numbered_at_last (take k events) e) in
     let stays = stays_law (take k events ++ e ∷ []) (drop (suc k) events) (length (take k events)) a v within in
     let P : List Event → ℕ → Type 0 =
     λ xs n. IsAnswer (take k events ++ e ∷ []) (length (take k events)) a v ↔ IsAnswer xs n a v in

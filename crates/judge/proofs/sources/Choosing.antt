@@ -3,7 +3,7 @@ use Rattle.std.proofs.Common.{◌≡◌, ℕ, ◌+◌, ◌<◌, ◌≤◌, inl, 
 use Rattle.std.specs.Prelude.{None}
 use Rattle.std.proofs.lemmas.Bool.{cases_eq, cases_lt}
 use Rattle.std.proofs.lemmas.Option.{same_Some, slice_get-get_or}
-use Rattle.base.proofs.SlicesAndCounts.{push_cases}
+use Rattle.base.proofs.SlicesAndCounts.{slice_push_cases}
 use Rattle.base.proofs.SliceSets.{slice_get-set_found, slice_get-set_other, slice_get-set_same}
 use Rattle.journal.specs.declared.event.Event.{Event}
 use Rattle.journal.specs.declared.event.Kind.{Kind}
@@ -16,11 +16,11 @@ use Rattle.journal.specs.Pasts.{InPast}
 use Rattle.journal.specs.Times.{IsTimeOf}
 use Rattle.journal.specs.InRange.{ProcessorsInRange}
 use Rattle.journal.specs.ClockEntry.{entry}
-use Rattle.journal.proofs.Order.CountedAndNumbered.{at_longer, count_of-mono}
+use Rattle.journal.proofs.Order.CountedAndNumbered.{numbered_at_longer, count_of-mono}
 use Rattle.journal.proofs.Order.HappensBefore.{before_goes_forward, before_transitive, before_extension}
-use Rattle.journal.proofs.Order.EdgesIntoPast.{reaches_new, past_within}
-use Rattle.journal.proofs.Times.LeavingCloses.{own_order}
-use Rattle.journal.proofs.Times.Uses.{ordered_before}
+use Rattle.journal.proofs.Order.EdgesIntoPast.{past_reaches_new, past_within}
+use Rattle.journal.proofs.Times.LeavingCloses.{leaving_own_order}
+use Rattle.journal.proofs.Times.Uses.{time_uses_ordered}
 use Rattle.judge.specs.declared.sources.stored.Stored.{Stored}
 use Rattle.judge.specs.Sources.Latest.{IsLatest}
 use Rattle.judge.specs.Sources.Last.{IsLast, AreLast, IsStoreFollowed, IsUnfollowed}
@@ -32,7 +32,7 @@ use Rattle.judge.specs.Sources.Tells.{AreStoresOf}
 pub ordered_at : (j : List Event) (k p q i : ℕ) (a b : Kind) (t : ℕ → ℕ) → IsTimeOf (take k j) p t → Does j i q a
     → Does j k p b → is_taking b ≡ false → (q ≡ p → i ≡ k) → HappensBefore j i k ↔ (interval_at j q i < t q)
 ordered_at j k p q i a b t time does at quiet same = elim (cases_lt i k) [
-  | inl lt ↦ ordered_before j k p q i a b t time does at quiet (λ is. (let e = same is in absurd (omega arith))) lt
+  | inl lt ↦ time_uses_ordered j k p q i a b t time does at quiet (λ is. (let e = same is in absurd (omega arith))) lt
   | inr le ↦
       (let top = time.within q in
       let up = count_of-mono is_closing j k i q le in
@@ -46,7 +46,7 @@ load_apart a v b w p q e = let k = ap (λ x. x.kind) e in cc
 -- the stores before the load are the journal's
 store_shorter : (j : List Event) (p a v i q b w : ℕ) → Does (did j p (Load a v)) i q (Store b w)
     → Does j i q (Store b w)
-store_shorter j p a v i q b w does = elim (push_cases j (event p (Load a v)) i (event q (Store b w)) does) [
+store_shorter j p a v i q b w does = elim (slice_push_cases j (event p (Load a v)) i (event q (Store b w)) does) [
   | inl old ↦ old.1
   | inr new ↦ absurd (load_apart a v b w p q new.1)
 ]
@@ -100,7 +100,7 @@ last_order j times p a q r last s t given at to =
 
 -- what happens before a load that comes next is its processor's past
 load_past : (j : List Event) (p a v i : ℕ) → HappensBefore (did j p (Load a v)) i (length j) ↔ InPast j p i
-load_past j p a v i = reaches_new j (event p (Load a v)) i refl
+load_past j p a v i = past_reaches_new j (event p (Load a v)) i refl
 
 -- up to there the order is the journal's
 load_order : (j : List Event) (p a v i k : ℕ) → k < length j
@@ -112,7 +112,7 @@ before_up_to : (j : List Event) (q i m k : ℕ) (a b : Kind) → Does j i q a �
     → HappensBefore j i k
 before_up_to j q i m k a b does to le h = elim (cases_eq i m) [
   | inl is ↦ subst (λ x. HappensBefore j x k) (sym is) h
-  | inr isnt ↦ before_transitive j (own_order j q i m a b does to (omega arith)) h
+  | inr isnt ↦ before_transitive j (leaving_own_order j q i m a b does to (omega arith)) h
 ]
 
 -- what happens before a store happens before what that is up to
@@ -120,7 +120,7 @@ before_on : (j : List Event) (q i m k : ℕ) (a b : Kind) → Does j m q a → D
     → HappensBefore j i k
 before_on j q i m k a b does to le h = elim (cases_eq m k) [
   | inl is ↦ subst (λ x. HappensBefore j i x) is h
-  | inr isnt ↦ before_transitive j h (own_order j q m k a b does to (omega arith))
+  | inr isnt ↦ before_transitive j h (leaving_own_order j q m k a b does to (omega arith))
 ]
 
 -- a last store that no other follows is one that a load may answer that comes next
@@ -132,7 +132,7 @@ unfollowed_latest j times p a v q i last given u = record {
     place = u.store.place;
     by = q;
     stores =
-        at_longer j (event p (Load a v) ∷ []) u.store.place (event q (Store a mine.stored.value)) mine.stored.does;
+        numbered_at_longer j (event p (Load a v) ∷ []) u.store.place (event q (Store a mine.stored.value)) mine.stored.does;
     before = (load_past j p a v u.store.place).1 mine.past;
     latest = latest;
   };
@@ -185,7 +185,7 @@ latest_unfollowed j times p a v q i last given x =
     none : (m r w : ℕ) → Does j m r (Store a w) → InPast j p m → HappensBefore j i m → ⊥
     none m r w to before follows =
         let within = past_within j p m before in
-        x.store.latest m r w (at_longer j (event p (Load a v) ∷ []) m (event r (Store a w)) to)
+        x.store.latest m r w (numbered_at_longer j (event p (Load a v) ∷ []) m (event r (Store a w)) to)
         ((load_past j p a v m).1 before)
         (subst (λ n. HappensBefore (did j p (Load a v)) n m) (sym x.place)
         ((load_order j p a v i m within).1 follows))
@@ -202,7 +202,7 @@ latest_unfollowed j times p a v q i last given x =
       | inr isnt ↦
           (let le = up.up_to in
           absurd (none up.store.place q mine.stored.value mine.stored.does mine.past
-          (own_order j q i up.store.place (Store a x.value) (Store a mine.stored.value) does mine.stored.does
+          (leaving_own_order j q i up.store.place (Store a x.value) (Store a mine.stored.value) does mine.stored.does
           (omega arith))))
     ]
 

@@ -4,14 +4,14 @@ use Rattle.std.specs.Prelude.{None}
 use Rattle.std.proofs.lemmas.Option.{none-some, same_Some, slice_get_within}
 use Rattle.std.proofs.lemmas.List.{length-take-le}
 use Rattle.base.specs.InOrderOnce.{Has, InOrder}
-use Rattle.base.proofs.SlicesAndCounts.{push_cases, slice_get-append_left, slice_get-last, take-suc_at}
+use Rattle.base.proofs.SlicesAndCounts.{slice_push_cases, slice_get-append_left, slice_get-last, take-suc_at}
 use Rattle.journal.specs.declared.event.Event.{Event}
 use Rattle.journal.specs.declared.event.Kind.TheVariants.{Load, Store}
 use Rattle.journal.specs.DidEvent.{event}
 use Rattle.journal.specs.Events.{At}
 use Rattle.journal.specs.HappensBeforeEdges.{HappensBefore}
 use Rattle.journal.specs.WellFormed.{Does}
-use Rattle.journal.proofs.Order.CountedAndNumbered.{at_within, at_longer, at_shorter, at_last, at_same}
+use Rattle.journal.proofs.Order.CountedAndNumbered.{numbered_at_within, numbered_at_longer, numbered_at_shorter, numbered_at_last, numbered_at_same}
 use Rattle.journal.proofs.Order.HappensBefore.{before_begins_within, before_goes_forward, before_longer, before_shorter}
 use Rattle.judge.specs.Sources.Latest.{IsLatest, AreLatest, IsReadableRow, AreMarked}
 
@@ -23,7 +23,7 @@ latest_longer j es k a q i within x = record {
   store = record {
     place = x.store.place;
     by = x.store.by;
-    stores = at_longer j es x.store.place (event x.store.by (Store a x.value)) x.store.stores;
+    stores = numbered_at_longer j es x.store.place (event x.store.by (Store a x.value)) x.store.stores;
     before = before_longer j es x.store.before;
     latest = latest;
   };
@@ -36,7 +36,7 @@ latest_longer j es k a q i within x = record {
     latest m r w does before follows =
         let lt = before_goes_forward (j ++ es) before in
         let inside : m < length j = omega arith in
-        x.store.latest m r w (at_shorter j es m (event r (Store a w)) inside does) (before_shorter j es within before)
+        x.store.latest m r w (numbered_at_shorter j es m (event r (Store a w)) inside does) (before_shorter j es within before)
         (before_shorter j es inside follows)
 
 pub latest_shorter : (j es : List Event) (k a q i : ℕ) → k < length j → IsLatest (j ++ es) k a q i
@@ -49,11 +49,11 @@ latest_shorter j es k a q i within x =
         place = x.store.place;
         by = x.store.by;
         stores =
-            at_shorter j es x.store.place (event x.store.by (Store a x.value)) (before_begins_within j before)
+            numbered_at_shorter j es x.store.place (event x.store.by (Store a x.value)) (before_begins_within j before)
             x.store.stores;
         before = before;
         latest =
-            λ m r w does then_before follows. x.store.latest m r w (at_longer j es m (event r (Store a w)) does)
+            λ m r w does then_before follows. x.store.latest m r w (numbered_at_longer j es m (event r (Store a w)) does)
             (before_longer j es then_before) (before_longer j es follows);
       };
       place = x.place;
@@ -64,7 +64,7 @@ latest_shorter j es k a q i within x =
 pub row_longer : (j es : List Event) (k : ℕ) (places : List ℕ) → k < length j → IsReadableRow j k places
     → IsReadableRow (j ++ es) k places
 row_longer j es k places within row = record {
-  loads = λ p a v does. (let old = row.loads p a v (at_shorter j es k (event p (Load a v)) within does) in record {
+  loads = λ p a v does. (let old = row.loads p a v (numbered_at_shorter j es k (event p (Load a v)) within does) in record {
     has = λ i. (
       λ h. (let x = (old.has i).0 h in (x.0, latest_longer j es k a x.0 i within x.1)),
       λ x. (old.has i).1 (x.0, latest_shorter j es k a x.0 i within x.1),
@@ -77,19 +77,19 @@ row_longer j es k places within row = record {
       latest_longer j es k a x.1 l within x.4,
     ));
   });
-  others = λ none. row.others (λ p a v does. none p a v (at_longer j es k (event p (Load a v)) does));
+  others = λ none. row.others (λ p a v does. none p a v (numbered_at_longer j es k (event p (Load a v)) does));
 }
 
 -- a row of a history's front is the history's
 pub row_in : (events : List Event) (k : ℕ) (e : Event) (places : List ℕ) → At events k e
     → IsReadableRow (take k events ++ e ∷ []) (length (take k events)) places → IsReadableRow events k places
 row_in events k e places at row =
-    let lt = at_within events k e at in
+    let lt = numbered_at_within events k e at in
     let long : length (take k events) ≡ k = length-take-le k events (omega arith) in
     let split : (take k events ++ e ∷ []) ++ drop (suc k) events ≡ events =
     ap (λ xs. xs ++ drop (suc k) events) (sym (take-suc_at events k e at)) ∙ take-append-drop (suc k) events in
     let within =
-    at_within (take k events ++ e ∷ []) (length (take k events)) e (at_last (take k events) e) in
+    numbered_at_within (take k events ++ e ∷ []) (length (take k events)) e (numbered_at_last (take k events) e) in
     let whole =
     row_longer (take k events ++ e ∷ []) (drop (suc k) events) (length (take k events)) places within row in
     subst (λ n. IsReadableRow events n places) long
@@ -118,8 +118,8 @@ row_marked j p a v marks places tells are = record { loads = loads; others = oth
         → AreLatest (j ++ event p (Load a v) ∷ []) (length j) b places
     loads r b w does =
         let same =
-        at_same (j ++ event p (Load a v) ∷ []) (length j) (event p (Load a v)) (event r (Load b w))
-        (at_last j (event p (Load a v))) does in
+        numbered_at_same (j ++ event p (Load a v) ∷ []) (length j) (event p (Load a v)) (event r (Load b w))
+        (numbered_at_last j (event p (Load a v))) does in
         let is : a ≡ b = load_address a b v w (ap (λ x. x.kind) same) in
         subst (λ x. AreLatest (j ++ event p (Load a v) ∷ []) (length j) x places) is here
       where
@@ -127,13 +127,13 @@ row_marked j p a v marks places tells are = record { loads = loads; others = oth
         load_address x y u w is = cc
 
     others : ((r b w : ℕ) → ¬ Does (j ++ event p (Load a v) ∷ []) (length j) r (Load b w)) → places ≡ []
-    others none = absurd (none p a v (at_last j (event p (Load a v))))
+    others none = absurd (none p a v (numbered_at_last j (event p (Load a v))))
 
 -- an event that is no load has no place
 pub row_other : (j : List Event) (e : Event) → ((a v : ℕ) → e.kind ≢ Load a v) → IsReadableRow (j ++ e ∷ []) (length j) []
 row_other j e isnt = record {
   loads = λ p a v does.
-      (let same = at_same (j ++ e ∷ []) (length j) e (event p (Load a v)) (at_last j e) does in
+      (let same = numbered_at_same (j ++ e ∷ []) (length j) e (event p (Load a v)) (numbered_at_last j e) does in
       absurd (isnt a v (ap (λ x. x.kind) same)));
   others = λ none. refl;
 }
@@ -144,7 +144,7 @@ pub marked_next : (marks : List (Option ℕ)) (places : List ℕ) (i : ℕ) → 
 marked_next marks places i are = record { has = λ n. (there n, back n); order = order }
   where
     there : (n : ℕ) → Has (places ++ i ∷ []) n → Has (marks ++ Some i ∷ []) (Some n)
-    there n h = elim (push_cases places i h.0 n h.1) [
+    there n h = elim (slice_push_cases places i h.0 n h.1) [
       | inl old ↦ (let m = (are.has n).0 (h.0, old.1) in (m.0, kept m.0 (Some n) m.1))
       | inr new ↦ (length marks, slice_get-last marks (Some i) ∙ ap (λ (x : ℕ). Some (Some x)) new.1)
     ]
@@ -153,7 +153,7 @@ marked_next marks places i are = record { has = λ n. (there n, back n); order =
         kept q o at = slice_get-append_left marks (Some i ∷ []) q (slice_get_within marks q o at) ∙ at
 
     back : (n : ℕ) → Has (marks ++ Some i ∷ []) (Some n) → Has (places ++ i ∷ []) n
-    back n h = elim (push_cases marks (Some i) h.0 (Some n) h.1) [
+    back n h = elim (slice_push_cases marks (Some i) h.0 (Some n) h.1) [
       | inl old ↦ (let m = (are.has n).1 (h.0, old.1) in (m.0, kept m.0 n m.1))
       | inr new ↦ (length places, slice_get-last places i ∙ ap (λ (x : ℕ). Some x) (same_Some i n new.1))
     ]
@@ -163,14 +163,14 @@ marked_next marks places i are = record { has = λ n. (there n, back n); order =
 
     order : InOrder (λ x m. (q r : ℕ) × (q < r) × (slice_get (marks ++ Some i ∷ []) q ≡ Some (Some x))
         × (slice_get (marks ++ Some i ∷ []) r ≡ Some (Some m))) (places ++ i ∷ [])
-    order x y m n lt at to = elim (push_cases places i y n to) [
-      | inl second ↦ elim (push_cases places i x m at) [
+    order x y m n lt at to = elim (slice_push_cases places i y n to) [
+      | inl second ↦ elim (slice_push_cases places i x m at) [
         | inl first ↦
             (let o = are.order x y m n lt first.1 second.1 in
             (o.0, o.1, o.2, kept o.0 (Some m) o.3, kept o.1 (Some n) o.4))
         | inr new ↦ absurd (omega (arith, second.0, new.0, lt))
       ]
-      | inr last ↦ elim (push_cases places i x m at) [
+      | inr last ↦ elim (slice_push_cases places i x m at) [
         | inl first ↦
             (let o = (are.has m).0 (x, first.1) in (
               o.0,
@@ -192,7 +192,7 @@ pub marked_none : (marks : List (Option ℕ)) (places : List ℕ) → AreMarked 
 marked_none marks places are = record {
   has = λ n. (
     λ h. (let m = (are.has n).0 h in (m.0, kept m.0 (Some n) m.1)),
-    λ h. elim (push_cases marks None h.0 (Some n) h.1)
+    λ h. elim (slice_push_cases marks None h.0 (Some n) h.1)
         [ inl old ↦ (are.has n).1 (h.0, old.1) | inr new ↦ absurd (none-some n new.1) ],
   );
   order = λ x y m n lt at to. (let o = are.order x y m n lt at to in

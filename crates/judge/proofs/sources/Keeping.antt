@@ -6,7 +6,7 @@ use Rattle.std.proofs.lemmas.Option.{none-some, slice_get_within}
 use Rattle.std.proofs.lemmas.List.{take-append-le, get_or_append_left, get_or-set_same, get_or-set_other}
 use Rattle.std.proofs.Math.Seq.{take-append_seam, get_or-append_seam}
 use Rattle.base.specs.InOrderOnce.{Has, InOrder}
-use Rattle.base.proofs.SlicesAndCounts.{push_cases, slice_get-append_left, slice_get-last}
+use Rattle.base.proofs.SlicesAndCounts.{slice_push_cases, slice_get-append_left, slice_get-last}
 use Rattle.base.proofs.SliceSets.{slice_get-set_found, slice_get-set_other}
 use Rattle.journal.specs.declared.event.Event.{Event}
 use Rattle.journal.specs.declared.event.Kind.TheVariants.{Store}
@@ -16,7 +16,7 @@ use Rattle.journal.specs.WellFormed.{Does}
 use Rattle.journal.specs.Pasts.{InPast}
 use Rattle.journal.specs.Times.{IsTimeOf}
 use Rattle.journal.specs.ClockEntry.{entry}
-use Rattle.journal.proofs.Order.CountedAndNumbered.{at_within, at_longer, at_last, count_of-front}
+use Rattle.journal.proofs.Order.CountedAndNumbered.{numbered_at_within, numbered_at_longer, numbered_at_last, count_of-front}
 use Rattle.journal.proofs.Times.Times.{time_equal}
 use Rattle.journal.proofs.Times.PushesCovered.{others_keep_time, own_time_quiet}
 use Rattle.judge.specs.declared.sources.stored.Stored.{Stored}
@@ -31,7 +31,7 @@ pub record AreMore (old new : List (List ℕ)) : Type 0 where
 
 -- one event and no other
 one_away : (e : Event) (p : ℕ) → e.processor ≢ p → (m : ℕ) (f : Event) → At (e ∷ []) m f → f.processor ≢ p
-one_away e p isnt m f at is = elim (push_cases [] e m f at) [
+one_away e p isnt m f at is = elim (slice_push_cases [] e m f at) [
   | inl none ↦ absurd (omega (arith, none.0))
   | inr same ↦ isnt (ap (λ (x : Event). x.processor) same.1 ∙ is)
 ]
@@ -82,14 +82,14 @@ pub stored_longer : (j : List Event) (e : Event) (times : List (List ℕ)) (a q 
     → IsStoreOf j times a q s → IsStoreOf (j ++ e ∷ []) times a q s
 stored_longer j e times a q s is = record {
   value = is.value;
-  does = at_longer j (e ∷ []) s.place (event q (Store a is.value)) is.does;
+  does = numbered_at_longer j (e ∷ []) s.place (event q (Store a is.value)) is.does;
   interval = (let i = is.interval in let front = count_of-front is_closing j (e ∷ []) s.place q le in omega arith);
   within = is.within;
   time = subst (λ xs. IsTimeOf xs q (entry times s.time)) (sym (take-append-le s.place j (e ∷ []) le)) is.time;
 }
   where
     le : s.place ≤ length j
-    le = let lt = at_within j s.place (event q (Store a is.value)) is.does in omega arith
+    le = let lt = numbered_at_within j s.place (event q (Store a is.value)) is.does in omega arith
 
 -- the stores of an address by a processor stay under more timestamps
 pub are_stored_more : (j : List Event) (old new : List (List ℕ)) (a q : ℕ) (stores : List Stored) → AreMore old new
@@ -106,7 +106,7 @@ pub are_stored_other : (j : List Event) (e : Event) (times : List (List ℕ)) (a
 are_stored_other j e times a q stores away are = record {
   each = λ n s at. stored_longer j e times a q s (are.each n s at);
   rising = are.rising;
-  all = λ i v does. elim (push_cases j e i (event q (Store a v)) does) [
+  all = λ i v does. elim (slice_push_cases j e i (event q (Store a v)) does) [
     | inl old ↦ are.all i v old.1
     | inr new ↦ absurd (away v new.1)
   ];
@@ -129,28 +129,28 @@ are_stored_next j times a q v stores s place interval within time are =
     last : IsStoreOf (did j q (Store a v)) times a q s
     last = record {
       value = v;
-      does = subst (λ n. Does (did j q (Store a v)) n q (Store a v)) (sym place) (at_last j (event q (Store a v)));
+      does = subst (λ n. Does (did j q (Store a v)) n q (Store a v)) (sym place) (numbered_at_last j (event q (Store a v)));
       interval = interval ∙ sym (ap (λ (xs : List Event). count_of is_closing xs q) front);
       within = within;
       time = subst (λ xs. IsTimeOf xs q (entry times s.time)) (sym front) time;
     }
 
     each : (n : ℕ) (t : Stored) → slice_get (stores ++ s ∷ []) n ≡ Some t → IsStoreOf (did j q (Store a v)) times a q t
-    each n t at = elim (push_cases stores s n t at) [
+    each n t at = elim (slice_push_cases stores s n t at) [
       | inl old ↦ stored_longer j (event q (Store a v)) times a q t (are.each n t old.1)
       | inr new ↦ subst (IsStoreOf (did j q (Store a v)) times a q) new.1 last
     ]
 
     rising : InOrder (λ (x y : Stored). x.place < y.place) (stores ++ s ∷ [])
-    rising m n x y lt at to = elim (push_cases stores s n y to) [
-      | inl old ↦ elim (push_cases stores s m x at) [
+    rising m n x y lt at to = elim (slice_push_cases stores s n y to) [
+      | inl old ↦ elim (slice_push_cases stores s m x at) [
         | inl first ↦ are.rising m n x y lt first.1 old.1
         | inr new ↦ absurd (omega (arith, old.0, new.0, lt))
       ]
-      | inr new ↦ elim (push_cases stores s m x at) [
+      | inr new ↦ elim (slice_push_cases stores s m x at) [
         | inl first ↦
             (let is = are.each m x first.1 in
-            let within = at_within j x.place (event q (Store a is.value)) is.does in
+            let within = numbered_at_within j x.place (event q (Store a is.value)) is.does in
             let same = ap (λ (z : Stored). z.place) new.1 in
             omega arith)
         | inr later ↦ absurd (omega (arith, later.0, new.0, lt))
@@ -159,7 +159,7 @@ are_stored_next j times a q v stores s place interval within time are =
 
     all : (i w : ℕ) → Does (did j q (Store a v)) i q (Store a w)
         → (t : Stored) × Has (stores ++ s ∷ []) t × (t.place ≡ i)
-    all i w does = elim (push_cases j (event q (Store a v)) i (event q (Store a w)) does) [
+    all i w does = elim (slice_push_cases j (event q (Store a v)) i (event q (Store a w)) does) [
       | inl old ↦
           (let t = are.all i w old.1 in
           (t.0, (t.1.0, older t.0 t.1.0 t.1.1), t.2))

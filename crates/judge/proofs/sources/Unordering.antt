@@ -4,7 +4,7 @@ use Rattle.std.proofs.lemmas.Bool.{cases_eq, cases_lt}
 use Rattle.std.proofs.lemmas.Option.{same_Some, slice_get_within}
 use Rattle.std.proofs.Math.Seq.{take-append_seam}
 use Rattle.base.specs.InOrderOnce.{Has}
-use Rattle.base.proofs.SlicesAndCounts.{push_cases, slice_get-append_left, slice_get-last}
+use Rattle.base.proofs.SlicesAndCounts.{slice_push_cases, slice_get-append_left, slice_get-last}
 use Rattle.journal.specs.declared.event.Event.{Event}
 use Rattle.journal.specs.declared.event.Kind.{Kind}
 use Rattle.journal.specs.declared.event.Kind.TheVariants.{Load, Store}
@@ -15,8 +15,8 @@ use Rattle.journal.specs.HappensBeforeEdges.Link.{same}
 use Rattle.journal.specs.HappensBeforeEdges.HappensBefore.{edge}
 use Rattle.journal.specs.WellFormed.{Does}
 use Rattle.journal.specs.Times.{IsTimeOf}
-use Rattle.journal.proofs.Order.CountedAndNumbered.{at_last, at_longer, at_within, count_of-front}
-use Rattle.journal.proofs.Times.Uses.{ordered_before}
+use Rattle.journal.proofs.Order.CountedAndNumbered.{numbered_at_last, numbered_at_longer, numbered_at_within, count_of-front}
+use Rattle.journal.proofs.Times.Uses.{time_uses_ordered}
 use Rattle.judge.specs.declared.sources.stored.Stored.{Stored}
 use Rattle.judge.specs.Models.{UnorderedStore}
 use Rattle.judge.specs.Sources.Stored.{AreStored, IsStoreOf}
@@ -29,7 +29,7 @@ load_no_store a v b w p q e = let k = ap (λ (x : Event). x.kind) e in absurd cc
 -- the stores before the load are the journal's
 pub store_before_load : (j : List Event) (p a v i q b w : ℕ) → Does (did j p (Load a v)) i q (Store b w)
     → Does j i q (Store b w)
-store_before_load j p a v i q b w does = elim (push_cases j (event p (Load a v)) i (event q (Store b w)) does) [
+store_before_load j p a v i q b w does = elim (slice_push_cases j (event p (Load a v)) i (event q (Store b w)) does) [
   | inl old ↦ old.1
   | inr new ↦ absurd (load_no_store a v b w p q new.1)
 ]
@@ -38,11 +38,11 @@ store_before_load j p a v i q b w does = elim (push_cases j (event p (Load a v))
 pub own_before_load : (j : List Event) (p a v i : ℕ) (k : Kind) → Does j i p k
     → HappensBefore (did j p (Load a v)) i (length j)
 own_before_load j p a v i k does = edge (record {
-  before = at_within j i (event p k) does;
+  before = numbered_at_within j i (event p k) does;
   from = event p k;
   to = event p (Load a v);
-  from_at = at_longer j (event p (Load a v) ∷ []) i (event p k) does;
-  to_at = at_last j (event p (Load a v));
+  from_at = numbered_at_longer j (event p (Load a v) ∷ []) i (event p k) does;
+  to_at = numbered_at_last j (event p (Load a v));
   link = same refl;
 })
 
@@ -50,11 +50,11 @@ own_before_load j p a v i k does = edge (record {
 store_counted : (j : List Event) (p a v q i w : ℕ) (t : ℕ → ℕ) → IsTimeOf j p t → q ≢ p → Does j i q (Store a w)
     → HappensBefore (did j p (Load a v)) i (length j) ↔ (interval_at j q i < t q)
 store_counted j p a v q i w t time apart does =
-    let lt = at_within j i (event q (Store a w)) does in
+    let lt = numbered_at_within j i (event q (Store a w)) does in
     let front = take-append_seam j (event p (Load a v) ∷ []) in
-    let tells = ordered_before (did j p (Load a v)) (length j) p q i (Store a w) (Load a v) t
+    let tells = time_uses_ordered (did j p (Load a v)) (length j) p q i (Store a w) (Load a v) t
     (subst (λ xs. IsTimeOf xs p t) (sym front) time)
-    (at_longer j (event p (Load a v) ∷ []) i (event q (Store a w)) does) (at_last j (event p (Load a v))) refl apart lt in
+    (numbered_at_longer j (event p (Load a v) ∷ []) i (event q (Store a w)) does) (numbered_at_last j (event p (Load a v))) refl apart lt in
     let number = count_of-front is_closing j (event p (Load a v) ∷ []) i q (omega arith) in
     ((λ h. (let below = tells.0 h in omega arith)), (λ below. tells.1 (omega arith)))
 
@@ -64,7 +64,7 @@ pub unordered_from : (j : List Event) (times : List (List ℕ)) (p a q : ℕ) (t
     → AreUnorderedFrom j p a q stores from
 unordered_from j times p a q t stores from time apart are first = record {
   within = first.within;
-  inside = λ n x at. (let is = are.each n x at in at_within j x.place (event q (Store a is.value)) is.does);
+  inside = λ n x at. (let is = are.each n x at in numbered_at_within j x.place (event q (Store a is.value)) is.does);
   sound = λ n x le at. (let is = are.each n x at in (
     is.value,
     is.does,
@@ -104,9 +104,9 @@ some_unordered j p a v q from stores are x =
     record {
       place = x.store.place;
       by = q;
-      stores = at_longer j (event p (Load a v) ∷ []) x.store.place (event q (Store a v))
+      stores = numbered_at_longer j (event p (Load a v) ∷ []) x.store.place (event q (Store a v))
           (subst (λ w. Does j x.store.place q (Store a w)) value found.1);
-      before = at_within j x.store.place (event q (Store a found.0)) found.1;
+      before = numbered_at_within j x.store.place (event q (Store a found.0)) found.1;
       unordered = found.2 v;
     }
   where

@@ -13,26 +13,26 @@ use Rattle.journal.specs.declared.event.Event.{Event}
 use Rattle.journal.specs.declared.event.Kind.{Kind}
 use Rattle.journal.specs.declared.event.Kind.TheVariants.{Load}
 use Rattle.journal.specs.DidEvent.{did, event}
-use Rattle.journal.specs.FlatMemory.{flat_write, memory_after, AnswersWord, Replays}
+use Rattle.journal.specs.FlatMemory.{flat_write, memory_after, AnswersFlatWord, Replays}
 use Rattle.journal.specs.ExplainedAnswers.{Explained}
 use Rattle.journal.specs.Races.{Race, RaceFree}
 use Rattle.journal.specs.WellFormed.{KindInRange, Does, MayFollow, WellFormed}
 use Rattle.journal.proofs.Flat.FlatMemory.{flat_memory, flat_up_to}
-use Rattle.journal.proofs.Journals.WellFormedLast.{each_push, well_formed_take}
+use Rattle.journal.proofs.Journals.WellFormedLast.{well_formed_push, well_formed_take}
 use Rattle.lrc_script.specs.declared.script.Instruction.{Instruction}
 use Rattle.lrc_script.specs.Plan.{Plan}
 use Rattle.lrc_script.specs.Lawful.{plan_addresses}
 use Rattle.conformance.specs.Begins.{BeginsScript, BeginsSection}
-use Rattle.conformance.specs.Follows.{plan_sizes, calls_of, is_fetch}
-use Rattle.conformance.specs.Like.{valueless, without_value, SameButValues}
-use Rattle.conformance.proofs.Calls.{calls_of-own}
+use Rattle.conformance.specs.Follows.{followed_plan_sizes, followed_calls, is_followed_fetch}
+use Rattle.conformance.specs.Like.{like_without_value, event_like_without_value, SameButValues}
+use Rattle.conformance.proofs.Calls.{followed_calls-own}
 use Rattle.conformance.proofs.WithoutFetches.Embeds.{without_fetches, without_fetches_of}
 use Rattle.conformance.proofs.WithoutFetches.Order.{access_no_fetch, race_without_fetches}
 use Rattle.conformance.proofs.WithoutFetches.Runs.{calls_without_fetches, no_fetch_in, replays_without_fetches}
 use Rattle.conformance.proofs.WithoutFetches.WellFormed.{well_formed_without_fetches}
 use Rattle.conformance.proofs.Like.Order.{race_like}
 use Rattle.conformance.proofs.Like.WellFormed.{well_formed_like}
-use Rattle.conformance.proofs.Recomputing.Replaying.{fetch_like}
+use Rattle.conformance.proofs.Recomputing.Replaying.{replaying_fetch_like}
 use Rattle.explore.specs.Prefixes.Beginnings.{IsFlatBeginning, IsFlatRaceFree}
 use Rattle.explore.specs.Prefixes.Calling.{IsCalledNext, last_reply, section_steps, shown_by}
 use Rattle.explore.proofs.prefixes.Beginnings.{next_begins, script_front}
@@ -42,11 +42,11 @@ use Rattle.explore.proofs.prefixes.Neighbours.Replies.{replied, step_replied}
 use Rattle.lrc_explore.specs.Schedules.Laws.{BegunLaw}
 
 -- what replays and begins the script does so on one flat memory, its fetches aside
-pub flat_part : (s : Plan) (h : List Event) → WellFormed (plan_sizes s) h → BeginsScript s h
+pub flat_part : (s : Plan) (h : List Event) → WellFormed (followed_plan_sizes s) h → BeginsScript s h
     → Replays (replicate (plan_addresses s) 0) h → IsFlatBeginning s (without_fetches h)
 flat_part s h well begins replays =
     record {
-      well_formed = well_formed_without_fetches (plan_sizes s) (without_fetches h) h (without_fetches_of h) well;
+      well_formed = well_formed_without_fetches (followed_plan_sizes s) (without_fetches h) h (without_fetches_of h) well;
       begins = λ p section at.
           subst (BeginsSection section (shown_by s p)) (sym (calls_without_fetches p h)) (begins p section at);
       replays = replays_without_fetches h (replicate (plan_addresses s) 0) replays;
@@ -54,31 +54,31 @@ flat_part s h well begins replays =
     }
 
 -- a call at the end stays there
-pub fetchless_push : (h : List Event) (p : ℕ) (k : Kind) → is_fetch k ≡ false
+pub fetchless_push : (h : List Event) (p : ℕ) (k : Kind) → is_followed_fetch k ≡ false
     → without_fetches (did h p k) ≡ did (without_fetches h) p k
 fetchless_push h p k call =
-    filter-append (λ (e : Event). not (is_fetch e.kind)) h (event p k ∷ [])
-    ∙ ap (λ es. without_fetches h ++ es) (cond-true (not (is_fetch k)) (event p k ∷ []) [] (ap not call))
+    filter-append (λ (e : Event). not (is_followed_fetch e.kind)) h (event p k ∷ [])
+    ∙ ap (λ es. without_fetches h ++ es) (cond-true (not (is_followed_fetch k)) (event p k ∷ []) [] (ap not call))
 
 -- the call with the word of this memory is the same but for its value
-replied_like : (memory : List ℕ) (k : Kind) → valueless k ≡ valueless (replied memory k)
+replied_like : (memory : List ℕ) (k : Kind) → like_without_value k ≡ like_without_value (replied memory k)
 replied_like memory (Load a v) = refl
 replied_like memory _ = refl
 
-like_push : (g : List Event) (p : ℕ) (k l : Kind) → valueless k ≡ valueless l → SameButValues (did g p k) (did g p l)
+like_push : (g : List Event) (p : ℕ) (k l : Kind) → like_without_value k ≡ like_without_value l → SameButValues (did g p k) (did g p l)
 like_push g p k l same =
-    map-append without_value g (event p k ∷ []) ∙ ap (λ x. map without_value g ++ event p x ∷ []) same
-    ∙ sym (map-append without_value g (event p l ∷ []))
+    map-append event_like_without_value g (event p k ∷ []) ∙ ap (λ x. map event_like_without_value g ++ event p x ∷ []) same
+    ∙ sym (map-append event_like_without_value g (event p l ∷ []))
 
 -- and it answers its word
-word_replied : (s : Plan) (memory : List ℕ) (k : Kind) → length memory ≡ plan_addresses s → KindInRange (plan_sizes s) k
-    → AnswersWord memory (replied memory k)
+word_replied : (s : Plan) (memory : List ℕ) (k : Kind) → length memory ≡ plan_addresses s → KindInRange (followed_plan_sizes s) k
+    → AnswersFlatWord memory (replied memory k)
 word_replied s memory (Load a v) long inside = slice_get-get_or memory a 0 (subst (λ n. a < n) (sym long) inside)
 word_replied s memory _ long inside = tt
 
 -- a call after what replays makes its flat part longer, with the reply that it has there
 module _ (s : Plan) (h : List Event) (p : ℕ) (k : Kind) (replays : Replays (replicate (plan_addresses s) 0) h)
-    (well : WellFormed (plan_sizes s) (did h p k)) (begins : BeginsScript s (did h p k)) (call : is_fetch k ≡ false) where
+    (well : WellFormed (followed_plan_sizes s) (did h p k)) (begins : BeginsScript s (did h p k)) (call : is_followed_fetch k ≡ false) where
   abbrev pub memory : List ℕ
   memory = memory_after (replicate (plan_addresses s) 0) (without_fetches h)
 
@@ -88,26 +88,26 @@ module _ (s : Plan) (h : List Event) (p : ℕ) (k : Kind) (replays : Replays (re
 
   before : IsFlatBeginning s (without_fetches h)
   before =
-      flat_part s h ((each_push (plan_sizes s) h (event p k)).0 well).0 (script_front s h (event p k ∷ []) begins) replays
+      flat_part s h ((well_formed_push (followed_plan_sizes s) h (event p k)).0 well).0 (script_front s h (event p k ∷ []) begins) replays
 
-  may : MayFollow (plan_sizes s) (without_fetches h) (event p (replied memory k))
+  may : MayFollow (followed_plan_sizes s) (without_fetches h) (event p (replied memory k))
   may =
-      let there = well_formed_without_fetches (plan_sizes s) (without_fetches (did h p k)) (did h p k) (without_fetches_of (did h p k)) well in
-      let here = subst (WellFormed (plan_sizes s)) (fetchless_push h p k call) there in
+      let there = well_formed_without_fetches (followed_plan_sizes s) (without_fetches (did h p k)) (did h p k) (without_fetches_of (did h p k)) well in
+      let here = subst (WellFormed (followed_plan_sizes s)) (fetchless_push h p k call) there in
       let like = like_push (without_fetches h) p k (replied memory k) (replied_like memory k) in
-      let same = well_formed_like (plan_sizes s) (did (without_fetches h) p k) (did (without_fetches h) p (replied memory k)) like here in
-      ((each_push (plan_sizes s) (without_fetches h) (event p (replied memory k))).0 same).1
+      let same = well_formed_like (followed_plan_sizes s) (did (without_fetches h) p k) (did (without_fetches h) p (replied memory k)) like here in
+      ((well_formed_push (followed_plan_sizes s) (without_fetches h) (event p (replied memory k))).0 same).1
 
   called : (section : List Instruction) → slice_get s.sections p ≡ Some section
-      → IsCalledNext (section_steps section (shown_by s p)) (calls_of (without_fetches h) p) (replied memory k)
+      → IsCalledNext (section_steps section (shown_by s p)) (followed_calls (without_fetches h) p) (replied memory k)
   called section at =
-      let own = subst (BeginsSection section (shown_by s p)) (calls_of-own h p k call) (begins p section at) in
-      let is = ((begins_push section (shown_by s p) (calls_of h p) k).0 own).1 in
+      let own = subst (BeginsSection section (shown_by s p)) (followed_calls-own h p k call) (begins p section at) in
+      let is = ((begins_push section (shown_by s p) (followed_calls h p) k).0 own).1 in
       subst (λ calls. IsCalledNext (section_steps section (shown_by s p)) calls (replied memory k)) (sym (calls_without_fetches p h))
-      (record { step = is.step; at = is.at; is = step_replied (last_reply (calls_of h p)) is.step k memory is.is })
+      (record { step = is.step; at = is.at; is = step_replied (last_reply (followed_calls h p)) is.step k memory is.is })
 
-  pub call_replied : is_fetch (replied memory k) ≡ false
-  call_replied = sym (fetch_like k (replied memory k) (replied_like memory k)) ∙ call
+  pub call_replied : is_followed_fetch (replied memory k) ≡ false
+  call_replied = sym (replaying_fetch_like k (replied memory k) (replied_like memory k)) ∙ call
 
   pub longer : IsFlatBeginning s (did (without_fetches h) p (replied memory k))
   longer =
@@ -116,12 +116,12 @@ module _ (s : Plan) (h : List Event) (p : ℕ) (k : Kind) (replays : Replays (re
         record {
           may_follow = may;
           calls = record { call = call_replied; next = called };
-          answers = word_replied s memory k long ((each_push (plan_sizes s) h (event p k)).0 well).1.in_range;
+          answers = word_replied s memory k long ((well_formed_push (followed_plan_sizes s) h (event p k)).0 well).1.in_range;
         },
       )
 
 -- a history of a script of which no flat beginning races
-module _ (s : Plan) (free : IsFlatRaceFree s) (h : List Event) (well : WellFormed (plan_sizes s) h)
+module _ (s : Plan) (free : IsFlatRaceFree s) (h : List Event) (well : WellFormed (followed_plan_sizes s) h)
     (explained : Explained h) (begins : BeginsScript s h) where
   in_range : (i p a v : ℕ) → Does h i p (Load a v) → a < plan_addresses s
   in_range i p a v does = (well i (event p (Load a v)) does).in_range
@@ -142,8 +142,8 @@ module _ (s : Plan) (free : IsFlatRaceFree s) (h : List Event) (well : WellForme
       front : take (suc k) h ≡ did (take k h) p c
       front = take-suc_at h k race.second race.second_at
 
-      well_now : WellFormed (plan_sizes s) (did (take k h) p c)
-      well_now = subst (WellFormed (plan_sizes s)) front (well_formed_take (plan_sizes s) h (suc k) well)
+      well_now : WellFormed (followed_plan_sizes s) (did (take k h) p c)
+      well_now = subst (WellFormed (followed_plan_sizes s)) front (well_formed_take (followed_plan_sizes s) h (suc k) well)
 
       begins_now : BeginsScript s (did (take k h) p c)
       begins_now =
@@ -151,7 +151,7 @@ module _ (s : Plan) (free : IsFlatRaceFree s) (h : List Event) (well : WellForme
           (script_front s (take (suc k) h) (drop (suc k) h)
           (subst (BeginsScript s) (sym (take-append-drop (suc k) h)) begins))
 
-      call : is_fetch c ≡ false
+      call : is_followed_fetch c ≡ false
       call = access_no_fetch c race.conflict.address race.conflict.second
 
       reply : Kind

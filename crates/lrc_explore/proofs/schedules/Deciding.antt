@@ -10,7 +10,7 @@ use Rattle.journal.specs.DidEvent.{event}
 use Rattle.journal.specs.Events.{At, count_of, is_arrive, is_depart}
 use Rattle.journal.specs.Sizes.{Sizes, addresses}
 use Rattle.journal.specs.WellFormed.{AllArrived, Allowed, AnswersCall, Does, Holds, KindInRange, LastIs, MayBeGranted, MayFollow}
-use Rattle.journal.proofs.Order.CountedAndNumbered.{at_within}
+use Rattle.journal.proofs.Order.CountedAndNumbered.{numbered_at_within}
 
 -- it is so, or it isn't
 abbrev pub Decided : Type 0 → Type 0
@@ -109,7 +109,7 @@ module _ (j : List Event) (P : ℕ → Event → Type 0) (each : (i : ℕ) (e : 
   -- and so of each event
   pub every : Decided ((i : ℕ) (e : Event) → At j i e → P i e)
   every =
-      moved (λ (all : (i : ℕ) → i < length j → (e : Event) → At j i e → P i e). λ i e at. all i (at_within j i e at) e at)
+      moved (λ (all : (i : ℕ) → i < length j → (e : Event) → At j i e → P i e). λ i e at. all i (numbered_at_within j i e at) e at)
       (λ all i lt. all i) (decided_all (λ i. (e : Event) → At j i e → P i e) at_place (length j))
 
   some_place : (i : ℕ) → Decided ((e : Event) × At j i e × P i e)
@@ -124,7 +124,7 @@ module _ (j : List Event) (P : ℕ → Event → Type 0) (each : (i : ℕ) (e : 
   pub some : Decided ((i : ℕ) × (e : Event) × At j i e × P i e)
   some =
       moved (λ (s : (i : ℕ) × (i < length j) × ((e : Event) × At j i e × P i e)). (s.0, s.2.0, s.2.1, s.2.2))
-      (λ s. (s.0, at_within j s.0 s.1 s.2, (s.1, s.2, s.3)))
+      (λ s. (s.0, numbered_at_within j s.0 s.1 s.2, (s.1, s.2, s.3)))
       (decided_some (λ i. (e : Event) × At j i e × P i e) some_place (length j))
 
 -- an event is p's, of this kind

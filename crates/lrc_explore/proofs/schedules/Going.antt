@@ -5,11 +5,11 @@ use Rattle.journal.specs.declared.event.Event.{Event}
 use Rattle.journal.specs.declared.event.Kind.{Kind}
 use Rattle.journal.specs.DidEvent.{did, event}
 use Rattle.journal.specs.WellFormed.{WellFormed}
-use Rattle.journal.proofs.Journals.WellFormedLast.{each_push}
-use Rattle.journal.proofs.Order.CountedAndNumbered.{at_last}
+use Rattle.journal.proofs.Journals.WellFormedLast.{well_formed_push}
+use Rattle.journal.proofs.Order.CountedAndNumbered.{numbered_at_last}
 use Rattle.lrc_script.specs.Plan.{Plan}
 use Rattle.conformance.specs.Begins.{BeginsScript, BeginsSection}
-use Rattle.conformance.specs.Follows.{plan_sizes, calls_of, is_fetch, Follows, FollowsSection}
+use Rattle.conformance.specs.Follows.{followed_plan_sizes, followed_calls, is_followed_fetch, Follows, FollowsSection}
 use Rattle.conformance.proofs.WithoutFetches.Embeds.{without_fetches, without_fetches_of}
 use Rattle.conformance.proofs.WithoutFetches.Runs.{calls_without_fetches}
 use Rattle.explore.specs.Prefixes.Beginnings.{IsFlatBeginning, IsFlatRaceFree, IsHang}
@@ -26,23 +26,23 @@ use Rattle.lrc_explore.proofs.schedules.Reports.{found}
 use Rattle.lrc_explore.proofs.schedules.Waiting.{follow_there}
 
 -- what may come next on one flat memory, where fetches are left out, may come next
-module _ (s : Plan) (h : List Event) (well : WellFormed (plan_sizes s) h) (p : ℕ) (k : Kind)
+module _ (s : Plan) (h : List Event) (well : WellFormed (followed_plan_sizes s) h) (p : ℕ) (k : Kind)
     (flat : IsFlatBeginning s (did (without_fetches h) p k)) where
-  call : is_fetch k ≡ false
-  call = flat.no_fetch (length (without_fetches h)) (event p k) (at_last (without_fetches h) (event p k))
+  call : is_followed_fetch k ≡ false
+  call = flat.no_fetch (length (without_fetches h)) (event p k) (numbered_at_last (without_fetches h) (event p k))
 
-  well_longer : WellFormed (plan_sizes s) (did h p k)
+  well_longer : WellFormed (followed_plan_sizes s) (did h p k)
   well_longer =
-      let may = ((each_push (plan_sizes s) (without_fetches h) (event p k)).0 flat.well_formed).1 in
-      (each_push (plan_sizes s) h (event p k)).1 (
+      let may = ((well_formed_push (followed_plan_sizes s) (without_fetches h) (event p k)).0 flat.well_formed).1 in
+      (well_formed_push (followed_plan_sizes s) h (event p k)).1 (
         well,
-        follow_there (plan_sizes s) (without_fetches h) h (without_fetches_of h).embeds well (event p k) (counts_same h) may,
+        follow_there (followed_plan_sizes s) (without_fetches h) h (without_fetches_of h).embeds well (event p k) (counts_same h) may,
       )
 
   begins_longer : BeginsScript s (did h p k)
   begins_longer q section at =
       subst (BeginsSection section (shown_by s q))
-      (ap (λ es. calls_of es q) (sym (fetchless_push h p k call)) ∙ calls_without_fetches q (did h p k))
+      (ap (λ es. followed_calls es q) (sym (fetchless_push h p k call)) ∙ calls_without_fetches q (did h p k))
       (flat.begins q section at)
 
 -- without its fetches a history that isn't whole has begun the script on one flat memory, and isn't whole there

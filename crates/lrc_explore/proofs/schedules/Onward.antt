@@ -7,13 +7,13 @@ use Rattle.journal.specs.declared.event.Event.{Event}
 use Rattle.journal.specs.declared.event.Kind.{Kind}
 use Rattle.journal.specs.declared.event.Kind.TheVariants as kind
 use Rattle.journal.specs.DidEvent.{did, event}
-use Rattle.journal.specs.FlatMemory.{AnswersWord, memory_after}
+use Rattle.journal.specs.FlatMemory.{AnswersFlatWord, memory_after}
 use Rattle.journal.specs.WellFormed.{MayFollow}
 use Rattle.lrc_script.specs.declared.script.Instruction.{Instruction}
 use Rattle.lrc_script.specs.Plan.{Plan}
 use Rattle.lrc_script.specs.Lawful.{plan_addresses}
-use Rattle.conformance.specs.Follows.{plan_sizes, calls_of, is_fetch}
-use Rattle.conformance.proofs.Script.SectionSteps.{told_load}
+use Rattle.conformance.specs.Follows.{followed_plan_sizes, followed_calls, is_followed_fetch}
+use Rattle.conformance.proofs.Script.SectionSteps.{section_load_told}
 use Rattle.explore.specs.declared.prefixes.script_call.ScriptCall.{ScriptCall}
 use Rattle.explore.specs.declared.prefixes.script_call.ScriptCall.TheVariants.{Call, Adds}
 use Rattle.explore.specs.Prefixes.Beginnings.{IsFlatBeginning}
@@ -26,50 +26,50 @@ use Rattle.lrc_explore.proofs.schedules.Deciding.{Decided, decided_and, decided_
 -- the step says this call, with the word of the memory, and no other
 record IsTheCall (reply : ℕ) (x : ScriptCall) (memory : List ℕ) : Type 0 where
   call : Kind
-  says : (k : Kind) → (call ≡ k) ↔ (IsStep reply x k × AnswersWord memory k)
+  says : (k : Kind) → (call ≡ k) ↔ (IsStep reply x k × AnswersFlatWord memory k)
 
 -- there is none only where it loads past the memory
 the_call : (reply : ℕ) (x : ScriptCall) (memory : List ℕ)
-    → IsTheCall reply x memory ⊎ ((k : Kind) → ¬ (IsStep reply x k × AnswersWord memory k))
+    → IsTheCall reply x memory ⊎ ((k : Kind) → ¬ (IsStep reply x k × AnswersFlatWord memory k))
 the_call reply (Call (kind.Load a w)) memory = go (slice_get memory a) refl
   where
     go : (o : Option ℕ) → slice_get memory a ≡ o → IsTheCall reply (Call (kind.Load a w)) memory
-        ⊎ ((k : Kind) → ¬ (IsStep reply (Call (kind.Load a w)) k × AnswersWord memory k))
+        ⊎ ((k : Kind) → ¬ (IsStep reply (Call (kind.Load a w)) k × AnswersFlatWord memory k))
     go None is = inr (λ k h.
-        let load = told_load k a h.0 in
-        let word : slice_get memory a ≡ Some load.0 = subst (AnswersWord memory) load.1 h.1 in
+        let load = section_load_told k a h.0 in
+        let word : slice_get memory a ≡ Some load.0 = subst (AnswersFlatWord memory) load.1 h.1 in
         none-some load.0 (sym is ∙ word))
     go (Some v) is = inl (record { call = kind.Load a v; says = load_call reply a w v memory is })
 the_call reply (Call c) memory = inl (record { call = c; says = other_call reply c memory (λ a w is. absurd cc) })
 the_call reply (Adds a v) memory =
     inl (record { call = kind.Store a ((reply + v) % 2 ^ 32); says = adds_call reply a v memory })
 
-no_fetch : (k : Kind) → Decided (is_fetch k ≡ false)
-no_fetch k = elim (cases_Bool (is_fetch k)) [ inl is ↦ inr (λ isnt. false≢true (sym isnt ∙ is)) | inr isnt ↦ inl isnt ]
+no_fetch : (k : Kind) → Decided (is_followed_fetch k ≡ false)
+no_fetch k = elim (cases_Bool (is_followed_fetch k)) [ inl is ↦ inr (λ isnt. false≢true (sym isnt ∙ is)) | inr isnt ↦ inl isnt ]
 
 module _ (s : Plan) (g : List Event) (p : ℕ) (flat : IsFlatBeginning s g) where
   abbrev memory : List ℕ
   memory = memory_after (replicate (plan_addresses s) 0) g
 
   abbrev reply : ℕ
-  reply = last_reply (calls_of g p)
+  reply = last_reply (followed_calls g p)
 
   next_of : (k : Kind) → IsFlatBeginning s (did g p k) → MayComeNext s g p k
   next_of k next = ((next_begins s g p k).0 next).1
 
   -- by p's section, and the step that comes next in it
   module _ (section : List Instruction) (at : slice_get s.sections p ≡ Some section) (x : ScriptCall)
-      (here : slice_get (section_steps section (shown_by s p)) (length (calls_of g p)) ≡ Some x) where
-    said : (k : Kind) → IsFlatBeginning s (did g p k) → IsStep reply x k × AnswersWord memory k
+      (here : slice_get (section_steps section (shown_by s p)) (length (followed_calls g p)) ≡ Some x) where
+    said : (k : Kind) → IsFlatBeginning s (did g p k) → IsStep reply x k × AnswersFlatWord memory k
     said k next =
         let all = next_of k next in
         let called = all.calls.next section at in
         (subst (λ y. IsStep reply y k) (same_Some called.step x (sym called.at ∙ here)) called.is, all.answers)
 
-    by_call : IsTheCall reply x memory ⊎ ((k : Kind) → ¬ (IsStep reply x k × AnswersWord memory k))
+    by_call : IsTheCall reply x memory ⊎ ((k : Kind) → ¬ (IsStep reply x k × AnswersFlatWord memory k))
         → Decided ((k : Kind) × IsFlatBeginning s (did g p k))
     by_call (inr none) = inr (λ next. none next.0 (said next.0 next.1))
-    by_call (inl c) = elim (decided_and (decided_follow (plan_sizes s) g p c.call) (no_fetch c.call)) [
+    by_call (inl c) = elim (decided_and (decided_follow (followed_plan_sizes s) g p c.call) (no_fetch c.call)) [
       | inl both ↦
           (let is = (c.says c.call).0 refl in
           inl (
@@ -81,7 +81,7 @@ module _ (s : Plan) (g : List Event) (p : ℕ) (flat : IsFlatBeginning s g) wher
                 calls = record {
                   call = both.1;
                   next = λ other there.
-                      subst (λ y. IsCalledNext (section_steps y (shown_by s p)) (calls_of g p) c.call)
+                      subst (λ y. IsCalledNext (section_steps y (shown_by s p)) (followed_calls g p) c.call)
                       (same_Some section other (sym at ∙ there)) (record { step = x; at = here; is = is.0 });
                 };
                 answers = is.1;
@@ -92,13 +92,13 @@ module _ (s : Plan) (g : List Event) (p : ℕ) (flat : IsFlatBeginning s g) wher
           let all = next_of next.0 next.1 in
           let is = (c.says next.0).1 (said next.0 next.1) in
           none (
-            subst (λ k. MayFollow (plan_sizes s) g (event p k)) (sym is) all.may_follow,
-            subst (λ k. is_fetch k ≡ false) (sym is) all.calls.call,
+            subst (λ k. MayFollow (followed_plan_sizes s) g (event p k)) (sym is) all.may_follow,
+            subst (λ k. is_followed_fetch k ≡ false) (sym is) all.calls.call,
           ))
     ]
 
   by_step : (section : List Instruction) → slice_get s.sections p ≡ Some section → (o : Option ScriptCall)
-      → slice_get (section_steps section (shown_by s p)) (length (calls_of g p)) ≡ o
+      → slice_get (section_steps section (shown_by s p)) (length (followed_calls g p)) ≡ o
       → Decided ((k : Kind) × IsFlatBeginning s (did g p k))
   by_step section at None is = inr (λ next.
       let called = (next_of next.0 next.1).calls.next section at in none-some called.step (sym is ∙ called.at))

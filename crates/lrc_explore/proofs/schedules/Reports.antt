@@ -9,7 +9,7 @@ use Rattle.journal.specs.declared.event.Kind.{Kind}
 use Rattle.journal.specs.declared.event.Kind.TheVariants as kind
 use Rattle.lrc_script.specs.Plan.{Plan}
 use Rattle.conformance.specs.Begins.{BeginsScript}
-use Rattle.conformance.specs.Follows.{calls_of, load_of, FollowsSection}
+use Rattle.conformance.specs.Follows.{followed_calls, followed_load, FollowsSection}
 use Rattle.conformance.proofs.WithoutFetches.Embeds.{without_fetches}
 use Rattle.conformance.proofs.WithoutFetches.Runs.{calls_without_fetches}
 use Rattle.explore.specs.Prefixes.Beginnings.{IsFlatRaceFree, IsWhole}
@@ -39,7 +39,7 @@ row_at f (suc n) (suc p) less = row_at (λ q. f (suc q)) n p (omega (arith, less
 -- each history shows some replies
 shows : (s : Plan) (h : List Event) → (replies : List (List ℕ)) × AreReplies s h replies
 shows s h =
-    let f : ℕ → List ℕ = λ p. replies_in (calls_of h p) in
+    let f : ℕ → List ℕ = λ p. replies_in (followed_calls h p) in
     (rows f s.processors, record { long = rows_long f s.processors; each = row_at f s.processors })
 
 -- and without its fetches the same
@@ -52,7 +52,7 @@ shows_fetchless s h replies are = record {
 
 -- the last loads answered what is shown
 replies_end : (front : List Kind) (shown : List (ℕ × ℕ))
-    → replies_in (front ++ map load_of shown) ≡ replies_in front ++ map (λ (x : ℕ × ℕ). x.1) shown
+    → replies_in (front ++ map followed_load shown) ≡ replies_in front ++ map (λ (x : ℕ × ℕ). x.1) shown
 replies_end [] [] = refl
 replies_end [] (x ∷ shown) = ap (λ words. x.1 ∷ words) (replies_end [] shown)
 replies_end (kind.Load a v ∷ front) shown = ap (λ words. v ∷ words) (replies_end front shown)
@@ -109,4 +109,4 @@ report_law s answer r f is = record {
         let long = shown.1.long in
         let first = shown.1.each 0 (omega (arith, less, long)) in
         subst (λ ws. EndsWith ws (map (λ (x : ℕ × ℕ). x.1) r.shown.items)) (same_Some _ _ (sym first ∙ at))
-        (ends_shown (calls_of h 0) r.shown.items is.tells.replies)
+        (ends_shown (followed_calls h 0) r.shown.items is.tells.replies)

@@ -8,8 +8,8 @@ use Rattle.journal.specs.DidEvent.{event}
 use Rattle.journal.specs.Events.{count_of, is_arrive, is_depart}
 use Rattle.journal.specs.Sizes.{Sizes}
 use Rattle.journal.specs.WellFormed.{LastIs, MayBeGranted, AllArrived, AnswersCall, Allowed, MayFollow, WellFormed}
-use Rattle.conformance.proofs.WithoutFetches.Embeds.{Embeds, CountsSame, embeds_rising}
-use Rattle.conformance.proofs.WithoutFetches.Order.{no_arrival, no_departure}
+use Rattle.conformance.proofs.WithoutFetches.Embeds.{Embeds, EmbedsCountsSame, embeds_rising}
+use Rattle.conformance.proofs.WithoutFetches.Order.{without_fetches_arrival, without_fetches_departure}
 use Rattle.conformance.proofs.WithoutFetches.WellFormed.{holds_without_fetches, holds_with_fetches, last_without_fetches, last_with_fetches}
 
 -- g is h without fetches
@@ -23,15 +23,15 @@ module _ (s : Sizes) (g h : List Event) (x : Embeds g h) (well : WellFormed s h)
         m.first b.0 q (embeds_rising g h x b.0 i (omega (arith, place, before))) b.2;
   }
 
-  allowed_there : (p : ℕ) (k : Kind) → CountsSame g h → Allowed s g p k → Allowed s h p k
+  allowed_there : (p : ℕ) (k : Kind) → EmbedsCountsSame g h → Allowed s g p k → Allowed s h p k
   allowed_there p (Ask l) counts a = λ held. a (holds_without_fetches g h x p l held)
   allowed_there p (Acquire l) counts a = (x.place a.0, last_with_fetches s g h x p a.0 (Ask l) well refl a.1, granted_there a.0 l a.2)
   allowed_there p (Release l) counts a = holds_with_fetches g h x p l a
   allowed_there p Depart counts a =
       let all : AllArrived s h (count_of is_depart h p + 1) =
       λ q inside.
-      (let arrivals = counts is_arrive no_arrival q in
-      let departures = counts is_depart no_departure p in
+      (let arrivals = counts is_arrive without_fetches_arrival q in
+      let departures = counts is_depart without_fetches_departure p in
       let enough = a.2 q inside in
       omega (arith, arrivals, departures, enough)) in
       (x.place a.0, last_with_fetches s g h x p a.0 Arrive well refl a.1, all)
@@ -48,7 +48,7 @@ module _ (s : Sizes) (g h : List Event) (x : Embeds g h) (well : WellFormed s h)
       let b = last_without_fetches g h x p n (Watch f) refl last in answers b.0 (Watch f) b.2
   answers_there p n _ k answers last = tt
 
-  pub follow_there : (e : Event) → CountsSame g h → MayFollow s g e → MayFollow s h e
+  pub follow_there : (e : Event) → EmbedsCountsSame g h → MayFollow s g e → MayFollow s h e
   follow_there e counts m = record {
     processor = m.processor;
     in_range = m.in_range;

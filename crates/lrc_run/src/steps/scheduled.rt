@@ -1,9 +1,9 @@
 //! All processors by turns on one thread, as a schedule has them.
 ghost use Rattle.std.specs.Prelude.{◌≡◌, ◌≢◌, ◌<◌, ◌≤◌, ◌^◌, IfErr, IfOk, OnOk, vec_len};
 ghost use Rattle.lrc_script.specs.Prelude.{IsLawful, plan_of};
-ghost use Rattle.conformance.specs.Prelude.{IsEndByTurns, IsScheduleFault, plan_sizes, scheduled};
+ghost use Rattle.conformance.specs.Prelude.{IsEndByTurns, IsScheduleFault, followed_plan_sizes, scheduled};
 ghost use Rattle.conformance.specs.declared.schedule.Misfit.TheVariants as misfit;
-ghost use Rattle.lrc_run.specs.Prelude.{AreAtSteps, AreTaken, IsTurnFault, IsTurnOfRun};
+ghost use Rattle.lrc_run.specs.Prelude.{AreAtSteps, AreTaken, IsScheduledTurnFault, IsTurnOfRun};
 
 use super::{beginnings, end_run, go_round, have_passed, new_cluster, turn_at};
 use cluster::{BookLock, BookTurn, Cluster, Processor};
@@ -68,7 +68,7 @@ fn follow<T: BookTurn, R: Wait>(
     turns: &[usize],
 ) -> Result<(), ScheduleFault>
     requires lawful { IsLawful (plan_of script.now) }
-    requires sizes { cluster.now.sizes ≡ plan_sizes (plan_of script.now) }
+    requires sizes { cluster.now.sizes ≡ followed_plan_sizes (plan_of script.now) }
     requires way { AreAtSteps cluster.now (plan_of script.now).sections processors.old.items
         all.old.items }
     ensures way { OnOk result (AreAtSteps cluster.now (plan_of script.now).sections processors.new.items
@@ -97,14 +97,14 @@ fn follow_at<T: BookTurn, R: Wait>(
     p: usize,
 ) -> Result<(), ScheduleFault>
     requires lawful { IsLawful (plan_of script.now) }
-    requires sizes { cluster.now.sizes ≡ plan_sizes (plan_of script.now) }
+    requires sizes { cluster.now.sizes ≡ followed_plan_sizes (plan_of script.now) }
     requires way { AreAtSteps cluster.now (plan_of script.now).sections processors.old.items
         all.old.items }
     requires few { place < 2 ^ 63 }
     ensures long { vec_len processors.new ≡ vec_len processors.old }
     ensures turn { OnOk result (IsTurnOfRun (plan_of script.now).sections p
         processors.old.items processors.new.items all.old.items all.new.items) }
-    ensures fault { IfErr result (IsTurnFault (vec_len processors.old) place p) }
+    ensures fault { IfErr result (IsScheduledTurnFault (vec_len processors.old) place p) }
 {
     if p >= processors.len() {
         return Err(ScheduleFault::Misfit(place + 1, Misfit::NoProcessor));

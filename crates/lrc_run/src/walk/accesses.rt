@@ -4,8 +4,8 @@
 //! `fetch`, `load_roomy` and `store_roomy` have one form, and stand apart since a closure's contract would have to say
 //! again what each call does.
 ghost use Rattle.std.specs.Prelude.{◌≡◌, ◌+◌, ◌%◌, ◌^◌, OnOk, ℕ, [], ◌∷◌};
-ghost use Rattle.cluster.specs.Prelude.{IsSameProcessor};
-ghost use Rattle.lrc_run.specs.Prelude.{AddsCallsBy, AddsFetchBy, MadeCalls, TriesCalls};
+ghost use Rattle.cluster.specs.Prelude.{IsSameProcessorOfCall};
+ghost use Rattle.lrc_run.specs.Prelude.{AddsCallsBy, MakesFetchBy, MadeCalls, TriesCalls};
 ghost use Rattle.journal.specs.declared.event.Kind.TheVariants as kind;
 
 use book::Refused;
@@ -63,7 +63,7 @@ pub(crate) fn add<T: BookTurn, R: Wait>(
     value: u32,
 ) -> Result<(), Refused>
     requires own { processor.old.lock ≡ cluster.now.lock }
-    ensures same { IsSameProcessor processor.old processor.new }
+    ensures same { IsSameProcessorOfCall processor.old processor.new }
     ensures ok { OnOk result ((reply : ℕ) × MadeCalls processor.old processor.new
         (kind.Load address reply ∷ kind.Store address ((reply + value) % 2 ^ 32) ∷ [])) }
 {
@@ -79,7 +79,7 @@ fn fetch<T: BookTurn, R: Wait>(
     page: usize,
 ) -> Result<(), Refused>
     requires own { processor.old.lock ≡ cluster.now.lock }
-    ensures { AddsFetchBy processor.old processor.new result page }
+    ensures { MakesFetchBy processor.old processor.new result page }
 {
     match processor.fetch(page) {
         Err(Refused::BlockFull) => {

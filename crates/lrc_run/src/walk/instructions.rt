@@ -1,8 +1,8 @@
 //! The instructions of a script. One that waits is begun by one call, and ended by a take that finds what it
 //! waits for.
 ghost use Rattle.std.specs.Prelude.{◌≡◌, IfOk, OnOk, [], not};
-ghost use Rattle.cluster.specs.Prelude.{IsSameProcessor};
-ghost use Rattle.lrc_run.specs.Prelude.{DidInstruction, IsOnItsWay, TriedTake};
+ghost use Rattle.cluster.specs.Prelude.{IsSameProcessorOfCall};
+ghost use Rattle.lrc_run.specs.Prelude.{MadeInstruction, MakesItsWay, TriedToMakeTake};
 ghost use Rattle.lrc_script.specs.declared.script.Instruction.TheVariants as instruction;
 ghost use Rattle.lrc_run.specs.Waiting.{waits};
 
@@ -21,8 +21,8 @@ pub(crate) fn begin<T: BookTurn, R: Wait>(
     instruction: Instruction,
 ) -> Result<bool, Refused>
     requires own { processor.old.lock ≡ cluster.now.lock }
-    ensures same { IsSameProcessor processor.old processor.new }
-    ensures ok { IfOk result (λ done. IsOnItsWay processor.old processor.new instruction done) }
+    ensures same { IsSameProcessorOfCall processor.old processor.new }
+    ensures ok { IfOk result (λ done. MakesItsWay processor.old processor.new instruction done) }
 {
     call(rt, cluster, processor, instruction)?;
     Ok(!waits(instruction))
@@ -47,8 +47,8 @@ fn call<T: BookTurn, R: Wait>(
     instruction: Instruction,
 ) -> Result<(), Refused>
     requires own { processor.old.lock ≡ cluster.now.lock }
-    ensures same { IsSameProcessor processor.old processor.new }
-    ensures ok { OnOk result (IsOnItsWay processor.old processor.new instruction
+    ensures same { IsSameProcessorOfCall processor.old processor.new }
+    ensures ok { OnOk result (MakesItsWay processor.old processor.new instruction
         (not (waits instruction))) }
 {
     match instruction {
@@ -75,8 +75,8 @@ fn cut<T: BookTurn, R: Wait>(
     processor: &mut Processor<T>,
 ) -> Result<(), Refused>
     requires own { processor.old.lock ≡ cluster.now.lock }
-    ensures same { IsSameProcessor processor.old processor.new }
-    ensures ok { OnOk result (DidInstruction processor.old processor.new instruction.Cut) }
+    ensures same { IsSameProcessorOfCall processor.old processor.new }
+    ensures ok { OnOk result (MadeInstruction processor.old processor.new instruction.Cut) }
 {
     match cluster.cut(rt, processor) {
         Err(Refused::NoEpisode | Refused::Racy(_, _)) => Ok(()),
@@ -91,8 +91,8 @@ pub(crate) fn end<T: BookTurn, R: Wait>(
     processor: &mut Processor<T>,
 ) -> Result<bool, Refused>
     requires own { processor.old.lock ≡ cluster.now.lock }
-    ensures same { IsSameProcessor processor.old processor.new }
-    ensures ok { IfOk result (λ taken. TriedTake processor.old processor.new taken) }
+    ensures same { IsSameProcessorOfCall processor.old processor.new }
+    ensures ok { IfOk result (λ taken. TriedToMakeTake processor.old processor.new taken) }
 {
     match cluster.take(rt, processor) {
         Ok(()) => Ok(true),

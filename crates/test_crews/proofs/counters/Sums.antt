@@ -8,7 +8,7 @@ use Rattle.std.proofs.lemmas.List.Elements.{All-set, All-replicate}
 use Rattle.std.proofs.lemmas.Option.{slice_get_within, get_or_from_slice_get}
 use Rattle.turn.proofs.ChairLists.{popped_two_chairs}
 use Rattle.turn.specs.declared.chair.ChairToken.{ChairToken}
-use Rattle.turn.specs.Chairs.{LockId, place, AreFreshChairs}
+use Rattle.turn.specs.Chairs.{ChairLockId, chair_place, AreFreshChairs}
 use Rattle.test_crews.specs.Counters.Tallies.{IsTallied, IsNew}
 
 -- a count is small
@@ -43,8 +43,8 @@ starts n few = record {
 }
 
 -- the two chairs of a new lock
-pub two_new : (l : LockId) (cs ds es : List (ChairToken ℕ ℕ)) (a b : ChairToken ℕ ℕ) → length cs ≡ 2 → AreFreshChairs l 0 cs
-    → cs ≡ ds ++ b ∷ [] → ds ≡ es ++ a ∷ [] → (IsNew l a × (place a ≡ 0)) × (IsNew l b × (place b ≡ 1))
+pub two_new : (l : ChairLockId) (cs ds es : List (ChairToken ℕ ℕ)) (a b : ChairToken ℕ ℕ) → length cs ≡ 2 → AreFreshChairs l 0 cs
+    → cs ≡ ds ++ b ∷ [] → ds ≡ es ++ a ∷ [] → (IsNew l a × (chair_place a ≡ 0)) × (IsNew l b × (chair_place b ≡ 1))
 two_new l cs ds es a b two fresh last next =
     let long : length cs ≡ length ds + 1 = ap length last ∙ length-append ds (b ∷ []) in
     let long' : length ds ≡ length es + 1 = ap length next ∙ length-append es (a ∷ []) in

@@ -5,7 +5,7 @@ use Rattle.journal.specs.declared.event.Event.{Event}
 use Rattle.journal.specs.declared.event.Kind.TheVariants.{Load}
 use Rattle.book.specs.declared.refused.Refused.{Refused}
 use Rattle.cluster.specs.Copies.PageReplica.{Copied}
-use Rattle.cluster.specs.Copies.Local.{Local, calls, noted}
+use Rattle.cluster.specs.Copies.Local.{Local, calls, local_noted}
 use Rattle.cluster.specs.Accesses.{FetchDone}
 use Rattle.cluster.specs.Calls.{IsCall}
 use Rattle.cluster.specs.Clusters.{SharedCluster}
@@ -88,9 +88,9 @@ by_refusal c old new refused own is = record {
 
 -- a load
 pub by_load : (c : SharedCluster) (old new : Local) (a : ℕ) (r : Result ℕ Refused) → IsOf c old → OnErr r (new ≡ old)
-    → IfOk r (λ v. new ≡ noted old (Load a v)) → HasCoverage new → StaysItself c old new (result_err r)
+    → IfOk r (λ v. new ≡ local_noted old (Load a v)) → HasCoverage new → StaysItself c old new (result_err r)
 by_load c old new a (Ok v) own err ok covers = record {
-  own = by_itself c old new (noted old (Load a v)).block old.copies old.stored own ok covers;
+  own = by_itself c old new (local_noted old (Load a v)).block old.copies old.stored own ok covers;
   number = ap (λ (m : Local). m.number) ok;
   kept = λ some. absurd (some refl);
 }

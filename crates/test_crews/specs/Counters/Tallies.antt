@@ -1,7 +1,7 @@
 -- What the keeper of a count says.
 use Rattle.std.specs.Prelude.{◌≡◌, ℕ, ◌^◌, ◌<◌, ◌≤◌, List, length, sum, All, Bool, MatchBool}
 use Rattle.turn.specs.declared.chair.ChairToken.{ChairToken}
-use Rattle.turn.specs.Chairs.{LockId, lock, view, entries, IsOutside, IsSameChair}
+use Rattle.turn.specs.Chairs.{ChairLockId, lock, chair_view, entries, IsChairOutside, IsSameChair}
 
 -- the count is the sum of what the chairs have added, which is small
 pub record IsTallied (count : ℕ) (views : List ℕ) : Type 0 where
@@ -11,10 +11,10 @@ pub record IsTallied (count : ℕ) (views : List ℕ) : Type 0 where
 
 module _ {B : Type 0} where
   -- a chair of the lock that never entered and added nothing
-  abbrev pub IsNew : LockId → ChairToken B ℕ → Type 0
-  IsNew l c = (lock c ≡ l) × IsOutside c × (view c ≡ 0) × (entries c ≡ 0)
+  abbrev pub IsNew : ChairLockId → ChairToken B ℕ → Type 0
+  IsNew l c = (lock c ≡ l) × IsChairOutside c × (chair_view c ≡ 0) × (entries c ≡ 0)
 
   -- the chair after a thread added that many times, or couldn't since a chair enters at most `limit` times
   abbrev pub HasAdded : ℕ → ℕ → ChairToken B ℕ → ChairToken B ℕ → Bool → Type 0
-  HasAdded limit times old new done = IsSameChair old new × IsOutside new
-      × MatchBool done ((view new ≡ times) × (times ≤ limit)) (limit < times)
+  HasAdded limit times old new done = IsSameChair old new × IsChairOutside new
+      × MatchBool done ((chair_view new ≡ times) × (times ≤ limit)) (limit < times)

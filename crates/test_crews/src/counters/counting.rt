@@ -2,7 +2,7 @@
 ghost use Rattle.std.specs.Prelude.{◌≡◌, ℕ, [], ◌∷◌, ◌+◌, ◌*◌, ◌^◌, ◌<◌, ◌≤◌, length, map, sum, vec_capacity};
 ghost use Rattle.std.specs.Prelude.{MatchOption, MatchResult, OnOk, OnErr, IfOk};
 ghost use Rattle.std.specs.List.{list_all};
-ghost use Rattle.turn.specs.Prelude.{lock, place, view, entries, IsOutside, IsSameChair, AreAllChairs};
+ghost use Rattle.turn.specs.Prelude.{lock, chair_place, chair_view, entries, IsChairOutside, IsSameChair, AreAllChairs};
 ghost use Rattle.test_crews.specs.Counters.Tallies.{IsNew, HasAdded};
 
 use crate::counters::tally::{AddsOne, Counter};
@@ -18,11 +18,11 @@ pub fn add_one<T: Turn<u64, Counter>, R: Wait>(
     chair: &mut Chair<u64, Counter>,
 ) -> Result<(), Spent>
     requires own { lock chair.old ≡ T.id turn.now }
-    requires outside { IsOutside chair.old }
-    requires room { view chair.old < 2 ^ 32 }
-    ensures added { OnOk result ((view chair.new ≡ view chair.old + 1)
+    requires outside { IsChairOutside chair.old }
+    requires room { chair_view chair.old < 2 ^ 32 }
+    ensures added { OnOk result ((chair_view chair.new ≡ chair_view chair.old + 1)
         × (entries chair.new ≡ entries chair.old + 1)
-        × IsSameChair chair.old chair.new × IsOutside chair.new) }
+        × IsSameChair chair.old chair.new × IsChairOutside chair.new) }
     ensures spent { OnErr result ((entries chair.old ≡ T.ENTRIES) × (chair.new ≡ chair.old)) }
 {
     let (held, count) = turn.enter(rt, chair)?;
@@ -38,10 +38,10 @@ pub fn add_many<T: Turn<u64, Counter>, R: Wait>(
     times: u64,
 ) -> Result<(), Spent>
     requires own { lock chair.old ≡ T.id turn.now }
-    requires outside { IsOutside chair.old }
-    requires room { view chair.old + times ≤ 2 ^ 32 }
-    ensures same { IsSameChair chair.old chair.new × IsOutside chair.new }
-    ensures added { OnOk result ((view chair.new ≡ view chair.old + times)
+    requires outside { IsChairOutside chair.old }
+    requires room { chair_view chair.old + times ≤ 2 ^ 32 }
+    ensures same { IsSameChair chair.old chair.new × IsChairOutside chair.new }
+    ensures added { OnOk result ((chair_view chair.new ≡ chair_view chair.old + times)
         × (entries chair.new ≡ entries chair.old + times)) }
     ensures spent { OnErr result (T.ENTRIES < entries chair.old + times) }
 {
@@ -72,8 +72,8 @@ fn open_two<T: Turn<u64, Counter>>(
 ) -> Result<(T, Chair<u64, Counter>, Chair<u64, Counter>), AllocError>
     requires { 2 * T.ENTRIES < 2 ^ 64 }
     ensures size { IfOk result (λ r. T.size r.0 ≡ 2) }
-    ensures first { IfOk result (λ r. IsNew (T.id r.0) r.1 × (place r.1 ≡ 0)) }
-    ensures second { IfOk result (λ r. IsNew (T.id r.0) r.2 × (place r.2 ≡ 1)) }
+    ensures first { IfOk result (λ r. IsNew (T.id r.0) r.1 × (chair_place r.1 ≡ 0)) }
+    ensures second { IfOk result (λ r. IsNew (T.id r.0) r.2 × (chair_place r.2 ≡ 1)) }
 {
     let (turn, mut chairs) = T::new(alloc, 0, 2)?;
     let Some(second) = chairs.pop() else {
@@ -94,9 +94,9 @@ fn close_two<T: Turn<u64, Counter>>(
 ) -> u64
     requires size { T.size turn ≡ 2 }
     requires room { (chairs.items ≡ []) × (2 ≤ vec_capacity chairs) }
-    requires first { (lock first ≡ T.id turn) × (place first ≡ 0) × IsOutside first }
-    requires second { (lock second ≡ T.id turn) × (place second ≡ 1) × IsOutside second }
-    ensures { result ≡ view first + view second }
+    requires first { (lock first ≡ T.id turn) × (chair_place first ≡ 0) × IsChairOutside first }
+    requires second { (lock second ≡ T.id turn) × (chair_place second ≡ 1) × IsChairOutside second }
+    ensures { result ≡ chair_view first + chair_view second }
 {
     chairs.push_reserved(first);
     chairs.push_reserved(second);

@@ -15,8 +15,8 @@ use Rattle.transit.specs.Letters.{Letter}
 use Rattle.book.specs.State.{State}
 use Rattle.book.specs.Told.{Represents, IsToldBySome}
 use Rattle.book.specs.BookCut.{WasBookCut}
-use Rattle.book.specs.Calls.{AllowsIdleBlock, AllowsBlock, AllowsFlush, AllowsClosing, AllowsAsk, AllowsRelease, IsProcessor}
-use Rattle.book.specs.Transitions.{new_book, book_handed_in, book_handed_last, book_asked, book_released, book_arrived, book_set, book_watched, book_taken, BookTakes}
+use Rattle.book.specs.Calls.{AllowsIdleBlockCall, AllowsBlockCall, AllowsFlush, AllowsClosing, AllowsAskCall, AllowsReleaseCall, IsProcessorOfCall}
+use Rattle.book.specs.Transitions.{transition_new_book, transition_handed_in, transition_handed_last, transition_asked, transition_released, transition_arrived, transition_set, transition_watched, transition_taken, TransitionTakes}
 use Rattle.book.proofs.Told.Whole.{new_law, hand_in_law, last_law, ask_law, release_law, arrive_law, set_law, watch_law, take_law, cut_law}
 use Rattle.test_memory.specs.declared.histories.told.Told.TheInside.{Inside}
 use Rattle.test_memory.specs.Histories.Telling.{Telling, IsTelling, MayCloseHere}
@@ -30,25 +30,25 @@ module _ (s : Sizes) (h : List Event) (b : State) (p : ℕ) (told : Represents s
   abbrev by_some : IsToldBySome b
   by_some = record { sizes = s; history = h; told = told }
 
-  pub may_look : p < s.processors → IsProcessor b p
+  pub may_look : p < s.processors → IsProcessorOfCall b p
   may_look lt = record { by = by_some; processor = lt }
 
-  pub may_flush : (block : List Event) → AllowsBlock s b p block → AllowsFlush b p block
+  pub may_flush : (block : List Event) → AllowsBlockCall s b p block → AllowsFlush b p block
   may_flush block gives = record { by = by_some; gives = gives }
 
-  abbrev pub may_call : (block : List Event) → AllowsIdleBlock s b p block → AllowsClosing b p block
+  abbrev pub may_call : (block : List Event) → AllowsIdleBlockCall s b p block → AllowsClosing b p block
   may_call block hands_in = record { by = by_some; hands_in = hands_in }
 
-  pub may_ask : (l : ℕ) (block : List Event) → AllowsIdleBlock s b p block → l < s.locks → ¬ Holds h p l → AllowsAsk b p l block
+  pub may_ask : (l : ℕ) (block : List Event) → AllowsIdleBlockCall s b p block → l < s.locks → ¬ Holds h p l → AllowsAskCall b p l block
   may_ask l block hands_in range free = record { call = may_call block hands_in; range = range; free = free }
 
-  pub may_release : (l : ℕ) (block : List Event) → AllowsIdleBlock s b p block → l < s.locks → Holds h p l
-      → AllowsRelease b p l block
+  pub may_release : (l : ℕ) (block : List Event) → AllowsIdleBlockCall s b p block → l < s.locks → Holds h p l
+      → AllowsReleaseCall b p l block
   may_release l block hands_in range held = record { call = may_call block hands_in; range = range; held = held }
 
 -- a new book is told by the empty history
 pub kept_new : (t : Inside) → 1 ≤ t.processors → 1 ≤ t.words → t.words ≤ 64 → t.history.items ≡ []
-    → t.book ≡ new_book (telling_of t).sizes → t.owing ≡ 256 * t.processors → RepresentsWithRoom t
+    → t.book ≡ transition_new_book (telling_of t).sizes → t.owing ≡ 256 * t.processors → RepresentsWithRoom t
 kept_new t some word words empty new owing =
     let s = (telling_of t).sizes in
     record {
@@ -80,15 +80,15 @@ follows s h old new made told room is =
     record { told = subst (λ b. Represents s h b) (sym is) told; room = ap (λ (b : State). b.journal.room) is ∙ room }
 
 pub follows_hand_in : (s : Sizes) (h : List Event) (b new : State) (p : ℕ) (block : List Event) → Represents s h b
-    → AllowsBlock s b p block → new ≡ book_handed_in b block → Follows s (h ++ block) b new
+    → AllowsBlockCall s b p block → new ≡ transition_handed_in b block → Follows s (h ++ block) b new
 follows_hand_in s h b new p block told may is =
-    follows s (h ++ block) b new (book_handed_in b block) (hand_in_law s h block b p told may) refl is
+    follows s (h ++ block) b new (transition_handed_in b block) (hand_in_law s h block b p told may) refl is
 
 -- so a book is kept after a block, for which the history made room, was handed in and noted
 pub kept_handed : (t new : Inside) (p : ℕ) (block roomy : List Event) → RepresentsWithRoom t
     → (telling_of new).sizes ≡ (telling_of t).sizes → new.owing ≡ t.owing → roomy ≡ t.history.items
-    → new.history.items ≡ roomy ++ block → AllowsBlock (telling_of t).sizes t.book p block
-    → new.book ≡ book_handed_in t.book block → RepresentsWithRoom new
+    → new.history.items ≡ roomy ++ block → AllowsBlockCall (telling_of t).sizes t.book p block
+    → new.book ≡ transition_handed_in t.book block → RepresentsWithRoom new
 kept_handed t new p block roomy kept sizes owing same noted may is =
     kept_after t new (t.history.items ++ block) kept sizes owing (noted ∙ ap (λ es. es ++ block) same)
     (follows_hand_in (telling_of t).sizes t.history.items t.book new.book p block kept.telling.told may is)
@@ -104,8 +104,8 @@ kept_closed t new p k block roomy kept sizes owing same noted follows =
 
 -- what was found of the book as it is seen holds of it as it is held
 pub gives_found : (t : Inside) (now : Telling) (p : ℕ) (block : List Event) → telling_of t ≡ now
-    → AllowsBlock now.sizes now.book p block → AllowsBlock (telling_of t).sizes t.book p block
-gives_found t now p block same may = subst (λ (x : Telling). AllowsBlock x.sizes x.book p block) (sym same) may
+    → AllowsBlockCall now.sizes now.book p block → AllowsBlockCall (telling_of t).sizes t.book p block
+gives_found t now p block same may = subst (λ (x : Telling). AllowsBlockCall x.sizes x.book p block) (sym same) may
 
 pub closes_found : (t : Inside) (now : Telling) (p : ℕ) (block : List Event) (records : List Changes)
     → telling_of t ≡ now → MayCloseHere now p block records → MayCloseHere (telling_of t) p block records
@@ -128,61 +128,61 @@ kept_cut t new (Err e) kept was same = subst (λ (b : State). RepresentsWithRoom
 module _ (t : Telling) (new : State) (p : ℕ) (block : List Event) (records : List Changes) (telling : IsTelling t)
     (may : MayCloseHere t p block records) where
   pub follows_ask : (l : ℕ) → l < t.sizes.locks → ¬ Holds t.history p l
-      → new ≡ book_asked (book_handed_in t.book block) p l records
+      → new ≡ transition_asked (transition_handed_in t.book block) p l records
       → Follows t.sizes (did (t.history ++ block) p (Ask l)) t.book new
   follows_ask l less free is =
       follows t.sizes (did (t.history ++ block) p (Ask l)) t.book new
-      (book_asked (book_handed_in t.book block) p l records)
+      (transition_asked (transition_handed_in t.book block) p l records)
       (ask_law t.sizes t.history block t.book p l records telling.told may.may may.are less free) refl is
 
   pub follows_release : (l : ℕ) → l < t.sizes.locks → Holds t.history p l
-      → new ≡ book_released (book_handed_in t.book block) p l records
+      → new ≡ transition_released (transition_handed_in t.book block) p l records
       → Follows t.sizes (did (t.history ++ block) p (Release l)) t.book new
   follows_release l less held is =
       follows t.sizes (did (t.history ++ block) p (Release l)) t.book new
-      (book_released (book_handed_in t.book block) p l records)
+      (transition_released (transition_handed_in t.book block) p l records)
       (release_law t.sizes t.history block t.book p l records telling.told may.may may.are less held) refl is
 
-  pub follows_set : (f : ℕ) → f < t.sizes.flags → new ≡ book_set (book_handed_in t.book block) p f records
+  pub follows_set : (f : ℕ) → f < t.sizes.flags → new ≡ transition_set (transition_handed_in t.book block) p f records
       → Follows t.sizes (did (t.history ++ block) p (Set f)) t.book new
   follows_set f less is =
-      follows t.sizes (did (t.history ++ block) p (Set f)) t.book new (book_set (book_handed_in t.book block) p f records)
+      follows t.sizes (did (t.history ++ block) p (Set f)) t.book new (transition_set (transition_handed_in t.book block) p f records)
       (set_law t.sizes t.history block t.book p f records telling.told may.may may.are less) refl is
 
-  pub follows_watch : (f : ℕ) → f < t.sizes.flags → new ≡ book_watched (book_handed_in t.book block) p f records
+  pub follows_watch : (f : ℕ) → f < t.sizes.flags → new ≡ transition_watched (transition_handed_in t.book block) p f records
       → Follows t.sizes (did (t.history ++ block) p (Watch f)) t.book new
   follows_watch f less is =
       follows t.sizes (did (t.history ++ block) p (Watch f)) t.book new
-      (book_watched (book_handed_in t.book block) p f records)
+      (transition_watched (transition_handed_in t.book block) p f records)
       (watch_law t.sizes t.history block t.book p f records telling.told may.may may.are less) refl is
 
-  pub follows_arrive : new ≡ book_arrived (book_handed_in t.book block) p records
+  pub follows_arrive : new ≡ transition_arrived (transition_handed_in t.book block) p records
       → Follows t.sizes (did (t.history ++ block) p Arrive) t.book new
   follows_arrive is =
       follows t.sizes (did (t.history ++ block) p Arrive) t.book new
-      (book_arrived (book_handed_in t.book block) p records)
+      (transition_arrived (transition_handed_in t.book block) p records)
       (arrive_law t.sizes t.history block t.book p records telling.told may.may may.are) refl is
 
 -- a take of what p waits for
 pub follows_take : (s : Sizes) (h : List Event) (b new : State) (p : ℕ) (k : Kind) (m : Letter) → Represents s h b
-    → slice_get b.awaits p ≡ Some (Some k) → BookTakes b p m new → Follows s (did h p k) b new
+    → slice_get b.awaits p ≡ Some (Some k) → TransitionTakes b p m new → Follows s (did h p k) b new
 follows_take s h b new p k m told waits takes =
     let same : takes.kind ≡ k =
     same_Some takes.kind k (same_Some (Some takes.kind) (Some k) (sym takes.awaits ∙ waits)) in
     subst (λ x. Follows s (did h p x) b new) same
-    (follows s (did h p takes.kind) b new (book_taken b p takes.kind m)
+    (follows s (did h p takes.kind) b new (transition_taken b p takes.kind m)
     (take_law s h b p takes.kind m told takes.awaits takes.message) refl takes.after)
 
 -- the records of p's open interval, made of its events and the block's
 pub may_close : (t : Telling) (p : ℕ) (block events : List Event) (records : List Changes) → IsTelling t
-    → AllowsIdleBlock t.sizes t.book p block → length block ≤ 256 → events ≡ since t.history p ++ block
+    → AllowsIdleBlockCall t.sizes t.book p block → length block ≤ 256 → events ≡ since t.history p ++ block
     → ((h : List Event) (q : ℕ) → since h q ≡ events → AreOpenBelow t.sizes h q t.sizes.pages records)
     → MayCloseHere t p block records
 may_close t p block events records telling may short is made =
     let inner : (k : ℕ) (e : Event) → At block k e → (e.processor ≡ p) × (is_closing e.kind ≡ false) =
     λ k e at. (let x = may.inner k e at in (x.mine, x.closes)) in
     let below = made (t.history ++ block) p (since_block t.history block p inner ∙ sym is) in
-    let give : AllowsBlock t.sizes t.book p block =
+    let give : AllowsBlockCall t.sizes t.book p block =
     record { waits = (None, may.idle, λ isnt. absurd (isnt refl)); inner = may.inner } in
     let told = hand_in_law t.sizes t.history block t.book p telling.told give in
     record {
@@ -197,7 +197,7 @@ may_close t p block events records telling may short is made =
 pub kept_last : (t new : Inside) (p : ℕ) (block : List Event) → RepresentsWithRoom t
     → (telling_of new).sizes ≡ (telling_of t).sizes → new.owing ≡ t.owing - length block
     → new.history.items ≡ t.history.items ++ block
-    → AllowsBlock (telling_of t).sizes t.book p block → new.book ≡ book_handed_last t.book block → RepresentsWithRoom new
+    → AllowsBlockCall (telling_of t).sizes t.book p block → new.book ≡ transition_handed_last t.book block → RepresentsWithRoom new
 kept_last t new p block kept sizes owing history may is = record {
   telling = record {
     told = subst (λ s. Represents s new.history.items new.book) (sym sizes)

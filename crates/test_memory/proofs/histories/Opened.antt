@@ -7,8 +7,8 @@ use Rattle.std.proofs.Math.Nat.{div-lt_iff_lt-mul}
 use Rattle.base.specs.InOrderOnce.{Has}
 use Rattle.base.specs.LastWritten.{wrote, written}
 use Rattle.base.specs.MarkedRecords.{mark, marked, harvest}
-use Rattle.base.proofs.SlicesAndCounts.{take-suc_at, push_cases}
-use Rattle.base.proofs.Joined.{has-nil, has-append, has-cons, in_order-nil, in_order-append, in_order_single}
+use Rattle.base.proofs.SlicesAndCounts.{take-suc_at, slice_push_cases}
+use Rattle.base.proofs.Joined.{has-nil, has-append, has-cons, in_order-nil, in_order-append, joined_in_order_single}
 use Rattle.base.proofs.LastWritten.{written-append, length-written}
 use Rattle.base.proofs.MarkedHarvests.{marked-append, length-marked}
 use Rattle.journal.specs.declared.event.Event.{Event}
@@ -156,15 +156,15 @@ open_more s h p m records r x now =
       below = below;
       all = all;
       rising = in_order-append (λ (a b : Changes). a.page < b.page) records (r ∷ []) x.rising
-          (in_order_single (λ (a b : Changes). a.page < b.page) r) before;
+          (joined_in_order_single (λ (a b : Changes). a.page < b.page) r) before;
     }
   where
     each : (q : Changes) → Has (records ++ r ∷ []) q → IsOpenRecord s h p q
-    each q has = elim (push_cases records r has.0 q has.1)
+    each q has = elim (slice_push_cases records r has.0 q has.1)
         [ inl old ↦ x.each q (has.0, old.1) | inr new ↦ subst (λ y. IsOpenRecord s h p y) new.1 now.1 ]
 
     below : (q : Changes) → Has (records ++ r ∷ []) q → q.page < m + 1
-    below q has = elim (push_cases records r has.0 q has.1) [
+    below q has = elim (slice_push_cases records r has.0 q has.1) [
       | inl old ↦ (let lt = x.below q (has.0, old.1) in omega arith)
       | inr new ↦ (let is = ap (λ (y : Changes). y.page) new.1 in let at = now.0 in omega arith)
     ]

@@ -7,11 +7,11 @@ use Rattle.journal.specs.Events.{At, is_closing}
 use Rattle.journal.specs.ContentsSince.{since}
 use Rattle.journal.specs.WellFormed.{LastIs, Holds}
 use Rattle.journal.specs.Waits.{awaited}
-use Rattle.base.proofs.SlicesAndCounts.{push_induction}
-use Rattle.journal.proofs.Order.CountedAndNumbered.{at_last, at_longer}
-use Rattle.journal.proofs.Journals.WellFormedLast.{last_unique, holds_now, holds_longer, holds_cases}
+use Rattle.base.proofs.SlicesAndCounts.{slice_push_induction}
+use Rattle.journal.proofs.Order.CountedAndNumbered.{numbered_at_last, numbered_at_longer}
+use Rattle.journal.proofs.Journals.WellFormedLast.{last_unique, well_formed_holds_now, well_formed_holds_longer, well_formed_holds_cases}
 use Rattle.journal.proofs.Intervals.OpenSince.{since_inner}
-use Rattle.book.specs.Stamps.{IsAwaited}
+use Rattle.book.specs.Stamps.{IsAwaitedByStamps}
 use Rattle.book.proofs.Parts.Each.{each_item_at}
 use Rattle.test_memory.specs.Histories.Telling.{Telling, IsTelling}
 use Rattle.test_memory.specs.Histories.Reading.{IsHeldAfter}
@@ -22,7 +22,7 @@ NoneFrom h p n = (m : ℕ) (e : Event) → n ≤ m → At h m e → e.processor 
 
 -- who did this last waits for what comes next after it
 pub awaited_last : (h : List Event) (p n : ℕ) (e : Event) → NoneFrom h p (n + 1) → At h n e → e.processor ≡ p
-    → IsAwaited h p (awaited e.kind)
+    → IsAwaitedByStamps h p (awaited e.kind)
 awaited_last h p n e none at mine =
     record {
       last = λ i a last. ap awaited (last_unique h p n i e.kind a now last).1;
@@ -36,7 +36,7 @@ awaited_last h p n e none at mine =
     }
 
 -- who did nothing waits for nothing
-pub awaited_never : (h : List Event) (p : ℕ) → NoneFrom h p 0 → IsAwaited h p None
+pub awaited_never : (h : List Event) (p : ℕ) → NoneFrom h p 0 → IsAwaitedByStamps h p None
 awaited_never h p none =
     record {
       last = λ i a last. absurd (none i (record { processor = p; kind = a }) (omega arith) last.does refl);
@@ -44,7 +44,7 @@ awaited_never h p none =
     }
 
 -- what p waits for is one thing
-pub awaited_same : (h : List Event) (p : ℕ) (v w : Option Kind) → IsAwaited h p v → IsAwaited h p w → v ≡ w
+pub awaited_same : (h : List Event) (p : ℕ) (v w : Option Kind) → IsAwaitedByStamps h p v → IsAwaitedByStamps h p w → v ≡ w
 awaited_same h p None None x y = refl
 awaited_same h p None (Some k) x y = let s = y.some k refl in x.last s.0 s.1 s.2 ∙ sym (y.last s.0 s.1 s.2)
 awaited_same h p (Some k) w x y = let s = x.some k refl in x.last s.0 s.1 s.2 ∙ sym (y.last s.0 s.1 s.2)
@@ -54,7 +54,7 @@ pub since_block : (h block : List Event) (p : ℕ)
     → ((k : ℕ) (e : Event) → At block k e → (e.processor ≡ p) × (is_closing e.kind ≡ false))
     → since (h ++ block) p ≡ since h p ++ block
 since_block h block p =
-    push_induction
+    slice_push_induction
     (λ es. ((k : ℕ) (e : Event) → At es k e → (e.processor ≡ p) × (is_closing e.kind ≡ false))
     → since (h ++ es) p ≡ since h p ++ es) (λ inner. rw (append-nil h, append-nil (since h p))) step block
   where
@@ -64,8 +64,8 @@ since_block h block p =
         → ((k : ℕ) (f : Event) → At (es ++ e ∷ []) k f → (f.processor ≡ p) × (is_closing f.kind ≡ false))
         → since (h ++ (es ++ e ∷ [])) p ≡ since h p ++ (es ++ e ∷ [])
     step es e ih inner =
-        let mine = inner (length es) e (at_last es e) in
-        let old = ih (λ k f at. inner k f (at_longer es (e ∷ []) k f at)) in
+        let mine = inner (length es) e (numbered_at_last es e) in
+        let old = ih (λ k f at. inner k f (numbered_at_longer es (e ∷ []) k f at)) in
         ap (λ (xs : List Event). since xs p) (sym (append_assoc h es (e ∷ [])))
         ∙ since_inner (h ++ es) e p mine.0 mine.1
         ∙ ap (λ (xs : List Event). xs ++ e ∷ []) old
@@ -77,16 +77,16 @@ pub held_next : (h : List Event) (p l : ℕ) (e : Event) (held : Type 0) → hel
 held_next h p l e held is = (there, back)
   where
     there : IsHeldAfter held e p l → Holds (h ++ e ∷ []) p l
-    there (inl acquires) = subst (λ f. Holds (h ++ f ∷ []) p l) (sym acquires) (holds_now h p l)
-    there (inr kept) = holds_longer h e p l kept.1 (is.0 kept.0)
+    there (inl acquires) = subst (λ f. Holds (h ++ f ∷ []) p l) (sym acquires) (well_formed_holds_now h p l)
+    there (inr kept) = well_formed_holds_longer h e p l kept.1 (is.0 kept.0)
 
     back : Holds (h ++ e ∷ []) p l → IsHeldAfter held e p l
-    back now = elim (holds_cases h e p l now) [ inl old ↦ inr (is.1 old.0, old.1) | inr new ↦ inl new ]
+    back now = elim (well_formed_holds_cases h e p l now) [ inl old ↦ inr (is.1 old.0, old.1) | inr new ↦ inl new ]
 
 -- what the book says that p waits for
 pub awaits_now : (t : Telling) (h : List Event) (p : ℕ) (w : Option Kind) → IsTelling t → h ≡ t.history
-    → p < t.sizes.processors → IsAwaited h p w → slice_get t.book.awaits p ≡ Some w
+    → p < t.sizes.processors → IsAwaitedByStamps h p w → slice_get t.book.awaits p ≡ Some w
 awaits_now t h p w telling same less is =
     let told = telling.told.awaits in
-    let at = each_item_at t.sizes.processors (IsAwaited t.history) t.book.awaits p None told less in
-    at ∙ ap (λ x. Some x) (awaited_same t.history p _ w (told.each p _ at) (subst (λ es. IsAwaited es p w) same is))
+    let at = each_item_at t.sizes.processors (IsAwaitedByStamps t.history) t.book.awaits p None told less in
+    at ∙ ap (λ x. Some x) (awaited_same t.history p _ w (told.each p _ at) (subst (λ es. IsAwaitedByStamps es p w) same is))

@@ -6,7 +6,7 @@ use Rattle.journal.specs.Events.{count_of, is_closing}
 use Rattle.journal.specs.ContentsSince.{StoresInInterval, IsContent}
 use Rattle.base.specs.InOrderOnce.{Has}
 use Rattle.page.specs.RisingChanges.{Changes}
-use Rattle.interval.specs.SentIntervals.{HasRisingPages}
+use Rattle.interval.specs.SentIntervals.{SentPagesRise}
 
 -- place i has a store to page n in p's open interval
 abbrev pub StoresOpen : Sizes → List Event → ℕ → ℕ → ℕ → Type 0
@@ -27,4 +27,4 @@ pub record AreOpenBelow (s : Sizes) (h : List Event) (p m : ℕ) (records : List
   pub each : (r : Changes) → Has records r → IsOpenRecord s h p r
   pub below : (r : Changes) → Has records r → r.page < m
   pub all : (n i : ℕ) → n < m → StoresOpen s h p n i → (r : Changes) × Has records r × (r.page ≡ n)
-  pub rising : HasRisingPages records
+  pub rising : SentPagesRise records

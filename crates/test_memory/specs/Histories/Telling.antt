@@ -3,9 +3,9 @@ use Rattle.std.specs.Prelude.{ℕ, ◌≡◌, ◌<◌, ◌≤◌, List, length, 
 use Rattle.journal.specs.declared.event.Event.{Event}
 use Rattle.journal.specs.Sizes.{Sizes}
 use Rattle.page.specs.RisingChanges.{Changes}
-use Rattle.interval.specs.SentIntervals.{HasRisingPages}
-use Rattle.book.specs.Calls.{AllowsIdleBlock}
-use Rattle.book.specs.Laws.{AreOpenRecords}
+use Rattle.interval.specs.SentIntervals.{SentPagesRise}
+use Rattle.book.specs.Calls.{AllowsIdleBlockCall}
+use Rattle.book.specs.Laws.{AreOpenRecordsByLaw}
 use Rattle.book.specs.State.{State}
 use Rattle.book.specs.Told.{Represents}
 
@@ -27,7 +27,7 @@ MadeFrom old history new = (new.sizes ≡ old.sizes) × (new.history ≡ history
 
 -- p may close its interval with this block and these records
 pub record MayCloseHere (t : Telling) (p : ℕ) (block : List Event) (records : List Changes) : Type 0 where
-  pub may : AllowsIdleBlock t.sizes t.book p block
+  pub may : AllowsIdleBlockCall t.sizes t.book p block
   pub short : length block ≤ 256
-  pub are : AreOpenRecords t.sizes (t.history ++ block) p records
-  pub rising : HasRisingPages records
+  pub are : AreOpenRecordsByLaw t.sizes (t.history ++ block) p records
+  pub rising : SentPagesRise records

@@ -1,7 +1,7 @@
 //! What a history says of one processor.
 ghost use Rattle.std.specs.Prelude.{◌≡◌, ◌↔◌, ◌+◌, ◌≤◌, ◌++◌, IfOk, IsTrue, length, vec_len, vec_capacity};
 ghost use Rattle.journal.specs.Prelude.{is_closing, since, awaited, did, Holds};
-ghost use Rattle.book.specs.Prelude.{IsAwaited};
+ghost use Rattle.book.specs.Prelude.{IsAwaitedByStamps};
 ghost use Rattle.test_memory.specs.Histories.Prelude.{IsHeldAfter};
 
 use journal::{Event, Kind};
@@ -9,7 +9,7 @@ use std::alloc::{AllocError, Global};
 
 /// What `p` waits for after this history.
 pub(crate) fn awaited_by(history: &[Event], p: usize) -> Option<Kind>
-    ensures { IsAwaited history.now p result }
+    ensures { IsAwaitedByStamps history.now p result }
 {
     let mut left = history.len();
     while left > 0 {

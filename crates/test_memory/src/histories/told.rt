@@ -4,8 +4,8 @@ ghost use Rattle.std.specs.Prelude.{IsTrue, Some, None, length, map, count_by, s
 ghost use Rattle.std.specs.Arc.{arc_value};
 ghost use Rattle.journal.specs.Prelude.{event, did, WasCut, IsCutFault, IsDeadlock};
 ghost use Rattle.journal.specs.declared.event.Kind.{Kind as AKind};
-ghost use Rattle.interval.specs.Prelude.{HasRisingPages, is_of_page};
-ghost use Rattle.book.specs.Prelude.{IsInner, AllowsIdleBlock, AllowsBlock, AreOpenRecords, brought, HoldsSome};
+ghost use Rattle.interval.specs.Prelude.{SentPagesRise, is_closing_of_page};
+ghost use Rattle.book.specs.Prelude.{IsInnerCall, AllowsIdleBlockCall, AllowsBlockCall, AreOpenRecordsByLaw, brought_by_message, HoldsSome};
 ghost use Rattle.test_memory.specs.Histories.Prelude.{MadeFrom, MayCloseHere};
 
 use crate::histories::history::{awaited_by, holds, note, note_closing, open_of};
@@ -111,7 +111,7 @@ impl Told {
 
     /// Whether this is a load, a store or a fetch of `p` within the sizes.
     fn is_inner(&self, p: usize, event: &Event) -> bool
-        ensures { IsTrue result → IsInner self.now.sizes p event.now }
+        ensures { IsTrue result → IsInnerCall self.now.sizes p event.now }
     {
         event.processor == p
             && match event.kind {
@@ -125,7 +125,7 @@ impl Told {
 
     /// Whether `p` waits for nothing, and the block is one that it may hand in.
     fn may_hand_in(&self, p: usize, block: &[Event]) -> Result<(), Refused>
-        ensures { OnOk result (AllowsIdleBlock self.now.sizes self.now.book p block.now
+        ensures { OnOk result (AllowsIdleBlockCall self.now.sizes self.now.book p block.now
             × (length block.now ≤ 256)) }
     {
         if p >= self.processors {
@@ -147,7 +147,7 @@ impl Told {
 
     /// Whether `p` may hand the block in, which is empty where it waits.
     fn may_give(&self, p: usize, block: &[Event]) -> Result<(), Refused>
-        ensures { OnOk result (AllowsBlock self.now.sizes self.now.book p block.now
+        ensures { OnOk result (AllowsBlockCall self.now.sizes self.now.book p block.now
             × (length block.now ≤ 256)) }
     {
         if !block.is_empty() {
@@ -327,7 +327,7 @@ impl Told {
     pub fn due(&self, p: usize, page: usize) -> Option<usize>
         ensures none { result ≡ None ↔ (self.now.sizes.processors ≤ p) }
         ensures some { IfSome result (λ n. n
-            ≡ count_by (is_of_page page) (brought self.now.book p)) }
+            ≡ count_by (is_closing_of_page page) (brought_by_message self.now.book p)) }
     {
         if p < self.processors {
             Some(self.book.due(p, page))

@@ -2,7 +2,7 @@
 ghost use Rattle.std.specs.Prelude.{◌≡◌, ℕ, ◌+◌, ◌<◌, ◌≤◌, Some, IfOk, OnOk, OnErr, length, map};
 ghost use Rattle.std.specs.Prelude.{slice_get, slice_index, slice_set};
 ghost use Rattle.std.specs.Arc.{arc_value};
-ghost use Rattle.interval.specs.Prelude.{HasRisingPages, KeepsClosingsBetween};
+ghost use Rattle.interval.specs.Prelude.{SentPagesRise, KeepsClosingsBetween};
 
 use interval::{Closed, Interval, Notice, Sent};
 use page::Record;
@@ -29,7 +29,7 @@ fn keep(
 ) -> Result<(), AllocError>
     requires two_owners { length closed.old.first ≡ 2 }
     requires next { slice_get closed.old.next owner ≡ Some number }
-    requires pages { HasRisingPages (map arc_value records.items) }
+    requires pages { SentPagesRise (map arc_value records.items) }
     requires few { closed.old.pushed < 10_000 }
     ensures two_owners { length closed.new.first ≡ 2 }
     ensures next { OnOk result (closed.new.next ≡ slice_set closed.old.next owner (number + 1)) }
@@ -268,7 +268,7 @@ fn sends_what_a_trim_leaves(rt: HostRuntime) -> Result<(), Fail> {
 }
 
 fn one_record(alloc: Global, page: usize) -> Result<Vec<Arc<Record>>, AllocError>
-    ensures { IfOk result (λ rs. HasRisingPages (map arc_value rs.items)) }
+    ensures { IfOk result (λ rs. SentPagesRise (map arc_value rs.items)) }
 {
     Ok(vec![in alloc; record(alloc, page)?]?)
 }
@@ -277,7 +277,7 @@ fn one_record(alloc: Global, page: usize) -> Result<Vec<Arc<Record>>, AllocError
 fn last_owners(alloc: Global) -> Result<Interval, AllocError>
     ensures owner { IfOk result (λ i. i.owner ≡ 15) }
     ensures number { IfOk result (λ i. i.number ≡ 0) }
-    ensures pages { IfOk result (λ i. HasRisingPages i.records) }
+    ensures pages { IfOk result (λ i. SentPagesRise i.records) }
 {
     Ok(Interval {
         owner: 15,

@@ -1,5 +1,5 @@
 ghost use Rattle.std.specs.Prelude.{◌≡◌, ◌*◌, ◌^◌, ◌<◌, ◌≤◌, IfOk};
-ghost use Rattle.turn.specs.Prelude.{entries, lock, lock_id, IsOutside, IsSameChair, AreAllChairs};
+ghost use Rattle.turn.specs.Prelude.{entries, lock, chair_lock_id, IsChairOutside, IsSameChair, AreAllChairs};
 
 use super::{ArrayLock, TicketLock, TurnLock};
 use crate::chair::{Chair, Spent};
@@ -40,8 +40,8 @@ fn pass_through<B, T: Turn<B, Anything>, R: Wait>(
     chair: &mut Chair<B, Anything>,
 ) -> Result<(), Spent>
     requires own { lock chair.old ≡ T.id turn.now }
-    requires outside { IsOutside chair.old }
-    ensures { IsSameChair chair.old chair.new × IsOutside chair.new }
+    requires outside { IsChairOutside chair.old }
+    ensures { IsSameChair chair.old chair.new × IsChairOutside chair.new }
 {
     let (held, book) = turn.enter(rt, chair)?;
     turn.leave::<Anything>(chair, held, book);
@@ -90,9 +90,9 @@ fn goes<W: Board + Sync, R: Wait>(
     chairs: &mut Vec<Chair<u64, Anything>>,
     step: &Step,
 ) -> bool
-    requires { AreAllChairs (lock_id turn.now.table.shared.table_id 3) turn.now.layout.seats
+    requires { AreAllChairs (chair_lock_id turn.now.table.shared.table_id 3) turn.now.layout.seats
         chairs.old.items }
-    ensures { AreAllChairs (lock_id turn.now.table.shared.table_id 3) turn.now.layout.seats
+    ensures { AreAllChairs (chair_lock_id turn.now.table.shared.table_id 3) turn.now.layout.seats
         chairs.new.items }
 {
     let (place, enters, words) = *step;
@@ -201,8 +201,8 @@ fn enters_once<W: Board + Sync, R: Wait + Clock>(
     mut chair: Chair<u64, Anything>,
     others: u64,
 ) -> Result<u64, Spent>
-    requires own { lock chair ≡ lock_id turn.now.table.shared.table_id 3 }
-    requires outside { IsOutside chair }
+    requires own { lock chair ≡ chair_lock_id turn.now.table.shared.table_id 3 }
+    requires outside { IsChairOutside chair }
 {
     let (held, book) = turn.enter(rt, &mut chair)?;
     if book == 0 {
@@ -224,7 +224,7 @@ fn books_found<W: Board + Sync, R: Threads + Wait + Clock + Sync>(
         rt,
         chairs,
         &|chair: Chair<u64, Anything>| -> u64
-            requires { (lock chair ≡ lock_id shared.now.table.shared.table_id 3) × IsOutside chair }
+            requires { (lock chair ≡ chair_lock_id shared.now.table.shared.table_id 3) × IsChairOutside chair }
         { enters_once(rt, shared, chair, 15).unwrap_or(u64::MAX) },
     )?;
     books.sort()?;
@@ -246,8 +246,8 @@ fn enters_asleep<W: Board + Sync, R: Wait>(
     turn: &TurnLock<u64, Anything, W, 3>,
     chair: Chair<u64, Anything>,
 ) -> u64
-    requires own { lock chair ≡ lock_id turn.now.table.shared.table_id 3 }
-    requires outside { IsOutside chair }
+    requires own { lock chair ≡ chair_lock_id turn.now.table.shared.table_id 3 }
+    requires outside { IsChairOutside chair }
     requires left { entries chair < 3 }
 {
     let mut seat = chair.into_seat();

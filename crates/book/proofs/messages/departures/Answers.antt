@@ -3,9 +3,9 @@ use Rattle.std.proofs.lemmas.List.{length-set, map-append}
 use Rattle.interval.specs.SentIntervals.{ClosedInterval, SentRecord}
 use Rattle.interval.specs.Closings.{KeepsClosingsBetween, pushed, closings_between}
 use Rattle.transit.specs.Letters.{Letter, letter}
-use Rattle.book.specs.Transitions.{departure_to}
+use Rattle.book.specs.Transitions.{transition_departure_to}
 use Rattle.transit.specs.Letters.LetterKind.{departure}
-use Rattle.book.proofs.Calling.Arriving.{IsTimeAfterArriving, read_after_arriving, IsDeparting, departing_step}
+use Rattle.book.proofs.Calling.Arriving.{IsTimeAfterArriving, read_after_arriving, IsDepartingByArriving, arriving_departing_step}
 use Rattle.book.proofs.messages.departures.Goals.{After-time_after-old}
 use Rattle.book.proofs.messages.departures.Goals as goal
 
@@ -42,14 +42,14 @@ loop-q-preserved c =
     let long = length-set c.args.times.now c.args.interval.now.owner c.args.own.now in
     let lt = c.loop-q-test.true in
     let m : Letter = record { kind = departure; time = c.copy-time.result; notices = c.in_ok-notices.notices.items } in
-    let one : m ≡ departure_to (pushed c.args.closed.now c.args.interval.now)
+    let one : m ≡ transition_departure_to (pushed c.args.closed.now c.args.interval.now)
     c.args.time.now c.time_after-old.result.now =
     ap (λ (ns : List SentRecord). departs ns c.copy-time.result) c.in_ok-notices.ensures.value
     ∙ ap (λ (t : List ℕ). departs
     (closings_between (pushed c.args.closed.now c.args.interval.now) c.time_after-old.result.now c.args.time.now) t)
     c.copy-time.ensures in
     let more = ap (map letter) c.in_ok-push.ensures.items ∙ map-append letter c.loop-q.departures.items _ in
-    let step : IsDeparting (pushed c.args.closed.now c.args.interval.now) c.args.time.now
+    let step : IsDepartingByArriving (pushed c.args.closed.now c.args.interval.now) c.args.time.now
     (slice_set c.args.times.now c.args.interval.now.owner c.args.own.now) c.loop-q.q
     (map letter c.push.new.self.items) = record {
       old = c.time_after-old.result.now;
@@ -61,4 +61,4 @@ loop-q-preserved c =
       one = one;
       more = more;
     } in
-    departing_step step
+    arriving_departing_step step

@@ -1,9 +1,9 @@
 use Rattle.std.proofs.Common.{◌≡◌, ℕ, List, suc, ◌+◌, ◌<◌, ◌≤◌, length, Some, slice_get, slice_index_or, ap, ◌∙◌, sym, arith}
 use Rattle.std.proofs.lemmas.Option.{get_or_from_slice_get, slice_get-get_or}
-use Rattle.interval.specs.Closings.{Closings, trimmed}
-use Rattle.book.specs.Transitions.{trimmed_by}
-use Rattle.book.specs.Calls.{AllowsTrim}
-use Rattle.book.proofs.Parts.ClosedIntervals.{length-trimmed_by}
+use Rattle.interval.specs.Closings.{Closings, closings_trimmed_below}
+use Rattle.book.specs.Transitions.{transition_trimmed_by}
+use Rattle.book.specs.Calls.{AllowsTrimOfCall}
+use Rattle.book.proofs.Parts.ClosedIntervals.{length-transition_trimmed_by}
 use Rattle.book.proofs.Parts.Trimmed.{trimmed_spared}
 use Rattle.book.proofs.trims.trim.Goals.{then-has_risen, else-has_risen+else-owner-processor}
 use Rattle.book.proofs.trims.trim.Goals as goal
@@ -11,15 +11,15 @@ use Rattle.book.proofs.trims.trim.Goals as goal
 pub trim-requires : goal.trim-requires
 trim-requires c =
     let same = ap (λ (x : Closings). length x.first) c.loop-owner.invariant
-    ∙ length-trimmed_by c.args.closed.now c.args.times.now c.loop-owner.owner in
+    ∙ length-transition_trimmed_by c.args.closed.now c.args.times.now c.loop-owner.owner in
     let owners = c.requires.owners in
     omega arith
 
 -- of another owner, whose entry stands as it was, nothing is left to trim
 spared : (c : Closings) (times : List (List ℕ)) (p owner one two : ℕ) (before own : List ℕ)
-    → AllowsTrim c times p before → owner < length times → own ≡ slice_index_or times p own
+    → AllowsTrimOfCall c times p before → owner < length times → own ≡ slice_index_or times p own
     → slice_get own owner ≡ Some one → slice_get before owner ≡ Some two → one ≤ two → ¬ (owner ≡ p)
-    → trimmed_by c times owner ≡ trimmed_by c times (owner + 1)
+    → transition_trimmed_by c times owner ≡ transition_trimmed_by c times (owner + 1)
 spared c times p owner one two before own may lt is now old le apart =
     let within = may.within in
     let owners = may.owners in
@@ -29,7 +29,7 @@ spared c times p owner one two before own may lt is now old le apart =
     let more : 1 < length times = omega arith in
     let next : suc owner ≡ owner + 1 = omega arith in
     sym (trimmed_spared c times p owner before own (omega arith) at (omega arith) (may.tight more) may.from)
-    ∙ ap (λ (m : ℕ). trimmed_by c times m) next
+    ∙ ap (λ (m : ℕ). transition_trimmed_by c times m) next
 
 pub loop-owner-preserved : goal.loop-owner-preserved
 loop-owner-preserved c =
@@ -37,10 +37,10 @@ loop-owner-preserved c =
     elim c.if-has_risen.branch [
       | then-has_risen w ↦
           w.closed-is ∙ w.trim.ensures.value
-          ∙ ap (λ (x : Closings). trimmed x c.loop-owner.owner w.least.result) c.loop-owner.invariant
-          ∙ ap (λ (n : ℕ). trimmed (trimmed_by c.args.closed.now c.args.times.now c.loop-owner.owner)
+          ∙ ap (λ (x : Closings). closings_trimmed_below x c.loop-owner.owner w.least.result) c.loop-owner.invariant
+          ∙ ap (λ (n : ℕ). closings_trimmed_below (transition_trimmed_by c.args.closed.now c.args.times.now c.loop-owner.owner)
           c.loop-owner.owner n) w.least.ensures
-          ∙ ap (λ (m : ℕ). trimmed_by c.args.closed.now c.args.times.now m) next
+          ∙ ap (λ (m : ℕ). transition_trimmed_by c.args.closed.now c.args.times.now m) next
       | else-has_risen+else-owner-processor w ↦ w.closed-is ∙ c.loop-owner.invariant
           ∙ spared c.args.closed.now c.args.times.now c.args.processor c.loop-owner.owner c.entry-in-loop-owner.result
           c.entry.result c.args.before.now c.index-times-processor.result c.requires c.loop-owner-test.true

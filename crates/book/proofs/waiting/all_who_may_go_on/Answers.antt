@@ -3,20 +3,20 @@ use Rattle.std.proofs.lemmas.Bool.{true≢false}
 use Rattle.std.proofs.lemmas.Option.{slice_get_within}
 use Rattle.base.specs.Limits.{most_processors}
 use Rattle.base.specs.InOrderOnce.{Has}
-use Rattle.book.proofs.Calling.WaitingPlaces.{MayBeNamed, one_found, not_found}
+use Rattle.book.proofs.Calling.WaitingPlaces.{MayBeNamedWaitingPlace, waiting_places_one_found, waiting_places_not_found}
 use Rattle.book.proofs.waiting.all_who_may_go_on.Goals.{then-may_go_on, else-may_go_on}
 use Rattle.book.proofs.waiting.all_who_may_go_on.Goals as goal
 
 pub loop-p-preserved : goal.loop-p-preserved
 loop-p-preserved c =
-    let Q : ℕ → Type 0 = MayBeNamed c.args.awaits.now c.args.flags.now c.args.mail.now c.args.awaited in
+    let Q : ℕ → Type 0 = MayBeNamedWaitingPlace c.args.awaits.now c.args.flags.now c.args.mail.now c.args.awaited in
     elim c.if-may_go_on.branch [
       | then-may_go_on w ↦ (let come = c.may_go_on.ensures.0 w.if-may_go_on.true in
-          one_found Q c.loop-p.p c.loop-p.waiters c.if-may_go_on.waiters (λ q x. x.0) c.loop-p.invariant
+          waiting_places_one_found Q c.loop-p.p c.loop-p.waiters c.if-may_go_on.waiters (λ q x. x.0) c.loop-p.invariant
           (λ q. subst (λ (ns : List ℕ). Has ns q ↔ (((q ≡ c.loop-p.p) × (q < most_processors)) ⊎ Has c.loop-p.waiters q))
           (sym w.waiters-is) (w.add.ensures q))
           (λ few. (few, come.0, come.1)))
-      | else-may_go_on w ↦ not_found Q c.loop-p.p c.loop-p.waiters c.if-may_go_on.waiters c.loop-p.invariant w.waiters-is
+      | else-may_go_on w ↦ waiting_places_not_found Q c.loop-p.p c.loop-p.waiters c.if-may_go_on.waiters c.loop-p.invariant w.waiters-is
           (λ x. true≢false (sym (c.may_go_on.ensures.1 (x.1, x.2)) ∙ w.if-may_go_on.false))
     ]
 

@@ -6,7 +6,7 @@ use Rattle.journal.specs.declared.event.Event.{Event}
 use Rattle.journal.specs.declared.event.Kind.TheVariants.{Load}
 use Rattle.journal.specs.DidEvent.{event}
 use Rattle.journal.specs.Events.{At}
-use Rattle.journal.proofs.Order.CountedAndNumbered.{at_same}
+use Rattle.journal.proofs.Order.CountedAndNumbered.{numbered_at_same}
 use Rattle.judge.specs.Sources.Latest.{AreLatest}
 use Rattle.causes.specs.declared.originating.WordOrigin.{WordOrigin}
 use Rattle.causes.specs.Origins.{IsOriginStore}
@@ -57,7 +57,7 @@ returns-then-not-is_store_of c = λ i y.
     (c.has_place.ensures.0 c.if-not-has_place.false) in
     let at = slice_get-get_or events c.in-Some.origin.store (event 0 (Load 0 0)) lt in
     let stores = y.stores in
-    let one = at_same events c.in-Some.origin.store (here events c.in-Some.origin.store) stores.0 at
+    let one = numbered_at_same events c.in-Some.origin.store (here events c.in-Some.origin.store) stores.0 at
     (subst (λ n. At events n stores.0) (sym same) stores.1) in
     false≢true (sym c.if-not-is_store_of.true
     ∙ c.is_store_of.ensures.1 (stores.2.0, ap (λ (e : Event). e.kind) one ∙ stores.2.1))

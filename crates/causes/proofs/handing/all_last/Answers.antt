@@ -1,7 +1,7 @@
 use Rattle.std.proofs.Common.{◌≡◌, ℕ, List, Some, length, slice_get, subst, sym, refl, arith}
 use Rattle.std.specs.Global.{Vec}
 use Rattle.std.proofs.lemmas.Option.{slice_get_read}
-use Rattle.journal.proofs.Order.CountedAndNumbered.{at_within}
+use Rattle.journal.proofs.Order.CountedAndNumbered.{numbered_at_within}
 use Rattle.causes.specs.HandOvers.{AreHandOvers}
 use Rattle.causes.specs.News.{AreNewlyOrdered}
 use Rattle.causes.proofs.HandOvers.{hand_over_rows_next, last_all}
@@ -20,7 +20,7 @@ last_ones-requires c =
     subst (AreNewlyOrdered events place) (sym c.deref.ensures.value) (c.requires.news place read there) in
     record {
       tells = c.requires.tells;
-      within = λ n has. (let edge = ((news.has n).0 has).leads.edge in at_within events n edge.from edge.from_at);
+      within = λ n has. (let edge = ((news.has n).0 has).leads.edge in numbered_at_within events n edge.from edge.from_at);
       rising = news.order;
     }
 

@@ -6,7 +6,7 @@ use Rattle.journal.specs.declared.event.Event.{Event}
 use Rattle.journal.specs.declared.event.Kind.TheVariants.{Load}
 use Rattle.journal.specs.DidEvent.{event}
 use Rattle.journal.specs.Events.{count_of, is_arrive, is_depart}
-use Rattle.journal.proofs.Passes.ClockEntry.{zeros_at}
+use Rattle.journal.proofs.Passes.ClockEntry.{entry_zeros_at}
 use Rattle.journal.specs.InRange.{ProcessorsInRange}
 use Rattle.causes.specs.Edges.{EdgeFromOther, LeadsOn}
 use Rattle.causes.proofs.LeadsOn.{AreEdgesBelow, count_within, counts_next, edges_all, edges_none, edges_next, edges_other, leads, led, one_or_none}
@@ -26,7 +26,7 @@ low events place i lt inside range =
 pub loop-i-init : goal.loop-i-init
 loop-i-init c = record {
   long = refl;
-  counts = λ q lt. zeros_at 16 q;
+  counts = λ q lt. entry_zeros_at 16 q;
   edges =
       subst (AreEdgesBelow c.args.events.now c.args.place 0) (sym c.new-places.ensures.items)
       (edges_none c.args.events.now c.args.place);

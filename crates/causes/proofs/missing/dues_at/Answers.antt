@@ -8,7 +8,7 @@ use Rattle.journal.specs.DidEvent.{event}
 use Rattle.journal.specs.Events.{At, is_taking}
 use Rattle.journal.specs.Times.{IsTimeOf}
 use Rattle.journal.specs.WellFormed.{KindInRange}
-use Rattle.journal.proofs.Order.CountedAndNumbered.{at_same}
+use Rattle.journal.proofs.Order.CountedAndNumbered.{numbered_at_same}
 use Rattle.judge.specs.declared.sizes.Sizes.{Sizes as Given}
 use Rattle.judge.specs.Miscounted.{IsWithin}
 use Rattle.judge.specs.Sizes.{sizes_of}
@@ -44,7 +44,7 @@ fetched-requires-clause-fetch c = λ e at.
       fetch.writers,
       fetch.records,
       fetch.words,
-      sym (ap (λ (x : Event). x.kind) (at_same events k (here events k) e there at)) ∙ fetch.is,
+      sym (ap (λ (x : Event). x.kind) (numbered_at_same events k (here events k) e there at)) ∙ fetch.is,
     ))
 
 pub fetched-requires-clause-page : goal.fetched-requires-clause-page
@@ -100,11 +100,11 @@ taken-requires c =
       within = λ n e at.
           subst (λ (x : Given). IsWithin (sizes_of x) e) (sym c.note-2.ensures.sizes) (c.requires.within n e at);
       takes = λ e at.
-          subst (λ (f : Event). is_taking f.kind ≡ true) (at_same events k (here events k) e there at)
+          subst (λ (f : Event). is_taking f.kind ≡ true) (numbered_at_same events k (here events k) e there at)
           (sym c.takes.ensures ∙ c.if-takes.true);
       before = λ e at.
           subst (λ (f : Event). IsTimeOf (take k events) f.processor (slice_index c.time.result.now))
-          (at_same events k (here events k) e there at) (c.time.ensures (take k events) c.requires.so_far);
+          (numbered_at_same events k (here events k) e there at) (c.time.ensures (take k events) c.requires.so_far);
     }
 
 pub returns-then-takes : goal.returns-then-takes
@@ -132,6 +132,6 @@ returns-else-takes c =
       tells = c.in_ok-note-2.ensures.tells;
       dues = λ e at.
           subst (AreDues s events k e) (sym c.new.ensures.items)
-          (subst (λ (f : Event). AreDues s events k f []) (at_same events k (here events k) e there at)
+          (subst (λ (f : Event). AreDues s events k f []) (numbered_at_same events k (here events k) e there at)
           (quiet_dues s events k (here events k) there (sym c.takes.ensures ∙ c.if-takes.false) c.in_default.not-Fetch));
     }

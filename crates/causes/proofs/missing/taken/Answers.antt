@@ -6,7 +6,7 @@ use Rattle.journal.specs.declared.event.Kind.TheVariants.{Load}
 use Rattle.journal.specs.DidEvent.{event}
 use Rattle.journal.specs.Events.{At}
 use Rattle.journal.specs.InRange.{ProcessorsInRange}
-use Rattle.journal.proofs.Order.CountedAndNumbered.{at_same}
+use Rattle.journal.proofs.Order.CountedAndNumbered.{numbered_at_same}
 use Rattle.judge.specs.Gaps.{TellsGaps}
 use Rattle.judge.specs.Sizes.{sizes_of}
 use Rattle.causes.specs.declared.missing.Due.{Due}
@@ -42,5 +42,5 @@ returns c =
     if_ok c.dues_in.result
     (λ (v : Vec Due). (j : List Event) → TellsGaps j g → MissingBelow s j span (span.end * 16) v.items)
     (λ (v : Vec Due). (e : Event) → At events k e → AreDues s events k e v.items)
-    (λ v are e at. subst (λ (f : Event). AreDues s events k f v.items) (at_same events k here e there at)
+    (λ v are e at. subst (λ (f : Event). AreDues s events k f v.items) (numbered_at_same events k here e there at)
     (dues_all s events h k here span v.items same (are h c.requires.tells))) c.dues_in.ensures

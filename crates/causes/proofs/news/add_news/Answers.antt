@@ -3,7 +3,7 @@ use Rattle.std.specs.Global.{Vec}
 use Rattle.std.proofs.lemmas.Bool.{false≢true}
 use Rattle.std.proofs.lemmas.Option.{slice_get_read, slice_get_within}
 use Rattle.journal.specs.DidEvent.{event}
-use Rattle.journal.proofs.Order.CountedAndNumbered.{at_within}
+use Rattle.journal.proofs.Order.CountedAndNumbered.{numbered_at_within}
 use Rattle.causes.proofs.Fresh.{HasBelow, IsOnceIf, below_all, below_next, below_other, closing_read, number_within, once_push}
 use Rattle.causes.proofs.news.add_news.Goals as goal
 use Rattle.causes.proofs.news.add_news.Goals.{then-leads+in_ok-push, else-leads}
@@ -37,7 +37,7 @@ leads-requires-clause-from c =
     closing_read events c.args.step.now c.args.by c.loop-number.number c.index-place.result.now
     c.args.index.now.closings.items c.index.result.now c.requires.by c.requires.step c.requires.index.closings
     c.index.ensures (omega arith) c.index-place.ensures in
-    at_within events c.index-place.result.now (event c.args.by here.closes.kind) here.closes.does
+    numbered_at_within events c.index-place.result.now (event c.args.by here.closes.kind) here.closes.does
 
 pub loop-number-preserved : goal.loop-number-preserved
 loop-number-preserved c =

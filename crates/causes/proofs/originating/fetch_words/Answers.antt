@@ -7,7 +7,7 @@ use Rattle.journal.specs.declared.event.Event.{Event}
 use Rattle.journal.specs.declared.event.Kind.TheVariants.{Fetch, Store}
 use Rattle.journal.specs.DidEvent.{event}
 use Rattle.journal.specs.Sizes.{Sizes}
-use Rattle.journal.proofs.Order.CountedAndNumbered.{does_same}
+use Rattle.journal.proofs.Order.CountedAndNumbered.{numbered_does_same}
 use Rattle.judge.specs.Tallies.{row_index}
 use Rattle.causes.specs.declared.originating.Applied.{Applied}
 use Rattle.causes.specs.declared.originating.LookedUp.{LookedUp}
@@ -45,7 +45,7 @@ word_next s j x f size offset words r b looked fetch is lt low within last after
     (λ v does.
     (let fetches = fetch.fetches in
     store_no_fetch a v fetches.0 f.page fetches.1 fetches.2
-    (does_same j f.place f.reader f.reader (Store a v) (Fetch fetches.0 f.page fetches.1 fetches.2) does fetches.3).1))
+    (numbered_does_same j f.place f.reader f.reader (Store a v) (Fetch fetches.0 f.page fetches.1 fetches.2) does fetches.3).1))
     (λ q i c brought. looked.processors i (event q (Store a brought.value)) brought.does) (last page) after before in
     let next : a + 1 ≡ f.page * size + (offset + 1) = omega arith in
     subst

@@ -1,6 +1,6 @@
 use Rattle.std.proofs.Common.{◌≡◌, ℕ, inl, inr, [], ◌∷◌, ◌++◌, List, Option, Some, slice_get, subst, sym, arith}
 use Rattle.std.specs.Prelude.{None}
-use Rattle.base.proofs.SlicesAndCounts.{push_cases}
+use Rattle.base.proofs.SlicesAndCounts.{slice_push_cases}
 use Rattle.causes.specs.declared.originating.WordOrigin.{WordOrigin}
 use Rattle.causes.proofs.originating.no_origins.Goals as goal
 
@@ -10,7 +10,7 @@ HaveNone words = (n : ℕ) (o : Option WordOrigin) → slice_get words n ≡ Som
 
 -- a word more
 none_next : (words : List (Option WordOrigin)) → HaveNone words → HaveNone (words ++ None ∷ [])
-none_next words none n o at = elim (push_cases words None n o at) [
+none_next words none n o at = elim (slice_push_cases words None n o at) [
   | inl old ↦ none n o old.1
   | inr new ↦ sym new.1
 ]

@@ -5,8 +5,8 @@ use Rattle.journal.specs.declared.event.Kind.TheVariants.{Load}
 use Rattle.journal.specs.DidEvent.{event}
 use Rattle.journal.specs.Times.{IsTimeOf}
 use Rattle.journal.specs.ClockEntry.{entry}
-use Rattle.journal.proofs.Order.CountedAndNumbered.{at_same}
-use Rattle.journal.proofs.Times.Uses.{ordered_before}
+use Rattle.journal.proofs.Order.CountedAndNumbered.{numbered_at_same}
+use Rattle.journal.proofs.Times.Uses.{time_uses_ordered}
 use Rattle.journal.specs.InRange.{ProcessorsInRange}
 use Rattle.causes.proofs.racing.heard.Goals as goal
 
@@ -36,7 +36,7 @@ of-time-requires c =
     let at = c.requires.second.1 in
     let within = slice_get_within events second e at in
     let same =
-    at_same events second (slice_index_or events second (event 0 (Load 0 0))) e
+    numbered_at_same events second (slice_index_or events second (event 0 (Load 0 0))) e
     (slice_get-get_or events second (event 0 (Load 0 0)) within) at in
     let one = ap (λ (y : Event). y.processor) same in
     let few = c.requires.few_processors in
@@ -58,7 +58,7 @@ last_heard-requires-clause-tells c = λ i a does lt.
     let p = e.processor in
     let within = slice_get_within events second e at in
     let same =
-    at_same events second (slice_index_or events second (event 0 (Load 0 0))) e
+    numbered_at_same events second (slice_index_or events second (event 0 (Load 0 0))) e
     (slice_get-get_or events second (event 0 (Load 0 0)) within) at in
     let items = c.loop-place.clocks.processors.items in
     let few = c.requires.few_processors in
@@ -70,7 +70,7 @@ last_heard-requires-clause-tells c = λ i a does lt.
     subst (λ n. IsTimeOf (take n events) p (entry items p)) is
     (c.loop-place.invariant.clocks.times p (omega arith)) in
     let tells =
-    ordered_before events second p by i a e.kind (entry items p) time does at c.requires.second.2 c.requires.second.3
+    time_uses_ordered events second p by i a e.kind (entry items p) time does at c.requires.second.2 c.requires.second.3
     lt in
     let of = c.of-time.ensures by in
     let one = ap (λ (y : Event). entry items y.processor by) same in

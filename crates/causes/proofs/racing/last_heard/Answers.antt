@@ -7,7 +7,7 @@ use Rattle.journal.specs.DidEvent.{event}
 use Rattle.journal.specs.Events.{is_closing}
 use Rattle.journal.specs.HappensBeforeEdges.{HappensBefore}
 use Rattle.journal.specs.WellFormed.{Does}
-use Rattle.journal.proofs.Order.CountedAndNumbered.{at_same, does_at}
+use Rattle.journal.proofs.Order.CountedAndNumbered.{numbered_at_same, numbered_does_at}
 use Rattle.journal.proofs.Passes.ReachedNextRaces.{count_next}
 use Rattle.causes.proofs.Heard.{IsHeardBelow, heard_all, heard_next, heard_other}
 use Rattle.causes.proofs.racing.last_heard.Goals as goal
@@ -38,7 +38,7 @@ loop-place-preserved c =
         | then-event-by+then-closed-limit w ↦
             (let mine : e.processor ≡ by = w.if-event-by.true in
             let low = w.if-closed-limit.true in
-            let tells = c.requires.tells n e.kind (does_at events n by e at mine) before in
+            let tells = c.requires.tells n e.kind (numbered_does_at events n by e at mine) before in
             subst (IsHeardBelow events by second (n + 1)) (sym w.heard-is)
             (heard_next events by second n e at mine (tells.1 (omega arith))))
         | else-event-by w ↦
@@ -49,7 +49,7 @@ loop-place-preserved c =
                   let low = (c.requires.tells n a does before).0 h in
                   omega arith)
               | else-event-by-via-else-event-by v ↦
-                  v.if-event-by.false (ap (λ (y : Event). y.processor) (at_same events n e (event by a) at does))
+                  v.if-event-by.false (ap (λ (y : Event). y.processor) (numbered_at_same events n e (event by a) at does))
             ] in
             subst (IsHeardBelow events by second (n + 1)) (sym w.heard-is)
             (heard_other events by second n c.loop-place.heard away old.heard))

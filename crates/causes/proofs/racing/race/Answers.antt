@@ -5,7 +5,7 @@ use Rattle.journal.specs.declared.event.Kind.TheVariants.{Load}
 use Rattle.journal.specs.DidEvent.{event}
 use Rattle.journal.specs.Events.{At}
 use Rattle.journal.specs.Races.{IsFirstRace}
-use Rattle.journal.proofs.Order.CountedAndNumbered.{at_same}
+use Rattle.journal.proofs.Order.CountedAndNumbered.{numbered_at_same}
 use Rattle.causes.specs.Heard.{IsHeard}
 use Rattle.causes.proofs.Heard.{are_apart}
 use Rattle.causes.proofs.racing.race.Goals as goal
@@ -64,6 +64,6 @@ returns c =
     record {
       race = race;
       heard = λ e at.
-          let same = at_same events first (here events first) e (there events first parts.within) at in
+          let same = numbered_at_same events first (here events first) e (there events first parts.within) at in
           subst (λ (x : Event). IsHeard events x.processor second c.in_ok-heard.heard) same c.in_ok-heard.ensures;
     }

@@ -5,7 +5,7 @@ use Rattle.journal.specs.declared.event.Kind.TheVariants.{Load}
 use Rattle.journal.specs.DidEvent.{event}
 use Rattle.journal.specs.Events.{At}
 use Rattle.journal.specs.Times.{IsTimeOf}
-use Rattle.journal.proofs.Order.CountedAndNumbered.{at_same}
+use Rattle.journal.proofs.Order.CountedAndNumbered.{numbered_at_same}
 use Rattle.causes.specs.declared.news.Step.{Step}
 use Rattle.causes.specs.declared.takings.Taking.{Taking}
 use Rattle.causes.specs.News.{TimesAround}
@@ -45,7 +45,7 @@ returns c =
     let at = there events x step in
     let low = c.requires.processors x.place e at in
     let long = c.requires.so_far.long in
-    let same = at_same events x.place step.event e step.at at in
+    let same = numbered_at_same events x.place step.event e step.at at in
     let time : IsTimeOf (take (x.place + 1) events) e.processor (slice_index x.after) =
     subst (λ (f : Event). IsTimeOf (take (x.place + 1) events) f.processor (slice_index x.after)) same step.after in
     let taking : Taking = record { place = x.place; after = x.after } in

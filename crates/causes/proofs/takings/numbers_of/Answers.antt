@@ -6,7 +6,7 @@ use Rattle.journal.specs.declared.event.Kind.TheVariants.{Load}
 use Rattle.journal.specs.DidEvent.{event}
 use Rattle.journal.specs.Events.{is_closing}
 use Rattle.journal.specs.InRange.{ProcessorsInRange}
-use Rattle.journal.proofs.Passes.ClockEntry.{zeros_at}
+use Rattle.journal.proofs.Passes.ClockEntry.{entry_zeros_at}
 use Rattle.causes.proofs.LeadsOn.{count_within, counts_next, one_or_none}
 use Rattle.causes.proofs.Takes.{numbers_next}
 use Rattle.causes.proofs.takings.numbers_of.Goals as goal
@@ -23,7 +23,7 @@ low events place lt range = range place (here events place) (slice_get-get_or ev
 pub loop-place-init : goal.loop-place-init
 loop-place-init c = record {
   closed_long = refl;
-  closed = λ q lt. zeros_at 16 q;
+  closed = λ q lt. entry_zeros_at 16 q;
   long = c.in_ok-numbers.ensures.len;
   numbers = λ k e lt at. absurd (omega arith);
 }

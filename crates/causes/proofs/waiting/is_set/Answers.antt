@@ -5,7 +5,7 @@ use Rattle.journal.specs.declared.event.Event.{Event}
 use Rattle.journal.specs.declared.event.Kind.TheVariants.{Load, Set}
 use Rattle.journal.specs.DidEvent.{event}
 use Rattle.journal.specs.Events.{At}
-use Rattle.journal.proofs.Order.CountedAndNumbered.{at_same}
+use Rattle.journal.proofs.Order.CountedAndNumbered.{numbered_at_same}
 use Rattle.causes.proofs.waiting.is_set.Goals as goal
 
 -- the event at this place
@@ -28,7 +28,7 @@ loop-place-preserved c = λ k q lt does. elim (cases_eq k c.loop-place.place) [
       let place = c.loop-place.place in
       let f : Event = event q (Set c.args.flag) in
       let there = slice_get-get_or events place (event 0 (Load 0 0)) c.loop-place-test.true in
-      let same = at_same events place (here events place) f there (subst (λ n. At events n f) is does) in
+      let same = numbered_at_same events place (here events place) f there (subst (λ n. At events n f) is does) in
       false≢true (sym c.if-sets.false ∙ c.sets.ensures.1 (ap (λ (x : Event). x.kind) same)))
   | inr isnt ↦ c.loop-place.invariant k q (omega arith) does
 ]

@@ -1,5 +1,5 @@
 use Rattle.std.proofs.Common.{◌≡◌, List, slice_get, Some, inl, inr, subst, arith}
-use Rattle.base.proofs.SlicesAndCounts.{push_cases}
+use Rattle.base.proofs.SlicesAndCounts.{slice_push_cases}
 use Rattle.cluster.specs.declared.processor.Parts.{Parts}
 use Rattle.cluster.specs.Clusters.{AreClusterParts}
 use Rattle.cluster.proofs.cluster.parts_of.Goals as goal
@@ -8,7 +8,7 @@ pub loop-preserved : goal.loop-preserved
 loop-preserved c = record {
   long = let more = c.in_ok-push.ensures.len in let was = c.loop.invariant.long in omega arith;
   each =
-      λ p x at. elim (push_cases c.loop.all.items c.in_ok-new.field-0 p x
+      λ p x at. elim (slice_push_cases c.loop.all.items c.in_ok-new.field-0 p x
       (subst (λ (xs : List Parts). slice_get xs p ≡ Some x) c.in_ok-push.ensures.items at)) [
         | inl h ↦ c.loop.invariant.each p x h.1
         | inr h ↦ subst (AreClusterParts c.args.shape) h.1 c.in_ok-new.ensures

@@ -8,7 +8,7 @@ use Rattle.journal.specs.Events.{At}
 use Rattle.journal.specs.HappensBeforeEdges.{HappensBefore}
 use Rattle.journal.specs.HappensBeforeEdges.HappensBefore.{edge, on}
 use Rattle.journal.specs.Races.{Race, RaceFree}
-use Rattle.journal.proofs.Order.CountedAndNumbered.{at_within}
+use Rattle.journal.proofs.Order.CountedAndNumbered.{numbered_at_within}
 use Rattle.journal.proofs.Order.HappensBefore.{before_goes_forward, before_ends_within, before_transitive, before_longer}
 use Rattle.base.proofs.SlicesAndCounts.{slice_get-take}
 use Rattle.lrc_script.specs.Plan.{Plan}
@@ -57,7 +57,7 @@ pub record RacesLast (s : Plan) (g : List Event) (i last : ℕ) : Type 0 where
 -- so no race ends before
 no_race_before : (s : Plan) (g : List Event) (i last m n : ℕ) → RacesLast s g i last → n < last → ¬ Race g m n
 no_race_before s g i last m n r lt race =
-    let within = at_within g n race.second race.second_at in
+    let within = numbered_at_within g n race.second race.second_at in
     let long = length-take-le (suc n) g (omega arith) in
     r.shorter (take (suc n) g) (omega arith) (begins_take s g (suc n) r.begins) m n (race_take g m n race)
 
@@ -97,7 +97,7 @@ nearest s a b x i last r before reached none =
 
     unraced : (m : ℕ) → ¬ Race (a ++ x ∷ b) (length a) m
     unraced m race =
-        let within = at_within (a ++ x ∷ b) m race.second race.second_at in
+        let within = numbered_at_within (a ++ x ∷ b) m race.second race.second_at in
         let long = r.long in
         elim (cases_order m last) [
           | inl is ↦ r.later (length a) forward (subst (Race (a ++ x ∷ b) (length a)) is race)

@@ -6,12 +6,12 @@ use Rattle.journal.specs.Events.{At}
 use Rattle.journal.specs.FlatMemory.{memory_after}
 use Rattle.journal.specs.HappensBeforeEdges.{HappensBefore}
 use Rattle.journal.specs.Races.{Conflict, Race, RaceFree}
-use Rattle.journal.proofs.Order.CountedAndNumbered.{at_within, at_same, at_last, at_behind}
+use Rattle.journal.proofs.Order.CountedAndNumbered.{numbered_at_within, numbered_at_same, numbered_at_last, numbered_at_behind}
 use Rattle.journal.proofs.Order.HappensBefore.{before_longer}
-use Rattle.base.proofs.SlicesAndCounts.{push_induction}
+use Rattle.base.proofs.SlicesAndCounts.{slice_push_induction}
 use Rattle.lrc_script.specs.Plan.{Plan}
 use Rattle.lrc_script.specs.Lawful.{plan_addresses}
-use Rattle.conformance.specs.Follows.{plan_sizes}
+use Rattle.conformance.specs.Follows.{followed_plan_sizes}
 use Rattle.explore.specs.Prefixes.Beginnings.{IsFlatBeginning}
 use Rattle.explore.specs.Prefixes.Laws.{MayComeNext, HasNoNeighbours, NeighboursLaw}
 use Rattle.explore.proofs.prefixes.Beginnings.{next_begins}
@@ -55,19 +55,19 @@ module _ (s : Plan) (a b : List Event) (x e : Event) (last : ℕ)
   memory = memory_after (replicate (plan_addresses s) 0) (a ++ b)
 
   first_is : r.race.first ≡ x
-  first_is = at_same (a ++ x ∷ (b ++ e ∷ [])) (length a) r.race.first x r.race.first_at (item_out a (b ++ e ∷ []) x)
+  first_is = numbered_at_same (a ++ x ∷ (b ++ e ∷ [])) (length a) r.race.first x r.race.first_at (item_out a (b ++ e ∷ []) x)
 
   second_is : r.race.second ≡ e
   second_is =
       let sum = length-append a (x ∷ b) in
-      at_same (a ++ x ∷ (b ++ e ∷ [])) last r.race.second e r.race.second_at
+      numbered_at_same (a ++ x ∷ (b ++ e ∷ [])) last r.race.second e r.race.second_at
       (subst (λ n. At (a ++ x ∷ (b ++ e ∷ [])) n e) (sym sum ∙ short)
-      (at_behind a (x ∷ (b ++ e ∷ [])) (suc (length b)) e (at_last b e)))
+      (numbered_at_behind a (x ∷ (b ++ e ∷ [])) (suc (length b)) e (numbered_at_last b e)))
 
   conflict : Conflict x e
   conflict = subst (λ y. Conflict y e) first_is (subst (Conflict r.race.first) second_is r.race.conflict)
 
-  unneeded_now : IsUnneeded (plan_sizes s) a b x e
+  unneeded_now : IsUnneeded (followed_plan_sizes s) a b x e
   unneeded_now = unneeded s a b x e nothing (follows_front s a (b ++ e ∷ []) x r.begins).may_follow
 
   first_next : MayComeNext s (a ++ b) x.processor (replied memory x.kind)
@@ -78,7 +78,7 @@ module _ (s : Plan) (a b : List Event) (x e : Event) (last : ℕ)
   second_next : MayComeNext s (a ++ b) e.processor (replied memory e.kind)
   second_next =
       next_replied s (a ++ x ∷ b) (a ++ b) e.processor e.kind
-      (follows_left (plan_sizes s) a b x e unneeded_now both.1.may_follow)
+      (follows_left (followed_plan_sizes s) a b x e unneeded_now both.1.may_follow)
       (calls_left a b x e.processor unneeded_now.apart) both.1
 
   neighbours_now : ¬ HasNoNeighbours s
@@ -93,7 +93,7 @@ module _ (s : Plan) (a b : List Event) (x e : Event) (last : ℕ)
 last_race : (s : Plan) (a b : List Event) (x : Event) (last : ℕ) → HasNoNeighbours s
     → ¬ RacesLast s (a ++ x ∷ b) (length a) last
 last_race s a b x last none =
-    push_induction (λ es. ¬ RacesLast s (a ++ x ∷ es) (length a) last)
+    slice_push_induction (λ es. ¬ RacesLast s (a ++ x ∷ es) (length a) last)
     (λ r. (let long = r.long in
     let sum = length-append a (x ∷ []) in
     let less = r.race.before in
@@ -118,9 +118,9 @@ last_free s g last none begins long shorter (suc d) i le race =
 -- so none up to a length does
 free_up_to : (s : Plan) → HasNoNeighbours s → (n : ℕ) (g : List Event) → length g ≤ n → IsFlatBeginning s g → RaceFree g
 free_up_to s none zero g le h i k race =
-    let within = at_within g k race.second race.second_at in absurd (omega arith)
+    let within = numbered_at_within g k race.second race.second_at in absurd (omega arith)
 free_up_to s none (suc n) g le h i k race =
-    let within = at_within g k race.second race.second_at in
+    let within = numbered_at_within g k race.second race.second_at in
     last_free s (take (suc k) g) k none (begins_take s g (suc k) h) (length-take-le (suc k) g (omega arith))
     (λ f short begins. free_up_to s none n f (omega arith) begins) k i (omega arith) (race_take g i k race)
 

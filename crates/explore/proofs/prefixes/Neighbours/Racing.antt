@@ -11,9 +11,9 @@ use Rattle.journal.specs.HappensBeforeEdges.{LetsThrough, Link, Edge, HappensBef
 use Rattle.journal.specs.HappensBeforeEdges.Link.{same, lets, meets}
 use Rattle.journal.specs.HappensBeforeEdges.HappensBefore.{edge, on}
 use Rattle.journal.specs.Races.{Conflict}
-use Rattle.journal.proofs.Order.CountedAndNumbered.{at_same, at_last, at_longer}
+use Rattle.journal.proofs.Order.CountedAndNumbered.{numbered_at_same, numbered_at_last, numbered_at_longer}
 use Rattle.journal.proofs.Order.HappensBefore.{before_goes_forward}
-use Rattle.base.proofs.SlicesAndCounts.{push_cases}
+use Rattle.base.proofs.SlicesAndCounts.{slice_push_cases}
 use Rattle.lrc_script.specs.Lawful.{plan_addresses}
 use Rattle.explore.specs.Prefixes.Laws.{MayComeNext, RacingLaw}
 use Rattle.explore.proofs.prefixes.Beginnings.{next_begins}
@@ -36,8 +36,8 @@ no_edge : (j : List Event) (i k : ℕ) (e f : Event) (w : ℕ) → At j i e → 
     → e.processor ≢ f.processor → ¬ Edge j i k
 no_edge j i k e f w here there at apart d =
     no_link j i k e f w at apart
-    (subst (λ x. Link j i k x f) (at_same j i d.from e d.from_at here)
-    (subst (λ y. Link j i k d.from y) (at_same j k d.to f d.to_at there) d.link))
+    (subst (λ x. Link j i k x f) (numbered_at_same j i d.from e d.from_at here)
+    (subst (λ y. Link j i k d.from y) (numbered_at_same j k d.to f d.to_at there) d.link))
 
 -- one event happens before the next by an edge alone
 no_order : (j : List Event) (i : ℕ) → ¬ Edge j i (i + 1) → ¬ HappensBefore j i (i + 1)
@@ -73,7 +73,7 @@ racing s g p q a b first second apart conflict = record {
     kind = replied memory b
 
     others : (m : ℕ) (f : Event) → At (event p a ∷ []) m f → f.processor ≢ q
-    others m f at is = elim (push_cases [] (event p a) m f at) [
+    others m f at is = elim (slice_push_cases [] (event p a) m f at) [
       | inl old ↦ absurd (none-some f old.1)
       | inr new ↦ apart (ap (λ (e : Event). e.processor) new.1 ∙ is)
     ]
@@ -82,11 +82,11 @@ racing s g p q a b first second apart conflict = record {
     next = access_over s g (event p a ∷ []) q b conflict.address conflict.second others ((next_begins s g q b).0 second).1
 
     here : At (did (did g p a) q kind) (length g) (event p a)
-    here = at_longer (did g p a) (event q kind ∷ []) (length g) (event p a) (at_last g (event p a))
+    here = numbered_at_longer (did g p a) (event q kind ∷ []) (length g) (event p a) (numbered_at_last g (event p a))
 
     there : At (did (did g p a) q kind) (length g + 1) (event q kind)
     there = subst (λ n. At (did (did g p a) q kind) n (event q kind)) (length-append g (event p a ∷ []))
-        (at_last (did g p a) (event q kind))
+        (numbered_at_last (did g p a) (event q kind))
 
     conflicts : Conflict (event p a) (event q kind)
     conflicts = conflict_second (event p a) q memory b conflict

@@ -8,14 +8,14 @@ use Rattle.journal.specs.declared.event.Kind.TheVariants.{Load, Store, Ask, Arri
 use Rattle.journal.specs.DidEvent.{event}
 use Rattle.journal.specs.Sizes.{Sizes}
 use Rattle.journal.specs.Events.{At, address_of, is_store}
-use Rattle.journal.specs.FlatMemory.{flat_write, memory_after, AnswersWord}
+use Rattle.journal.specs.FlatMemory.{flat_write, memory_after, AnswersFlatWord}
 use Rattle.journal.specs.Races.{Conflict}
 use Rattle.journal.specs.WellFormed.{AnswersCall, Allowed, MayFollow}
 use Rattle.journal.proofs.Journals.WellFormedLast.{last_shorter}
 use Rattle.lrc_script.specs.Plan.{Plan}
 use Rattle.lrc_script.specs.Lawful.{plan_addresses}
-use Rattle.conformance.specs.Follows.{plan_sizes, calls_of, is_fetch}
-use Rattle.conformance.proofs.Calls.{calls_of-append, calls_of_first-other}
+use Rattle.conformance.specs.Follows.{followed_plan_sizes, followed_calls, is_followed_fetch}
+use Rattle.conformance.proofs.Calls.{followed_calls-append, calls_of_first-other}
 use Rattle.explore.specs.declared.prefixes.script_call.ScriptCall.{ScriptCall}
 use Rattle.explore.specs.declared.prefixes.script_call.ScriptCall.TheVariants.{Call, Adds}
 use Rattle.explore.specs.Prefixes.Calling.{replyless, last_reply, IsStep, IsCalledNext, section_steps, shown_by}
@@ -39,7 +39,7 @@ replied_store : (memory : List ℕ) (k : Kind) → is_store (replied memory k) �
 replied_store memory (Load w v) = refl
 replied_store memory _ = refl
 
-replied_fetch : (memory : List ℕ) (k : Kind) → is_fetch (replied memory k) ≡ is_fetch k
+replied_fetch : (memory : List ℕ) (k : Kind) → is_followed_fetch (replied memory k) ≡ is_followed_fetch k
 replied_fetch memory (Load w v) = refl
 replied_fetch memory _ = refl
 
@@ -87,10 +87,10 @@ step_replied reply (Call c) k memory is = replied_replyless memory k ∙ is
 step_replied reply (Adds a v) k memory is = ap (replied memory) is
 
 -- after events that leave q's calls, its next call is the same but for the reply
-pub next_replied : (s : Plan) (g h : List Event) (q : ℕ) (k : Kind) → MayFollow (plan_sizes s) h (event q k)
-    → calls_of g q ≡ calls_of h q → MayComeNext s g q k → MayComeNext s h q (replied (memory_after (replicate (plan_addresses s) 0) h) k)
+pub next_replied : (s : Plan) (g h : List Event) (q : ℕ) (k : Kind) → MayFollow (followed_plan_sizes s) h (event q k)
+    → followed_calls g q ≡ followed_calls h q → MayComeNext s g q k → MayComeNext s h q (replied (memory_after (replicate (plan_addresses s) 0) h) k)
 next_replied s g h q k may same next = record {
-  may_follow = follows_replied (plan_sizes s) h q k memory may;
+  may_follow = follows_replied (followed_plan_sizes s) h q k memory may;
   calls = record {
     call = replied_fetch memory k ∙ next.calls.call;
     next = λ section at. (let is = next.calls.next section at in
@@ -98,7 +98,7 @@ next_replied s g h q k may same next = record {
         (record {
           step = is.step;
           at = is.at;
-          is = step_replied (last_reply (calls_of g q)) is.step k memory is.is;
+          is = step_replied (last_reply (followed_calls g q)) is.step k memory is.is;
         }));
   };
   answers = answers k next.answers;
@@ -107,8 +107,8 @@ next_replied s g h q k may same next = record {
     memory : List ℕ
     memory = memory_after (replicate (plan_addresses s) 0) h
 
-    answers : (k : Kind) → AnswersWord (memory_after (replicate (plan_addresses s) 0) g) k
-        → AnswersWord memory (replied memory k)
+    answers : (k : Kind) → AnswersFlatWord (memory_after (replicate (plan_addresses s) 0) g) k
+        → AnswersFlatWord memory (replied memory k)
     answers (Load w v) word =
         let f : Event → Option (ℕ × ℕ) = λ e. flat_write e.kind in
         let within = slice_get_within (memory_after (replicate (plan_addresses s) 0) g) w v word in
@@ -118,7 +118,7 @@ next_replied s g h q k may same next = record {
     answers _ word = word
 
 -- events that are none of r's make no calls of r
-calls_away : (es : List Event) (r : ℕ) → ((m : ℕ) (f : Event) → At es m f → f.processor ≢ r) → calls_of es r ≡ []
+calls_away : (es : List Event) (r : ℕ) → ((m : ℕ) (f : Event) → At es m f → f.processor ≢ r) → followed_calls es r ≡ []
 calls_away [] r away = refl
 calls_away (e ∷ es) r away =
     calls_of_first-other e.processor r e.kind es (away 0 e refl) ∙ calls_away es r (λ m. away (suc m))
@@ -139,7 +139,7 @@ access_over s g es q k w at away next =
       processor = next.may_follow.processor;
       in_range = next.may_follow.in_range;
       answers = λ i c last. next.may_follow.answers i c (last_shorter g es q i c away last);
-      allowed = access_allowed (plan_sizes s) (g ++ es) q k w at;
+      allowed = access_allowed (followed_plan_sizes s) (g ++ es) q k w at;
     })
-    (sym (append-nil (calls_of g q)) ∙ ap (λ ks. calls_of g q ++ ks) (sym (calls_away es q away))
-    ∙ sym (calls_of-append g es q)) next
+    (sym (append-nil (followed_calls g q)) ∙ ap (λ ks. followed_calls g q ++ ks) (sym (calls_away es q away))
+    ∙ sym (followed_calls-append g es q)) next

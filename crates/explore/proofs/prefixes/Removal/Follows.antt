@@ -10,7 +10,7 @@ use Rattle.journal.specs.Events.{At, count_of, is_arrive, is_depart}
 use Rattle.journal.specs.HappensBeforeEdges.{LetsThrough}
 use Rattle.journal.specs.WellFormed.{LastIs, Holds, Allowed, MayFollow}
 use Rattle.journal.proofs.Order.CountedAndNumbered.{count_of-append}
-use Rattle.journal.proofs.Times.Times.{count_of-one}
+use Rattle.journal.proofs.Times.Times.{count_of-one_time}
 use Rattle.journal.proofs.Journals.WellFormedLast.{last_shorter}
 use Rattle.explore.proofs.prefixes.Removal.Places.{lift, lift_less, left_cases}
 use Rattle.explore.proofs.prefixes.Removal.Stays.{last_lift, last_lower, holds_lift, holds_lower, holds_taken, count_left, count_away}
@@ -71,7 +71,7 @@ module _ (s : Sizes) (a b : List Event) (x e : Event) (u : IsUnneeded s a b x e)
           let behind = count_of-append is_arrive (x ∷ []) b x.processor in
           let left = count_of-append is_arrive a b x.processor in
           let none = count_away is_arrive b x.processor u.away in
-          elim (count_of-one is_arrive x x.processor) [
+          elim (count_of-one_time is_arrive x x.processor) [
             | inl zero_more ↦ omega (arith, others)
             | inr one ↦
                 (let isnt = u.meets (arrival x.kind one.1) departs in

@@ -6,14 +6,14 @@ use Rattle.journal.specs.HappensBeforeEdges.{Link, Edge, HappensBefore}
 use Rattle.journal.specs.HappensBeforeEdges.Link.{same, lets, meets}
 use Rattle.journal.specs.HappensBeforeEdges.HappensBefore.{edge, on}
 use Rattle.journal.specs.Races.{Race}
-use Rattle.base.proofs.SlicesAndCounts.{append_cases}
+use Rattle.base.proofs.SlicesAndCounts.{slice_append_cases}
 use Rattle.explore.proofs.prefixes.Removal.Places.{lift, lift_less, less_lift, item_lift}
 use Rattle.explore.proofs.prefixes.Removal.Stays.{count_lift}
 
 module _ (a b : List Event) (x : Event) (away : (m : ℕ) (f : Event) → At b m f → f.processor ≢ x.processor) where
   -- an event of what is left stands before the one left out, or is another's
   before_or_other : (i : ℕ) (e : Event) → At (a ++ b) i e → (i < length a) ⊎ (x.processor ≢ e.processor)
-  before_or_other i e at = elim (append_cases a b i e at) [
+  before_or_other i e at = elim (slice_append_cases a b i e at) [
     | inl old ↦ inl old.0
     | inr new ↦ inr (λ is. away new.0 e new.2 (sym is))
   ]

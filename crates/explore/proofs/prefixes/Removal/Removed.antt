@@ -8,13 +8,13 @@ use Rattle.journal.specs.HappensBeforeEdges.Link.{same, lets, meets}
 use Rattle.journal.specs.HappensBeforeEdges.HappensBefore.{edge}
 use Rattle.journal.specs.Races.{Conflict, Race}
 use Rattle.journal.specs.WellFormed.{MayFollow}
-use Rattle.journal.proofs.Order.CountedAndNumbered.{at_behind, at_last, at_longer}
+use Rattle.journal.proofs.Order.CountedAndNumbered.{numbered_at_behind, numbered_at_last, numbered_at_longer}
 use Rattle.journal.proofs.Order.HappensBefore.{before_longer}
-use Rattle.base.proofs.SlicesAndCounts.{push_induction}
+use Rattle.base.proofs.SlicesAndCounts.{slice_push_induction}
 use Rattle.lrc_script.specs.Plan.{Plan}
 use Rattle.lrc_script.specs.Lawful.{plan_addresses}
-use Rattle.conformance.specs.Follows.{plan_sizes, calls_of}
-use Rattle.conformance.proofs.Calls.{calls_of-append, calls_of_first-other}
+use Rattle.conformance.specs.Follows.{followed_plan_sizes, followed_calls}
+use Rattle.conformance.proofs.Calls.{followed_calls-append, calls_of_first-other}
 use Rattle.explore.specs.Prefixes.Beginnings.{IsFlatBeginning}
 use Rattle.explore.specs.Prefixes.Calling.{IsCalledNext, section_steps, shown_by}
 use Rattle.explore.specs.Prefixes.Laws.{MayComeNext}
@@ -38,7 +38,7 @@ module _ (a b : List Event) (x : Event) (unreached : (m : ℕ) → ¬ HappensBef
         from = x;
         to = f;
         from_at = item_out a b x;
-        to_at = at_behind a (x ∷ b) (suc m) f at;
+        to_at = numbered_at_behind a (x ∷ b) (suc m) f at;
         link = link;
       }))
 
@@ -55,7 +55,7 @@ module _ (a b : List Event) (x : Event) (unreached : (m : ℕ) → ¬ HappensBef
       first = x;
       second = f;
       first_at = item_out a b x;
-      second_at = at_behind a (x ∷ b) (suc m) f at;
+      second_at = numbered_at_behind a (x ∷ b) (suc m) f at;
       apart = λ is. no_link m f at (same is);
       conflict = conflict;
       unordered = unreached (length a + suc m);
@@ -64,11 +64,11 @@ module _ (a b : List Event) (x : Event) (unreached : (m : ℕ) → ¬ HappensBef
 
 -- the last event behind it doesn't need it
 pub unneeded : (s : Plan) (a b : List Event) (x e : Event)
-    → ((m : ℕ) → ¬ HappensBefore (a ++ x ∷ (b ++ e ∷ [])) (length a) m) → MayFollow (plan_sizes s) a x
-    → IsUnneeded (plan_sizes s) a b x e
+    → ((m : ℕ) → ¬ HappensBefore (a ++ x ∷ (b ++ e ∷ [])) (length a) m) → MayFollow (followed_plan_sizes s) a x
+    → IsUnneeded (followed_plan_sizes s) a b x e
 unneeded s a b x e unreached may = record {
   follows = may;
-  away = λ m f at. others_behind a (b ++ e ∷ []) x unreached m f (at_longer b (e ∷ []) m f at);
+  away = λ m f at. others_behind a (b ++ e ∷ []) x unreached m f (numbered_at_longer b (e ∷ []) m f at);
   apart = λ is. none (same is);
   lets = λ l. none (lets l);
   meets = λ arrives departs is. none (meets (record { arrives = arrives; departs = departs; episode = counts is }));
@@ -78,7 +78,7 @@ unneeded s a b x e unreached may = record {
     whole = a ++ x ∷ (b ++ e ∷ [])
 
     none : ¬ Link whole (length a) (length a + suc (length b)) x e
-    none = no_link a (b ++ e ∷ []) x unreached (length b) e (at_last b e)
+    none = no_link a (b ++ e ∷ []) x unreached (length b) e (numbered_at_last b e)
 
     front : take (length a + suc (length b)) whole ≡ a ++ x ∷ b
     front =
@@ -93,16 +93,16 @@ unneeded s a b x e unreached may = record {
         ∙ ap (λ (es : List Event). count_of is_depart es e.processor) (sym front)
 
 -- others' calls are the same without it
-pub calls_left : (a b : List Event) (x : Event) (r : ℕ) → x.processor ≢ r → calls_of (a ++ x ∷ b) r ≡ calls_of (a ++ b) r
+pub calls_left : (a b : List Event) (x : Event) (r : ℕ) → x.processor ≢ r → followed_calls (a ++ x ∷ b) r ≡ followed_calls (a ++ b) r
 calls_left a b x r apart =
-    calls_of-append a (x ∷ b) r ∙ ap (λ ks. calls_of a r ++ ks) (calls_of_first-other x.processor r x.kind b apart)
-    ∙ sym (calls_of-append a b r)
+    followed_calls-append a (x ∷ b) r ∙ ap (λ ks. followed_calls a r ++ ks) (calls_of_first-other x.processor r x.kind b apart)
+    ∙ sym (followed_calls-append a b r)
 
 -- so what comes next may do so without it
-next_left : (s : Plan) (a b : List Event) (x e : Event) → IsUnneeded (plan_sizes s) a b x e → ¬ Conflict x e
+next_left : (s : Plan) (a b : List Event) (x e : Event) → IsUnneeded (followed_plan_sizes s) a b x e → ¬ Conflict x e
     → MayComeNext s (a ++ x ∷ b) e.processor e.kind → MayComeNext s (a ++ b) e.processor e.kind
 next_left s a b x e u apart next = record {
-  may_follow = follows_left (plan_sizes s) a b x e u next.may_follow;
+  may_follow = follows_left (followed_plan_sizes s) a b x e u next.may_follow;
   calls = record {
     call = next.calls.call;
     next = λ section at. subst
@@ -124,14 +124,14 @@ removable_front : (a b : List Event) (x e : Event) → IsRemovable a (b ++ e ∷
 removable_front a b x e r = record {
   unreached = λ m h. r.unreached m (subst (λ es. HappensBefore es (length a) m) (append_assoc a (x ∷ b) (e ∷ []))
       (before_longer (a ++ x ∷ b) (e ∷ []) h));
-  unopposed = λ m f at. r.unopposed m f (at_longer b (e ∷ []) m f at);
+  unopposed = λ m f at. r.unopposed m f (numbered_at_longer b (e ∷ []) m f at);
 }
 
 -- a beginning stays one without it
 pub removed : (s : Plan) (a b : List Event) (x : Event) → IsRemovable a b x → IsFlatBeginning s (a ++ x ∷ b)
     → IsFlatBeginning s (a ++ b)
 removed s a b x =
-    push_induction (λ es. IsRemovable a es x → IsFlatBeginning s (a ++ x ∷ es) → IsFlatBeginning s (a ++ es))
+    slice_push_induction (λ es. IsRemovable a es x → IsFlatBeginning s (a ++ x ∷ es) → IsFlatBeginning s (a ++ es))
     (λ r h. subst (IsFlatBeginning s) (sym (append-nil a)) (front_begins s a (x ∷ []) h)) step b
   where
     step : (es : List Event) (e : Event)
@@ -145,4 +145,4 @@ removed s a b x =
         let u = unneeded s a es x e r.unreached (follows_front s a (es ++ e ∷ []) x h).may_follow in
         subst (IsFlatBeginning s) (append_assoc a es (e ∷ []))
         ((next_begins s (a ++ es) e.processor e.kind).1
-        (ih (removable_front a es x e r) both.0, next_left s a es x e u (r.unopposed (length es) e (at_last es e)) both.1))
+        (ih (removable_front a es x e r) both.0, next_left s a es x e u (r.unopposed (length es) e (numbered_at_last es e)) both.1))

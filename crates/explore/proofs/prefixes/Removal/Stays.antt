@@ -8,9 +8,9 @@ use Rattle.journal.specs.DidEvent.{event}
 use Rattle.journal.specs.Events.{At, count_of}
 use Rattle.journal.specs.WellFormed.{LastIs, Holds}
 use Rattle.journal.proofs.Order.CountedAndNumbered.{count_of-append}
-use Rattle.journal.proofs.Times.Times.{count_of-one}
+use Rattle.journal.proofs.Times.Times.{count_of-one_time}
 use Rattle.journal.proofs.Journals.HoldsOfOthers.{holds_others}
-use Rattle.journal.proofs.Journals.WellFormedLast.{holds_now}
+use Rattle.journal.proofs.Journals.WellFormedLast.{well_formed_holds_now}
 use Rattle.explore.proofs.prefixes.Removal.Places.{lift, lift_before, lift_less, less_lift, item_lift, LeftAt, left_cases}
 
 -- the last event of r, at place m of the whole, is left
@@ -80,7 +80,7 @@ module _ (a b : List Event) (x : Event) where
       → Holds (a ++ x ∷ b) x.processor l
   holds_taken l takes away =
       let now : Holds (a ++ x ∷ []) x.processor l =
-      subst (λ k. Holds (a ++ event x.processor k ∷ []) x.processor l) (sym takes) (holds_now a x.processor l) in
+      subst (λ k. Holds (a ++ event x.processor k ∷ []) x.processor l) (sym takes) (well_formed_holds_now a x.processor l) in
       rw append_assoc at ((holds_others (a ++ x ∷ []) b x.processor l away).1 now)
 
 -- an event adds to no count of others' events
@@ -88,7 +88,7 @@ count_without : (is : Kind → Bool) (x : Event) (es : List Event) (r : ℕ) →
     → count_of is (x ∷ es) r ≡ count_of is es r
 count_without is x es r apart =
     let sum = count_of-append is (x ∷ []) es r in
-    elim (count_of-one is x r) [ inl none ↦ omega arith | inr one ↦ absurd (apart one.0) ]
+    elim (count_of-one_time is x r) [ inl none ↦ omega arith | inr one ↦ absurd (apart one.0) ]
 
 -- so these stay
 pub count_left : (is : Kind → Bool) (a b : List Event) (x : Event) (r : ℕ) → x.processor ≢ r

@@ -11,7 +11,7 @@ use Rattle.journal.specs.declared.event.Kind.TheVariants.{Load}
 use Rattle.journal.specs.DidEvent.{event}
 use Rattle.journal.specs.Events.{address_of, is_store}
 use Rattle.journal.specs.Races.{Conflict}
-use Rattle.journal.specs.FlatMemory.{flat_write, memory_after, AnswersWord}
+use Rattle.journal.specs.FlatMemory.{flat_write, memory_after, AnswersFlatWord}
 use Rattle.journal.proofs.Flat.StoresUnordered.{flat_store}
 
 -- words that agree at a place still do after the same write
@@ -57,7 +57,7 @@ written_left f m xs ys x o lt h =
 
 -- a load that doesn't conflict with the event answers the same without it
 pub answers_left : (memory : List ℕ) (a b : List Event) (x : Event) (q : ℕ) (k : Kind) → ¬ Conflict x (event q k)
-    → AnswersWord (memory_after memory (a ++ x ∷ b)) k → AnswersWord (memory_after memory (a ++ b)) k
+    → AnswersFlatWord (memory_after memory (a ++ x ∷ b)) k → AnswersFlatWord (memory_after memory (a ++ b)) k
 answers_left memory a b x q (Load w v) apart h =
     let f : Event → Option (ℕ × ℕ) = λ e. flat_write e.kind in
     let long = length-written f memory (a ++ x ∷ b) in

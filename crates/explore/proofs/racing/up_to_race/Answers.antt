@@ -3,7 +3,7 @@ use Rattle.journal.specs.declared.event.Event.{Event}
 use Rattle.journal.specs.Races.{IsFirstRace, RaceFree}
 use Rattle.explore.specs.Prefixes.Beginnings.{IsFlatBeginning}
 use Rattle.causes.specs.Prelude.{IsFirstRaceTold}
-use Rattle.journal.proofs.Order.CountedAndNumbered.{at_within}
+use Rattle.journal.proofs.Order.CountedAndNumbered.{numbered_at_within}
 use Rattle.lrc_script.specs.Plan.{plan_of}
 use Rattle.explore.proofs.Lengths.{history_few}
 use Rattle.explore.proofs.FirstRaces.{first_of_front, front_is_beginning, is_there, length_front, told}
@@ -29,7 +29,7 @@ overflow_add-found c =
     let same = ap (λ (es : List Event). length es) c.deref.ensures.value in
     let first = told c.in_ok-race.field-0 c.unwrap-found.result (RaceFree c.deref.result.now)
     (IsFirstRaceTold c.deref.result.now) c.unwrap-found.ensures c.in_ok-race.ensures in
-    let lt = at_within c.deref.result.now c.unwrap-found.result.second first.race.race.second first.race.race.second_at in
+    let lt = numbered_at_within c.deref.result.now c.unwrap-found.result.second first.race.race.second first.race.race.second_at in
     omega arith
 
 pub returns : goal.returns
@@ -40,7 +40,7 @@ returns c =
     let first = told c.in_ok-race.field-0 c.unwrap-found.result (RaceFree c.deref.result.now)
     (IsFirstRaceTold c.deref.result.now) c.unwrap-found.ensures c.in_ok-race.ensures in
     let mine = subst (λ xs. IsFirstRace xs c.unwrap-found.result.first k) c.deref.ensures.value first.race in
-    let lt = at_within es k mine.race.second mine.race.second_at in
+    let lt = numbered_at_within es k mine.race.second mine.race.second_at in
     let items = c.truncate.ensures.items in
     record {
       beginning = subst (IsFlatBeginning s) (sym items) (front_is_beginning s es (k + 1) c.requires.racing.beginning);

@@ -13,8 +13,8 @@ use Rattle.journal.specs.ClockEntry.{entry}
 use Rattle.journal.specs.Clocks.{AreClocks}
 use Rattle.journal.specs.AccessEntry.{AreAccessEntries}
 use Rattle.journal.proofs.Times.Times.{time_equal}
-use Rattle.journal.proofs.Passes.NextClocks.{time_small, front_next, clocks_plain}
-use Rattle.journal.proofs.Passes.ReachedNextRaces.{access_plain, no_access, no_race_other, next_other, NotesAccess, accesses_next, ordered_here}
+use Rattle.journal.proofs.Passes.NextClocks.{next_clock_time_small, front_next, clocks_plain}
+use Rattle.journal.proofs.Passes.ReachedNextRaces.{next_race_access_plain, next_race_no_access, no_race_other, next_other, NotesAccess, accesses_next, next_race_ordered_here}
 use Rattle.journal.proofs.race.first_race_of.Goals as goal
 use Rattle.journal.proofs.race.first_race_of.Goals.{then-is_access+in_default, else-is_access+in_ok-note}
 
@@ -88,7 +88,7 @@ note-requires-clause-interval c =
     let present = c.requires.processors c.loop-place.place e at in
     let lt : e.processor < 16 = omega (arith, c.requires.few_processors) in
     let small =
-    time_small (take c.loop-place.place c.args.events.now)
+    next_clock_time_small (take c.loop-place.place c.args.events.now)
     (InPast (take c.loop-place.place c.args.events.now) e.processor)
     (entry c.loop-place.clocks.processors.items e.processor) e.processor
     (c.loop-place.invariant.0.times e.processor lt) in
@@ -122,7 +122,7 @@ loop-place-preserved c =
     let front = take place events in
     let next = front_next events place e at in
     elim c.if-is_access.branch [
-      | then-is_access+in_default w ↦ (let plain = access_plain e.kind (sym c.is_access.ensures ∙ w.if-is_access.true) in
+      | then-is_access+in_default w ↦ (let plain = next_race_access_plain e.kind (sym c.is_access.ensures ∙ w.if-is_access.true) in
           let clocks = clocks_plain front e c.loop-place.clocks plain.0 plain.1 c.loop-place.invariant.0 in
           let t = slice_index w.of-time.result.now in
           let time : IsTimeOf front e.processor t =
@@ -132,7 +132,7 @@ loop-place-preserved c =
           let notes : NotesAccess front e t c.args.addresses c.loop-place.accesses w.note.new.self = record {
             time = time;
             kept = c.loop-place.invariant.1;
-            ordered = ordered_here events place e t at time here_none;
+            ordered = next_race_ordered_here events place e t at time here_none;
             last_long = w.note.ensures.last_long;
             loads_long = w.note.ensures.loads_long;
           } in
@@ -144,7 +144,7 @@ loop-place-preserved c =
             no_race_yet events place c.loop-place.invariant.2 here_none,
             ap (λ x. x.present) w.clocks-is ∙ c.loop-place.invariant.3,
           ))
-      | else-is_access+in_ok-note w ↦ (let none = no_access e.kind (sym c.is_access.ensures ∙ w.if-is_access.false) in
+      | else-is_access+in_ok-note w ↦ (let none = next_race_no_access e.kind (sym c.is_access.ensures ∙ w.if-is_access.false) in
           let accesses = next_other front e c.args.addresses c.loop-place.accesses none c.loop-place.invariant.1 in (
             subst (λ x. AreClocks (take (place + 1) events) x) (sym w.clocks-is) w.in_ok-note.ensures.clocks,
             subst (λ x. AreAccessEntries (take (place + 1) events) c.args.addresses x) (sym w.accesses-is)

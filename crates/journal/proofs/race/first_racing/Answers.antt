@@ -10,7 +10,7 @@ use Rattle.journal.specs.DidEvent.{event}
 use Rattle.journal.specs.Events.{At, count_of, is_closing}
 use Rattle.journal.specs.InRange.{ProcessorsInRange}
 use Rattle.journal.specs.Races.{Race}
-use Rattle.journal.proofs.Passes.ClockEntry.{zeros_at}
+use Rattle.journal.proofs.Passes.ClockEntry.{entry_zeros_at}
 use Rattle.journal.proofs.Passes.ReachedNextRaces.{race_by_time, race_events, count_next, cond-and_true, cond-and_false}
 use Rattle.journal.proofs.race.first_racing.Goals as goal
 use Rattle.journal.proofs.race.first_racing.Goals.{else-is_conflict-via-then-is_conflict+else-time-earlier, else-is_conflict-via-else-is_conflict, then-closes, else-closes}
@@ -68,7 +68,7 @@ tick-requires-clause-room c =
     omega (arith, c.requires.few)
 
 pub loop-i-init : goal.loop-i-init
-loop-i-init c = (refl, λ q h. zeros_at 16 q, λ m h. absurd (omega arith))
+loop-i-init c = (refl, λ q h. entry_zeros_at 16 q, λ m h. absurd (omega arith))
 
 pub returns-then-time-earlier : goal.returns-then-time-earlier
 returns-then-time-earlier c =

@@ -6,7 +6,7 @@ use Rattle.journal.specs.declared.event.Kind.TheVariants.{Load, Fetch}
 use Rattle.journal.specs.DidEvent.{event}
 use Rattle.journal.specs.Events.{At}
 use Rattle.journal.specs.Sizes.{Sizes}
-use Rattle.journal.proofs.Order.CountedAndNumbered.{at_same, at_within}
+use Rattle.journal.proofs.Order.CountedAndNumbered.{numbered_at_same, numbered_at_within}
 use Rattle.judge.specs.declared.sizes.Sizes.{Sizes as Given}
 use Rattle.judge.specs.declared.miscounted.Miscounted.{Miscounted}
 use Rattle.judge.specs.Lax.{WellFormedLax}
@@ -36,7 +36,7 @@ counted_next : (s : Sizes) (events : List Event) (k : ℕ) (e : Event) → At ev
     → CountsGap s (take k events) e → AllCount s events (k + 1)
 counted_next s events k e at before now m f lt there = elim (cases_eq m k) [
   | inl is ↦
-      (let same = at_same events k e f at (subst (λ n. At events n f) is there) in
+      (let same = numbered_at_same events k e f at (subst (λ n. At events n f) is there) in
       subst (λ n. CountsGap s (take n events) f) (sym is) (subst (CountsGap s (take k events)) same now))
   | inr isnt ↦ before m f (omega arith) there
 ]
@@ -89,6 +89,6 @@ loop-place-preserved c =
 
 pub returns : goal.returns
 returns c = λ k p n w r d does.
-    let lt = at_within c.args.events.now k (event p (Fetch w n r d)) does in
+    let lt = numbered_at_within c.args.events.now k (event p (Fetch w n r d)) does in
     let over = c.loop-place-test.false in
     c.loop-place.invariant.counted k (event p (Fetch w n r d)) (omega arith) does n w r d refl

@@ -4,7 +4,7 @@ use Rattle.journal.specs.declared.event.Event.{Event}
 use Rattle.journal.specs.declared.event.Kind.{Kind}
 use Rattle.journal.specs.declared.event.Kind.TheVariants.{Fetch}
 use Rattle.journal.specs.Sizes.{Sizes}
-use Rattle.journal.specs.PageImages.{GapCounts, StoredInGap}
+use Rattle.journal.specs.PageImages.{GapCounts, StoredInGapOfImage}
 use Rattle.judge.specs.declared.gaps.CountedGap.{CountedGap}
 use Rattle.judge.specs.Sizes.{sizes_of}
 use Rattle.judge.proofs.Counts.{count_unique}
@@ -21,7 +21,7 @@ unique : (s : Sizes) (j : List Event) (p n w r d : ℕ) (due : CountedGap)
 unique s j p n w r d due is other =
     let first = count_unique (Writes s j p n) due.writers w is.writers_are other.writers_are in
     let second = count_unique (Records s j p n) due.records r is.records_are other.records_are in
-    let third = count_unique (StoredInGap s j p n) due.words d is.words_are other.words_are in
+    let third = count_unique (StoredInGapOfImage s j p n) due.words d is.words_are other.words_are in
     ap (λ x. made x due.records due.words) first ∙ ap (λ x. made w x due.words) second ∙ ap (made w r) third
 
 -- a fetch that counts what is due counts its gap

@@ -1,16 +1,16 @@
 use Rattle.std.proofs.Common.{◌<◌, arith}
-use Rattle.journal.proofs.Order.CountedAndNumbered.{at_within}
+use Rattle.journal.proofs.Order.CountedAndNumbered.{numbered_at_within}
 use Rattle.journal.specs.InRange.{AddressInRange}
 use Rattle.lrc_explain.proofs.Each.{each_next}
 use Rattle.lrc_explain.proofs.history.are_in_range.Goals as goal
 
 pub returns-then-events-le-MOST_HELD-clause-processors : goal.returns-then-events-le-MOST_HELD-clause-processors
 returns-then-events-le-MOST_HELD-clause-processors c =
-    λ _ k e at. c.loop-event.invariant.processors k e (omega (arith, at_within c.args.events.now k e at)) at
+    λ _ k e at. c.loop-event.invariant.processors k e (omega (arith, numbered_at_within c.args.events.now k e at)) at
 
 pub returns-then-events-le-MOST_HELD-clause-addresses : goal.returns-then-events-le-MOST_HELD-clause-addresses
 returns-then-events-le-MOST_HELD-clause-addresses c =
-    λ _ k e at. c.loop-event.invariant.addresses k e (omega (arith, at_within c.args.events.now k e at)) at
+    λ _ k e at. c.loop-event.invariant.addresses k e (omega (arith, numbered_at_within c.args.events.now k e at)) at
 
 pub loop-event-preserved : goal.loop-event-preserved
 loop-event-preserved c =

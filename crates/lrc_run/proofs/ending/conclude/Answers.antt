@@ -2,7 +2,7 @@ use Rattle.std.proofs.Common.{ℕ, subst, sym, ◌∙◌}
 use Rattle.std.specs.Global.{Vec}
 use Rattle.lrc_script.specs.Plan.{plan_of}
 use Rattle.lrc_run.specs.MakesCalls.{MakesLoads}
-use Rattle.lrc_run.proofs.FollowedReports.{first_followed_at, have_followed, report_after, walked_of, walks_followed_at}
+use Rattle.lrc_run.proofs.FollowedReports.{first_followed_at, have_followed, report_after, followed_walked_of, walks_followed_at}
 use Rattle.lrc_run.proofs.ending.conclude.Goals as goal
 
 pub show-requires-clause-own : goal.show-requires-clause-own
@@ -13,7 +13,7 @@ show-requires-clause-own g c κs within =
     let at = first_followed_at s c.args.cluster ms m c.requires.lawful c.requires.sizes c.requires.walked
     c.index_mut.ensures.value in
     let w = walks_followed_at s c.args.cluster ms c.requires.lawful c.requires.sizes c.requires.walked 0 m at in
-    (walked_of c.args.cluster 0 m w.0 w.1).lock
+    (followed_walked_of c.args.cluster 0 m w.0 w.1).lock
 
 pub report-requires-after_bounds : goal.report-requires-after_bounds
 report-requires-after_bounds g c κs within =

@@ -1,12 +1,12 @@
 use Rattle.std.proofs.Common.{refl}
 use Rattle.lrc_script.specs.Plan.{plan_of}
 use Rattle.lrc_run.proofs.Halting.{halted_all, halted_is}
-use Rattle.lrc_run.proofs.Stepping.{steps_passed}
+use Rattle.lrc_run.proofs.Stepping.{stepping_passed}
 use Rattle.lrc_run.proofs.steps.end_run.Goals as goal
 
 pub conclude-requires-clause-walked : goal.conclude-requires-clause-walked
 conclude-requires-clause-walked g c κs within =
-    steps_passed c.args.cluster (plan_of c.args.script.now).sections _ c.args.all.now c.requires.way
+    stepping_passed c.args.cluster (plan_of c.args.script.now).sections _ c.args.all.now c.requires.way
     (c.requires.whole c.if-passed.true)
 
 pub returns-in-Ok-clause-end : goal.returns-in-Ok-clause-end

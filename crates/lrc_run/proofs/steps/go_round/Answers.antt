@@ -4,8 +4,8 @@ use Rattle.std.specs.Prelude.{All}
 use Rattle.lrc_script.specs.Plan.{plan_of}
 use Rattle.conformance.specs.declared.progress.TurnProgress.{TurnProgress}
 use Rattle.conformance.specs.declared.progress.TurnProgress.TheVariants.{Passed}
-use Rattle.lrc_run.proofs.Turning.{before_turn_rounds, next_turn_round, some_of, ways_turned}
-use Rattle.lrc_run.proofs.Stepping.{steps_own_at}
+use Rattle.lrc_run.proofs.Turning.{before_turn_rounds, next_turn_round, turning_some_of, ways_turned}
+use Rattle.lrc_run.proofs.Stepping.{stepping_own_at}
 use Rattle.lrc_run.proofs.steps.go_round.Goals as goal
 
 pub loop-init : goal.loop-init
@@ -32,7 +32,7 @@ is_stuck-requires-clause-own g c κs within = λ m here.
     let way = ways_turned c.args.cluster.now s.sections c.deref.result.now c.loop.processors.items
     c.round.new.processors.items c.loop.all.items c.round.new.all.items c.loop.invariant.between.gone.way
     c.in_ok-moved.ensures.turns in
-    steps_own_at s c.args.cluster.now c.round.new.processors.items c.round.new.all.items 0 m c.requires.lawful
+    stepping_own_at s c.args.cluster.now c.round.new.processors.items c.round.new.all.items 0 m c.requires.lawful
     c.requires.sizes way here
 
 pub is_stuck-requires-clause-some : goal.is_stuck-requires-clause-some
@@ -41,7 +41,7 @@ is_stuck-requires-clause-some g c κs within =
     let way = ways_turned c.args.cluster.now s.sections c.deref.result.now c.loop.processors.items
     c.round.new.processors.items c.loop.all.items c.round.new.all.items c.loop.invariant.between.gone.way
     c.in_ok-moved.ensures.turns in
-    let some = some_of s c.args.cluster.now c.round.new.processors.items c.round.new.all.items c.requires.lawful
+    let some = turning_some_of s c.args.cluster.now c.round.new.processors.items c.round.new.all.items c.requires.lawful
     c.requires.sizes way in
     omega (arith, some, c.round.new.processors.ok)
 

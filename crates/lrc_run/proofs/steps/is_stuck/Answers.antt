@@ -1,11 +1,11 @@
 use Rattle.std.proofs.Common.{◌<◌, length, refl, arith}
 use Rattle.std.proofs.lemmas.Option.{slice_get_read}
-use Rattle.lrc_run.proofs.Turning.{seen_same}
+use Rattle.lrc_run.proofs.Turning.{turning_seen_same}
 use Rattle.lrc_run.proofs.Waiting.{waiting_seen_at, waits_on}
 use Rattle.lrc_run.proofs.steps.is_stuck.Goals as goal
 
 pub returns-then-moved-clause-seen : goal.returns-then-moved-clause-seen
-returns-then-moved-clause-seen g c = seen_same c.args.processors.now.items
+returns-then-moved-clause-seen g c = turning_seen_same c.args.processors.now.items
 
 pub wait-requires-clause-own : goal.wait-requires-clause-own
 wait-requires-clause-own g c κs within =

@@ -1,8 +1,8 @@
 use Rattle.std.proofs.Common.{◌<◌, length, refl, arith}
 use Rattle.std.proofs.lemmas.Option.{slice_get_read}
 use Rattle.lrc_script.specs.Plan.{plan_of}
-use Rattle.lrc_run.proofs.Stepping.{steps_own_at, step_progress_read, step_section_read}
-use Rattle.lrc_run.proofs.Turning.{one_seen, set_same}
+use Rattle.lrc_run.proofs.Stepping.{stepping_own_at, stepping_progress_read, stepping_section_read}
+use Rattle.lrc_run.proofs.Turning.{turning_one_seen, turning_set_same}
 use Rattle.lrc_run.proofs.steps.turn_at.Goals as goal
 
 pub take_turn-requires-clause-own : goal.take_turn-requires-clause-own
@@ -11,7 +11,7 @@ take_turn-requires-clause-own g c κs within =
     let p = c.args.p in
     let m = c.index_mut.result.now in
     let inside : p < length ms = omega (arith, c.requires.within) in
-    steps_own_at (plan_of c.args.script.now) c.args.cluster.now ms c.args.all.now.items p m c.requires.lawful c.requires.sizes
+    stepping_own_at (plan_of c.args.script.now) c.args.cluster.now ms c.args.all.now.items p m c.requires.lawful c.requires.sizes
     c.requires.way (slice_get_read ms (length ms) p m refl inside c.index_mut.ensures.value)
 
 pub returns-in-Ok-clause-turn : goal.returns-in-Ok-clause-turn
@@ -30,11 +30,11 @@ returns-in-Ok-clause-turn g c =
       after = c.take_turn.new.processor;
       at = at;
       next = c.in-Ok.outcome.0;
-      section_is = step_section_read s c.args.cluster.now ms all c.args.script.now.sections.items p
+      section_is = stepping_section_read s c.args.cluster.now ms all c.args.script.now.sections.items p
           c.index-section.result.now section c.requires.lawful c.requires.sizes refl c.requires.way inside
           c.index-section.ensures c.deref.ensures.value;
       before_is = slice_get_read ms (length ms) p m refl inside c.index_mut.ensures.value;
-      at_is = step_progress_read c.args.cluster.now s.sections ms all p at c.requires.way inside c.index.ensures;
+      at_is = stepping_progress_read c.args.cluster.now s.sections ms all p at c.requires.way inside c.index.ensures;
       takes = c.in-Ok.ensures.turn;
       new_is = refl;
       to_is = refl;
@@ -48,9 +48,9 @@ returns-in-Ok-clause-vain g c = λ no.
     let m = c.index_mut.result.now in
     let inside : p < length ms = omega (arith, c.requires.within) in
     let vain = c.in-Ok.ensures.vain no in (
-      one_seen ms p m c.take_turn.new.processor (slice_get_read ms (length ms) p m refl inside c.index_mut.ensures.value)
+      turning_one_seen ms p m c.take_turn.new.processor (slice_get_read ms (length ms) p m refl inside c.index_mut.ensures.value)
           vain.0,
-      set_same all p c.index.result.now c.in-Ok.outcome.0
-          (step_progress_read c.args.cluster.now (plan_of c.args.script.now).sections ms all p c.index.result.now c.requires.way
+      turning_set_same all p c.index.result.now c.in-Ok.outcome.0
+          (stepping_progress_read c.args.cluster.now (plan_of c.args.script.now).sections ms all p c.index.result.now c.requires.way
           inside c.index.ensures) vain.1,
     )

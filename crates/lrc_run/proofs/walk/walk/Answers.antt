@@ -4,7 +4,7 @@ use Rattle.std.proofs.lemmas.Option.{slice_get-get_or}
 use Rattle.base.proofs.SlicesAndCounts.{take-suc_at}
 use Rattle.lrc_script.specs.declared.script.Instruction.{Instruction}
 use Rattle.lrc_run.specs.MakesCalls.{MakesAll}
-use Rattle.lrc_run.proofs.SeesAndMakes.{makes_all_more, walks_where}
+use Rattle.lrc_run.proofs.SeesAndMakes.{makes_all_more, makes_walk_where}
 use Rattle.lrc_run.proofs.walk.walk.Goals as goal
 
 pub loop-index-preserved : goal.loop-index-preserved
@@ -26,4 +26,4 @@ returns-clause-ok g c =
     let last : c.loop-index.index ≡ length section = omega (arith, c.loop-index-test.false) in
     let whole = ap (λ n. take n section) last ∙ take-length section in
     let all = subst (λ (is : List Instruction). MakesAll start m is) whole c.loop-index.invariant.all in
-    walks_where start m c.perform-2.new.processor section c.perform-2.result all c.perform-2.ensures.ok
+    makes_walk_where start m c.perform-2.new.processor section c.perform-2.result all c.perform-2.ensures.ok

@@ -6,15 +6,15 @@ use Rattle.journal.specs.declared.event.Kind.TheVariants.{Arrive}
 use Rattle.transit.specs.Letters.{Letter, letter}
 use Rattle.transit.specs.declared.message.Message.{Message}
 use Rattle.vtime.specs.Times.{tick}
-use Rattle.book.specs.State.{State, time_of}
-use Rattle.book.specs.Transitions.{book_handed_in, book_open_interval, book_closed_by, departures_to}
+use Rattle.book.specs.State.{State, state_time_of}
+use Rattle.book.specs.Transitions.{transition_handed_in, transition_open_interval, transition_closed_by, transition_departures_to}
 use Rattle.interval.specs.SentIntervals.{ClosedInterval}
 use Rattle.interval.specs.Closings.{pushed}
 use Rattle.barrier.specs.declared.barrier.Stage.TheVariants.{Away}
-use Rattle.book.specs.Calls.{AllowsNotices}
+use Rattle.book.specs.Calls.{AllowsNoticesOfCall}
 use Rattle.book.specs.BookInvariant.{book_state}
 use Rattle.book.specs.declared.book.Book.TheInside.{Inside}
-use Rattle.book.proofs.Parts.History.{happened_fits}
+use Rattle.book.proofs.Parts.History.{history_happened_fits}
 use Rattle.book.proofs.Calling.Closing.{StandsToClose, closing_stands, closing_still_open, closing_opens_roomy, HasClosedRoomy, closed_roomy}
 use Rattle.book.proofs.Calling.Arriving.{IsArriving, arrives, arriving, arrived_departures_made, arriving_finds_no_mail, arrived_met, arrived_alone}
 use Rattle.book.proofs.book.Book.arrive.Goals.{After-parts, After-closing_time-time, In_ok-departures, After-parts-2, in-Some, in_default}
@@ -44,7 +44,7 @@ closing_time-time-requires-clause-fits c =
     let few = (closing_stands (book_state c.parts.inside)
     c.args.self.now c.args.processor c.args.block.now (same (goal.at.closing_time-time-requires-clause-fits c).After-parts)
     c.requires.call).few in
-    let all = happened_fits c.parts.inside.journal c.parts.inside.owing c.parts.invariant.few in
+    let all = history_happened_fits c.parts.inside.journal c.parts.inside.owing c.parts.invariant.few in
     omega arith
 
 -- what the arrival rests on, whose interval is p's
@@ -61,15 +61,15 @@ rests c = (
 
 -- the timestamp after the arrival
 ticked : (c : After-closing_time-time)
-    → c.closing_time-time.result ≡ tick (time_of (book_state c.parts.inside) c.args.processor) c.args.processor
+    → c.closing_time-time.result ≡ tick (state_time_of (book_state c.parts.inside) c.args.processor) c.args.processor
 ticked c = c.closing_time-time.ensures
 
 -- there are as many stages as it has entries
 long : (c : After-closing_time-time) → length c.closing_time-time.result ≡ length c.parts.inside.barrier.stages
 long c =
     ap (λ (t : List ℕ). length t) (ticked c)
-    ∙ length-set (time_of (book_state c.parts.inside) c.args.processor) c.args.processor
-    (slice_index (time_of (book_state c.parts.inside) c.args.processor) c.args.processor + 1) ∙ (rests c).1.own_long
+    ∙ length-set (state_time_of (book_state c.parts.inside) c.args.processor) c.args.processor
+    (slice_index (state_time_of (book_state c.parts.inside) c.args.processor) c.args.processor + 1) ∙ (rests c).1.own_long
     ∙ sym (rests c).1.stages
 
 pub departures_with-requires-clause-owner : goal.departures_with-requires-clause-owner
@@ -96,13 +96,13 @@ departures_with-requires-clause-all c =
     let at = (goal.at.departures_with-requires-clause-all c).After-closing_time-time in
     let w = rests at in
     subst (λ q. (r : ℕ) → r < length c.parts.inside.times.items
-    → AllowsNotices c.parts.inside.closed (slice_set c.parts.inside.times.items q c.closing_time-time.result) r) w.2
+    → AllowsNoticesOfCall c.parts.inside.closed (slice_set c.parts.inside.times.items q c.closing_time-time.result) r) w.2
     (subst (λ (t : List ℕ). (r : ℕ) → r < length c.parts.inside.times.items
-    → AllowsNotices c.parts.inside.closed (slice_set c.parts.inside.times.items c.args.processor t) r) (sym (ticked at)) w.1.sent)
+    → AllowsNoticesOfCall c.parts.inside.closed (slice_set c.parts.inside.times.items c.args.processor t) r) (sym (ticked at)) w.1.sent)
 
 -- the book once the interval is closed
 closed : (c : After-parts-2) → book_state c.parts-2.inside
-    ≡ book_closed_by (book_handed_in c.args.self.now c.args.block.now) c.args.processor Arrive (map arc_value c.args.records.items)
+    ≡ transition_closed_by (transition_handed_in c.args.self.now c.args.block.now) c.args.processor Arrive (map arc_value c.args.records.items)
 closed c =
     let is : HasClosedRoomy c.parts.inside c.args.self.now (book_state c.parts-2.inside) c.args.block.now c.args.processor
     Arrive (map arc_value c.args.records.items) = record {
@@ -132,14 +132,14 @@ abbrev letters : Option (Vec Message Global) → Option (List Letter)
 letters o = option_map (λ (ms : Vec Message Global). map letter ms.items) o
 
 -- the timestamp and the departures, read off the book before the call
-made : (c : In_ok-departures) → (c.closing_time-time.result ≡ tick (time_of c.args.self.now c.args.processor) c.args.processor)
+made : (c : In_ok-departures) → (c.closing_time-time.result ≡ tick (state_time_of c.args.self.now c.args.processor) c.args.processor)
     × (letters c.in_ok-departures.departures
-    ≡ departures_to
-    (pushed c.args.self.now.closed (book_open_interval c.args.self.now c.args.processor (map arc_value c.args.records.items)))
+    ≡ transition_departures_to
+    (pushed c.args.self.now.closed (transition_open_interval c.args.self.now c.args.processor (map arc_value c.args.records.items)))
     c.args.self.now.barrier (slice_set c.args.self.now.times c.args.processor c.closing_time-time.result) c.args.processor
     c.closing_time-time.result)
 made c = (
-  c.closing_time-time.ensures ∙ ap (λ (b : State). tick (time_of b c.args.processor) c.args.processor)
+  c.closing_time-time.ensures ∙ ap (λ (b : State). tick (state_time_of b c.args.processor) c.args.processor)
       (c.parts.view_is ∙ c.deref_mut-parts.ensures.value ∙ c.self.view_is),
   arrived_departures_made c.args.self.now (book_state c.parts.inside) c.args.processor (map arc_value c.args.records.items)
       c.open_interval-interval.result c.closing_time-time.result
@@ -153,7 +153,7 @@ post_all-requires c =
     let w = made (goal.at.post_all-requires c).In_ok-departures in
     ap (λ (b : State). b.transit) (closed (goal.at.post_all-requires c).After-parts-2)
     ∙ arriving_finds_no_mail c.args.self.now c.args.processor
-    (pushed c.args.self.now.closed (book_open_interval c.args.self.now c.args.processor (map arc_value c.args.records.items)))
+    (pushed c.args.self.now.closed (transition_open_interval c.args.self.now c.args.processor (map arc_value c.args.records.items)))
     c.closing_time-time.result (map letter c.in-Some.messages.items)
     (arriving c.args.self.now c.args.processor c.args.block.now c.requires.call) w.0 (sym (ap letters c.in-Some.is) ∙ w.1)
     ∙ ap (λ (n : ℕ). replicate n None) (length-map c.in-Some.messages.items letter)

@@ -7,7 +7,7 @@ use Rattle.lockq.specs.LockQueues.{lock_at, lock_line}
 use Rattle.transit.specs.Letters.{letter}
 use Rattle.transit.specs.declared.message.Message.{Message}
 use Rattle.book.specs.State.{State}
-use Rattle.book.specs.Transitions.{book_handed_in, book_closed_by, if_free, book_grant}
+use Rattle.book.specs.Transitions.{transition_handed_in, transition_closed_by, transition_if_free, transition_grant}
 use Rattle.book.specs.BookInvariant.{book_state}
 use Rattle.book.specs.declared.book.Book.TheInside.{Inside}
 use Rattle.book.proofs.Calling.Closing.{closing_stands, closing_still_open, closing_opens_roomy, HasClosedRoomy, closed_roomy}
@@ -46,7 +46,7 @@ grant_if_free-requires-clause-keeps c = (asks (goal.at.grant_if_free-requires-cl
 
 -- the book once the interval is closed
 closed : (c : After-parts-2) → book_state c.parts-2.inside
-    ≡ book_closed_by (book_handed_in c.args.self.now c.args.block.now) c.args.processor (Ask c.args.lock)
+    ≡ transition_closed_by (transition_handed_in c.args.self.now c.args.block.now) c.args.processor (Ask c.args.lock)
     (map arc_value c.args.records.items)
 closed c =
     let is : HasClosedRoomy c.parts.inside c.args.self.now (book_state c.parts-2.inside) c.args.block.now c.args.processor
@@ -79,11 +79,11 @@ post-requires c =
 
 -- the grant, read off the book before the call
 made : (c : In_ok-grant) → option_map letter c.in_ok-grant.grant
-    ≡ if_free (lock_at c.args.self.now.locks c.args.lock).holder
-    (book_grant c.args.self.now c.args.processor (lock_at c.args.self.now.locks c.args.lock).time)
+    ≡ transition_if_free (lock_at c.args.self.now.locks c.args.lock).holder
+    (transition_grant c.args.self.now c.args.processor (lock_at c.args.self.now.locks c.args.lock).time)
 made c =
-    c.in_ok-grant.ensures ∙ ap (λ (b : State). if_free (lock_at b.locks c.args.lock).holder
-    (book_grant b c.args.processor (lock_at b.locks c.args.lock).time))
+    c.in_ok-grant.ensures ∙ ap (λ (b : State). transition_if_free (lock_at b.locks c.args.lock).holder
+    (transition_grant b c.args.processor (lock_at b.locks c.args.lock).time))
     (c.parts.view_is ∙ c.deref_mut-parts.ensures.value ∙ c.self.view_is)
 
 pub returns : goal.returns

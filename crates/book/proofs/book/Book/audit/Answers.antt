@@ -1,7 +1,7 @@
 use Rattle.std.proofs.Common.{◌≡◌, length, ap, ◌∙◌}
 use Rattle.book.specs.BookInvariant.{book_state}
 use Rattle.journal.specs.Log.{Log}
-use Rattle.book.proofs.Calling.Closing.{block_fits}
+use Rattle.book.proofs.Calling.Closing.{closing_block_fits}
 use Rattle.book.proofs.book.Book.audit.Goals.{In_ok-copy}
 use Rattle.book.proofs.book.Book.audit.Goals.{After-parts}
 use Rattle.book.proofs.book.Book.audit.Goals as goal
@@ -12,12 +12,12 @@ same c = c.parts.view_is ∙ c.deref_mut-parts.ensures.value ∙ c.self.view_is
 
 pub append_all-requires-clause-processor : goal.append_all-requires-clause-processor
 append_all-requires-clause-processor c =
-    (block_fits c.parts.inside (same (goal.at.append_all-requires-clause-processor c).After-parts)
+    (closing_block_fits c.parts.inside (same (goal.at.append_all-requires-clause-processor c).After-parts)
     c.in_ok-make_room.ensures.same c.requires.call).0
 
 pub append_all-requires-clause-address : goal.append_all-requires-clause-address
 append_all-requires-clause-address c =
-    (block_fits c.parts.inside (same (goal.at.append_all-requires-clause-address c).After-parts)
+    (closing_block_fits c.parts.inside (same (goal.at.append_all-requires-clause-address c).After-parts)
     c.in_ok-make_room.ensures.same c.requires.call).1
 
 -- the copy is of the journal before the block
@@ -28,10 +28,10 @@ copied c =
 
 pub append_all-requires-2-clause-processor : goal.append_all-requires-2-clause-processor
 append_all-requires-2-clause-processor c =
-    (block_fits c.parts.inside (same (goal.at.append_all-requires-2-clause-processor c).After-parts)
+    (closing_block_fits c.parts.inside (same (goal.at.append_all-requires-2-clause-processor c).After-parts)
     (copied (goal.at.append_all-requires-2-clause-processor c).In_ok-copy) c.requires.call).0
 
 pub append_all-requires-2-clause-address : goal.append_all-requires-2-clause-address
 append_all-requires-2-clause-address c =
-    (block_fits c.parts.inside (same (goal.at.append_all-requires-2-clause-address c).After-parts)
+    (closing_block_fits c.parts.inside (same (goal.at.append_all-requires-2-clause-address c).After-parts)
     (copied (goal.at.append_all-requires-2-clause-address c).In_ok-copy) c.requires.call).1

@@ -4,7 +4,7 @@ use Rattle.std.specs.Option.{option_map}
 use Rattle.journal.specs.Closing.{awaited_kind}
 use Rattle.book.specs.BookInvariant.{book_state}
 use Rattle.book.specs.State.{State}
-use Rattle.book.proofs.Calling.Receiving.{IsReceiving, reads_receiving, IsComeRead, comes, receiving, receiving_not_idle}
+use Rattle.book.proofs.Calling.Receiving.{IsReceiving, reads_receiving, IsReceivedComeRead, receiving_comes, receiving, receiving_not_idle}
 use Rattle.book.proofs.book.Book.is_ready.Goals.{In-Some}
 use Rattle.book.proofs.book.Book.is_ready.Goals.{After-parts}
 use Rattle.book.proofs.book.Book.is_ready.Goals as goal
@@ -48,7 +48,7 @@ has_come-requires-clause-flag c f is =
 
 pub returns : goal.returns
 returns c s h told =
-    let read : IsComeRead (book_state c.parts.inside) c.args.self.now c.args.processor (awaited_kind c.in-Some.awaited)
+    let read : IsReceivedComeRead (book_state c.parts.inside) c.args.self.now c.args.processor (awaited_kind c.in-Some.awaited)
     c.has_come.result = record {
       flags = c.deref.result.now;
       same = same (goal.at.returns c).After-parts;
@@ -56,4 +56,4 @@ returns c s h told =
       flags_are = c.deref.ensures.value;
       is = c.has_come.ensures;
     } in
-    comes read s h told
+    receiving_comes read s h told

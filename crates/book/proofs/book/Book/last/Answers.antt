@@ -1,6 +1,6 @@
 use Rattle.std.proofs.Common.{◌≡◌, ◌∙◌, refl}
 use Rattle.book.specs.BookInvariant.{book_state}
-use Rattle.book.proofs.Calling.Closing.{block_fits}
+use Rattle.book.proofs.Calling.Closing.{closing_block_fits}
 use Rattle.book.proofs.book.Book.last.Goals.{After-parts}
 use Rattle.book.proofs.book.Book.last.Goals as goal
 
@@ -10,10 +10,10 @@ same c = c.parts.view_is ∙ c.deref_mut-parts.ensures.value ∙ c.self.view_is
 
 pub append_all-requires-clause-processor : goal.append_all-requires-clause-processor
 append_all-requires-clause-processor c =
-    (block_fits {room = c.parts.inside.journal.room} c.parts.inside
+    (closing_block_fits {room = c.parts.inside.journal.room} c.parts.inside
     (same (goal.at.append_all-requires-clause-processor c).After-parts) refl c.requires.call).0
 
 pub append_all-requires-clause-address : goal.append_all-requires-clause-address
 append_all-requires-clause-address c =
-    (block_fits {room = c.parts.inside.journal.room} c.parts.inside
+    (closing_block_fits {room = c.parts.inside.journal.room} c.parts.inside
     (same (goal.at.append_all-requires-clause-address c).After-parts) refl c.requires.call).1

@@ -1,15 +1,15 @@
 use Rattle.std.proofs.Common.{◌∙◌, ℕ, ◌↔◌, subst}
 use Rattle.base.specs.InOrderOnce.{Has}
-use Rattle.book.specs.Waiting.{IsNamed}
+use Rattle.book.specs.Waiting.{IsNamedWaiting}
 use Rattle.book.specs.State.{State}
 use Rattle.book.proofs.Told.NamedReady.{named_ready, named_within, lets_named}
 use Rattle.book.proofs.book.Book.let_on.Goals.{After-named_by}
 use Rattle.book.proofs.book.Book.let_on.Goals as goal
 
 -- whom the book names
-named : (c : After-named_by) (q : ℕ) → Has c.named_by.result q ↔ IsNamed c.args.self.now c.args.processor c.args.kind q
+named : (c : After-named_by) (q : ℕ) → Has c.named_by.result q ↔ IsNamedWaiting c.args.self.now c.args.processor c.args.kind q
 named c q =
-    subst (λ (b : State). Has c.named_by.result q ↔ IsNamed b c.args.processor c.args.kind q)
+    subst (λ (b : State). Has c.named_by.result q ↔ IsNamedWaiting b c.args.processor c.args.kind q)
     (c.deref-parts.ensures ∙ c.self.view_is) (c.named_by.ensures q)
 
 pub returns-clause-ready : goal.returns-clause-ready

@@ -8,14 +8,14 @@ use Rattle.transit.specs.Letters.{Letter, letter}
 use Rattle.transit.specs.declared.message.Message.{Message}
 use Rattle.vtime.specs.Times.{tick}
 use Rattle.interval.specs.Closings.{pushed}
-use Rattle.book.specs.State.{State, time_of}
-use Rattle.book.specs.Transitions.{addressed, book_handed_in, book_open_interval, book_closed_by}
-use Rattle.book.specs.Calls.{AllowsNotices}
+use Rattle.book.specs.State.{State, state_time_of}
+use Rattle.book.specs.Transitions.{transition_addressed, transition_handed_in, transition_open_interval, transition_closed_by}
+use Rattle.book.specs.Calls.{AllowsNoticesOfCall}
 use Rattle.book.specs.BookInvariant.{book_state}
 use Rattle.book.specs.declared.book.Book.TheInside.{Inside}
-use Rattle.book.proofs.Parts.History.{happened_fits}
+use Rattle.book.proofs.Parts.History.{history_happened_fits}
 use Rattle.book.proofs.Calling.Closing.{closing_stands, closing_still_open, closing_opens_roomy, HasClosedRoomy, closed_roomy}
-use Rattle.book.proofs.Calling.Releases.{IsReleasing, IsLeaving, IsReleaseGrantRead, releases, releasing, releasing_sends_next, grant_before, release_grant_read, released_to_whom, released_granted, released_alone}
+use Rattle.book.proofs.Calling.Releases.{IsReleasing, IsReleaseLeaving, IsReleaseGrantRead, releases, releasing, releasing_sends_next, grant_before_release, release_grant_read, released_to_whom, released_granted, released_alone}
 use Rattle.book.proofs.book.Book.release.Goals.{After-parts, After-closing_time-time, After-parts-2, In_ok-grant, in-Some, in_default}
 use Rattle.book.proofs.book.Book.release.Goals as goal
 
@@ -43,7 +43,7 @@ closing_time-time-requires-clause-fits c =
     let few = (closing_stands (book_state c.parts.inside)
     c.args.self.now c.args.processor c.args.block.now (same (goal.at.closing_time-time-requires-clause-fits c).After-parts)
     c.requires.call.call).few in
-    let all = happened_fits c.parts.inside.journal c.parts.inside.owing c.parts.invariant.few in
+    let all = history_happened_fits c.parts.inside.journal c.parts.inside.owing c.parts.invariant.few in
     omega arith
 
 -- what the release rests on
@@ -54,11 +54,11 @@ rests c =
 
 -- the timestamp after the release is as long as the one before
 long : (c : After-closing_time-time)
-    → length c.closing_time-time.result ≡ length (time_of (book_state c.parts.inside) c.args.processor)
+    → length c.closing_time-time.result ≡ length (state_time_of (book_state c.parts.inside) c.args.processor)
 long c =
     ap (λ (t : List ℕ). length t) c.closing_time-time.ensures
-    ∙ length-set (time_of (book_state c.parts.inside) c.args.processor) c.args.processor
-    (slice_index (time_of (book_state c.parts.inside) c.args.processor) c.args.processor + 1)
+    ∙ length-set (state_time_of (book_state c.parts.inside) c.args.processor) c.args.processor
+    (slice_index (state_time_of (book_state c.parts.inside) c.args.processor) c.args.processor + 1)
 
 pub grant_to-requires-clause-long : goal.grant_to-requires-clause-long
 grant_to-requires-clause-long c =
@@ -66,14 +66,14 @@ grant_to-requires-clause-long c =
 
 pub grant_to-requires-clause-next : goal.grant_to-requires-clause-next
 grant_to-requires-clause-next c =
-    subst (λ (ts : List (List ℕ)). IfSome c.next.result (λ r. AllowsNotices c.parts.inside.closed ts r))
+    subst (λ (ts : List (List ℕ)). IfSome c.next.result (λ r. AllowsNoticesOfCall c.parts.inside.closed ts r))
     (sym c.deref.ensures.value)
     (releasing_sends_next (book_state c.parts.inside) c.args.processor c.args.lock c.next.result
     (rests (goal.at.grant_to-requires-clause-next c).After-closing_time-time) c.next.ensures)
 
 -- the book once the interval is closed
 closed : (c : After-parts-2) → book_state c.parts-2.inside
-    ≡ book_closed_by (book_handed_in c.args.self.now c.args.block.now) c.args.processor (Release c.args.lock)
+    ≡ transition_closed_by (transition_handed_in c.args.self.now c.args.block.now) c.args.processor (Release c.args.lock)
     (map arc_value c.args.records.items)
 closed c =
     let is : HasClosedRoomy c.parts.inside c.args.self.now (book_state c.parts-2.inside) c.args.block.now c.args.processor
@@ -102,14 +102,14 @@ release-requires-clause-long c =
 
 -- a grant and who is to have it, if there is one
 abbrev addressed_if : Option (ℕ × Message) → Option (ℕ × Letter)
-addressed_if g = option_map addressed g
+addressed_if g = option_map transition_addressed g
 
 -- the grant and who is to have it, read off the book before the call
-made : (c : In_ok-grant) → option_map addressed c.in_ok-grant.grant
-    ≡ grant_before c.args.self.now c.args.processor c.args.lock (map arc_value c.args.records.items) c.closing_time-time.result
+made : (c : In_ok-grant) → option_map transition_addressed c.in_ok-grant.grant
+    ≡ grant_before_release c.args.self.now c.args.processor c.args.lock (map arc_value c.args.records.items) c.closing_time-time.result
 made c =
     let read : IsReleaseGrantRead (book_state c.parts.inside) c.args.processor c.args.lock (map arc_value c.args.records.items)
-    c.closing_time-time.result (option_map addressed c.in_ok-grant.grant) = record {
+    c.closing_time-time.result (option_map transition_addressed c.in_ok-grant.grant) = record {
       interval = c.open_interval-interval.result;
       times = c.deref.result.now;
       next = c.next.result;
@@ -127,19 +127,19 @@ post-requires c =
     ap (λ (b : State). slice_get b.transit c.in-Some.next) (closed at.After-parts-2)
     ∙ (rel.next c.in-Some.next
     (released_to_whom
-    (pushed c.args.self.now.closed (book_open_interval c.args.self.now c.args.processor (map arc_value c.args.records.items)))
+    (pushed c.args.self.now.closed (transition_open_interval c.args.self.now c.args.processor (map arc_value c.args.records.items)))
     c.args.self.now.times c.closing_time-time.result (lock_at c.args.self.now.locks c.args.lock).queue
     c.in-Some.next (letter c.in-Some.message) (sym (ap addressed_if c.in-Some.is) ∙ made at.In_ok-grant))).none
 
 pub returns : goal.returns
 returns c =
     let at = goal.at.returns c in
-    let leaving : IsLeaving c.args.self.now (book_state c.parts-2.inside) c.args.processor c.args.lock c.args.block.now
+    let leaving : IsReleaseLeaving c.args.self.now (book_state c.parts-2.inside) c.args.processor c.args.lock c.args.block.now
     (map arc_value c.args.records.items) c.closing_time-time.result = record {
       may = c.requires.call;
       closed = closed at.After-parts-2;
       time = c.closing_time-time.ensures
-          ∙ ap (λ (b : State). tick (time_of b c.args.processor) c.args.processor) (same at.After-parts);
+          ∙ ap (λ (b : State). tick (state_time_of b c.args.processor) c.args.processor) (same at.After-parts);
     } in
     record {
       ok = elim c.match-grant-4.branch [

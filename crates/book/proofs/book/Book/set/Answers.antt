@@ -2,9 +2,9 @@ use Rattle.std.proofs.Common.{◌≡◌, map, ◌∙◌, arith, rules}
 use Rattle.std.specs.Arc.{arc_value}
 use Rattle.journal.specs.declared.event.Kind.TheVariants.{Set}
 use Rattle.book.specs.BookInvariant.{book_state}
-use Rattle.book.specs.Transitions.{book_handed_in, book_closed_by}
+use Rattle.book.specs.Transitions.{transition_handed_in, transition_closed_by}
 use Rattle.book.proofs.Calling.Closing.{closing_opens, closing_still_open, HasClosedSince, closed_since}
-use Rattle.book.proofs.Calling.AskingAndSetting.{IsSetting, still_timed, setting_read, setting_is}
+use Rattle.book.proofs.Calling.AskingAndSetting.{IsSetting, asking_still_timed, setting_read, setting_is}
 use Rattle.book.proofs.book.Book.set.Goals.{After-deref_mut-parts, After-parts, After-index-2}
 use Rattle.book.proofs.book.Book.set.Goals as goal
 
@@ -25,7 +25,7 @@ close-requires-clause-open c =
 
 -- the book once the interval is closed
 closed : (c : After-parts) → book_state c.parts.inside
-    ≡ book_closed_by (book_handed_in c.args.self.now c.args.block.now) c.args.processor (Set c.args.flag)
+    ≡ transition_closed_by (transition_handed_in c.args.self.now c.args.block.now) c.args.processor (Set c.args.flag)
     (map arc_value c.args.records.items)
 closed c =
     let is : HasClosedSince c.deref_mut-parts.result.now c.args.self.now (book_state c.parts.inside) c.args.block.now
@@ -39,13 +39,13 @@ closed c =
 
 pub index-requires-2 : goal.index-requires-2
 index-requires-2 c =
-    let lt = still_timed c.args.self.now (book_state c.parts.inside) c.args.processor (Set c.args.flag) c.args.block.now
+    let lt = asking_still_timed c.args.self.now (book_state c.parts.inside) c.args.processor (Set c.args.flag) c.args.block.now
     (map arc_value c.args.records.items) c.requires.call (closed (goal.at.index-requires-2 c).After-parts) in
     omega (arith, lt, c.parts.inside.times.ok.0)
 
 -- the flag and p's timestamp, as they are read
 setting : (c : After-index-2) → book_state c.parts.inside
-    ≡ book_closed_by (book_handed_in c.args.self.now c.args.block.now) c.args.processor (Set c.args.flag)
+    ≡ transition_closed_by (transition_handed_in c.args.self.now c.args.block.now) c.args.processor (Set c.args.flag)
     (map arc_value c.args.records.items)
     → IsSetting c.args.self.now (book_state c.parts.inside) c.args.processor c.args.flag c.args.block.now
     (map arc_value c.args.records.items) c.index.result.now c.index-2.result.now

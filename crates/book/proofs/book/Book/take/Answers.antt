@@ -12,13 +12,13 @@ use Rattle.transit.specs.Letters.{letter}
 use Rattle.book.specs.declared.refused.Refused.TheVariants.{NotYet, NoMemory}
 use Rattle.journal.specs.Closing.{awaited_kind}
 use Rattle.book.specs.Messages.{message_for}
-use Rattle.book.specs.Calls.{AllowsSignal}
+use Rattle.book.specs.Calls.{AllowsSignalOfCall}
 use Rattle.book.specs.BookInvariant.{book_state}
-use Rattle.book.specs.State.{State, time_of}
-use Rattle.book.specs.Transitions.{trimmed_by, book_taken}
+use Rattle.book.specs.State.{State, state_time_of}
+use Rattle.book.specs.Transitions.{transition_trimmed_by, transition_taken}
 use Rattle.book.specs.Told.{Represents}
-use Rattle.book.proofs.Calling.Closing.{own_read}
-use Rattle.book.proofs.Calling.Receiving.{IsReceiving, reads_receiving, receiving_allows_trim, log_is, taking_address, received_book_is, IsComeRead, comes, IsFoundToReceive, received_is, received_brings, receiving, receiving_not_idle}
+use Rattle.book.proofs.Calling.Closing.{closing_own_read}
+use Rattle.book.proofs.Calling.Receiving.{IsReceiving, reads_receiving, receiving_allows_trim, receiving_log_is, receiving_address, received_book_is, IsReceivedComeRead, receiving_comes, IsFoundToReceive, received_is, received_brings, receiving, receiving_not_idle}
 use Rattle.book.proofs.book.Book.take.Goals.{In-Some, After-has_come, After-index-2, In_ok-message, After-index_mut}
 use Rattle.book.proofs.book.Book.take.Goals.{After-parts}
 use Rattle.book.proofs.book.Book.take.Goals as goal
@@ -56,7 +56,7 @@ waits c =
 come : (c : After-has_come) → IsReceiving (book_state c.parts.inside) c.args.processor (awaited_kind c.in-Some.awaited)
     → (s : Sizes) (h : List Event) → Represents s h c.args.self.now → (c.has_come.result ≡ true) ↔ Ready s h c.args.processor
 come c w =
-    let read : IsComeRead (book_state c.parts.inside) c.args.self.now c.args.processor (awaited_kind c.in-Some.awaited)
+    let read : IsReceivedComeRead (book_state c.parts.inside) c.args.self.now c.args.processor (awaited_kind c.in-Some.awaited)
     c.has_come.result = record {
       flags = c.deref.result.now;
       same = c.parts.view_is ∙ c.deref_mut-parts.ensures.value ∙ c.self.view_is;
@@ -64,20 +64,20 @@ come c w =
       flags_are = c.deref.ensures.value;
       is = c.has_come.ensures;
     } in
-    comes read
+    receiving_comes read
 
 -- p's timestamp, as it was read
 own : (c : After-index-2) → IsReceiving (book_state c.parts.inside) c.args.processor (awaited_kind c.in-Some.awaited)
-    → c.index-2.result.now ≡ time_of (book_state c.parts.inside) c.args.processor
-own c w = own_read c.parts.inside.times.items c.args.processor c.index-2.result.now w.times c.index-2.ensures
+    → c.index-2.result.now ≡ state_time_of (book_state c.parts.inside) c.args.processor
+own c w = closing_own_read c.parts.inside.times.items c.args.processor c.index-2.result.now w.times c.index-2.ensures
 
 -- and as it is written
 written : (c : After-index_mut) → IsReceiving (book_state c.parts.inside) c.args.processor (awaited_kind c.in-Some.awaited)
-    → c.index_mut.result.now ≡ time_of (book_state c.parts.inside) c.args.processor
-written c w = own_read c.parts.inside.times.items c.args.processor c.index_mut.result.now w.times c.index_mut.ensures.value
+    → c.index_mut.result.now ≡ state_time_of (book_state c.parts.inside) c.args.processor
+written c w = closing_own_read c.parts.inside.times.items c.args.processor c.index_mut.result.now w.times c.index_mut.ensures.value
 
 -- the message is what has come
-received : (c : In_ok-message) → c.index-2.result.now ≡ time_of (book_state c.parts.inside) c.args.processor
+received : (c : In_ok-message) → c.index-2.result.now ≡ state_time_of (book_state c.parts.inside) c.args.processor
     → message_for (book_state c.parts.inside) c.args.processor (awaited_kind c.in-Some.awaited) ≡ Some
     (letter c.in_ok-message.message)
 received c is =
@@ -130,8 +130,8 @@ pub receive-requires-clause-flag : goal.receive-requires-clause-flag
 receive-requires-clause-flag c f is =
     let at = goal.at.receive-requires-clause-flag c in
     let w = waits at.In-Some in
-    subst (λ fs. AllowsSignal c.parts.inside.closed fs c.index-2.result.now f) (sym c.deref-2.ensures.value)
-    (subst (λ t. AllowsSignal c.parts.inside.closed c.parts.inside.flags.items t f) (sym (own at.After-index-2 w))
+    subst (λ fs. AllowsSignalOfCall c.parts.inside.closed fs c.index-2.result.now f) (sym c.deref-2.ensures.value)
+    (subst (λ t. AllowsSignalOfCall c.parts.inside.closed c.parts.inside.flags.items t f) (sym (own at.After-index-2 w))
     (w.flag f (ap awaited_kind is)))
 
 pub receive-requires-clause-none : goal.receive-requires-clause-none
@@ -161,7 +161,7 @@ append-requires-clause-processor c =
 pub append-requires-clause-address : goal.append-requires-clause-address
 append-requires-clause-address c =
     subst (λ k. AddressInRange c.make_room.new.journal.addresses k) (sym c.kind-kind.ensures)
-    (taking_address c.make_room.new.journal.addresses (awaited_kind c.in-Some.awaited)
+    (receiving_address c.make_room.new.journal.addresses (awaited_kind c.in-Some.awaited)
     (waits (goal.at.append-requires-clause-address c).In-Some).takes)
 
 pub index_mut-requires : goal.index_mut-requires
@@ -197,7 +197,7 @@ trim-requires c =
     c.deref-3.result.now c.copy-before.result c.join.new.self w c.deref-3.ensures.value
     (c.join.ensures.same_length ∙ ap length (written at.After-index_mut w) ∙ w.own_long)
     (c.copy-before.ensures
-    ∙ own_read c.parts.inside.times.items c.args.processor c.index-3.result.now w.times c.index-3.ensures)
+    ∙ closing_own_read c.parts.inside.times.items c.args.processor c.index-3.result.now w.times c.index-3.ensures)
 
 pub invariant_of-parts-2 : goal.invariant_of-parts-2
 invariant_of-parts-2 c =
@@ -212,7 +212,7 @@ invariant_of-parts-2 c =
     }
 
 -- the message is what p waited for
-was_due : (c : In_ok-message) → c.index-2.result.now ≡ time_of (book_state c.parts.inside) c.args.processor
+was_due : (c : In_ok-message) → c.index-2.result.now ≡ state_time_of (book_state c.parts.inside) c.args.processor
     → message_for c.args.self.now c.args.processor (awaited_kind c.in-Some.awaited) ≡ Some (letter c.in_ok-message.message)
 was_due c is =
     ap (λ (b : State). message_for b c.args.processor (awaited_kind c.in-Some.awaited))
@@ -223,7 +223,7 @@ returns-clause-ok c =
     let at = goal.at.returns-clause-ok c in
     let w = waits at.In-Some in
     let m = letter c.in_ok-message.message in
-    let log = log_is c.parts.inside.journal c.make_room.new.journal c.append.new.self c.parts.inside.owing
+    let log = receiving_log_is c.parts.inside.journal c.make_room.new.journal c.append.new.self c.parts.inside.owing
     (event c.args.processor c.kind-kind.result) c.in_ok-make_room.ensures.same c.append.ensures
     ∙ ap (λ k. record c.parts.inside.journal
     { events = c.parts.inside.journal.events ++ event c.args.processor k ∷ []; room = c.parts.inside.owing })
@@ -231,7 +231,7 @@ returns-clause-ok c =
     let time = c.join.ensures.value ∙ ap (λ (t : List ℕ). join t c.time.result.now) (written at.After-index_mut w)
     ∙ ap (λ (t : List ℕ). join (slice_index_or c.parts.inside.times.items c.args.processor []) t) c.time.ensures in
     let closed = c.trim.ensures
-    ∙ ap (λ (ts : List (List ℕ)). trimmed_by c.parts.inside.closed ts (length ts)) c.deref-3.ensures.value in
+    ∙ ap (λ (ts : List (List ℕ)). transition_trimmed_by c.parts.inside.closed ts (length ts)) c.deref-3.ensures.value in
     record {
       kind = awaited_kind c.in-Some.awaited;
       awaits = ap (λ (b : State). slice_get b.awaits c.args.processor) (sym (same (goal.at.returns-clause-ok c).After-parts))
@@ -246,7 +246,7 @@ returns-clause-ok c =
         transit = c.in_ok-message.ensures.after;
         barrier = c.leave.ensures;
         others = refl;
-      }) ∙ ap (λ (b : State). book_taken b c.args.processor (awaited_kind c.in-Some.awaited) m)
+      }) ∙ ap (λ (b : State). transition_taken b c.args.processor (awaited_kind c.in-Some.awaited) m)
           (same (goal.at.returns-clause-ok c).After-parts);
     }
 

@@ -10,11 +10,11 @@ use Rattle.journal.specs.Closing.{awaited_kind}
 use Rattle.journal.specs.Events.{is_closing}
 use Rattle.journal.specs.Waits.{awaited}
 use Rattle.journal.proofs.Journals.Closings.{closing_closes}
-use Rattle.book.specs.State.{State, time_of}
-use Rattle.book.specs.Transitions.{book_handed_in, book_open_interval, book_closed_by}
+use Rattle.book.specs.State.{State, state_time_of}
+use Rattle.book.specs.Transitions.{transition_handed_in, transition_open_interval, transition_closed_by}
 use Rattle.book.specs.BookInvariant.{book_state}
-use Rattle.book.proofs.Parts.History.{happened_fits}
-use Rattle.book.proofs.Calling.Closing.{StandsToClose, closing_stands, own_read, flushes, block_fits, closing_address, logs_are, closing_is}
+use Rattle.book.proofs.Parts.History.{history_happened_fits}
+use Rattle.book.proofs.Calling.Closing.{StandsToClose, closing_stands, closing_own_read, closing_call_flushes, closing_block_fits, closing_address, closing_logs_are, closing_is}
 use Rattle.book.proofs.protocol.Protocol.close.Goals.{After-self, After-index_mut}
 use Rattle.book.proofs.protocol.Protocol.close.Goals as goal
 
@@ -24,8 +24,8 @@ standing c = closing_stands (book_state c.self.inside) c.args.self.now c.args.pr
 
 -- p's timestamp, as it is read
 own : (c : After-index_mut) → StandsToClose (book_state c.self.inside) c.args.processor
-    → c.index_mut.result.now ≡ time_of (book_state c.self.inside) c.args.processor
-own c st = own_read c.self.inside.times.items c.args.processor c.index_mut.result.now st.times c.index_mut.ensures.value
+    → c.index_mut.result.now ≡ state_time_of (book_state c.self.inside) c.args.processor
+own c st = closing_own_read c.self.inside.times.items c.args.processor c.index_mut.result.now st.times c.index_mut.ensures.value
 
 pub push-requires-clause-owner : goal.push-requires-clause-owner
 push-requires-clause-owner c =
@@ -35,7 +35,7 @@ push-requires-clause-owner c =
 pub push-requires-clause-number : goal.push-requires-clause-number
 push-requires-clause-number c =
     let open_is = c.requires.open
-    ∙ ap (λ (b : State). book_open_interval b c.args.processor c.args.interval.records) (sym c.self.view_is) in
+    ∙ ap (λ (b : State). transition_open_interval b c.args.processor c.args.interval.records) (sym c.self.view_is) in
     ap (λ (i : ClosedInterval). i.number) open_is
     ∙ (standing (goal.at.push-requires-clause-number c).After-self).number
     ∙ ap (λ q. slice_index c.self.inside.closed.next q)
@@ -44,18 +44,18 @@ push-requires-clause-number c =
 pub push-requires-clause-fits : goal.push-requires-clause-fits
 push-requires-clause-fits c =
     let few = (standing (goal.at.push-requires-clause-fits c).After-self).pushed in
-    let all = happened_fits c.self.inside.journal c.self.inside.owing c.self.invariant.few in
+    let all = history_happened_fits c.self.inside.journal c.self.inside.owing c.self.invariant.few in
     omega arith
 
 pub append_all-requires-clause-processor : goal.append_all-requires-clause-processor
 append_all-requires-clause-processor c =
-    (block_fits c.self.inside c.self.view_is c.in_ok-make_room.ensures.same
-    (flushes _ c.args.processor c.args.block.now c.requires.call)).0
+    (closing_block_fits c.self.inside c.self.view_is c.in_ok-make_room.ensures.same
+    (closing_call_flushes _ c.args.processor c.args.block.now c.requires.call)).0
 
 pub append_all-requires-clause-address : goal.append_all-requires-clause-address
 append_all-requires-clause-address c =
-    (block_fits c.self.inside c.self.view_is c.in_ok-make_room.ensures.same
-    (flushes _ c.args.processor c.args.block.now c.requires.call)).1
+    (closing_block_fits c.self.inside c.self.view_is c.in_ok-make_room.ensures.same
+    (closing_call_flushes _ c.args.processor c.args.block.now c.requires.call)).1
 
 pub append-requires-clause-processor : goal.append-requires-clause-processor
 append-requires-clause-processor c =
@@ -85,7 +85,7 @@ tick-requires-clause-fits c =
     let at = goal.at.tick-requires-clause-fits c in
     let st = standing at.After-self in
     let few = st.few in
-    let all = happened_fits c.self.inside.journal c.self.inside.owing c.self.invariant.few in
+    let all = history_happened_fits c.self.inside.journal c.self.inside.owing c.self.invariant.few in
     let e = ap (λ ts. slice_index ts c.args.processor) (own at.After-index_mut st) in
     omega arith
 
@@ -98,11 +98,11 @@ pub returns : goal.returns
 returns c =
     let at = goal.at.returns c in
     let records = c.args.interval.records in
-    let log = logs_are c.self.inside.journal c.make_room.new.journal c.append_all.new.journal c.append.new.self
+    let log = closing_logs_are c.self.inside.journal c.make_room.new.journal c.append_all.new.journal c.append.new.self
     c.self.inside.owing c.args.block.now
     (event c.args.processor c.kind-kind.result) c.in_ok-make_room.ensures.same c.append_all.ensures c.append.ensures in
     let closed = c.in_ok-push.ensures.ok ∙ ap (λ (i : ClosedInterval). pushed c.self.inside.closed i) c.requires.open
-    ∙ ap (λ (b : State). pushed c.self.inside.closed (book_open_interval b c.args.processor records)) (sym c.self.view_is) in
+    ∙ ap (λ (b : State). pushed c.self.inside.closed (transition_open_interval b c.args.processor records)) (sym c.self.view_is) in
     let time = c.tick.ensures ∙ ap (λ ts. tick ts c.args.processor) (own at.After-index_mut (standing at.After-self)) in
     let waits = map-set (option_map awaited_kind) c.self.inside.awaits.items c.args.processor c.awaits.result
     ∙ ap (λ w. slice_set (map (option_map awaited_kind) c.self.inside.awaits.items) c.args.processor w)
@@ -114,8 +114,8 @@ returns c =
         times = ap (λ t. slice_set c.self.inside.times.items c.args.processor t) time;
         awaits = waits;
         others = refl;
-      }) ∙ ap (λ (b : State). book_closed_by (book_handed_in b c.args.block.now) c.args.processor c.kind-kind.result records) c.self.view_is
-          ∙ ap (λ k. book_closed_by (book_handed_in c.args.self.now c.args.block.now) c.args.processor k records) c.kind-kind.ensures;
+      }) ∙ ap (λ (b : State). transition_closed_by (transition_handed_in b c.args.block.now) c.args.processor c.kind-kind.result records) c.self.view_is
+          ∙ ap (λ k. transition_closed_by (transition_handed_in c.args.self.now c.args.block.now) c.args.processor k records) c.kind-kind.ensures;
       err = search rules;
       full = search rules;
       only = search rules;

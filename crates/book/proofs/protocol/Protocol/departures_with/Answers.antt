@@ -5,8 +5,8 @@ use Rattle.interval.specs.SentIntervals.{ClosedInterval}
 use Rattle.interval.specs.Closings.{pushed}
 use Rattle.transit.specs.Letters.{letter}
 use Rattle.book.specs.State.{State}
-use Rattle.book.specs.Transitions.{departure_to}
-use Rattle.book.proofs.Calling.Arriving.{AreDepartures, departures_are, none_depart}
+use Rattle.book.specs.Transitions.{transition_departure_to}
+use Rattle.book.proofs.Calling.Arriving.{AreDeparturesByArriving, arriving_departures_are, arriving_none_depart}
 use Rattle.book.proofs.protocol.Protocol.departures_with.Goals.{After-completes-is_last}
 use Rattle.book.proofs.protocol.Protocol.departures_with.Goals as goal
 
@@ -21,14 +21,14 @@ full c =
 
 pub returns-then-not-is_last : goal.returns-then-not-is_last
 returns-then-not-is_last c =
-    none_depart (pushed c.args.self.now.closed c.args.interval.now) c.args.self.now.barrier
+    arriving_none_depart (pushed c.args.self.now.closed c.args.interval.now) c.args.self.now.barrier
     (slice_set c.args.self.now.times c.args.interval.now.owner c.args.own.now)
     c.args.interval.now.owner c.args.own.now c.completes-is_last.result
     (full (goal.at.returns-then-not-is_last c).After-completes-is_last) c.if-not-is_last.true
 
 pub returns : goal.returns
 returns c =
-    let are : AreDepartures (pushed c.args.self.now.closed c.args.interval.now) c.args.self.now.barrier
+    let are : AreDeparturesByArriving (pushed c.args.self.now.closed c.args.interval.now) c.args.self.now.barrier
     (slice_set c.args.self.now.times c.args.interval.now.owner c.args.own.now) c.args.interval.now.owner
     c.args.own.now (map letter c.in_ok-all.all.items) = record {
       u = c.time_with-time.result;
@@ -39,9 +39,9 @@ returns c =
           ∙ ap (λ (b : State). join b.barrier.gathered c.args.own.now) c.self.view_is;
       made = c.in_ok-all.ensures
           ∙ ap (λ (ts : List (List ℕ)). map
-          (departure_to (pushed c.self.inside.closed c.args.interval.now) c.time_with-time.result)
+          (transition_departure_to (pushed c.self.inside.closed c.args.interval.now) c.time_with-time.result)
           (slice_set ts c.args.interval.now.owner c.args.own.now)) c.deref.ensures.value
-          ∙ ap (λ (b : State). map (departure_to (pushed b.closed c.args.interval.now) c.time_with-time.result)
+          ∙ ap (λ (b : State). map (transition_departure_to (pushed b.closed c.args.interval.now) c.time_with-time.result)
           (slice_set b.times c.args.interval.now.owner c.args.own.now)) c.self.view_is;
     } in
-    departures_are are
+    arriving_departures_are are

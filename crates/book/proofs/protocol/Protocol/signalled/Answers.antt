@@ -1,6 +1,6 @@
 use Rattle.std.proofs.Common.{refl, sym, arith}
 use Rattle.book.specs.BookInvariant.{book_state}
-use Rattle.book.proofs.Calling.Receiving.{receiving_flag, IsSignalRead, signalled}
+use Rattle.book.proofs.Calling.Receiving.{receiving_flag, IsReceivedSignalRead, receiving_signalled}
 use Rattle.book.proofs.protocol.Protocol.signalled.Goals as goal
 
 pub index-requires : goal.index-requires
@@ -15,7 +15,7 @@ index-requires-2 c =
 
 pub returns-clause-set : goal.returns-clause-set
 returns-clause-set c =
-    let reads : IsSignalRead (book_state c.self.inside) c.args.self.now c.args.processor c.args.flag c.index-2.result.now
+    let reads : IsReceivedSignalRead (book_state c.self.inside) c.args.self.now c.args.processor c.args.flag c.index-2.result.now
     c.in_ok-time.time.now = record {
       o = c.index.result.now;
       same = c.self.view_is;
@@ -24,4 +24,4 @@ returns-clause-set c =
       flag_is = c.index.ensures;
       set = sym c.in_ok-time.ensures.value;
     } in
-    signalled reads
+    receiving_signalled reads

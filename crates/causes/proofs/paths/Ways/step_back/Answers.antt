@@ -6,7 +6,7 @@ use Rattle.journal.specs.declared.event.Kind.TheVariants.{Load}
 use Rattle.journal.specs.DidEvent.{event}
 use Rattle.journal.specs.HappensBeforeEdges.{Edge}
 use Rattle.journal.specs.Pasts.{UpTo}
-use Rattle.journal.proofs.Order.CountedAndNumbered.{does_at}
+use Rattle.journal.proofs.Order.CountedAndNumbered.{numbered_does_at}
 use Rattle.causes.specs.Edges.{EdgeFromOther}
 use Rattle.causes.specs.News.{IsNews}
 use Rattle.causes.specs.Paths.{IsFirstReached}
@@ -26,7 +26,7 @@ returns c =
     let i = c.args.from in
     let k = c.args.to in
     let e : Event = slice_index_or events k (event 0 (Load 0 0)) in
-    let does = does_at events k e.processor e (slice_get-get_or events k (event 0 (Load 0 0)) c.requires.to) refl in
+    let does = numbered_does_at events k e.processor e (slice_get-get_or events k (event 0 (Load 0 0)) c.requires.to) refl in
     let m = c.in_ok-first.first in
     let first = c.in_ok-first.ensures in
     let up : m ≤ k = (reached_from events e.processor i m k e.kind first does).1 c.requires.reached in

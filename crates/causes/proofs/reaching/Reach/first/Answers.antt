@@ -8,7 +8,7 @@ use Rattle.journal.specs.declared.event.Kind.TheVariants.{Load}
 use Rattle.journal.specs.DidEvent.{event}
 use Rattle.journal.specs.Events.{At, interval_at}
 use Rattle.journal.specs.WellFormed.{Does}
-use Rattle.journal.proofs.Order.CountedAndNumbered.{at_within, does_at}
+use Rattle.journal.proofs.Order.CountedAndNumbered.{numbered_at_within, numbered_does_at}
 use Rattle.causes.specs.declared.takings.Taking.{Taking}
 use Rattle.causes.specs.declared.reaching.Reach.{Reach}
 use Rattle.causes.specs.Takings.{AreTakings, IsFirstAbove, NoneAbove}
@@ -30,7 +30,7 @@ number_read : (j : List Event) (x : Reach) (i n : ℕ) (e : Event) → IsReach j
     → n ≡ slice_index_or x.numbers.items i n → n ≡ interval_at j e.processor i
 number_read j x i n e tells at read =
     let long = tells.numbers.long in
-    let within = at_within j i e at in
+    let within = numbered_at_within j i e at in
     sym (get_or_from_slice_get x.numbers.items i n 0
     (slice_get_read x.numbers.items (length x.numbers.items) i n refl (omega arith) read))
     ∙ tells.numbers.each i e at
@@ -57,7 +57,7 @@ first_above-requires-clause-parted c =
     let tells = c.requires.tells in
     let at = slice_get-get_or events i (event 0 (Load 0 0)) c.requires.from in
     parted events e.processor q i (length events) c.index-2.result.now e.kind c.deref.result.now
-    (does_at events i e.processor e at refl) c.if-by-processor.false
+    (numbered_does_at events i e.processor e at refl) c.if-by-processor.false
     (number_read events x i c.index-2.result.now e tells at c.index-2.ensures)
     (row_read events x q c.index.result.now c.deref.result.now tells c.requires.processor c.index.ensures
     c.deref.ensures.value)
@@ -68,7 +68,7 @@ returns-then-by-processor c =
     let i = c.args.from in
     let e = here events i in
     first_own events c.args.processor i e.kind
-    (does_at events i c.args.processor e (slice_get-get_or events i (event 0 (Load 0 0)) c.requires.from)
+    (numbered_does_at events i c.args.processor e (slice_get-get_or events i (event 0 (Load 0 0)) c.requires.from)
     c.if-by-processor.true)
 
 pub returns : goal.returns
@@ -81,7 +81,7 @@ returns c =
     let tells = c.requires.tells in
     let at = slice_get-get_or events i (event 0 (Load 0 0)) c.requires.from in
     found events e.processor q i c.index-2.result.now e.kind c.deref.result.now c.first_above.result
-    (does_at events i e.processor e at refl) c.if-by-processor.false
+    (numbered_does_at events i e.processor e at refl) c.if-by-processor.false
     (number_read events x i c.index-2.result.now e tells at c.index-2.ensures)
     (row_read events x q c.index.result.now c.deref.result.now tells c.requires.processor c.index.ensures
     c.deref.ensures.value) c.first_above.ensures

@@ -2,10 +2,10 @@
 use Rattle.std.proofs.Common.{refl, arith}
 use Rattle.std.specs.Option.{option_map}
 use Rattle.journal.specs.Closing.{awaited_kind}
-use Rattle.cluster.specs.Seats.{local}
+use Rattle.cluster.specs.Seats.{seat_local}
 use Rattle.cluster.proofs.Found.{found_may_flush}
 use Rattle.cluster.proofs.Visiting.{visited_book_found, visit_gives_back, visited, visit_left_as}
-use Rattle.cluster.proofs.UnchangedCalls.{alike_all, call_refused_with, call_spent, call_refused, unchanged_sound}
+use Rattle.cluster.proofs.UnchangedCalls.{unchanged_copies_alike, call_refused_with, call_spent, call_refused, unchanged_sound}
 use Rattle.cluster.proofs.Handing.{call_of_hand_in, Handed, handed_visit, handed_good, handed_done, handed_audit_done}
 use Rattle.cluster.proofs.cluster.Cluster.audit.Given as given
 use Rattle.cluster.proofs.cluster.Cluster.audit.Goals as goal
@@ -34,7 +34,7 @@ pub invariant_of-processor-in_err-journal : goal.invariant_of-processor-in_err-j
 invariant_of-processor-in_err-journal g c =
     let m = c.processor.invariant in
     let visit = visited m.0 m.1 refl c.in_ok-held.ensures.entered c.give_book.ensures in
-    (unchanged_sound (visit_left_as visit c.in_err-journal.ensures.call.err) _ (alike_all _), visit.seated, m.2)
+    (unchanged_sound (visit_left_as visit c.in_err-journal.ensures.call.err) _ (unchanged_copies_alike _), visit.seated, m.2)
 
 pub returns-in_err-journal-clause-call : goal.returns-in_err-journal-clause-call
 returns-in_err-journal-clause-call g c =
@@ -47,7 +47,7 @@ returns-in_err-journal-clause-call g c =
 -- the block was handed in
 handed : (g : given.Over) (c : After-clear g)
     → let x = c.processor.inside in
-    Handed (local x.chair x.number x.shape x.block.items x.replicas.items x.stored x.time x.held.items (option_map awaited_kind x.awaits))
+    Handed (seat_local x.chair x.number x.shape x.block.items x.replicas.items x.stored x.time x.held.items (option_map awaited_kind x.awaits))
     c.in_ok-held.book c.audit-audited.new.self c.give_book.new.chair
 handed g c =
     let m = c.processor.invariant in

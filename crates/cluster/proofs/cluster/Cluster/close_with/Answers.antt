@@ -5,11 +5,11 @@ use Rattle.std.specs.Option.{option_map}
 use Rattle.journal.specs.Closing.{awaited_kind, closing_kind}
 use Rattle.cluster.specs.Copies.MarksAndHarvests.{AreHarvests}
 use Rattle.cluster.specs.Copies.Local.{Local}
-use Rattle.cluster.specs.Seats.{local}
-use Rattle.cluster.specs.Closing.{MayMake}
-use Rattle.cluster.proofs.ClosingCalls.{marked_well, may_close, has_closed, call_of_close, Closed, closed_visit, closed_good, closed_done}
+use Rattle.cluster.specs.Seats.{seat_local}
+use Rattle.cluster.specs.Closing.{MayMakeClosing}
+use Rattle.cluster.proofs.ClosingCalls.{closing_call_marked_well, may_close, has_closed, call_of_close, Closed, closed_visit, closed_good, closed_done}
 use Rattle.cluster.proofs.Visiting.{visited_book_found, visit_gives_back, visited, visit_left_as}
-use Rattle.cluster.proofs.UnchangedCalls.{alike_all, call_refused_with, call_spent, call_refused, unchanged_sound}
+use Rattle.cluster.proofs.UnchangedCalls.{unchanged_copies_alike, call_refused_with, call_spent, call_refused, unchanged_sound}
 use Rattle.cluster.proofs.cluster.Cluster.close_with.Given as given
 use Rattle.cluster.proofs.cluster.Cluster.close_with.Goals as goal
 use Rattle.cluster.proofs.cluster.Cluster.close_with.Goals.{After-clear}
@@ -24,14 +24,14 @@ pub close_in-closed-requires-clause-call : goal.close_in-closed-requires-clause-
 close_in-closed-requires-clause-call g c =
     let m = c.processor.invariant in
     let finds = visited_book_found m.0 m.1 refl c.in_ok-held.book c.in_ok-held.ensures.finds in
-    let may = subst (λ (l : Local). MayMake l (closing_kind c.args.closing)) (sym c.processor.view_is) c.requires.may in
+    let may = subst (λ (l : Local). MayMakeClosing l (closing_kind c.args.closing)) (sym c.processor.view_is) c.requires.may in
     rw (c.as_slice-block.ensures.value) (may_close _ m.0 c.in_ok-held.book finds (closing_kind c.args.closing) may)
 
 pub give_book-requires-clause-call : goal.give_book-requires-clause-call
 give_book-requires-clause-call g c κs within =
     let m = c.processor.invariant in
     let made = c.close_in-closed.ensures in
-    let may = subst (λ (l : Local). MayMake l (closing_kind c.args.closing)) (sym c.processor.view_is) c.requires.may in
+    let may = subst (λ (l : Local). MayMakeClosing l (closing_kind c.args.closing)) (sym c.processor.view_is) c.requires.may in
     let are =
     subst (λ (l : Local). AreHarvests l.copies (map arc_value c.args.records.items)) (sym c.processor.view_is)
     c.requires.records in
@@ -43,7 +43,7 @@ pub invariant_of-processor-in_err-closed : goal.invariant_of-processor-in_err-cl
 invariant_of-processor-in_err-closed g c =
     let m = c.processor.invariant in
     let visit = visited m.0 m.1 refl c.in_ok-held.ensures.entered c.give_book.ensures in
-    (unchanged_sound (visit_left_as visit c.in_err-closed.ensures.err) _ (alike_all _), visit.seated, m.2)
+    (unchanged_sound (visit_left_as visit c.in_err-closed.ensures.err) _ (unchanged_copies_alike _), visit.seated, m.2)
 
 pub returns-in_err-closed : goal.returns-in_err-closed
 returns-in_err-closed g c =
@@ -56,12 +56,12 @@ returns-in_err-closed g c =
 -- the interval was closed
 closed : (g : given.Over) (c : After-clear g)
     → let x = c.processor.inside in
-    Closed (local x.chair x.number x.shape x.block.items x.replicas.items x.stored x.time x.held.items (option_map awaited_kind x.awaits))
+    Closed (seat_local x.chair x.number x.shape x.block.items x.replicas.items x.stored x.time x.held.items (option_map awaited_kind x.awaits))
     c.in_ok-held.book (closing_kind c.args.closing) (map arc_value c.args.records.items) c.give_book.new.chair
 closed g c =
     let m = c.processor.invariant in
     let visit = visited m.0 m.1 refl c.in_ok-held.ensures.entered c.give_book.ensures in
-    let may = subst (λ (l : Local). MayMake l (closing_kind c.args.closing)) (sym c.processor.view_is) c.requires.may in
+    let may = subst (λ (l : Local). MayMakeClosing l (closing_kind c.args.closing)) (sym c.processor.view_is) c.requires.may in
     let are =
     subst (λ (l : Local). AreHarvests l.copies (map arc_value c.args.records.items)) (sym c.processor.view_is)
     c.requires.records in
@@ -98,7 +98,7 @@ returns g c =
     ) (closed_done (closed g (goal.at.returns g c).After-clear))
 
 pub clean-requires : goal.clean-requires
-clean-requires g c = marked_well _ c.processor.invariant.0
+clean-requires g c = closing_call_marked_well _ c.processor.invariant.0
 
 pub close_in-closed-requires-clause-short : goal.close_in-closed-requires-clause-short
 close_in-closed-requires-clause-short g c = rw (c.as_slice-block.ensures.value) c.processor.invariant.0.short
@@ -116,7 +116,7 @@ pub close_in-closed-requires-clause-told : goal.close_in-closed-requires-clause-
 close_in-closed-requires-clause-told g c =
     let m = c.processor.invariant in
     let finds = visited_book_found m.0 m.1 refl c.in_ok-held.book c.in_ok-held.ensures.finds in
-    let may = subst (λ (l : Local). MayMake l (closing_kind c.args.closing)) (sym c.processor.view_is) c.requires.may in
+    let may = subst (λ (l : Local). MayMakeClosing l (closing_kind c.args.closing)) (sym c.processor.view_is) c.requires.may in
     let are =
     subst (λ (l : Local). AreHarvests l.copies (map arc_value c.args.records.items)) (sym c.processor.view_is)
     c.requires.records in

@@ -1,7 +1,7 @@
 -- The goals are those of each call that enters, over records of this one's steps: proofs/Visiting has what they share.
 use Rattle.std.proofs.Common.{refl}
 use Rattle.cluster.proofs.Visiting.{visit_gives_back, visited, visit_left_as}
-use Rattle.cluster.proofs.UnchangedCalls.{alike_all, call_refused_with, unchanged_sound}
+use Rattle.cluster.proofs.UnchangedCalls.{unchanged_copies_alike, call_refused_with, unchanged_sound}
 use Rattle.cluster.proofs.CuttingCalls.{call_of_cutting, cutting_good, cutting_done, cutting_refused, cutting_spent}
 use Rattle.cluster.proofs.cluster.Cluster.cut.Goals as goal
 
@@ -22,7 +22,7 @@ pub invariant_of-processor-in_err-cut : goal.invariant_of-processor-in_err-cut
 invariant_of-processor-in_err-cut g c =
     let m = c.processor.invariant in
     let visit = visited m.0 m.1 refl c.in_ok-held.ensures.entered c.give_book.ensures in
-    (unchanged_sound (visit_left_as visit c.in_err-cut.ensures.err) _ (alike_all _), visit.seated, m.2)
+    (unchanged_sound (visit_left_as visit c.in_err-cut.ensures.err) _ (unchanged_copies_alike _), visit.seated, m.2)
 
 pub returns-in_err-cut : goal.returns-in_err-cut
 returns-in_err-cut g c =

@@ -1,7 +1,7 @@
 use Rattle.std.proofs.Common.{refl, arith}
 use Rattle.cluster.proofs.Found.{found_may_flush}
 use Rattle.cluster.proofs.Visiting.{visited_book_found, visit_gives_back, visited, visit_left_as}
-use Rattle.cluster.proofs.UnchangedCalls.{alike_all, call_refused_with, call_spent, call_refused, unchanged_sound}
+use Rattle.cluster.proofs.UnchangedCalls.{unchanged_copies_alike, call_refused_with, call_spent, call_refused, unchanged_sound}
 use Rattle.cluster.proofs.Handing.{call_of_hand_in, handed_visit, handed_good, handed_done}
 use Rattle.cluster.proofs.cluster.Cluster.flush.Goals as goal
 
@@ -28,7 +28,7 @@ pub invariant_of-processor-in_err-handed : goal.invariant_of-processor-in_err-ha
 invariant_of-processor-in_err-handed g c =
     let m = c.processor.invariant in
     let visit = visited m.0 m.1 refl c.in_ok-held.ensures.entered c.give_book.ensures in
-    (unchanged_sound (visit_left_as visit c.in_err-handed.ensures.err) _ (alike_all _), visit.seated, m.2)
+    (unchanged_sound (visit_left_as visit c.in_err-handed.ensures.err) _ (unchanged_copies_alike _), visit.seated, m.2)
 
 pub returns-in_err-handed : goal.returns-in_err-handed
 returns-in_err-handed g c =

@@ -1,12 +1,12 @@
 use Rattle.std.proofs.Common.{ℕ, ◌≡◌, ◌^◌, [], replicate, refl, sym, subst, subst₂, ap, ◌∙◌, arith}
 use Rattle.std.proofs.lemmas.Nat.{mul-le}
 use Rattle.journal.specs.Sizes.{Sizes}
-use Rattle.turn.specs.Chairs.{LockId}
+use Rattle.turn.specs.Chairs.{ChairLockId}
 use Rattle.book.specs.State.{State}
-use Rattle.book.specs.Transitions.{new_book}
+use Rattle.book.specs.Transitions.{transition_new_book}
 use Rattle.cluster.specs.Copies.Local.{new_local}
 use Rattle.cluster.specs.Copies.Sound.{AreSoundSizes}
-use Rattle.cluster.specs.KeptViews.{LockInvariant, view_of_nothing, book_sizes}
+use Rattle.cluster.specs.KeptViews.{LockInvariant, view_of_nothing, view_book_sizes}
 use Rattle.cluster.proofs.Starting.{start_sizes, start_kept, start_covered}
 use Rattle.cluster.proofs.cluster.Cluster.lawful.Goals as goal
 
@@ -26,15 +26,15 @@ pub new-requires-4-clause-fact : goal.new-requires-4-clause-fact
 new-requires-4-clause-fact g c =
     let s = c.args.shape in
     let size = ap (λ (x : Sizes). x.processors) c.shape.view_is in
-    let book = c.in_ok-book.ensures ∙ ap new_book c.shape.view_is in
-    let P : State → ℕ → Type 0 = λ b n. LockInvariant s [] b (replicate n (view_of_nothing (book_sizes b))) in
+    let book = c.in_ok-book.ensures ∙ ap transition_new_book c.shape.view_is in
+    let P : State → ℕ → Type 0 = λ b n. LockInvariant s [] b (replicate n (view_of_nothing (view_book_sizes b))) in
     let kept = start_kept s c.requires.sizes.some_processors in
     (s, [], subst₂ P (sym book) (sym size) (rw (start_sizes s c.requires.sizes.some_words) kept))
 
 pub seat_all-all-requires-clause-chairs : goal.seat_all-all-requires-clause-chairs
 seat_all-all-requires-clause-chairs g c κs within =
-    let same : book_sizes c.in_ok-book.book ≡ c.args.shape =
-    ap book_sizes (c.in_ok-book.ensures ∙ ap new_book c.shape.view_is)
+    let same : view_book_sizes c.in_ok-book.book ≡ c.args.shape =
+    ap view_book_sizes (c.in_ok-book.ensures ∙ ap transition_new_book c.shape.view_is)
     ∙ start_sizes c.args.shape c.requires.sizes.some_words in
     let made = c.in_ok-turn.ensures in (
       (let long = made.1 in let size = ap (λ (x : Sizes). x.processors) c.shape.view_is in omega arith),
@@ -55,7 +55,7 @@ returns-clause-new g c =
       all = seated.all ∙ made.1 ∙ ap (λ (x : Sizes). x.processors) c.shape.view_is;
       each =
           λ p m at. let x = seated.each p m at in
-          x.is ∙ ap (λ (l : LockId). new_local l p c.args.shape) (made.2 p x.chair x.at).0;
+          x.is ∙ ap (λ (l : ChairLockId). new_local l p c.args.shape) (made.2 p x.chair x.at).0;
     }
 
 pub returns-clause-covers : goal.returns-clause-covers

@@ -4,10 +4,10 @@ use Rattle.journal.specs.Closing.{awaited_kind}
 use Rattle.transit.specs.Letters.{letter}
 use Rattle.cluster.specs.Copies.Local.{Local}
 use Rattle.cluster.proofs.copies.Taking.{taking_after_same}
-use Rattle.cluster.specs.Seats.{local}
+use Rattle.cluster.specs.Seats.{seat_local}
 use Rattle.cluster.proofs.Visiting.{visited_book_found, visit_gives_back, visited, visit_left_as}
 use Rattle.cluster.proofs.UnchangedCalls.{call_refused_with, call_outside, call_spent, unchanged_sound}
-use Rattle.cluster.proofs.TakenCalls.{TakenCall, taken_visit, may_take, call_of_receive, call_of_take_refused, may_learn_taken, taken_long, taken_good, taken_done}
+use Rattle.cluster.proofs.TakenCalls.{TakenCall, taken_visit, taken_call_may_take, call_of_receive, call_of_take_refused, may_learn_taken, taken_long, taken_good, taken_done}
 use Rattle.cluster.proofs.cluster.Cluster.take.Given as given
 use Rattle.cluster.proofs.cluster.Cluster.take.Goals as goal
 use Rattle.cluster.proofs.cluster.Cluster.take.Goals.{In_ok-received}
@@ -15,7 +15,7 @@ use Rattle.cluster.proofs.cluster.Cluster.take.Goals.{In_ok-received}
 -- the processor took what it waits for
 took : (g : given.Over) (c : In_ok-received g)
     → let x = c.processor.inside in
-    TakenCall (local x.chair x.number x.shape x.block.items x.replicas.items x.stored x.time x.held.items (option_map awaited_kind x.awaits))
+    TakenCall (seat_local x.chair x.number x.shape x.block.items x.replicas.items x.stored x.time x.held.items (option_map awaited_kind x.awaits))
     c.in_ok-held.book (awaited_kind c.in_ok-awaited.awaited) (letter c.in_ok-received.field-0) c.give_book.new.chair
 took g c =
     let m = c.processor.invariant in
@@ -44,7 +44,7 @@ pub receive-received-requires-clause-call : goal.receive-received-requires-claus
 receive-received-requires-clause-call g c =
     let m = c.processor.invariant in
     let waits = ap (λ (l : Local). l.awaits) c.processor.view_is ∙ c.in_ok-awaited.ensures.waits in
-    may_take _ m.0 _ _ waits (visited_book_found m.0 m.1 refl c.in_ok-held.book c.in_ok-held.ensures.finds)
+    taken_call_may_take _ m.0 _ _ waits (visited_book_found m.0 m.1 refl c.in_ok-held.book c.in_ok-held.ensures.finds)
 
 pub give_book-requires-clause-call : goal.give_book-requires-clause-call
 give_book-requires-clause-call g c κs within =

@@ -2,8 +2,8 @@ use Rattle.std.proofs.Common.{◌≡◌, Some, map, slice_get, subst, arith}
 use Rattle.std.specs.Vec.{vec_items}
 use Rattle.std.proofs.lemmas.List.{length-map}
 use Rattle.cluster.specs.Finishing.{IsFinishing}
-use Rattle.cluster.proofs.copies.Steps.{item_at}
-use Rattle.cluster.proofs.FinishingLastBlocks.{mapped_at, may_last_block, fits_last_block, finishing_one_more_block}
+use Rattle.cluster.proofs.copies.Steps.{step_item_at}
+use Rattle.cluster.proofs.FinishingLastBlocks.{last_blocks_mapped_at, may_last_block, fits_last_block, finishing_one_more_block}
 use Rattle.cluster.proofs.cluster.finishing.hand_in_all.Goals as goal
 use Rattle.cluster.proofs.cluster.finishing.hand_in_all.Goals.{After-index-blocks-p}
 
@@ -11,8 +11,8 @@ use Rattle.cluster.proofs.cluster.finishing.hand_in_all.Goals.{After-index-block
 here : (c : After-index-blocks-p)
     → slice_get (map vec_items c.args.blocks.now) c.loop-p.p ≡ Some c.index-blocks-p.result.items
 here c =
-    mapped_at vec_items c.args.blocks.now c.loop-p.p c.index-blocks-p.result
-    (item_at c.args.blocks.now c.loop-p.p c.index-blocks-p.result c.loop-p-test.true c.index-blocks-p.is)
+    last_blocks_mapped_at vec_items c.args.blocks.now c.loop-p.p c.index-blocks-p.result
+    (step_item_at c.args.blocks.now c.loop-p.p c.index-blocks-p.result c.loop-p-test.true c.index-blocks-p.is)
 
 pub last-requires-clause-call : goal.last-requires-clause-call
 last-requires-clause-call c =

@@ -1,8 +1,8 @@
-use Rattle.cluster.proofs.PreparingRoom.{in_time, may_look, prepared_never_absent, room_brought}
+use Rattle.cluster.proofs.PreparingRoom.{room_prepared_in_time, room_preparing_may_look, prepared_never_absent, room_brought}
 use Rattle.cluster.proofs.cluster.taking.receive_ready.Goals as goal
 
 pub prepare-requires-clause-call : goal.prepare-requires-clause-call
-prepare-requires-clause-call c = may_look c.args.book.now c.args.p c.requires.call
+prepare-requires-clause-call c = room_preparing_may_look c.args.book.now c.args.p c.requires.call
 
 pub returns-clause-room : goal.returns-clause-room
 returns-clause-room c =
@@ -12,4 +12,4 @@ returns-clause-room c =
 pub returns-clause-only : goal.returns-clause-only
 returns-clause-only c =
     let never = prepared_never_absent c.take.result c.args.book.now c.args.p c.requires.call c.requires.ready c.take.ensures.absent in
-    in_time c.take.result never c.take.ensures.only
+    room_prepared_in_time c.take.result never c.take.ensures.only

@@ -6,29 +6,29 @@ use Rattle.page.specs.CarriedHarvests.{IsHarvest}
 use Rattle.page.specs.Contents.{IsClean}
 use Rattle.cluster.specs.Copies.PageReplica.{Copied}
 use Rattle.cluster.specs.Copies.MarksAndHarvests.{AreHarvests}
-use Rattle.cluster.proofs.copies.Steps.{item_at}
-use Rattle.cluster.proofs.copies.Marked.{marked_harvests_end, marked_harvests_past, marked_harvests_none_at, marked_harvests_more_at, unmarked}
+use Rattle.cluster.proofs.copies.Steps.{step_item_at}
+use Rattle.cluster.proofs.copies.Marked.{marked_harvests_end, marked_harvests_past, marked_harvests_none_at, marked_harvests_more_at, marked_nowhere}
 use Rattle.cluster.proofs.copies.harvesting.harvest.Goals as goal
 use Rattle.cluster.proofs.copies.harvesting.harvest.Goals.{in-Some+then-page-replicas, in_default, in-Some-2+in_ok-new+in_ok-push, in_default-2}
 
 pub returns-in_err-record-clause-unmarked : goal.returns-in_err-record-clause-unmarked
 returns-in_err-record-clause-unmarked c none =
-    absurd (unmarked c.args.stored.now c.loop-page.next c.in-Some.page c.in-Some.ensures.some none)
+    absurd (marked_nowhere c.args.stored.now c.loop-page.next c.in-Some.page c.in-Some.ensures.some none)
 
 pub returns-in_err-new-clause-unmarked : goal.returns-in_err-new-clause-unmarked
 returns-in_err-new-clause-unmarked c none =
-    absurd (unmarked c.args.stored.now c.loop-page.next c.in-Some.page c.in-Some.ensures.some none)
+    absurd (marked_nowhere c.args.stored.now c.loop-page.next c.in-Some.page c.in-Some.ensures.some none)
 
 pub returns-in_err-push-clause-unmarked : goal.returns-in_err-push-clause-unmarked
 returns-in_err-push-clause-unmarked c none =
-    absurd (unmarked c.args.stored.now c.loop-page.next c.in-Some.page c.in-Some.ensures.some none)
+    absurd (marked_nowhere c.args.stored.now c.loop-page.next c.in-Some.page c.in-Some.ensures.some none)
 
 pub loop-page-preserved : goal.loop-page-preserved
 loop-page-preserved c =
     let xs = c.args.replicas.now in
     let page = c.in-Some.page in
     let copy : Copied = c.index-replicas-page.result in
-    let at : slice_get xs page ≡ Some copy = item_at xs page copy (omega arith) c.index-replicas-page.is in
+    let at : slice_get xs page ≡ Some copy = step_item_at xs page copy (omega arith) c.index-replicas-page.is in
     let rs : List Changes = map arc_value c.loop-page.records.items in
     let is = c.in-Some.ensures.some in
     let so_far = c.loop-page.invariant.harvests in

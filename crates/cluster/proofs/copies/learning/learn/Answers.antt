@@ -3,7 +3,7 @@ use Rattle.std.specs.Vec.Iter.{into_iter_items}
 use Rattle.interval.specs.SentIntervals.{SentRecord}
 use Rattle.cluster.specs.Copies.PageReplica.{Copied}
 use Rattle.cluster.specs.Copies.AfterNews.{IsAfterNews, AreAfterNews, MayLearnNews, MayLackNews}
-use Rattle.cluster.proofs.copies.Steps.{item_at}
+use Rattle.cluster.proofs.copies.Steps.{step_item_at}
 use Rattle.cluster.proofs.copies.LearnedAll.{learned_page_within, may_learn_one, may_learn_others, learned_news_more, learned_news_start}
 use Rattle.cluster.proofs.copies.learning.learn.Goals as goal
 
@@ -51,7 +51,7 @@ learn-requires c =
     let copy : Copied = c.index-replicas-page.result in
     let within = learned_page_within xs x rest may in
     let at : slice_get xs c.sent.inside.notice.page ≡ Some copy =
-    item_at xs c.sent.inside.notice.page copy (omega arith) c.index-replicas-page.is
+    step_item_at xs c.sent.inside.notice.page copy (omega arith) c.index-replicas-page.is
     in
     let Q : ℕ → Type 0 = λ n. slice_get xs n ≡ Some copy in
     let R : Copied → Type 0 = λ d. MayLackNews d (x ∷ []) in
@@ -68,7 +68,7 @@ loop-sent-preserved c =
     let same : page ≡ x.notice.page = ap (λ (y : SentRecord). y.notice.page) c.sent.view_is in
     let copy : Copied = c.index-replicas-page.result in
     let within = learned_page_within xs x rest may in
-    let here : slice_get xs page ≡ Some copy = item_at xs page copy (omega arith) c.index-replicas-page.is in
+    let here : slice_get xs page ≡ Some copy = step_item_at xs page copy (omega arith) c.index-replicas-page.is in
     let Q : ℕ → Type 0 = λ n. slice_get xs n ≡ Some copy in
     let at = subst Q same here in
     let d : Copied = c.learn.new.self in

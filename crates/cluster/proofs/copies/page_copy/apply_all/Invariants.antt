@@ -1,6 +1,6 @@
 use Rattle.std.proofs.Common.{◌≡◌, length, map, drop}
 use Rattle.base.specs.MarkedRecords.{records_applied}
-use Rattle.cluster.specs.Copies.PageReplica.{record_words}
+use Rattle.cluster.specs.Copies.PageReplica.{replica_record_words}
 use Rattle.cluster.proofs.copies.page_copy.apply_all.Given as goal
 
 abbrev pub invariant-loop-index : goal.invariant-loop-index
@@ -8,6 +8,6 @@ invariant-loop-index l = record {
   long : length l.page.words ≡ length l.initial.page.words;
   dirty : l.page.dirty ≡ l.initial.page.dirty;
   access : l.page.access ≡ l.initial.page.access;
-  applied : records_applied l.page.words (map record_words (drop l.index l.missing.records))
-      ≡ records_applied l.initial.page.words (map record_words l.missing.records);
+  applied : records_applied l.page.words (map replica_record_words (drop l.index l.missing.records))
+      ≡ records_applied l.initial.page.words (map replica_record_words l.missing.records);
 }

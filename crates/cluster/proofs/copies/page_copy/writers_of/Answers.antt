@@ -1,12 +1,12 @@
 use Rattle.std.proofs.Common.{ℕ, ◌≡◌, Bool, Some, take, slice_get, ap, subst₂, arith}
 use Rattle.interval.specs.SentIntervals.{SentRecord}
 use Rattle.cluster.proofs.copies.Steps.{step_found_taken}
-use Rattle.cluster.proofs.copies.Owners.{no_owners, no_marks, owner_again, owner_new}
+use Rattle.cluster.proofs.copies.Owners.{no_owners, owners_no_marks, owner_again, owner_new}
 use Rattle.cluster.proofs.copies.page_copy.writers_of.Goals as goal
 use Rattle.cluster.proofs.copies.page_copy.writers_of.Goals.{then-not-has, else-not-has}
 
 pub loop-index-init : goal.loop-index-init
-loop-index-init c = record { counted = no_owners; marked = rw (c.none-owners.ensures) no_marks; few = omega arith }
+loop-index-init c = record { counted = no_owners; marked = rw (c.none-owners.ensures) owners_no_marks; few = omega arith }
 
 pub has-requires : goal.has-requires
 has-requires c =

@@ -3,7 +3,7 @@ use Rattle.std.specs.Option.{option_map}
 use Rattle.std.specs.Result.{result_err}
 use Rattle.journal.specs.Closing.{awaited_kind}
 use Rattle.cluster.specs.Copies.Local.{Local}
-use Rattle.cluster.specs.Seats.{local}
+use Rattle.cluster.specs.Seats.{seat_local}
 use Rattle.cluster.specs.declared.processor.Processor.TheInside.{Inside}
 use Rattle.cluster.specs.Copies.Sound.{IsSound}
 use Rattle.cluster.proofs.Access.{access_copy_found, access_past, access_at}
@@ -14,7 +14,7 @@ use Rattle.cluster.proofs.processor.Processor.admit.Goals.{In-Some}
 -- what the fields say of the processor
 abbrev local_of : (g : given.Over) → Inside g.row.T.Denot → Local
 local_of g i =
-    local i.chair i.number i.shape i.block.items i.replicas.items i.stored i.time i.held.items
+    seat_local i.chair i.number i.shape i.block.items i.replicas.items i.stored i.time i.held.items
     (option_map awaited_kind i.awaits)
 
 -- the copy that is found is the processor's

@@ -2,7 +2,7 @@ use Rattle.std.proofs.Common.{◌≡◌, ◌/◌, ◌%◌, ◌∷◌, [], ◌∙
 use Rattle.journal.specs.declared.event.Kind.TheVariants.{Load}
 use Rattle.journal.specs.DidEvent.{event}
 use Rattle.journal.specs.Events.{events_of}
-use Rattle.cluster.specs.Copies.Local.{Local, calls, noted}
+use Rattle.cluster.specs.Copies.Local.{Local, calls, local_noted}
 use Rattle.page.specs.declared.page.Access.TheVariants.{Valid}
 use Rattle.cluster.specs.Copies.Sound.{IsSound}
 use Rattle.cluster.proofs.Covering.{covers}
@@ -56,7 +56,7 @@ returns-clause-word g c = record {
 
 pub returns-clause-ok : goal.returns-clause-ok
 returns-clause-ok g c =
-    rw (c.push_reserved.ensures.items) (ap (λ (x : Local). noted x (Load c.args.address c.load-value.result))
+    rw (c.push_reserved.ensures.items) (ap (λ (x : Local). local_noted x (Load c.args.address c.load-value.result))
     c.self.view_is)
 
 pub returns-clause-calls : goal.returns-clause-calls
@@ -75,7 +75,7 @@ invariant_of-self g c =
     loaded_noted m c.args.address c.load-value.result c.index.result.now (sym c.in_ok-page.ensures.refused) r.0 word
     (subst IsSound c.self.view_is c.self.invariant.0) in (
       rw (c.push_reserved.ensures.items) (subst (λ (x : Local).
-          IsSound (noted x (Load c.args.address c.load-value.result))) (sym c.self.view_is) sound),
+          IsSound (local_noted x (Load c.args.address c.load-value.result))) (sym c.self.view_is) sound),
       c.self.invariant.1,
       (let kept = c.self.invariant.2 in let same = c.push_reserved.ensures.capacity in omega arith),
     )

@@ -2,14 +2,14 @@ use Rattle.std.proofs.Common.{sym, ap, subst}
 use Rattle.cluster.specs.declared.keeper.View.{View}
 use Rattle.turn.specs.Chairs.{lock}
 use Rattle.cluster.specs.Copies.Sound.{IsSound}
-use Rattle.cluster.proofs.Starting.{AreNewParts, start_sound, start_parts}
+use Rattle.cluster.proofs.Starting.{AreNewStartingParts, start_sound, start_parts}
 use Rattle.cluster.proofs.processor.Processor.seated.Goals as goal
 
 pub invariant_of-result : goal.invariant_of-result
 invariant_of-result g c =
     let x = c.args.parts in
     let are = c.requires.parts in
-    let new : AreNewParts c.args.shape x.block.items x.replicas.items c.none.result x.time x.held.items = record {
+    let new : AreNewStartingParts c.args.shape x.block.items x.replicas.items c.none.result x.time x.held.items = record {
       block_is = are.block;
       copies_are = are.replicas;
       stored_is = c.none.ensures;

@@ -3,7 +3,7 @@ use Rattle.page.specs.declared.page.Access.TheVariants.{Valid}
 use Rattle.cluster.specs.Copies.Sound.{IsSound}
 use Rattle.cluster.proofs.Covering.{covers}
 use Rattle.cluster.proofs.MayAccessAndFetch.{access_copy_read, access_place_within, access_room_within}
-use Rattle.cluster.proofs.Noting.{noted_offset_within, stored, store_noted_done}
+use Rattle.cluster.proofs.Noting.{noted_offset_within, noting_stored_sound, store_noted_done}
 use Rattle.cluster.proofs.processor.Processor.store.Given as given
 use Rattle.cluster.proofs.processor.Processor.store.Goals as goal
 use Rattle.cluster.proofs.processor.Processor.store.Goals.{After-index_mut}
@@ -68,7 +68,7 @@ invariant_of-self g c =
     let after =
     store_noted_done c.args.address c.args.value c.index_mut.result.now c.self.view_is place.0 place.1 c.store.ensures c.push_reserved.ensures.items c.add.ensures in
     let sound =
-    stored _ c.args.address c.args.value _ (sym c.in_ok-page.ensures.refused) r.0
+    noting_stored_sound _ c.args.address c.args.value _ (sym c.in_ok-page.ensures.refused) r.0
     (subst IsSound c.self.view_is c.self.invariant.0) in (
       subst IsSound (sym after) sound,
       c.self.invariant.1,

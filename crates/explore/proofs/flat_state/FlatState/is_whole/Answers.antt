@@ -4,7 +4,7 @@ use Rattle.std.proofs.lemmas.Bool.{cases_eq, false≢true}
 use Rattle.std.proofs.lemmas.Option.{same_Some, slice_get_within}
 use Rattle.journal.specs.declared.event.Event.{Event}
 use Rattle.lrc_script.specs.Plan.{Plan}
-use Rattle.conformance.specs.Follows.{calls_of}
+use Rattle.conformance.specs.Follows.{followed_calls}
 use Rattle.explore.specs.declared.prefixes.script_call.ScriptCall.{ScriptCall}
 use Rattle.explore.specs.Prefixes.Calling.{shown_by}
 use Rattle.explore.specs.Prefixes.Laws.{AreAllDone}
@@ -39,7 +39,7 @@ module _ (s : Plan) (g : List Event) (m : FlatState) (steps : List (Vec ScriptCa
       let row = some_at steps p lt in
       let are = ap (λ (xs : List ScriptCall). length xs) (lawful.are.each p section row.0 at row.1) in
       let past = over p row.0 lt row.1 in
-      let begun = begun_few section (shown_by s p) (calls_of g p) (knows.beginning.begins p section at) in
+      let begun = begun_few section (shown_by s p) (followed_calls g p) (knows.beginning.begins p section at) in
       let is = knows.done p (omega arith) in
       omega arith
 

@@ -3,10 +3,10 @@ use Rattle.std.specs.List.{flat_map}
 use Rattle.std.proofs.lemmas.List.{take_all}
 use Rattle.std.proofs.lemmas.List.Sorted.{IsNonDecreasingBy-from_sort_by_key}
 use Rattle.interval.specs.declared.kept_interval.KeptInterval.{KeptInterval}
-use Rattle.interval.specs.Closings.{sent_interval}
+use Rattle.interval.specs.Closings.{closings_sent_interval}
 use Rattle.interval.proofs.Records.ReadItems.{ReadsItem}
 use Rattle.interval.proofs.Queues.Merged.{QueuesHold}
-use Rattle.interval.proofs.News.Gathered.{sent_more, rises-news}
+use Rattle.interval.proofs.News.Gathered.{gathered_sent_more, rises-news}
 use Rattle.interval.proofs.News.InClosingOrder.{between_in_order}
 use Rattle.interval.proofs.Order.SortedPlaces.{sorted_all}
 use Rattle.interval.proofs.closed.Closed.between.Goals as goal
@@ -21,7 +21,7 @@ pub loop-kept-preserved : goal.loop-kept-preserved
 loop-kept-preserved c =
     let read : ReadsItem c.deref-kept-items.result.now c.loop-kept.kept-index c.kept-item.result =
     record { inside = c.loop-kept-test.true; is = c.kept-item.is } in
-    sent_more kept read c.loop-kept.invariant c.in_ok-send.ensures
+    gathered_sent_more kept read c.loop-kept.invariant c.in_ok-send.ensures
 
 pub returns-clause-value : goal.returns-clause-value
 returns-clause-value c =
@@ -33,9 +33,9 @@ returns-clause-value c =
     sorted_all kept _ c.in_ok-news.news.items c.sort_unstable_by_key.new.self.items
     (rises-news hold c.args.old.now c.args.new.now) c.in_ok-news.ensures c.sort_unstable_by_key.ensures.permutation sorted in
     c.loop-kept.invariant
-    ∙ ap (λ (ks : List (Bor KeptInterval)). flat_map sent_interval (map kept ks))
+    ∙ ap (λ (ks : List (Bor KeptInterval)). flat_map closings_sent_interval (map kept ks))
     (take_all c.loop-kept.kept-index c.deref-kept-items.result.now (omega arith) ∙ c.deref-kept-items.ensures.value)
-    ∙ ap (flat_map sent_interval) all
+    ∙ ap (flat_map closings_sent_interval) all
 
 pub returns-clause-in_order : goal.returns-clause-in_order
 returns-clause-in_order c =

@@ -2,9 +2,9 @@
 use Rattle.std.proofs.Common.{◌≡◌, map, take, Bor}
 use Rattle.std.specs.List.{flat_map}
 use Rattle.interval.specs.declared.kept_interval.KeptInterval.{KeptInterval}
-use Rattle.interval.specs.Closings.{sent_interval}
+use Rattle.interval.specs.Closings.{closings_sent_interval}
 use Rattle.interval.proofs.closed.Closed.between.Given as goal
 
 abbrev pub invariant-loop-kept : goal.invariant-loop-kept
 invariant-loop-kept l =
-    l.sent.items ≡ flat_map sent_interval (map (λ (k : Bor KeptInterval). k.now) (take l.kept-index l.kept-items))
+    l.sent.items ≡ flat_map closings_sent_interval (map (λ (k : Bor KeptInterval). k.now) (take l.kept-index l.kept-items))

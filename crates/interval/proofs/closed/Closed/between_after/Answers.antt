@@ -1,5 +1,5 @@
 use Rattle.std.proofs.Common.{List, sym, ap, subst, ◌∙◌}
-use Rattle.interval.specs.SentIntervals.{SentRecord, IsInClosingOrder}
+use Rattle.interval.specs.SentIntervals.{SentRecord, IsSentInClosingOrder}
 use Rattle.interval.proofs.Queues.Merged.{QueuesHold}
 use Rattle.interval.proofs.News.InClosingOrder.{after_in_order}
 use Rattle.interval.proofs.closed.Closed.between_after.Goals as goal
@@ -7,7 +7,7 @@ use Rattle.interval.proofs.closed.Closed.between_after.Goals.{then-covers+then-n
 
 pub returns-clause-in_order : goal.returns-clause-in_order
 returns-clause-in_order c =
-    let P : List SentRecord → Type 0 = λ s. IsInClosingOrder s in
+    let P : List SentRecord → Type 0 = λ s. IsSentInClosingOrder s in
     elim c.if-covers.branch [
       | then-covers+then-not-covers+in_ok-send w ↦
           let sent = ap (λ v. v.items) w.sent-is ∙ w.in_ok-send.ensures in

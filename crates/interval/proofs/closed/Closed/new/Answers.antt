@@ -1,5 +1,5 @@
 use Rattle.std.proofs.Common.{◌≡◌, ap, ◌∙◌, arith, replicate, refl, ℕ}
-use Rattle.interval.specs.Queues.{by_place}
+use Rattle.interval.specs.Queues.{queue_by_place}
 use Rattle.interval.proofs.Queues.Empty.{one_more_empty, are_none_queued}
 use Rattle.interval.proofs.closed.Closed.new.Goals as goal
 
@@ -18,7 +18,7 @@ pub invariant_of-result : goal.invariant_of-result
 invariant_of-result c = are_none_queued c.loop.queues.items c.loop.invariant.none
 
 pub returns-clause-kept : goal.returns-clause-kept
-returns-clause-kept c = ap by_place c.loop.invariant.none
+returns-clause-kept c = ap queue_by_place c.loop.invariant.none
 
 pub returns-clause-first : goal.returns-clause-first
 returns-clause-first c = c.loop.invariant.first ∙ ap (λ (n : ℕ). replicate n 0) (all c)

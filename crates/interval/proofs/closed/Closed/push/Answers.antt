@@ -3,14 +3,14 @@ use Rattle.interval.specs.SentIntervals.{ClosedInterval}
 use Rattle.interval.specs.Closings.{Closings, closings_between}
 use Rattle.interval.proofs.News.BetweenUnchanged.{closings_between-pushed}
 use Rattle.interval.proofs.Queues.Merged.{QueuesHold}
-use Rattle.interval.proofs.Queues.LastPushed.{Comes, IsNextInterval, pushed_next, are_pushed, closings_pushed}
+use Rattle.interval.proofs.Queues.LastPushed.{ComesLast, IsNextInterval, pushed_next, are_pushed, closings_pushed}
 use Rattle.interval.proofs.closed.Closed.push.Goals as goal
 
 hold : (c : goal.After-self-2-1) → QueuesHold c.self.inside.queues.items c.self.inside.pushed c.args.self.now
 hold c = record { seen = c.self.view_is; are = c.self.invariant }
 
 comes : (c : goal.After-self-2-1)
-    → Comes c.self.inside.queues.items c.self.inside.pushed c.interval.inside.owner c.index_mut.result.now
+    → ComesLast c.self.inside.queues.items c.self.inside.pushed c.interval.inside.owner c.index_mut.result.now
     (record { place = c.self.inside.pushed; interval = c.args.interval })
 comes c =
     let next : IsNextInterval c.args.self.now c.args.interval = record {

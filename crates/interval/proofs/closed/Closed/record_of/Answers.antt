@@ -2,7 +2,7 @@ use Rattle.std.proofs.Common.{◌<◌, ◌≤◌, List, length, ap, sym, ◌∙�
 use Rattle.std.specs.Option.{option_copied}
 use Rattle.interval.specs.Queues.{Queue}
 use Rattle.interval.proofs.Queues.Merged.{QueuesHold}
-use Rattle.interval.proofs.Queues.FirstFound.{none_found, none_found_below, noticed_at, queue_read, record_found}
+use Rattle.interval.proofs.Queues.FirstFound.{none_found, none_found_below, noticed_found_at, queue_read, record_found}
 use Rattle.interval.proofs.closed.Closed.record_of.Goals as goal
 
 pub returns-in_err-queue : goal.returns-in_err-queue
@@ -44,7 +44,7 @@ returns-in_err-numbered c =
     let test = c.if-notice-first.false in
     let from : c.in_ok-queue.queue.now.first ≤ c.args.notice.now.number = omega arith in
     let none =
-    noticed_at c.self.inside.queues.items c.self.inside.pushed c.args.notice.now c.in_ok-queue.queue.now
+    noticed_found_at c.self.inside.queues.items c.self.inside.pushed c.args.notice.now c.in_ok-queue.queue.now
     c.self.invariant owned from
     ∙ sym c.in_err-numbered.ensures in
     ap option_copied c.from_residual-in_err-numbered.ensures
@@ -62,7 +62,7 @@ returns c =
     let test = c.if-notice-first.false in
     let from : c.in_ok-queue.queue.now.first ≤ c.args.notice.now.number = omega arith in
     let found =
-    noticed_at c.self.inside.queues.items c.self.inside.pushed c.args.notice.now c.in_ok-queue.queue.now
+    noticed_found_at c.self.inside.queues.items c.self.inside.pushed c.args.notice.now c.in_ok-queue.queue.now
     c.self.invariant owned from
     ∙ sym c.in_ok-numbered.ensures in
     c.record.ensures

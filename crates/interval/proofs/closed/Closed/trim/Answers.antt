@@ -3,14 +3,14 @@ use Rattle.interval.specs.Closings.{Closings, closings_between}
 use Rattle.interval.proofs.News.BetweenUnchanged.{closings_between-trimmed}
 use Rattle.interval.proofs.Queues.Trimmed.{are_trimmed, closings_trimmed}
 use Rattle.interval.proofs.Queues.Merged.{QueuesHold}
-use Rattle.interval.proofs.News.Gathered.{owned_queue}
+use Rattle.interval.proofs.News.Gathered.{gathered_owned_queue}
 use Rattle.interval.proofs.closed.Closed.trim.Goals as goal
 
 hold : (c : goal.After-self-1) → QueuesHold c.self.inside.queues.items c.self.inside.pushed c.args.self.now
 hold c = record { seen = c.self.view_is; are = c.self.invariant }
 
 owned : (c : goal.After-self-1) → slice_get c.self.inside.queues.items c.args.owner ≡ Some c.index_mut.result.now
-owned c = owned_queue c.args.owner (hold c) c.requires c.index_mut.ensures.value
+owned c = gathered_owned_queue c.args.owner (hold c) c.requires c.index_mut.ensures.value
 
 pub invariant_of-self : goal.invariant_of-self
 invariant_of-self c =

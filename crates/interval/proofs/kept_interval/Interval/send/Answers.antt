@@ -1,7 +1,7 @@
 use Rattle.std.proofs.Common.{◌++◌, map, ap, sym, ◌∙◌}
 use Rattle.std.specs.Arc.{arc_value}
 use Rattle.std.proofs.lemmas.List.{take_all, append-nil}
-use Rattle.interval.specs.Closings.{sent_record}
+use Rattle.interval.specs.Closings.{closings_sent_record}
 use Rattle.interval.proofs.Records.ReadItems.{ReadsItem}
 use Rattle.interval.proofs.Records.FindAndPush.{pushed_more}
 use Rattle.interval.proofs.kept_interval.Interval.send.Goals as goal
@@ -14,7 +14,7 @@ loop-record-preserved c =
     let read : ReadsItem c.shared_records-record-items.result.now c.loop-record.record-index c.record-item.result =
     record { inside = c.loop-record-test.true; is = c.record-item.is } in
     let more =
-    pushed_more arc_value (sent_record (record { place = c.args.place; interval = c.args.self.now }))
+    pushed_more arc_value (closings_sent_record (record { place = c.args.place; interval = c.args.self.now }))
     c.args.sent.now.items read c.loop-record.invariant in
     cc (more, c.in_ok-push.ensures.items, c.in_ok-announced.ensures)
 
@@ -24,5 +24,5 @@ returns c =
     let records = ap (map arc_value) all ∙ c.shared_records-record-items.ensures in
     c.loop-record.invariant
     ∙ ap (λ rs. c.args.sent.now.items
-    ++ map (sent_record (record { place = c.args.place; interval = c.args.self.now })) rs)
+    ++ map (closings_sent_record (record { place = c.args.place; interval = c.args.self.now })) rs)
     records

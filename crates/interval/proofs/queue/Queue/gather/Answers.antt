@@ -2,8 +2,8 @@ use Rattle.std.proofs.Common.{◌≡◌, ◌-◌, ◌+◌, ◌++◌, ◌∷◌, 
 use Rattle.std.proofs.lemmas.List.{append-nil, map-append, take_all}
 use Rattle.interval.specs.declared.kept_interval.KeptInterval.{KeptInterval}
 use Rattle.interval.specs.Queues.{queue_within}
-use Rattle.interval.proofs.Counts.WalkedNews.{within_at}
-use Rattle.interval.proofs.News.Gathered.{grown_more, within_few}
+use Rattle.interval.proofs.Counts.WalkedNews.{walked_news_within}
+use Rattle.interval.proofs.News.Gathered.{gathered_grown_more, gathered_within_few}
 use Rattle.interval.proofs.queue.Queue.gather.Goals as goal
 
 abbrev now : List (Bor KeptInterval) → List KeptInterval
@@ -22,18 +22,18 @@ loop-index-preserved c =
     let len = c.len.ensures in
     let after = c.loop-index.auto.index in
     let news = queue_within c.args.self.now c.args.from c.args.to in
-    let read = within_at c.args.from c.args.to c.loop-index.index c.self.view_is after (omega arith) c.index.ensures in
+    let read = walked_news_within c.args.from c.args.to c.loop-index.index c.self.view_is after (omega arith) c.index.ensures in
     let next : c.loop-index.index - start + 1 ≡ c.loop-index.index + 1 - start = omega arith in
     ap now c.in_ok-push.ensures.items
     ∙ map-append (λ (k : Bor KeptInterval). k.now) c.loop-index.news.items (c.index.result ∷ [])
-    ∙ grown_more (now c.args.news.now.items) read c.loop-index.invariant
+    ∙ gathered_grown_more (now c.args.news.now.items) read c.loop-index.invariant
     ∙ ap (λ (n : ℕ). now c.args.news.now.items ++ take n news) next
 
 pub returns : goal.returns
 returns c =
     let start = c.args.from - c.self.inside.first in
     let len = c.len.ensures in
-    let few = within_few _ c.args.self.now c.args.from c.args.to c.self.view_is in
+    let few = gathered_within_few _ c.args.self.now c.args.from c.args.to c.self.view_is in
     c.loop-index.invariant
     ∙ ap (λ (ks : List KeptInterval). now c.args.news.now.items ++ ks)
     (take_all (c.loop-index.index - start) (queue_within c.args.self.now c.args.from c.args.to) (omega arith))

@@ -1,6 +1,6 @@
 use Rattle.std.proofs.Common.{refl, ap}
 use Rattle.journal.specs.ClockEntry.{entry}
-use Rattle.journal.proofs.Passes.ClockEntry.{zeros_at}
+use Rattle.journal.proofs.Passes.ClockEntry.{entry_zeros_at}
 use Rattle.journal.proofs.Passes.FirstClocks.{clocks_first}
 use Rattle.journal.proofs.clocks.Clocks.new.Goals as goal
 
@@ -12,6 +12,6 @@ returns-clause-clocks c =
       locks = c.new.ensures;
       flags = c.new-2.ensures;
       episodes = λ n q. ap (λ xs. entry xs n q) c.new-3.ensures.items;
-      arrivals = zeros_at 16;
-      departures = zeros_at 16;
+      arrivals = entry_zeros_at 16;
+      departures = entry_zeros_at 16;
     })

@@ -12,7 +12,7 @@ use Rattle.journal.specs.InRange.{ProcessorsInRange}
 use Rattle.journal.specs.Events.{is_taking, is_closing}
 use Rattle.journal.specs.ClockEntry.{entry}
 use Rattle.journal.specs.Clocks.{AreClocks}
-use Rattle.journal.proofs.Passes.NextClocks.{StepsClocks, LetsGo, clocks_plain, closed_next, taken_next, arrived_next, departed_next, front_next, own_room, clocks_let_go}
+use Rattle.journal.proofs.Passes.NextClocks.{StepsClocks, LetsGo, clocks_plain, closed_next, taken_next, arrived_next, departed_next, front_next, next_clock_own_room, clocks_let_go}
 use Rattle.journal.proofs.clocks.Clocks.note.Goals as goal
 
 -- the event at this place
@@ -38,7 +38,7 @@ room : (events : List Event) (place : ℕ) (c : Clocks) → place < length event
 room events place c lt few range a =
     let long = length-take-le place events (omega arith) in
     let short : length (take place events) < 2 ^ 22 = omega arith in
-    own_room (take place events) c (here events place).processor (present events place c.present lt range) short a
+    next_clock_own_room (take place events) c (here events place).processor (present events place c.present lt range) short a
 
 -- the event's processor is present, and these have as many timestamps
 steps : (events : List Event) (place : ℕ) (c d : Clocks) → place < length events → ProcessorsInRange c.present events

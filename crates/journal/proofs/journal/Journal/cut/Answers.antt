@@ -5,7 +5,7 @@ use Rattle.journal.specs.InRange.{AddressesInRange}
 use Rattle.journal.specs.RacesFrom.{RaceFreeFrom}
 use Rattle.journal.specs.EpisodeBases.{IsBaseAfter}
 use Rattle.journal.specs.CutFaults.{WasCut}
-use Rattle.journal.specs.Kept.{base_of}
+use Rattle.journal.specs.Kept.{kept_base_of}
 use Rattle.journal.proofs.Journals.ProcessorsAndAddresses.{addresses_part}
 use Rattle.journal.proofs.journal.Journal.cut.Goals as goal
 
@@ -33,8 +33,8 @@ returns-clause-ok c =
     let kept = c.in_ok-kept.kept in
     let same : c.race_of_part.new.self ≡ log = c.race_of_part.ensures.same in
     let free = rw c.in_default.is at c.in_ok-first.ensures.race in
-    let left : c.take_off.new.self ≡ record log { events = drop taken log.events; base = base_of kept } =
-    c.take_off.ensures ∙ ap (λ (l : Log). record l { events = drop taken l.events; base = base_of kept }) same in
+    let left : c.take_off.new.self ≡ record log { events = drop taken log.events; base = kept_base_of kept } =
+    c.take_off.ensures ∙ ap (λ (l : Log). record l { events = drop taken l.events; base = kept_base_of kept }) same in
     subst (WasCut log) (sym left) (record {
       taken = taken;
       may = record {
@@ -43,8 +43,8 @@ returns-clause-ok c =
       };
       race_free = subst (λ (l : Log). RaceFreeFrom l.base (take taken l.events)) same free;
       base =
-          subst (λ (l : Log). IsBaseAfter l.base (take taken l.events) (base_of kept)) (c.self.view_is ∙ same) (subst
-          (λ (xs : List Event). IsBaseAfter (base_of j.kept) (take taken xs) (base_of kept))
+          subst (λ (l : Log). IsBaseAfter l.base (take taken l.events) (kept_base_of kept)) (c.self.view_is ∙ same) (subst
+          (λ (xs : List Event). IsBaseAfter (kept_base_of j.kept) (take taken xs) (kept_base_of kept))
           (c.events.ensures.value ∙ sym (ap (λ (l : Log). l.events) c.self.view_is))
           c.in_ok-kept.ensures.after);
       left = refl;

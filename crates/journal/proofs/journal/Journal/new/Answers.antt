@@ -2,7 +2,7 @@ use Rattle.std.proofs.Common.{rules, List, drop, subst, sym, ap, ◌∙◌}
 use Rattle.std.proofs.Math.Seq.{drop-length}
 use Rattle.journal.specs.declared.event.Event.{Event}
 use Rattle.journal.specs.Episodes.{AreEpisodes}
-use Rattle.journal.proofs.Journals.ProcessorsAndAddresses.{opening_processors, opening_addresses, opening_whole}
+use Rattle.journal.proofs.Journals.ProcessorsAndAddresses.{opening_processors, opening_addresses, processors_opening_whole}
 use Rattle.journal.proofs.journal.Journal.new.Goals as goal
 
 pub invariant_of-result : goal.invariant_of-result
@@ -14,7 +14,7 @@ invariant_of-result c =
       reserved = search rules;
       few = search rules;
       few_processors = c.requires;
-      opening = opening_whole c.args.processors events opening;
+      opening = processors_opening_whole c.args.processors events opening;
       by_processors = opening_processors c.args.processors events opening;
       in_range = opening_addresses c.args.processors events opening c.args.addresses;
       kept = c.in_ok-new.ensures.kept;

@@ -2,7 +2,7 @@ use Rattle.std.proofs.Common.{◌+◌, ◌-◌, inl, inr, take, subst}
 use Rattle.journal.specs.Log.{Log}
 use Rattle.journal.specs.RacesFrom.{RaceFreeFrom, IsFirstRaceFrom}
 use Rattle.journal.proofs.FromBase.Opening.{free_from, first_from}
-use Rattle.journal.proofs.Journals.ProcessorsAndAddresses.{processors_part, addresses_part, in_base, checked}
+use Rattle.journal.proofs.Journals.ProcessorsAndAddresses.{processors_part, addresses_part, addresses_in_base, processors_checked}
 use Rattle.journal.proofs.journal.Journal.race_before.Goals as goal
 use Rattle.journal.proofs.journal.Journal.race_before.Goals.{then-self-eq0, else-self-eq0}
 
@@ -19,19 +19,19 @@ first_race_of-requires-clause-processors c =
     c.self.invariant.by_processors)
 
 pub returns-in_err-first-clause-in_range : goal.returns-in_err-first-clause-in_range
-returns-in_err-first-clause-in_range c = in_base c.self.inside c.self.invariant c.args.self.now c.self.view_is
+returns-in_err-first-clause-in_range c = addresses_in_base c.self.inside c.self.invariant c.args.self.now c.self.view_is
 
 pub returns-in-Some-clause-in_range : goal.returns-in-Some-clause-in_range
-returns-in-Some-clause-in_range c = in_base c.self.inside c.self.invariant c.args.self.now c.self.view_is
+returns-in-Some-clause-in_range c = addresses_in_base c.self.inside c.self.invariant c.args.self.now c.self.view_is
 
 pub returns-in-None-clause-in_range : goal.returns-in-None-clause-in_range
-returns-in-None-clause-in_range c = in_base c.self.inside c.self.invariant c.args.self.now c.self.view_is
+returns-in-None-clause-in_range c = addresses_in_base c.self.inside c.self.invariant c.args.self.now c.self.view_is
 
 pub returns-in-None-clause-race : goal.returns-in-None-clause-race
 returns-in-None-clause-race c =
     let j = c.self.inside in
     let here =
-    checked j c.self.invariant c.if-self-eq0.first c.args.count c.deref.result.now c.deref.ensures.value (elim
+    processors_checked j c.self.invariant c.if-self-eq0.first c.args.count c.deref.result.now c.deref.ensures.value (elim
     c.if-self-eq0.branch [
       | then-self-eq0 w ↦ inl (w.if-self-eq0.true, w.first-is)
       | else-self-eq0 w ↦ inr (w.if-self-eq0.false, w.first-is)
@@ -44,7 +44,7 @@ pub overflow_sub-result : goal.overflow_sub-result
 overflow_sub-result c =
     let j = c.self.inside in
     let here =
-    checked j c.self.invariant c.if-self-eq0.first c.args.count c.deref.result.now c.deref.ensures.value (elim
+    processors_checked j c.self.invariant c.if-self-eq0.first c.args.count c.deref.result.now c.deref.ensures.value (elim
     c.if-self-eq0.branch [
       | then-self-eq0 w ↦ inl (w.if-self-eq0.true, w.first-is)
       | else-self-eq0 w ↦ inr (w.if-self-eq0.false, w.first-is)
@@ -57,7 +57,7 @@ pub overflow_sub-result-in-Some : goal.overflow_sub-result-in-Some
 overflow_sub-result-in-Some c =
     let j = c.self.inside in
     let here =
-    checked j c.self.invariant c.if-self-eq0.first c.args.count c.deref.result.now c.deref.ensures.value (elim
+    processors_checked j c.self.invariant c.if-self-eq0.first c.args.count c.deref.result.now c.deref.ensures.value (elim
     c.if-self-eq0.branch [
       | then-self-eq0 w ↦ inl (w.if-self-eq0.true, w.first-is)
       | else-self-eq0 w ↦ inr (w.if-self-eq0.false, w.first-is)
@@ -71,7 +71,7 @@ returns-in-Some-clause-race c =
     let j = c.self.inside in
     let size = j.processors - c.if-self-eq0.first in
     let here =
-    checked j c.self.invariant c.if-self-eq0.first c.args.count c.deref.result.now c.deref.ensures.value (elim
+    processors_checked j c.self.invariant c.if-self-eq0.first c.args.count c.deref.result.now c.deref.ensures.value (elim
     c.if-self-eq0.branch [
       | then-self-eq0 w ↦ inl (w.if-self-eq0.true, w.first-is)
       | else-self-eq0 w ↦ inr (w.if-self-eq0.false, w.first-is)

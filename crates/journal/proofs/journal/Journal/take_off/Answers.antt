@@ -4,8 +4,8 @@ use Rattle.journal.specs.Log.{Log}
 use Rattle.journal.specs.InRange.{AddressesInRange, ProcessorsInRange}
 use Rattle.journal.specs.Opening.{IsOpening}
 use Rattle.journal.specs.Episodes.{AreEpisodes}
-use Rattle.journal.specs.Kept.{IsBaseState}
-use Rattle.journal.proofs.Journals.ProcessorsAndAddresses.{processors_part, processors_cut, addresses_cut, opening_cut, behind_whole}
+use Rattle.journal.specs.Kept.{IsKeptBaseState}
+use Rattle.journal.proofs.Journals.ProcessorsAndAddresses.{processors_part, processors_cut, addresses_cut, processors_opening_cut, processors_behind_whole}
 use Rattle.journal.proofs.journal.Journal.take_off.Goals as goal
 
 pub of-self-inside-requires-clause-processors : goal.of-self-inside-requires-clause-processors
@@ -24,21 +24,21 @@ invariant_of-self c =
     let len = c.take_out.ensures.len in
     let behind =
     ap (λ (xs : List Event). take (length xs - j.processors) (drop j.processors xs)) c.deref.ensures.value
-    ∙ behind_whole j.processors c.take_out.new.events.items in
+    ∙ processors_behind_whole j.processors c.take_out.new.events.items in
     record {
       reserved = omega (arith, c.take_out.ensures.capacity, held.reserved);
       few = omega (arith, held.few);
       few_processors = held.few_processors;
       opening =
           subst (λ (xs : List Event). IsOpening j.processors (take j.processors xs)) (sym items)
-          (opening_cut j.processors c.args.taken j.events.items held.opening);
+          (processors_opening_cut j.processors c.args.taken j.events.items held.opening);
       by_processors =
           subst (ProcessorsInRange j.processors) (sym items)
           (processors_cut j.processors c.args.taken j.events.items j.processors held.by_processors);
       in_range =
           subst (AddressesInRange j.addresses) (sym items)
           (addresses_cut j.processors c.args.taken j.events.items j.addresses held.in_range);
-      kept = subst (λ (l : Log). IsBaseState l.addresses c.args.kept) (sym c.self.view_is) c.requires.kept;
+      kept = subst (λ (l : Log). IsKeptBaseState l.addresses c.args.kept) (sym c.self.view_is) c.requires.kept;
       episodes =
           subst (λ (xs : List Event). AreEpisodes j.processors xs c.of-self-inside.result) behind
           c.of-self-inside.ensures;

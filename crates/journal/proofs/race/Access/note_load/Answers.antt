@@ -1,11 +1,11 @@
 use Rattle.std.proofs.Common.{ℕ, ◌+◌, ◌<◌, ◌≤◌, inr, List, length, slice_index, slice_set, subst, sym, arith}
 use Rattle.std.proofs.lemmas.List.{get_or-set_same, get_or-set_other}
-use Rattle.journal.specs.AccessEntry.{AreLoadsAfter}
+use Rattle.journal.specs.AccessEntry.{AreLoadEntriesAfter}
 use Rattle.journal.proofs.race.Access.note_load.Goals as goal
 
 -- a load whose number is written among several is the only one that changes
 one_more : (xs : List ℕ) (t : ℕ → ℕ) (p : ℕ) → p < length xs
-    → AreLoadsAfter (slice_index xs) (slice_index (slice_set xs p (t p + 1))) t p
+    → AreLoadEntriesAfter (slice_index xs) (slice_index (slice_set xs p (t p + 1))) t p
 one_more xs t p h = record {
   own = subst (λ x. t p < x) (sym (get_or-set_same xs p (t p + 1) 0 h)) (omega arith);
   others = λ q apart. inr (subst (λ x. slice_index xs q ≤ x) (sym (get_or-set_other xs p q (t p + 1) 0 apart))

@@ -1,5 +1,5 @@
 use Rattle.std.proofs.Common.{ℕ, ◌≤◌, ◌<◌, subst, sym, ap, ◌∙◌, count_by}
-use Rattle.journal.specs.PageImages.{HasCount}
+use Rattle.journal.specs.PageImages.{HasImageCount}
 use Rattle.judge.specs.Gaps.{StoresInPage}
 use Rattle.judge.specs.Sizes.{sizes_of}
 use Rattle.judge.specs.Tallies.{is_between, numbers, row_index}
@@ -16,6 +16,6 @@ returns c = λ j tells.
     let count =
     c.count.ensures
     ∙ ap (λ r. count_by (is_between c.args.from c.args.to) (numbers g.intervals.rows.items r)) c.row_at.ensures in
-    subst (HasCount In) (sym count)
+    subst (HasImageCount In) (sym count)
     (row_counts (StoresInPage s j n q) (λ k. k) (numbers g.intervals.rows.items (row_index n q)) c.args.from c.args.to
     (tells.are.intervals.rows n q c.requires.by))

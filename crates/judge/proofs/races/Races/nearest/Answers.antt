@@ -10,7 +10,7 @@ use Rattle.journal.specs.Pasts.{InPast}
 use Rattle.journal.specs.Times.{IsTimeOf}
 use Rattle.journal.specs.Races.{Conflict}
 use Rattle.journal.specs.ClockEntry.{entry}
-use Rattle.journal.proofs.Order.CountedAndNumbered.{at_last}
+use Rattle.journal.proofs.Order.CountedAndNumbered.{numbered_at_last}
 use Rattle.journal.proofs.Times.Times.{time_equal}
 use Rattle.journal.proofs.Passes.ReachedNextRaces.{no_race_other}
 use Rattle.judge.specs.declared.races.Races.{Races}
@@ -93,5 +93,5 @@ returns-in-Store c = λ j tells.
 
 pub returns-in_default : goal.returns-in_default
 returns-in_default c = λ j tells i r.
-    no_race_other (j ++ c.args.event ∷ []) (length j) c.args.event (at_last j c.args.event)
+    no_race_other (j ++ c.args.event ∷ []) (length j) c.args.event (numbered_at_last j c.args.event)
     (no_address c.args.event.kind c.in_default.not-Load c.in_default.not-Store) i r

@@ -1,6 +1,6 @@
 use Rattle.std.proofs.Common.{◌≡◌, ℕ, inl, inr, [], ◌∷◌, ◌++◌, List, Some, slice_get, subst, sym, ap, ◌∙◌, arith}
 use Rattle.std.specs.Global.{Vec}
-use Rattle.base.proofs.SlicesAndCounts.{push_cases}
+use Rattle.base.proofs.SlicesAndCounts.{slice_push_cases}
 use Rattle.judge.specs.declared.sources.stored.Stored.{Stored}
 use Rattle.judge.proofs.sources.readable.no_stores.Goals as goal
 
@@ -11,7 +11,7 @@ AreEmpty rows = (n : ℕ) (row : Vec Stored) → slice_get rows n ≡ Some row �
 -- an empty row more
 empty_next : (rows : List (Vec Stored)) (row : Vec Stored) → AreEmpty rows → row.items ≡ []
     → AreEmpty (rows ++ row ∷ [])
-empty_next rows row empty none n other at = elim (push_cases rows row n other at) [
+empty_next rows row empty none n other at = elim (slice_push_cases rows row n other at) [
   | inl old ↦ empty n other old.1
   | inr new ↦ ap (λ (x : Vec Stored). x.items) (sym new.1) ∙ none
 ]

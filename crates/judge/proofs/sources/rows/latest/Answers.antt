@@ -1,7 +1,7 @@
 use Rattle.std.proofs.Common.{◌≡◌, ℕ, inl, inr, [], ◌∷◌, ◌++◌, List, length, take, slice_index_or, subst, sym, ◌∙◌, arith}
 use Rattle.std.specs.Global.{Vec}
 use Rattle.std.proofs.lemmas.Option.{slice_get-get_or}
-use Rattle.base.proofs.SlicesAndCounts.{push_cases}
+use Rattle.base.proofs.SlicesAndCounts.{slice_push_cases}
 use Rattle.journal.specs.declared.event.Event.{Event}
 use Rattle.journal.specs.declared.event.Kind.TheVariants.{Load}
 use Rattle.journal.specs.DidEvent.{event}
@@ -17,7 +17,7 @@ here events place = slice_index_or events place (event 0 (Load 0 0))
 -- a row more
 rows_next : (events : List Event) (rows : List (Vec ℕ)) (place : ℕ) (row : Vec ℕ) → length rows ≡ place
     → AreReadableRows events rows → IsReadableRow events place row.items → AreReadableRows events (rows ++ row ∷ [])
-rows_next events rows place row long are now k other at = elim (push_cases rows row k other at) [
+rows_next events rows place row long are now k other at = elim (slice_push_cases rows row k other at) [
   | inl old ↦ are k other old.1
   | inr new ↦
       (let is : place ≡ k = omega (arith, new.0) in

@@ -9,7 +9,7 @@ use Rattle.journal.specs.Events.{At}
 use Rattle.journal.specs.WellFormed.{Does}
 use Rattle.journal.specs.InRange.{AddressInRange, AddressesInRange, ProcessorsInRange}
 use Rattle.journal.specs.ExplainedAnswers.{IsAnswer}
-use Rattle.journal.proofs.Order.CountedAndNumbered.{at_same, at_within}
+use Rattle.journal.proofs.Order.CountedAndNumbered.{numbered_at_same, numbered_at_within}
 use Rattle.judge.specs.Sources.Answers.{IsFirstUnexplained}
 use Rattle.judge.proofs.sources.Answering.{answer_in}
 use Rattle.judge.proofs.sources.unexplained.first_unexplained.Goals as goal
@@ -46,7 +46,7 @@ explained_next : (j : List Event) (k : ℕ) (e : Event) → At j k e → AreExpl
     → ((a v : ℕ) → e.kind ≡ Load a v → IsAnswer j k a v) → AreExplained j (k + 1)
 explained_next j k e at before now m p a v lt does = elim (cases_eq m k) [
   | inl is ↦
-      (let same = at_same j k e (event p (Load a v)) at (subst (λ n. Does j n p (Load a v)) is does) in
+      (let same = numbered_at_same j k e (event p (Load a v)) at (subst (λ n. Does j n p (Load a v)) is does) in
       subst (λ n. IsAnswer j n a v) (sym is) (now a v (ap (λ (x : Event). x.kind) same)))
   | inr isnt ↦ before m p a v (omega arith) does
 ]
@@ -97,7 +97,7 @@ loop-place-preserved c =
 
 pub returns : goal.returns
 returns c = λ k p a v does.
-    let within = at_within c.args.events.now k (event p (Load a v)) does in
+    let within = numbered_at_within c.args.events.now k (event p (Load a v)) does in
     let over = c.loop-place-test.false in
     c.loop-place.invariant.explained k p a v (omega arith) does
 

@@ -2,7 +2,7 @@ use Rattle.std.proofs.Common.{◌≡◌, ℕ, ◌+◌, ◌<◌, ◌≤◌, ◌�
 use Rattle.std.proofs.lemmas.Bool.{cases_eq}
 use Rattle.std.proofs.lemmas.Option.{same_Some, slice_get-get_or, slice_get_within}
 use Rattle.base.specs.InOrderOnce.{Has}
-use Rattle.base.proofs.SlicesAndCounts.{push_cases, slice_get-append_left, slice_get-last}
+use Rattle.base.proofs.SlicesAndCounts.{slice_push_cases, slice_get-append_left, slice_get-last}
 use Rattle.judge.specs.declared.sources.stored.Stored.{Stored}
 use Rattle.judge.specs.Sources.Unordered.{IsPlaceWithin}
 use Rattle.judge.proofs.sources.unordered.add_places.Goals as goal
@@ -16,7 +16,7 @@ added_next : (now old : List ℕ) (stores : List Stored) (from n : ℕ) (s : Sto
 added_next now old stores from n s le at before i = (there, back)
   where
     there : Has (now ++ s.place ∷ []) i → Has old i ⊎ IsPlaceWithin stores from (n + 1) i
-    there h = elim (push_cases now s.place h.0 i h.1) [
+    there h = elim (slice_push_cases now s.place h.0 i h.1) [
       | inl first ↦ elim ((before i).0 (h.0, first.1)) [
         | inl was ↦ inl was
         | inr x ↦ inr (record {

@@ -2,17 +2,17 @@ use Rattle.lrc_script.specs.Plan.{plan_of}
 use Rattle.conformance.specs.ByTurns.{IsEndByTurns, turn_orders}
 use Rattle.conformance.specs.Ends.{IsEndOf}
 use Rattle.lrc_run.proofs.ByTurns.{end_of_turns}
-use Rattle.lrc_run.proofs.Failing.{ok_as}
+use Rattle.lrc_run.proofs.Failing.{failing_ok_as}
 use Rattle.lrc_run.proofs.on_cluster.OnClusterRuns.step_as_far.Goals as goal
 
 pub returns-in-Array-clause-end : goal.returns-in-Array-clause-end
 returns-in-Array-clause-end g c =
     let s = plan_of c.args.script.now in
     let orders = turn_orders s c.args.seed in
-    ok_as c.step_as_far.result (IsEndByTurns s orders) (IsEndOf s) (end_of_turns s orders) c.step_as_far.ensures.end
+    failing_ok_as c.step_as_far.result (IsEndByTurns s orders) (IsEndOf s) (end_of_turns s orders) c.step_as_far.ensures.end
 
 pub returns-in-Ticket-clause-end : goal.returns-in-Ticket-clause-end
 returns-in-Ticket-clause-end g c =
     let s = plan_of c.args.script.now in
     let orders = turn_orders s c.args.seed in
-    ok_as c.step_as_far_with.result (IsEndByTurns s orders) (IsEndOf s) (end_of_turns s orders) c.step_as_far_with.ensures.end
+    failing_ok_as c.step_as_far_with.result (IsEndByTurns s orders) (IsEndOf s) (end_of_turns s orders) c.step_as_far_with.ensures.end

@@ -1,7 +1,7 @@
 use Rattle.std.proofs.Common.{rules, ◌≡◌, ◌<◌, Some, [], ◌∷◌, ◌++◌, length, slice_get, append_assoc, refl, subst, sym, ap, ◌∙◌, arith}
 use Rattle.std.proofs.lemmas.Option.{slice_get_read, slice_get_within}
 use Rattle.std.specs.Vec.Iter.{into_iter_items}
-use Rattle.cluster.proofs.FinishingLastBlocks.{mapped_at}
+use Rattle.cluster.proofs.FinishingLastBlocks.{last_blocks_mapped_at}
 use Rattle.lrc_script.specs.Plan.{plan_sections}
 use Rattle.lrc_run.proofs.JoinedThreads.{behind, threads_started_more}
 use Rattle.lrc_run.proofs.running.threads.start_threads.Goals as goal
@@ -29,7 +29,7 @@ loop-processor-preserved g c =
     (behind yielded (into_iter_items c.next.new.self) all m
     (sym (ap (λ xs. yielded ++ xs) c.in-Some.ensures.steps.0) ∙ inv.came)) in
     let within : c.len.result < length sections = omega (arith, same, less, c.requires.sections) in
-    let at = mapped_at (λ s. s.items) sections c.len.result section
+    let at = last_blocks_mapped_at (λ s. s.items) sections c.len.result section
     (slice_get_read sections (length sections) c.len.result section refl within c.index-sections-len.is) in
     let P : _ = λ k. slice_get (plan_sections sections) k ≡ Some section.items in
     record {

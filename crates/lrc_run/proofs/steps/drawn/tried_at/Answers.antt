@@ -1,6 +1,6 @@
 use Rattle.std.proofs.Common.{refl}
 use Rattle.lrc_script.specs.Plan.{plan_of}
-use Rattle.lrc_run.proofs.Turning.{seen_same, way_turned}
+use Rattle.lrc_run.proofs.Turning.{turning_seen_same, way_turned}
 use Rattle.lrc_run.proofs.steps.drawn.tried_at.Goals as goal
 
 pub returns-clause-way : goal.returns-clause-way
@@ -10,4 +10,4 @@ returns-clause-way g c =
     c.in_ok-moved.ensures.turn
 
 pub returns-then-p-len-clause-vain : goal.returns-then-p-len-clause-vain
-returns-then-p-len-clause-vain g c = λ _. (seen_same c.args.processors.now.items, refl)
+returns-then-p-len-clause-vain g c = λ _. (turning_seen_same c.args.processors.now.items, refl)

@@ -1,7 +1,7 @@
 use Rattle.std.proofs.Common.{ℕ, List, refl, rules, sym, subst}
 use Rattle.lrc_script.specs.Plan.{plan_of}
 use Rattle.lrc_run.specs.Turns.{AreTaken}
-use Rattle.lrc_run.proofs.Turning.{seen_same}
+use Rattle.lrc_run.proofs.Turning.{turning_seen_same}
 use Rattle.lrc_run.proofs.steps.drawn.wander.Goals as goal
 
 pub loop-init : goal.loop-init
@@ -11,7 +11,7 @@ loop-init g c =
     let P : List ℕ → Type 0 = λ ps. AreTaken (plan_of c.args.script.now).sections ps ms ms all all in
     record {
       way = c.requires.way;
-      taken = subst P (sym c.new-turns.ensures.items) (seen_same ms, refl);
+      taken = subst P (sym c.new-turns.ensures.items) (turning_seen_same ms, refl);
       some = search rules;
     }
 

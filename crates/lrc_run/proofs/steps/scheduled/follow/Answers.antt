@@ -4,12 +4,12 @@ use Rattle.std.proofs.lemmas.Option.{slice_get-get_or}
 use Rattle.base.proofs.SlicesAndCounts.{take-suc_at}
 use Rattle.lrc_script.specs.Plan.{plan_of}
 use Rattle.lrc_run.specs.Turns.{AreTaken}
-use Rattle.lrc_run.proofs.Scheduling.{fault_at}
-use Rattle.lrc_run.proofs.Turning.{one_taken, seen_same, taken-append, way_turned}
+use Rattle.lrc_run.proofs.Scheduling.{scheduling_fault_at}
+use Rattle.lrc_run.proofs.Turning.{one_turn_taken, turning_seen_same, turns_taken-append, way_turned}
 use Rattle.lrc_run.proofs.steps.scheduled.follow.Goals as goal
 
 pub loop-place-init : goal.loop-place-init
-loop-place-init g c = record { way = c.requires.way; taken = (seen_same c.args.processors.now.items, refl) }
+loop-place-init g c = record { way = c.requires.way; taken = (turning_seen_same c.args.processors.now.items, refl) }
 
 pub loop-place-preserved : goal.loop-place-preserved
 loop-place-preserved g c =
@@ -24,9 +24,9 @@ loop-place-preserved g c =
     record {
       way = way_turned c.args.cluster.now sections _ cur new c.loop-place.all.items c.follow_at.new.all.items was.way turn;
       taken = rw (add-one, take-suc_at turns k _ at)
-          (taken-append sections (take k turns) (_ ∷ []) c.args.processors.now.items cur new c.args.all.now.items
+          (turns_taken-append sections (take k turns) (_ ∷ []) c.args.processors.now.items cur new c.args.all.now.items
           c.loop-place.all.items c.follow_at.new.all.items was.taken
-          (one_taken sections _ cur cur new c.loop-place.all.items c.follow_at.new.all.items (seen_same cur) turn));
+          (one_turn_taken sections _ cur cur new c.loop-place.all.items c.follow_at.new.all.items (turning_seen_same cur) turn));
     }
 
 pub returns-clause-taken : goal.returns-clause-taken
@@ -41,6 +41,6 @@ pub returns-in-Err-clause-fault : goal.returns-in-Err-clause-fault
 returns-in-Err-clause-fault g c =
     let turns = c.args.turns.now in
     let at = slice_get-get_or turns c.loop-place.place _ c.loop-place-test.true in
-    fault_at (plan_of c.args.script.now) c.args.cluster.now turns c.loop-place.processors.items c.loop-place.all.items
+    scheduling_fault_at (plan_of c.args.script.now) c.args.cluster.now turns c.loop-place.processors.items c.loop-place.all.items
     c.loop-place.place _ c.in-Err.fault _ (omega (arith, c.loop-place.processors.ok)) c.requires.sizes
     c.loop-place.invariant.way at c.in-Err.ensures.fault

@@ -3,8 +3,8 @@ use Rattle.lrc_script.specs.declared.script.Instruction.{Instruction}
 use Rattle.conformance.specs.declared.progress.TurnProgress.{TurnProgress}
 use Rattle.conformance.specs.Turns.{progress_after_turn}
 use Rattle.lrc_run.specs.Turns.{TakesTurn}
-use Rattle.lrc_run.specs.MakesCalls.{IsOnItsWay}
-use Rattle.lrc_run.proofs.Turning.{look_seen, sees_on}
+use Rattle.lrc_run.specs.MakesCalls.{MakesItsWay}
+use Rattle.lrc_run.proofs.Turning.{turning_look_seen, turning_sees_more}
 use Rattle.lrc_run.proofs.steps.turns.take_turn.Goals as goal
 
 pub returns-in_ok-done-in-Next-clause-turn : goal.returns-in_ok-done-in-Next-clause-turn
@@ -16,7 +16,7 @@ returns-in_ok-done-in-Next-clause-turn g c =
     let P : TurnProgress → Type 0 = λ x. TakesTurn section m x n c.progress_after_turn.result in
     subst P (sym c.in-Next.is) (record {
       done = done;
-      way = subst (λ (i : Instruction). IsOnItsWay m n i done) c.instruction_at_turn.ensures
+      way = subst (λ (i : Instruction). MakesItsWay m n i done) c.instruction_at_turn.ensures
           c.in_ok-done-in-Next.ensures.way;
       late = c.in_ok-done-in-Next.ensures.late;
       to_is = c.progress_after_turn.ensures;
@@ -36,9 +36,9 @@ returns-in_ok-done-in-Waits-clause-turn g c =
 
 pub returns-in_ok-done-in-Waits-clause-vain : goal.returns-in_ok-done-in-Waits-clause-vain
 returns-in_ok-done-in-Waits-clause-vain g c = λ no. (
-  look_seen c.args.processor.now c.end.new.processor c.in_ok-done-in-Waits.done c.in_ok-done-in-Waits.ensures.ok no,
+  turning_look_seen c.args.processor.now c.end.new.processor c.in_ok-done-in-Waits.done c.in_ok-done-in-Waits.ensures.ok no,
   c.progress_after_turn-in-Waits.ensures ∙ ap (progress_after_turn c.args.section.now c.in-Waits.n) no ∙ sym c.in-Waits.is,
 )
 
 pub returns-in-Passed-clause-vain : goal.returns-in-Passed-clause-vain
-returns-in-Passed-clause-vain g c = λ _. (sees_on c.args.processor.now c.args.processor.now refl, sym c.in-Passed.is)
+returns-in-Passed-clause-vain g c = λ _. (turning_sees_more c.args.processor.now c.args.processor.now refl, sym c.in-Passed.is)

@@ -1,5 +1,5 @@
 use Rattle.std.proofs.Common.{◌+◌, refl, arith}
-use Rattle.turn.specs.Chairs.{place, view}
+use Rattle.turn.specs.Chairs.{chair_place, chair_view}
 use Rattle.test_crews.proofs.counters.Sums.{adds, bounded}
 use Rattle.test_crews.proofs.counters.counting.add_one.Goals as goal
 
@@ -16,8 +16,8 @@ leave-requires-clause-inside g c =
       entered.4,
       λ views at
           rules. (
-            view c.enter.new.chair + 1,
+            chair_view c.enter.new.chair + 1,
             refl,
-            adds c.in_ok-held.count views (place c.enter.new.chair) (view c.enter.new.chair) rules at (omega arith),
+            adds c.in_ok-held.count views (chair_place c.enter.new.chair) (chair_view c.enter.new.chair) rules at (omega arith),
           ),
     )

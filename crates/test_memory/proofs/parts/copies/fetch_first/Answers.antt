@@ -2,7 +2,7 @@ use Rattle.std.proofs.Common.{◌≡◌, Some, length, slice_get, subst, arith}
 use Rattle.page.specs.declared.page.Access.TheVariants.{Invalid}
 use Rattle.cluster.specs.Copies.PageReplica.{AllFitPage, Copied}
 use Rattle.cluster.specs.Copies.Counts.{AreCountable}
-use Rattle.cluster.proofs.copies.Steps.{item_at}
+use Rattle.cluster.proofs.copies.Steps.{step_item_at}
 use Rattle.test_memory.proofs.parts.copies.fetch_first.Goals as goal
 
 pub counts-counts-requires-clause-fit : goal.counts-counts-requires-clause-fit
@@ -10,7 +10,7 @@ counts-counts-requires-clause-fit c =
     let copy : Copied = c.index-replicas-0.result in
     let one = c.requires.one in
     let at : slice_get c.args.replicas.now 0 ≡ Some copy =
-    item_at c.args.replicas.now 0 copy (omega arith) c.index-replicas-0.is
+    step_item_at c.args.replicas.now 0 copy (omega arith) c.index-replicas-0.is
     in
     subst (λ (x : Copied). AllFitPage (length x.page.words) x.missing) c.index-replicas-0.is (c.requires.fits 0 copy at)
 
@@ -19,7 +19,7 @@ counts-counts-requires-clause-few c =
     let copy : Copied = c.index-replicas-0.result in
     let one = c.requires.one in
     let at : slice_get c.args.replicas.now 0 ≡ Some copy =
-    item_at c.args.replicas.now 0 copy (omega arith) c.index-replicas-0.is
+    step_item_at c.args.replicas.now 0 copy (omega arith) c.index-replicas-0.is
     in
     subst (λ (x : Copied). AreCountable x.missing) c.index-replicas-0.is (c.requires.few 0 copy at)
 
@@ -28,7 +28,7 @@ fetch-requires-clause-invalid c =
     let copy : Copied = c.index-replicas-0.result in
     let one = c.requires.one in
     let at : slice_get c.args.replicas.now 0 ≡ Some copy =
-    item_at c.args.replicas.now 0 copy (omega arith) c.index-replicas-0.is
+    step_item_at c.args.replicas.now 0 copy (omega arith) c.index-replicas-0.is
     in
     subst (λ (x : Copied). x.page.access ≡ Invalid) c.index-replicas-0.is (c.requires.invalid 0 copy at)
 
@@ -37,6 +37,6 @@ fetch-requires-clause-fit c =
     let copy : Copied = c.index-replicas-0.result in
     let one = c.requires.one in
     let at : slice_get c.args.replicas.now 0 ≡ Some copy =
-    item_at c.args.replicas.now 0 copy (omega arith) c.index-replicas-0.is
+    step_item_at c.args.replicas.now 0 copy (omega arith) c.index-replicas-0.is
     in
     subst (λ (x : Copied). AllFitPage (length x.page.words) x.missing) c.index-replicas-0.is (c.requires.fits 0 copy at)

@@ -2,7 +2,7 @@ use Rattle.std.proofs.Common.{Option, arith}
 use Rattle.turn.specs.declared.chair.ChairState.{ChairState}
 use Rattle.turn.specs.Tickets.{TicketTurns}
 use Rattle.turn.proofs.Places.{deals_places}
-use Rattle.turn.proofs.DealingAndGathering.{dealing_is_live, deals_one}
+use Rattle.turn.proofs.DealingAndGathering.{dealing_is_live, dealing_deals_one}
 use Rattle.turn.proofs.lock.TurnLock.deal.Goals as goal
 
 pub split_seat-seat-requires : goal.split_seat-seat-requires
@@ -26,7 +26,7 @@ loop-preserved g c =
     let inv = c.loop.invariant in
     let cut = c.split_seat-seat.ensures in
     let pushed = c.push_reserved.ensures in
-    let one = deals_one (g.K.Keeper.first lock.table.shared.key.book.value) lock.table.shared.table_id
+    let one = dealing_deals_one (g.K.Keeper.first lock.table.shared.key.book.value) lock.table.shared.table_id
     g.row.ENTRIES lock.layout.seats c.loop.counter c.loop.rest c.loop.chairs.items inv.0 c.loop-test.true
     c.split_seat-seat.new.seat c.split_seat-seat.result c.fresh.result cut.0 cut.2 cut.3 cut.4
     c.fresh.ensures in

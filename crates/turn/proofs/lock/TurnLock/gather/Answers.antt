@@ -2,14 +2,14 @@ use Rattle.std.proofs.Common.{Option, refl, false, [], arith}
 use Rattle.turn.specs.declared.chair.ChairState.{ChairState}
 use Rattle.turn.specs.Tickets.{TicketTurns}
 use Rattle.turn.specs.ChairRuns.{chair_run}
-use Rattle.turn.specs.SeatSteps.{fresh}
+use Rattle.turn.specs.SeatSteps.{fresh_seat}
 use Rattle.turn.proofs.Places.{gathers_places}
-use Rattle.turn.proofs.DealingAndGathering.{gathers_last, gathering_is_before, gathers_one}
+use Rattle.turn.proofs.DealingAndGathering.{gathering_last_chair, gathering_is_before, gathering_one_chair}
 use Rattle.turn.proofs.lock.TurnLock.gather.Goals as goal
 
 pub loop-chair-init : goal.loop-chair-init
 loop-chair-init g c =
-    rw c.into_seat-whole.ensures (gathers_last c.args.self.now.table.shared.table_id g.row.ENTRIES
+    rw c.into_seat-whole.ensures (gathering_last_chair c.args.self.now.table.shared.table_id g.row.ENTRIES
     c.args.chairs.items c.pop.new.self.items c.in-Some.last c.in-Some.ensures.items c.requires.1)
 
 pub join_seat-requires : goal.join_seat-requires
@@ -28,14 +28,14 @@ join_seat-requires g c =
       gathers_places (Option g.row.B.Denot) (ChairState g.row.B.Denot g.row.K-View.Denot) lock.table.shared.key.seats
           (TicketTurns g.K.Keeper.fact (g.W.Board.shows lock.table.shared.key.seats) lock.table.shared.key.entries)
           c.loop-chair.whole.id c.into_seat.result.id c.loop-chair.whole.me.0 c.into_seat.result.me.0
-          (chair_run false 0 (fresh g.K.Keeper.nobody) []) inv.live before.3 refl before.2,
+          (chair_run false 0 (fresh_seat g.K.Keeper.nobody) []) inv.live before.3 refl before.2,
     )
 
 pub loop-chair-preserved : goal.loop-chair-preserved
 loop-chair-preserved g c =
     let lock = c.args.self.now in
     let joined = c.join_seat.ensures in
-    gathers_one lock.table.shared.table_id g.row.ENTRIES c.args.chairs.items c.loop-chair.chairs.items
+    gathering_one_chair lock.table.shared.table_id g.row.ENTRIES c.args.chairs.items c.loop-chair.chairs.items
     c.pop-in-loop-chair.new.self.items c.loop-chair.whole c.in-Some-pop.chair c.into_seat.result
     c.loop-chair.invariant c.in-Some-pop.ensures.items c.into_seat.ensures
     c.join_seat.new.seat joined.0 joined.2

@@ -3,7 +3,7 @@ use Rattle.atomic_table.specs.Table.{Me}
 use Rattle.turn.specs.declared.chair.ChairState.{ChairState}
 use Rattle.turn.specs.declared.chair.ChairRun.{ChairRun}
 use Rattle.turn.specs.SeatSteps.{StepsIn}
-use Rattle.turn.proofs.AllowedLooks.{both_cases, looks_allowed}
+use Rattle.turn.proofs.AllowedLooks.{look_both_cases, looks_allowed}
 use Rattle.turn.specs.Boards.{IsBoard}
 use Rattle.turn.proofs.lock.TurnLock.look.Goals as goal
 
@@ -33,6 +33,6 @@ returns g c =
     let told = c.load.ensures in
     let waits = ap (λ (m : Me (Option g.row.B.Denot)
     (ChairRun (ChairState g.row.B.Denot g.row.K-View.Denot))). m.0.lead.stage) c.requires.waits in
-    let found = both_cases (StepsIn g.K.Keeper.fact c.args.number c.args.seat.now.me c.load.new.seat.me)
+    let found = look_both_cases (StepsIn g.K.Keeper.fact c.args.number c.args.seat.now.me c.load.new.seat.me)
     (c.load.new.seat.me ≡ c.args.seat.now.me) (eqb c.load.result c.args.number) (told.2 c.args.number waits) in
     record { own = told.0; enter = found.0; look = found.1 }

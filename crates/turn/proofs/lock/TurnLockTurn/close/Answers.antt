@@ -1,5 +1,5 @@
 use Rattle.std.proofs.Common.{◌≡◌, length, map, Some, sym, ◌∙◌, subst}
-use Rattle.turn.specs.Chairs.{view}
+use Rattle.turn.specs.Chairs.{chair_view}
 use Rattle.turn.proofs.DealingAndGathering.{gathering_ends}
 use Rattle.turn.proofs.lock.TurnLockTurn.close.Goals as goal
 
@@ -25,4 +25,4 @@ returns g c =
     c.take-slot.ensures.value in
     let is : Some last.0 ≡ Some c.in-Some.book = sym last.1 ∙ c.in-Some.is in
     let same : last.0 ≡ c.in-Some.book = cc in
-    subst (λ (b : g.row.B.Denot). g.K.Keeper.fact b (map view c.args.chairs.items)) same last.2
+    subst (λ (b : g.row.B.Denot). g.K.Keeper.fact b (map chair_view c.args.chairs.items)) same last.2

@@ -1,13 +1,13 @@
 use Rattle.std.proofs.Common.{length, ap, arith}
-use Rattle.cluster.specs.Copies.Backlogs.{Backlogged}
-use Rattle.cluster.proofs.copies.Backlogs.{length_read, backlog_none_later}
+use Rattle.cluster.specs.Copies.Backlogs.{BacklogOfCopy}
+use Rattle.cluster.proofs.copies.Backlogs.{backlog_read_length, backlog_none_later}
 use Rattle.cluster.proofs.copies.missing.Backlog.place_of.Goals as goal
 
 pub on_from-requires-clause-before : goal.on_from-requires-clause-before
 on_from-requires-clause-before c =
     let b = c.self.inside in
-    let long = length_read b.start b.ring.items in
-    let same = ap (λ (q : Backlogged). length q.records) c.self.view_is in
+    let long = backlog_read_length b.start b.ring.items in
+    let same = ap (λ (q : BacklogOfCopy). length q.records) c.self.view_is in
     let ok = b.ring.ok.0 in
     let is = c.len.ensures in
     let low = c.back_from-start.ensures.within in

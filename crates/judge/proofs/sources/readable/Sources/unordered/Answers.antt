@@ -7,7 +7,7 @@ use Rattle.journal.specs.declared.event.Event.{Event}
 use Rattle.journal.specs.declared.event.Kind.TheVariants.{Load, Store}
 use Rattle.journal.specs.DidEvent.{did, event}
 use Rattle.journal.specs.WellFormed.{Does}
-use Rattle.journal.proofs.Order.CountedAndNumbered.{at_longer, at_within}
+use Rattle.journal.proofs.Order.CountedAndNumbered.{numbered_at_longer, numbered_at_within}
 use Rattle.judge.specs.declared.sources.stored.Stored.{Stored}
 use Rattle.judge.specs.Models.{UnorderedStore}
 use Rattle.judge.specs.Sources.Unordered.{AreUnorderedFrom, IsPlaceWithin, IsUnorderedAt}
@@ -34,8 +34,8 @@ found_next j p a w q from i stores are old before = (there, back)
             store = record {
               place = x.store.place;
               by = q;
-              stores = at_longer j (event p (Load a w) ∷ []) x.store.place (event q (Store a found.0)) found.1;
-              before = at_within j x.store.place (event q (Store a found.0)) found.1;
+              stores = numbered_at_longer j (event p (Load a w) ∷ []) x.store.place (event q (Store a found.0)) found.1;
+              before = numbered_at_within j x.store.place (event q (Store a found.0)) found.1;
               unordered = found.2 w;
             };
             place = x.place;
