@@ -139,13 +139,13 @@ module _ (s : Sizes) (h : List Event) (b : State) (told : Represents s h b) wher
       record {
         kind = d.2;
         waits = waits;
-        come = named_never_ready (message_has_come b.flags b.transit p d.2)
+        come = never (message_has_come b.flags b.transit p d.2)
             (λ e. dead.not_ready p ((message_come s h b p told d.2 waits).0 e));
       }
     where
       never : (x : Bool) → ¬ (x ≡ true) → x ≡ false
-      named_never_ready true isnt = absurd (isnt refl)
-      named_never_ready false isnt = refl
+      never true isnt = absurd (isnt refl)
+      never false isnt = refl
 
   -- who may acquire a lock holds it in the book
   pub named_granted_holds : (q l : ℕ) → l < s.locks → Allowed s h q (Acquire l) → (lock_at b.locks l).holder ≡ Some q
