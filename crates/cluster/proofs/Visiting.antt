@@ -30,7 +30,7 @@ pub record Visit (m : Local) (b new : State) (after : ChairToken State View) : T
   pub seated : IsSeated after m.number m.sizes
   pub same_lock : lock after ≡ m.lock
   pub once_more : entries after ≡ m.entries + 1
-  pub seen : (chair_view after).seen ≡ (m.seen ++ leaving_call_finds.rest) ++ view_added b.journal new.journal
+  pub seen : (chair_view after).seen ≡ (m.seen ++ finds.rest) ++ view_added b.journal new.journal
   pub cut : (chair_view after).cut ≡ new.journal.base.cut
   pub own_cut : (chair_view after).own_cut + b.journal.base.cut ≡ m.own_cut + new.journal.base.cut
 
