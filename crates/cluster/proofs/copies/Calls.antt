@@ -88,9 +88,9 @@ module _ (m : Local) (sound : IsSound m) (k : Kind) (waits : m.awaits ≡ Some k
           → AreMissingNotices m.sizes m.seen m.number n (slice_index m.time) (slice_index (join m.time x.time))
           (news_of_page n x.notices)
       called_message_news n =
-          let brought_by_message = news_law m.sizes m.seen b m.number n k x.time told sound.mine message.time in
+          let brought = news_law m.sizes m.seen b m.number n k x.time told sound.mine message.time in
           let P : List ℕ → Type 0 = λ t. IsNewsOfCalled n t (closings_between b.closed t x.time) in
-          rw (message.notices, time) (subst P time brought_by_message)
+          rw (message.notices, time) (subst P time brought)
 
       -- in closing order
       pub called_message_order : (n : ℕ) → MissingInOrder (news_of_page n x.notices)
