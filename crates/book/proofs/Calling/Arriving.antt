@@ -34,22 +34,25 @@ use Rattle.book.proofs.Parts.LastAndCounts.{count_others}
 use Rattle.book.proofs.Parts.Mail.{idle_allowed_no_mail, no_mail}
 use Rattle.book.proofs.Calling.Posting.{posting_all_same}
 use Rattle.book.proofs.Parts.BarrierStages.{barrier_stage_away, barrier_stage_idle_counts, waits_at_barrier_stage, arrived_barrier_stages_here, arrived_barrier_stages}
-use Rattle.book.proofs.Parts.TimesAndAwaits.{idle_awaits_none, times_is_processor, own_time_stamp, times_within_closing}
+use Rattle.book.proofs.Parts.TimesAndAwaits.{IsIdleTold, idle_awaits_none, times_is_processor, own_time_stamp, times_within_closing}
 
 -- when the last one arrives the others wait, and nobody may go on
-arriving_lets_nobody : (s : Sizes) (h : List Event) (b : State) (p q : ℕ) (t : List ℕ) → Represents s h b
-    → slice_get b.awaits p ≡ Some None → episode_full (episode_with_arrival b.barrier p t) ≡ true → q < s.processors → (a : Kind)
+arriving_lets_nobody : {s : Sizes} {h : List Event} {b : State} {p : ℕ} → IsIdleTold s h b p → (q : ℕ) (t : List ℕ)
+    → episode_full (episode_with_arrival b.barrier p t) ≡ true → q < s.processors → (a : Kind)
     → ComesByMail a → ¬ Allowed s h q a
-arriving_lets_nobody s h b p q t told idle full less a posted allowed = elim (cases_eq q p) [
+arriving_lets_nobody {s} {h} {b} {p} call q t full less a posted allowed = elim (cases_eq q p) [
   | inl is ↦ (let P : ℕ → Type 0 = λ x. Allowed s h x a in idle_allowed_no_mail s h p a free posted (subst P is allowed))
   | inr apart ↦ others apart a posted allowed
 ]
   where
+    told : Represents s h b
+    told = call.told
+
     free : WaitsForNothing h p
-    free = idle_awaits_none s h b p told idle
+    free = idle_awaits_none s h b p told call.idle
 
     lt : p < s.processors
-    lt = times_is_processor s h b p None told idle
+    lt = times_is_processor s h b p None told call.idle
 
     all : (count_of is_arrive h p ≡ told.barrier.complete)
         × EachStampedAt s.processors (IsAtBarrierStage (did h p Arrive) told.barrier.complete) (slice_set b.barrier.stages p Here)
@@ -151,7 +154,7 @@ arriving_by s h b p told idle =
             let read = slice_get-get_or b.transit q None (omega arith) in
             read ∙ ap (λ (x : Option Letter). Some x)
             (sym (no_mail s h q (slice_index_or b.transit q None)
-            (arriving_lets_nobody s h b p q (tick (state_time_of b p) p) told idle all_here less)
+            (arriving_lets_nobody (record { told = told; idle = idle }) q (tick (state_time_of b p) p) all_here less)
             (told.transit.each q (slice_index_or b.transit q None) read)))
 
 pub arriving : (b : State) (p : ℕ) (block : List Event) → AllowsClosing b p block → IsArriving b p
@@ -233,11 +236,12 @@ arriving_finds_no_mail old p c t ms is time made = go (episode_full (episode_wit
         ∙ ap (λ (n : ℕ). replicate n None) (sym same)
 
 -- the departures as they were made, read off the book before the call
-pub arrived_departures_made : (old b : State) (p : ℕ) (records : List Changes) (i : ClosedInterval) (t : List ℕ)
-    (o : Option (List Letter)) → b ≡ old → i ≡ transition_open_interval b p records
+pub arrived_departures_made : {old b : State} {i : ClosedInterval} {o : Option (List Letter)} → (p : ℕ)
+    (records : List Changes) (t : List ℕ)
+    → b ≡ old → i ≡ transition_open_interval b p records
     → o ≡ transition_departures_to (pushed b.closed i) b.barrier (slice_set b.times i.owner t) i.owner t
     → o ≡ transition_departures_to (pushed old.closed (transition_open_interval old p records)) old.barrier (slice_set old.times p t) p t
-arrived_departures_made old b p records i t o same opened made = cc
+arrived_departures_made p records t same opened made = cc
 
 -- old is the timestamp of q once p has closed its interval at the time own: p's own, another's, t, as it was
 pub record IsTimeAfterArriving (times : List (List ℕ)) (p q : ℕ) (own old : List ℕ) : Type 0 where

@@ -115,11 +115,11 @@ pub closing_same_default : {A : Type 0} (xs : List A) (i : ℕ) (d e : A) → i 
 closing_same_default xs i d e lt = get_or_from_slice_get xs i (slice_index_or xs i e) d (slice_get-get_or xs i e lt)
 
 -- the journal after a block and an event
-pub closing_logs_are : (a b c d : Log) (owing : ℕ) (block : List Event) (e : Event) → b ≡ record a { room = b.room }
+pub closing_logs_are : {b c d : Log} → (a : Log) (owing : ℕ) (block : List Event) (e : Event) → b ≡ record a { room = b.room }
     → c ≡ record b { events = b.events ++ block; room = b.room - length block }
     → d ≡ record c { events = c.events ++ e ∷ []; room = c.room - 1 }
     → record d { room = owing } ≡ record a { events = (a.events ++ block) ++ e ∷ []; room = owing }
-closing_logs_are a b c d owing block e first second third = cc
+closing_logs_are a owing block e first second third = cc
 
 -- the book after p handed in a block and closed its interval: each part that changes, and the others as they were
 pub record HasClosed (b : State) (p : ℕ) (k : Kind) (block : List Event) (records : List Changes) (new : State)

@@ -78,11 +78,11 @@ named_stands_after b p k closed =
         ]
 
 -- who holds the released lock next is among those whose waits the book keeps
-pub named_next_within : (b : State) (p : ℕ) (k : Kind) (l : ℕ) (awaits : List (Option Awaited)) → NamedStandsAfter b p k → k ≡ Release l
-    → b.awaits ≡ map (option_map awaited_kind) awaits → (o : Option ℕ) → o ≡ (lock_at b.locks l).holder
+pub named_next_within : {b : State} {p : ℕ} {k : Kind} {l : ℕ} → (awaits : List (Option Awaited)) → NamedStandsAfter b p k
+    → k ≡ Release l → b.awaits ≡ map (option_map awaited_kind) awaits → (o : Option ℕ) → o ≡ (lock_at b.locks l).holder
     → IfSome o (λ q. q < length awaits)
-named_next_within b p k l awaits stands released are None is = tt
-named_next_within b p k l awaits stands released are (Some q) is =
+named_next_within awaits stands released are None is = tt
+named_next_within {l = l} awaits stands released are (Some q) is =
     subst (λ (n : ℕ). q < n)
     (ap (λ (ws : List (Option Kind)). length ws) are ∙ length-map awaits (option_map awaited_kind))
     (stands.next l q released (sym is))

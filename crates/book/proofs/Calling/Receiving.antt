@@ -124,35 +124,40 @@ receiving_by s h b p k told waits =
 pub receiving : (b : State) (p : ℕ) (k : Kind) → AllowsTakeCall b p k → IsReceiving b p k
 receiving b p k may = receiving_by may.by.sizes may.by.history b p k may.by.told may.waits
 
+-- p may take something, and o is read of what the book keeps of whom waits for what
+pub record IsAwaitedRead (b now : State) (p : ℕ) (o : Option Awaited) : Type 0 where
+  pub all : List (Option Awaited)
+  pub kept : b.awaits ≡ map (option_map awaited_kind) all
+  pub same : b ≡ now
+  pub may : AllowsSomeTakeCall now p
+  pub is : o ≡ slice_index_or all p o
+
 -- what was read is the kind that p waits for
-pub receiving_waits_read : (b now : State) (all : List (Option Awaited)) (p : ℕ) (o : Option Awaited)
-    → b.awaits ≡ map (option_map awaited_kind) all → b ≡ now → (may : AllowsSomeTakeCall now p) → o ≡ slice_index_or all p o
-    → option_map awaited_kind o ≡ Some may.kind
-receiving_waits_read b now all p o kept same may is =
-    ap (option_map awaited_kind) is ∙ sym (get_or-map (option_map awaited_kind) all p o)
-    ∙ ap (λ (ks : List (Option Kind)). slice_index_or ks p (option_map awaited_kind o)) (sym kept)
-    ∙ get_or_from_slice_get b.awaits p (Some may.kind) (option_map awaited_kind o)
-    (ap (λ (x : State). slice_get x.awaits p) same ∙ (receiving now p may.kind may.take).waits)
+receiving_waits_read : {b now : State} {p : ℕ} {o : Option Awaited} → (read : IsAwaitedRead b now p o)
+    → option_map awaited_kind o ≡ Some read.may.kind
+receiving_waits_read {b} {now} {p} {o} read =
+    let kind = read.may.kind in
+    ap (option_map awaited_kind) read.is ∙ sym (get_or-map (option_map awaited_kind) read.all p o)
+    ∙ ap (λ (ks : List (Option Kind)). slice_index_or ks p (option_map awaited_kind o)) (sym read.kept)
+    ∙ get_or_from_slice_get b.awaits p (Some kind) (option_map awaited_kind o)
+    (ap (λ (x : State). slice_get x.awaits p) read.same ∙ (receiving now p kind read.may.take).waits)
 
 -- so there was something to read
-pub receiving_not_idle : (b now : State) (all : List (Option Awaited)) (p : ℕ) (o : Option Awaited)
-    → b.awaits ≡ map (option_map awaited_kind) all → b ≡ now → AllowsSomeTakeCall now p → o ≡ slice_index_or all p o → o ≡ None
-    → ⊥
-receiving_not_idle b now all p o kept same may is none =
-    let read = receiving_waits_read b now all p o kept same may is in
+pub receiving_not_idle : {b now : State} {p : ℕ} {o : Option Awaited} → IsAwaitedRead b now p o → o ≡ None → ⊥
+receiving_not_idle {o = o} read none =
+    let waits = receiving_waits_read read in
     let idle : option_map awaited_kind o ≡ None = ap (option_map awaited_kind) none in
     absurd cc
 
 -- and p receives it
-pub reads_receiving : (b now : State) (all : List (Option Awaited)) (p : ℕ) (o : Option Awaited)
-    → b.awaits ≡ map (option_map awaited_kind) all → b ≡ now → AllowsSomeTakeCall now p → o ≡ slice_index_or all p o
-    → (a : Awaited) → o ≡ Some a → IsReceiving b p (awaited_kind a)
-reads_receiving b now all p o kept same may is a some =
-    let r = receiving now p may.kind may.take in
-    let read = receiving_waits_read b now all p o kept same may is in
+pub reads_receiving : {b now : State} {p : ℕ} {o : Option Awaited} → IsAwaitedRead b now p o → (a : Awaited) → o ≡ Some a
+    → IsReceiving b p (awaited_kind a)
+reads_receiving {b} {now} {p} {o} read a some =
+    let kind = read.may.kind in
+    let r = receiving now p kind read.may.take in
     let P : Kind → Type 0 = λ k. IsReceiving b p k in
-    subst P (same_Some may.kind (awaited_kind a) (sym read ∙ ap (option_map awaited_kind) some))
-    (subst (λ x. IsReceiving x p may.kind) (sym same) r)
+    subst P (same_Some kind (awaited_kind a) (sym (receiving_waits_read read) ∙ ap (option_map awaited_kind) some))
+    (subst (λ x. IsReceiving x p kind) (sym read.same) r)
 
 -- a list of timestamps with another one of the same length
 pub receiving_all_long_set : (times : List (List ℕ)) (p : ℕ) (u : List ℕ) (n : ℕ) → length u ≡ n
@@ -165,10 +170,10 @@ receiving_all_long_set times p u n long all i t at = elim (cases_eq i p) [
 ]
 
 -- what may be trimmed once p's timestamp has risen
-pub receiving_allows_trim : (b : State) (p : ℕ) (k : Kind) (times : List (List ℕ)) (before u : List ℕ) → IsReceiving b p k
-    → times ≡ slice_set b.times p u → length u ≡ length b.times → before ≡ state_time_of b p
+pub receiving_allows_trim : {b : State} {p : ℕ} {k : Kind} {times : List (List ℕ)} {before : List ℕ} → IsReceiving b p k
+    → (u : List ℕ) → times ≡ slice_set b.times p u → length u ≡ length b.times → before ≡ state_time_of b p
     → AllowsTrimOfCall b.closed times p before
-receiving_allows_trim b p k times before u w is long old =
+receiving_allows_trim {b} {p} w u is long old =
     let same = length-set b.times p u in
     let owners = w.owners in
     let within = w.times in

@@ -41,9 +41,9 @@ release_may_be_sent s h b r told lt =
     }
 
 -- who asks for a lock that somebody holds has no message
-release_held_mail : (s : Sizes) (h : List Event) (p r i l : ℕ) (o : Option Letter) → Holds h p l → LastIs h r i (Ask l)
+release_held_mail : {h : List Event} {p r i l : ℕ} → (s : Sizes) (o : Option Letter) → Holds h p l → LastIs h r i (Ask l)
     → IsMail s h r o → None ≡ o
-release_held_mail s h p r i l o held asks mail = no_mail s h r o never mail
+release_held_mail {h} {p} {r} {i} {l} s o held asks mail = no_mail s h r o never mail
   where
     never : (a : Kind) → ComesByMail a → ¬ Allowed s h r a
     never (Acquire m) posted (k, last, may) =
@@ -112,7 +112,7 @@ releasing_by s h b p l told idle range held =
               (subst (λ (x : ℕ). LastIs h x ask.0 (Ask l)) e ask.1);
           sent = release_may_be_sent s h b r told lt;
           none = read ∙ ap (λ (x : Option Letter). Some x)
-              (sym (release_held_mail s h p r ask.0 l (slice_index_or b.transit r None) held ask.1
+              (sym (release_held_mail s (slice_index_or b.transit r None) held ask.1
               (told.transit.each r (slice_index_or b.transit r None) read)));
         }
 

@@ -27,24 +27,31 @@ line_idle_no_ask h p l idle i last = absurd (cc (idle i (Ask l) last))
 pub not_in_line : (h : List Event) (p l : ℕ) (xs : List ℕ) → NoAskInLine h p l → ¬ Holds h p l → IsLine h l xs → ¬ Has xs p
 not_in_line h p l xs none free x has = elim (x.asks has.0 p has.1) [ inl a ↦ none a.0 a.1 | inr b ↦ free b.1 ]
 
+-- p's event k is none of the lock, for which p doesn't wait
+pub record LeavesLine (h : List Event) (p : ℕ) (k : Kind) (l : ℕ) : Type 0 where
+  pub ask : k ≢ Ask l
+  pub acquire : k ≢ Acquire l
+  pub release : k ≢ Release l
+  pub none : NoAskInLine h p l
+
 -- the lines of other locks stay
-pub line_kept : (h : List Event) (p : ℕ) (k : Kind) (l : ℕ) (xs : List ℕ) → k ≢ Ask l → k ≢ Acquire l → k ≢ Release l
-    → NoAskInLine h p l → IsLine h l xs → IsLine (did h p k) l xs
-line_kept h p k l xs ask acquire release none x = record {
+pub line_kept : {h : List Event} {p : ℕ} {k : Kind} {l : ℕ} {xs : List ℕ} → LeavesLine h p k l → IsLine h l xs
+    → IsLine (did h p k) l xs
+line_kept {h} {p} {k} {l} {xs} leaves x = record {
   each = λ q i last. x.each q i (old q i last);
-  first = λ q held. x.first q (last_holds_back h p k q l acquire held);
+  first = λ q held. x.first q (last_holds_back h p k q l leaves.acquire held);
   asks = λ m q at. elim (x.asks m q at) [
     | inl a ↦ inl (a.0, last_on h p k q a.0 (Ask l) (apart q a.0 a.1) a.1)
-    | inr b ↦ inr (b.0, holds_last_on h p k q l release b.1)
+    | inr b ↦ inr (b.0, holds_last_on h p k q l leaves.release b.1)
   ];
   order = λ m n q r i j lt at to one two. x.order m n q r i j lt at to (old q i one) (old r j two);
 }
   where
     old : (q i : ℕ) → LastIs (did h p k) q i (Ask l) → LastIs h q i (Ask l)
-    old q i last = elim (last_cases h (event p k) q i (Ask l) last) [ inl own ↦ absurd (ask (sym own.2)) | inr o ↦ o.1 ]
+    old q i last = elim (last_cases h (event p k) q i (Ask l) last) [ inl own ↦ absurd (leaves.ask (sym own.2)) | inr o ↦ o.1 ]
 
     apart : (q i : ℕ) → LastIs h q i (Ask l) → q ≢ p
-    apart q i last is = let P : ℕ → Type 0 = λ r. LastIs h r i (Ask l) in none i (subst P is last)
+    apart q i last is = let P : ℕ → Type 0 = λ r. LastIs h r i (Ask l) in leaves.none i (subst P is last)
 
 -- who asks comes last
 pub line_asked : (h : List Event) (p l : ℕ) (xs : List ℕ) → NoAskInLine h p l → ¬ Holds h p l → IsLine h l xs

@@ -114,11 +114,11 @@ news_stores_of s h q k n [] some content = absurd (some refl)
 news_stores_of s h q k n (w ∷ words) some content = content_some s h q k n w words content
 
 -- what a taking brings of a page is news of it
-pub news_are : (s : Sizes) (h : List Event) (b : State) (p n : ℕ) (k : Kind) (u : List ℕ) → Represents s h b
+pub news_are : {s : Sizes} {h : List Event} {b : State} {p : ℕ} → (n : ℕ) (k : Kind) (u : List ℕ) → Represents s h b
     → p < s.processors → IsStamp s.processors h (Brings h p k) u
     → AreMissingNotices s h p n (slice_index (state_time_of b p)) (slice_index (join (state_time_of b p) u))
     (news_of_page n (closings_between b.closed (state_time_of b p) u))
-news_are s h b p n k u told lt brings = record {
+news_are {s} {h} {b} {p} n k u told lt brings = record {
   each = λ q m. (there q m, back q m);
   placed = λ x has. (let y = read x has in subst Placed y.is (told.closed.each y.kept y.has));
   contents = λ x has. (let y = read x has in subst Content y.is (content y.kept y.changes y.has y.among y.page));

@@ -43,6 +43,11 @@ times_is_processor s h b p w told at =
     let long = told.awaits.long in
     omega arith
 
+-- p waits for nothing in a book that is told by the history
+pub record IsIdleTold (s : Sizes) (h : List Event) (b : State) (p : ℕ) : Type 0 where
+  pub told : Represents s h b
+  pub idle : slice_get b.awaits p ≡ Some None
+
 -- a book with as many processors, addresses and words a page has the same sizes
 pub times_same_sizes : (s : Sizes) (b c : State) → HasSizes s b
     → (c.journal.processors ≡ b.journal.processors) × (c.words ≡ b.words)

@@ -98,20 +98,30 @@ tight_trimmed c times n some long few q lt =
     let first = first_trimmed c times n q less (omega arith) (few q less) in
     (found.0, found.1, found.2, let entry = found.3 in omega arith)
 
--- an owner of whom nothing rose is trimmed no further
-pub trimmed_spared : (c : Closings) (times : List (List ℕ)) (p owner : ℕ) (old new : List ℕ) → owner < length c.first
-    → slice_get times p ≡ Some new → slice_index new owner ≤ slice_index old owner
-    → IsTight c.first (slice_set times p old) → AreClosedFromFirst c
-    → transition_trimmed_by c times (suc owner) ≡ transition_trimmed_by c times owner
-trimmed_spared c times p owner old new lt at le tight from =
-    let found = tight owner lt in
+-- of the owner nothing rose when p's timestamp old became new, before which nothing was left to trim:
+-- it is trimmed no further
+pub record IsSpared (c : Closings) (times : List (List ℕ)) (owner : ℕ) : Type 0 where
+  pub p : ℕ
+  pub old : List ℕ
+  pub new : List ℕ
+  pub at : slice_get times p ≡ Some new
+  pub le : slice_index new owner ≤ slice_index old owner
+  pub tight : IsTight c.first (slice_set times p old)
+
+pub trimmed_spared : {c : Closings} {times : List (List ℕ)} {owner : ℕ} → IsSpared c times owner → owner < length c.first
+    → AreClosedFromFirst c → transition_trimmed_by c times (suc owner) ≡ transition_trimmed_by c times owner
+trimmed_spared {c} {times} {owner} spared lt from =
+    let p = spared.p in
+    let old = spared.old in
+    let le = spared.le in
+    let found = spared.tight owner lt in
     let first = trimmed_first_left c times owner owner (omega arith) in
     let low : least times owner ≤ slice_index c.first owner = elim (cases_eq found.0 p) [
       | inl is ↦ (
           let P : ℕ → Type 0 = λ x. slice_get (slice_set times p old) x ≡ Some found.1 in
           let same = slice_get-set_found times p old found.1 (subst P is found.2) in
           let entry = subst (λ (t : List ℕ). slice_index t owner ≤ slice_index c.first owner) (sym same) found.3 in
-          let all = closed_least_le times owner p new at in
+          let all = closed_least_le times owner p spared.new spared.at in
           omega arith)
       | inr isnt ↦ (
           let all = closed_least_le times owner found.0 found.1

@@ -51,18 +51,24 @@ departs_before_arriving s h p r n isnt most lacks allowed =
       λ q lt. (let m = most q lt in omega arith),
     )
 
--- so the others' mail stays while the episode is open
-arriving_mail_waits : (s : Sizes) (h : List Event) (p r n : ℕ) (o : Option Letter) → MayFollow s h (event p Arrive) → r ≢ p
-    → ((q : ℕ) → q < s.processors → n ≤ count_of is_arrive h q)
-    → (q : ℕ) × (q < s.processors) × (count_of is_arrive (did h p Arrive) q ≡ n)
+-- p's arrival leaves the episode open: all have arrived n times before, and somebody no more often after it
+record LeavesOpen (s : Sizes) (h : List Event) (p n : ℕ) : Type 0 where
+  may : MayFollow s h (event p Arrive)
+  most : (q : ℕ) → q < s.processors → n ≤ count_of is_arrive h q
+  lacks : (q : ℕ) × (q < s.processors) × (count_of is_arrive (did h p Arrive) q ≡ n)
+
+-- so the others' mail stays
+arriving_mail_waits : {s : Sizes} {h : List Event} {p n : ℕ} → LeavesOpen s h p n → (r : ℕ) (o : Option Letter) → r ≢ p
     → IsMail s h r o → IsMail s (did h p Arrive) r o
-arriving_mail_waits s h p r n None may isnt most lacks mail = mail_unless s h p Arrive may r isnt None never mail
+arriving_mail_waits {s} {h} {p} {n} open_is r None isnt mail =
+    mail_unless s h p Arrive open_is.may r isnt None never mail
   where
     never : (a : Kind) → ComesByMail a → MailNews Arrive a → ¬ Allowed s (did h p Arrive) r a
     never (Acquire l) posted news allowed = absurd cc
-    never Depart posted news allowed = mail Depart tt (departs_before_arriving s h p r n isnt most lacks allowed)
+    never Depart posted news allowed =
+        mail Depart tt (departs_before_arriving s h p r n isnt open_is.most open_is.lacks allowed)
     never _ posted news allowed = absurd posted
-arriving_mail_waits s h p r n (Some m) may isnt most lacks mail = mail_stays s h p Arrive may r isnt m mail
+arriving_mail_waits {s} {h} {p} {n} open_is r (Some m) isnt mail = mail_stays s h p Arrive open_is.may r isnt m mail
 
 -- the one who arrives has none then
 arrived_none : (s : Sizes) (h : List Event) (p n : ℕ) → count_of is_depart h p ≡ n
@@ -117,7 +123,7 @@ module _ (s : Sizes) (h : List Event) (b : State) (p : ℕ) (told : Represents s
   arrived_mail c false same long full =
       subst (λ ms. EachStampedAt s.processors (IsMail s (did h p Arrive)) ms) (sym same)
       (each_own s.processors (IsMail s h) (IsMail s (did h p Arrive)) b.transit p told.transit
-      (λ r o isnt at is. arriving_mail_waits s h p r waits.0.complete o may isnt waits.1 waits.0.lacks is)
+      (λ r o isnt at is. arriving_mail_waits (record { may = may; most = waits.1; lacks = waits.0.lacks }) r o isnt is)
       (λ o at is. subst (λ x. IsMail s (did h p Arrive) p x) (idle_mail s h p o free is)
       (arrived_none s h p waits.0.complete counts waits.0.lacks)))
     where
@@ -160,8 +166,12 @@ module _ (s : Sizes) (h : List Event) (b : State) (p : ℕ) (told : Represents s
   told_arrive records stored =
       told_closing s h b p told lt Arrive may (transition_arrived b p records)
       (record {
-        locks = told_locks_kept s h p Arrive b.locks.locks (λ l e. absurd cc) (λ l e. absurd cc) (λ l e. absurd cc)
-            (λ l. line_idle_no_ask h p l free) told.locks;
+        locks = told_locks_kept s h p Arrive b.locks.locks (λ l. record {
+          ask = λ e. absurd cc;
+          acquire = λ e. absurd cc;
+          release = λ e. absurd cc;
+          none = line_idle_no_ask h p l free;
+        }) told.locks;
         barrier = arrived_barrier full refl;
         flags = flags_kept s h p Arrive b.flags (λ f e. absurd cc) told.flags;
         transit = arrived_mail (transition_closed_by b p Arrive records) full refl

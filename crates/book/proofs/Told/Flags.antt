@@ -52,8 +52,12 @@ module _ (s : Sizes) (h : List Event) (b : State) (p f : ℕ) (records : List Ch
   told_plain k plain may flags all =
       told_closing s h b p told lt k may (record (transition_closed_by b p k records) { flags = flags })
       (record {
-        locks = told_locks_kept s h p k b.locks.locks plain.ask (λ l. last_event_unlike is_taking k (Acquire l) plain.takes refl)
-            plain.release (λ l. line_idle_no_ask h p l free) told.locks;
+        locks = told_locks_kept s h p k b.locks.locks (λ l. record {
+          ask = plain.ask l;
+          acquire = last_event_unlike is_taking k (Acquire l) plain.takes refl;
+          release = plain.release l;
+          none = line_idle_no_ask h p l free;
+        }) told.locks;
         barrier = barrier_stage_kept s h p k b.barrier plain.arrives plain.departs told.barrier;
         flags = all;
         transit = each_own s.processors (IsMail s h) (IsMail s (did h p k)) b.transit p told.transit
@@ -160,8 +164,12 @@ told_signal s h b p f t told waits set =
       quiet = refl;
       brings = flag.1;
       after = record {
-        locks = told_locks_kept s h p (Await f) b.locks.locks (λ l e. absurd cc) (λ l e. absurd cc) (λ l e. absurd cc)
-            (λ l i ask. absurd (cc ((last_unique h p last.0 i (Watch f) (Ask l) last.1 ask).1))) told.locks;
+        locks = told_locks_kept s h p (Await f) b.locks.locks (λ l. record {
+          ask = λ e. absurd cc;
+          acquire = λ e. absurd cc;
+          release = λ e. absurd cc;
+          none = λ i ask. absurd (cc ((last_unique h p last.0 i (Watch f) (Ask l) last.1 ask).1));
+        }) told.locks;
         barrier = barrier_stage_kept s h p (Await f) b.barrier refl refl told.barrier;
         flags = flags_kept s h p (Await f) b.flags (λ g e. absurd cc) told.flags;
         transit = each_own s.processors (IsMail s h) (IsMail s (did h p (Await f))) b.transit p told.transit

@@ -32,41 +32,45 @@ use Rattle.book.specs.Told.{Represents}
 use Rattle.book.proofs.Parts.Each.{each_set, each_kept, each_own, each_is_at}
 use Rattle.book.proofs.Parts.LastAndCounts.{last_none, last_holds_back}
 use Rattle.book.proofs.Parts.Stamps.{stamp_closing, stamp_released}
-use Rattle.book.proofs.Parts.Lines.{NoAskInLine, line_idle_no_ask, not_in_line, line_kept, line_asked, line_released, line_taken, first_in_line_allowed, allowed_first_in_line}
+use Rattle.book.proofs.Parts.Lines.{NoAskInLine, LeavesLine, line_idle_no_ask, not_in_line, line_kept, line_asked, line_released, line_taken, first_in_line_allowed, allowed_first_in_line}
 use Rattle.book.proofs.Parts.Mail.{MailNews, mail_stamp_kept, mail_unless, mail_kept, own_mail_idle}
 use Rattle.book.proofs.Parts.Flags.{flags_kept}
 use Rattle.book.proofs.Parts.BarrierStages.{barrier_stage_kept}
-use Rattle.book.proofs.Parts.TimesAndAwaits.{times_is_processor, idle_awaits_none, awaits_none_no_mail, own_time_stamp, awaits_follows, times_still_formed, times_old_notices}
+use Rattle.book.proofs.Parts.TimesAndAwaits.{IsIdleTold, times_is_processor, idle_awaits_none, awaits_none_no_mail, own_time_stamp, awaits_follows, times_still_formed, times_old_notices}
 use Rattle.book.proofs.Told.Events.{told_closing}
 
 -- a lock that the event does not name stays
-pub told_lock_kept : (n : ℕ) (h : List Event) (p : ℕ) (k : Kind) (l : ℕ) (x : Lock) → k ≢ Ask l → k ≢ Acquire l
-    → k ≢ Release l → NoAskInLine h p l → HasLineOfLock n h l x → HasLineOfLock n (did h p k) l x
-told_lock_kept n h p k l x ask acquire release none is = record {
-  line_is = line_kept h p k l (lock_line x) ask acquire release none is.line_is;
+pub told_lock_kept : {n : ℕ} {h : List Event} {p : ℕ} {k : Kind} {l : ℕ} {x : Lock} → LeavesLine h p k l → HasLineOfLock n h l x
+    → HasLineOfLock n (did h p k) l x
+told_lock_kept {n} {h} {p} {k} {l} {x} leaves is = record {
+  line_is = line_kept leaves is.line_is;
   held = is.held;
-  time = mail_stamp_kept n h p k (Release l) x.time release is.time;
+  time = mail_stamp_kept n h p k (Release l) x.time leaves.release is.time;
 }
 
 -- each stays that is neither asked for nor taken nor released
-pub told_locks_kept : (s : Sizes) (h : List Event) (p : ℕ) (k : Kind) (xs : List Lock) → ((l : ℕ) → k ≢ Ask l)
-    → ((l : ℕ) → k ≢ Acquire l) → ((l : ℕ) → k ≢ Release l) → ((l : ℕ) → NoAskInLine h p l)
+pub told_locks_kept : (s : Sizes) (h : List Event) (p : ℕ) (k : Kind) (xs : List Lock) → ((l : ℕ) → LeavesLine h p k l)
     → EachStampedAt s.locks (HasLineOfLock s.processors h) xs → EachStampedAt s.locks (HasLineOfLock s.processors (did h p k)) xs
-told_locks_kept s h p k xs ask acquire release none all =
+told_locks_kept s h p k xs leaves all =
     each_kept s.locks (HasLineOfLock s.processors h) (HasLineOfLock s.processors (did h p k)) xs all
-    (λ l x at is. told_lock_kept s.processors h p k l x (ask l) (acquire l) (release l) (none l) is)
+    (λ l x at is. told_lock_kept (leaves l) is)
 
-told_lock_asked : (n : ℕ) (h : List Event) (p l : ℕ) (o : Option ℕ) (xs t : List ℕ) → NoAskInLine h p l → ¬ Holds h p l
+-- p neither waits for the lock nor holds it
+pub record MayAskFor (h : List Event) (p l : ℕ) : Type 0 where
+  pub none : NoAskInLine h p l
+  pub free : ¬ Holds h p l
+
+told_lock_asked : {h : List Event} {p l : ℕ} → (n : ℕ) (o : Option ℕ) (xs t : List ℕ) → MayAskFor h p l
     → HasLineOfLock n h l (record { holder = o; queue = xs; time = t })
     → HasLineOfLock n (did h p (Ask l)) l (asked_lock (record { holder = o; queue = xs; time = t }) p)
-told_lock_asked n h p l None (y ∷ xs) t none free is = absurd (cc (is.held refl))
-told_lock_asked n h p l None [] t none free is = record {
-  line_is = line_asked h p l [] none free is.line_is;
+told_lock_asked n None (y ∷ xs) t may is = absurd (cc (is.held refl))
+told_lock_asked {h} {p} {l} n None [] t may is = record {
+  line_is = line_asked h p l [] may.none may.free is.line_is;
   held = λ e. absurd (cc (e));
   time = mail_stamp_kept n h p (Ask l) (Release l) t (λ e. absurd cc) is.time;
 }
-told_lock_asked n h p l (Some q) xs t none free is = record {
-  line_is = line_asked h p l (q ∷ xs) none free is.line_is;
+told_lock_asked {h} {p} {l} n (Some q) xs t may is = record {
+  line_is = line_asked h p l (q ∷ xs) may.none may.free is.line_is;
   held = λ e. absurd (cc (e));
   time = mail_stamp_kept n h p (Ask l) (Release l) t (λ e. absurd cc) is.time;
 }
@@ -93,20 +97,20 @@ told_lock_passed n h l [] t is time = record { line_is = is; held = λ e. refl; 
 told_lock_passed n h l (q ∷ xs) t is time = record { line_is = is; held = λ e. absurd (cc (e)); time = time }
 
 -- the line after the holder's release
-told_lock_line_passed : (n : ℕ) (h : List Event) (p l : ℕ) (o : Option ℕ) (xs t : List ℕ) → NoAskInLine h p l → Holds h p l
-    → HasLineOfLock n h l (record { holder = o; queue = xs; time = t }) → IsLine (did h p (Release l)) l xs
-told_lock_line_passed n h p l o xs t none held is =
-    let first = told_lock_holder_first n h p l o xs t held is in
-    line_released h p l xs none held
-    (subst (λ x. IsLine h l (lock_line (record { holder = x; queue = xs; time = t }))) first is.line_is)
+told_lock_line_passed : {n : ℕ} {h : List Event} {p l : ℕ} → (x : Lock) → NoAskInLine h p l → Holds h p l → HasLineOfLock n h l x
+    → IsLine (did h p (Release l)) l x.queue
+told_lock_line_passed {n} {h} {p} {l} x none held is =
+    let first = told_lock_holder_first n h p l x.holder x.queue x.time held is in
+    line_released h p l x.queue none held
+    (subst (λ o. IsLine h l (lock_line (record { holder = o; queue = x.queue; time = x.time }))) first is.line_is)
 
 -- the mail of one who asks: a grant where nobody stands before it
-told_lock_asked_mail : (s : Sizes) (h : List Event) (p l : ℕ) (o : Option ℕ) (xs t : List ℕ) (notices : List SentRecord)
-    → NoAskInLine h p l → ¬ Holds h p l → HasLineOfLock s.processors h l (record { holder = o; queue = xs; time = t })
+told_lock_asked_mail : {h : List Event} {p l : ℕ} → (s : Sizes) (o : Option ℕ) (xs t : List ℕ) (notices : List SentRecord)
+    → MayAskFor h p l → HasLineOfLock s.processors h l (record { holder = o; queue = xs; time = t })
     → IsMail s (did h p (Ask l)) p (transition_if_free o (record { kind = grant; time = t; notices = notices }))
-told_lock_asked_mail s h p l None (y ∷ xs) t notices none free is = absurd (cc (is.held refl))
-told_lock_asked_mail s h p l None [] t notices none free is =
-    let now = told_lock_asked s.processors h p l None [] t none free is in
+told_lock_asked_mail s None (y ∷ xs) t notices may is = absurd (cc (is.held refl))
+told_lock_asked_mail {h} {p} {l} s None [] t notices may is =
+    let now = told_lock_asked s.processors None [] t may is in
     let nobody : (q : ℕ) → ¬ Holds (did h p (Ask l)) q l =
     λ q held. none-some q (is.line_is.first q (last_holds_back h p (Ask l) q l (λ e. absurd cc) held)) in
     record {
@@ -115,10 +119,10 @@ told_lock_asked_mail s h p l None [] t notices none free is =
       allowed = allowed_first_in_line (did h p (Ask l)) p l (p ∷ []) nobody refl now.line_is;
       time = now.time;
     }
-told_lock_asked_mail s h p l (Some q) xs t notices none free is = mail
+told_lock_asked_mail {h} {p} {l} s (Some q) xs t notices may_ask is = mail
   where
     now : HasLineOfLock s.processors (did h p (Ask l)) l (asked_lock (record { holder = Some q; queue = xs; time = t }) p)
-    now = told_lock_asked s.processors h p l (Some q) xs t none free is
+    now = told_lock_asked s.processors (Some q) xs t may_ask is
 
     same_lock : (m i : ℕ) → LastIs (did h p (Ask l)) p i (Ask m) → l ≡ m
     same_lock m i last =
@@ -126,7 +130,7 @@ told_lock_asked_mail s h p l (Some q) xs t notices none free is = mail
         [ inl own ↦ cc (own.2) | inr old ↦ absurd (old.0 refl) ]
 
     never : (i : ℕ) → LastIs (did h p (Ask l)) p i (Ask l) → MayBeGranted (did h p (Ask l)) i l → ⊥
-    never i last may = not_in_line h p l (q ∷ xs) none free is.line_is
+    never i last may = not_in_line h p l (q ∷ xs) may_ask.none may_ask.free is.line_is
         (0, first_in_line_allowed (did h p (Ask l)) p l i (q ∷ (xs ++ p ∷ [])) last may now.line_is)
 
     mail : (a : Kind) → ComesByMail a → ¬ Allowed s (did h p (Ask l)) p a
@@ -149,28 +153,38 @@ told_lock_granted_notices c r u t m at is =
     (ap (λ own. closings_between c.closed own u) (get_or_from_slice_get c.times r t [] at))
 
 -- p asks for a lock
-pub told_ask : (s : Sizes) (h : List Event) (b : State) (p l : ℕ) (records : List Changes) → Represents s h b
-    → l < s.locks → slice_get b.awaits p ≡ Some None → ¬ Holds h p l
-    → AreIntervalContents s h p (count_of is_closing h p) records → Represents s (did h p (Ask l)) (transition_asked b p l records)
-told_ask s h b p l records told range idle free stored =
+pub told_ask : {s : Sizes} {h : List Event} {b : State} {p : ℕ} → IsIdleTold s h b p → (l : ℕ) (records : List Changes)
+    → l < s.locks → ¬ Holds h p l → AreIntervalContents s h p (count_of is_closing h p) records
+    → Represents s (did h p (Ask l)) (transition_asked b p l records)
+told_ask {s} {h} {b} {p} call l records range free stored =
     told_closing s h b p told lt (Ask l) may (transition_asked b p l records)
     (record {
       locks = each_set s.locks (HasLineOfLock s.processors h) (HasLineOfLock s.processors (did h p (Ask l))) b.locks.locks l
           (asked_lock (lock_at b.locks l) p) told.locks
-          (λ m x isnt at is. told_lock_kept s.processors h p (Ask l) m x (λ e. isnt (cc e)) (λ e. absurd cc) (λ e. absurd cc)
-          (line_idle_no_ask h p m (idle_awaits_none s h b p told idle)) is)
-          (told_lock_asked s.processors h p l (lock_at b.locks l).holder (lock_at b.locks l).queue
-          (lock_at b.locks l).time none free lock);
+          (λ m x isnt at is. told_lock_kept (record {
+            ask = λ e. isnt (cc e);
+            acquire = λ e. absurd cc;
+            release = λ e. absurd cc;
+            none = line_idle_no_ask h p m (idle_awaits_none s h b p told idle);
+          }) is)
+          (told_lock_asked s.processors (lock_at b.locks l).holder (lock_at b.locks l).queue (lock_at b.locks l).time may_ask
+          lock);
       barrier = barrier_stage_kept s h p (Ask l) b.barrier refl refl told.barrier;
       flags = flags_kept s h p (Ask l) b.flags (λ f e. absurd cc) told.flags;
       transit = each_set s.processors (IsMail s h) (IsMail s (did h p (Ask l))) b.transit p made told.transit
           (λ r o isnt at is. mail_kept s h p (Ask l) may r isnt o (λ m e. absurd cc) (λ e. absurd cc) is)
-          (told_lock_asked_mail s h p l (lock_at b.locks l).holder (lock_at b.locks l).queue (lock_at b.locks l).time
-          (transition_grant c p (lock_at b.locks l).time).notices none free lock);
+          (told_lock_asked_mail s (lock_at b.locks l).holder (lock_at b.locks l).queue (lock_at b.locks l).time
+          (transition_grant c p (lock_at b.locks l).time).notices may_ask lock);
       notices = notices;
     })
     refl refl records stored refl
   where
+    told : Represents s h b
+    told = call.told
+
+    idle : slice_get b.awaits p ≡ Some None
+    idle = call.idle
+
     c : State
     c = transition_closed_by b p (Ask l) records
 
@@ -184,8 +198,8 @@ told_ask s h b p l records told range idle free stored =
     may : MayFollow s h (event p (Ask l))
     may = awaits_follows s h b p told (Ask l) idle range free
 
-    none : NoAskInLine h p l
-    none = line_idle_no_ask h p l (idle_awaits_none s h b p told idle)
+    may_ask : MayAskFor h p l
+    may_ask = record { none = line_idle_no_ask h p l (idle_awaits_none s h b p told idle); free = free }
 
     lock : HasLineOfLock s.processors h l (lock_at b.locks l)
     lock = each_is_at s.locks (HasLineOfLock s.processors h) b.locks.locks l (unheld_lock b.locks.processors) told.locks range
@@ -202,21 +216,6 @@ told_ask s h b p l records told range idle free stored =
       | inr isnt ↦ times_old_notices s h b p told lt records r m t isnt
           (sym (slice_get-set_other b.transit p r made isnt) ∙ at) time
     ]
-
--- the others' mail when p releases the lock: news for the first of the queue alone
-told_lock_released_mail : (s : Sizes) (h : List Event) (p l r : ℕ) (xs : List ℕ) (o : Option Letter)
-    → MayFollow s h (event p (Release l)) → r ≢ p → IsLine (did h p (Release l)) l xs → ¬ (slice_get xs 0 ≡ Some r)
-    → IsMail s h r o → IsMail s (did h p (Release l)) r o
-told_lock_released_mail s h p l r xs o may isnt lock_line behind mail = mail_unless s h p (Release l) may r isnt o never mail
-  where
-    never : (a : Kind) → ComesByMail a → MailNews (Release l) a → ¬ Allowed s (did h p (Release l)) r a
-    never (Acquire m) posted news (i, last, transition_grant) =
-        let same : m ≡ l = cc in
-        behind (first_in_line_allowed (did h p (Release l)) r l i xs
-        (subst (λ x. LastIs (did h p (Release l)) r i (Ask x)) same last)
-        (subst (λ x. MayBeGranted (did h p (Release l)) i x) same transition_grant) lock_line)
-    never Depart posted news allowed = absurd cc
-    never _ posted news allowed = absurd posted
 
 -- nobody holds a lock that was just released
 told_released_lock_free : (s : Sizes) (h : List Event) (p l : ℕ) → WellFormed s h → Holds h p l → (q : ℕ)
@@ -236,13 +235,28 @@ record IsToldLockReleased (s : Sizes) (h : List Event) (p l : ℕ) (xs u : List 
   time : IsStamp s.processors (did h p (Release l))
       (UpToSome (did h p (Release l)) (SomeDoes (did h p (Release l)) (Release l))) u
 
+-- the others' mail when p releases the lock: news for the first of the queue alone
+told_lock_released_mail : {s : Sizes} {h : List Event} {p l : ℕ} {xs u : List ℕ} → IsToldLockReleased s h p l xs u → (r : ℕ)
+    (o : Option Letter)
+    → r ≢ p → ¬ (slice_get xs 0 ≡ Some r) → IsMail s h r o → IsMail s (did h p (Release l)) r o
+told_lock_released_mail {s} {h} {p} {l} {xs} now r o isnt behind mail = mail_unless s h p (Release l) now.may r isnt o never mail
+  where
+    never : (a : Kind) → ComesByMail a → MailNews (Release l) a → ¬ Allowed s (did h p (Release l)) r a
+    never (Acquire m) posted news (i, last, transition_grant) =
+        let same : m ≡ l = cc in
+        behind (first_in_line_allowed (did h p (Release l)) r l i xs
+        (subst (λ x. LastIs (did h p (Release l)) r i (Ask x)) same last)
+        (subst (λ x. MayBeGranted (did h p (Release l)) i x) same transition_grant) now.line)
+    never Depart posted news allowed = absurd cc
+    never _ posted news allowed = absurd posted
+
 -- everyone's mail after a release
 told_lock_mail_released : (s : Sizes) (h : List Event) (c : State) (p l : ℕ) (xs u : List ℕ) → IsToldLockReleased s h p l xs u
     → EachStampedAt s.processors (IsMail s h) c.transit
     → EachStampedAt s.processors (IsMail s (did h p (Release l))) (transition_mail_passed c xs u)
 told_lock_mail_released s h c p l [] u now all =
     each_own s.processors (IsMail s h) (IsMail s (did h p (Release l))) c.transit p all
-    (λ r o isnt at is. told_lock_released_mail s h p l r [] o now.may isnt now.line (none-some r) is)
+    (λ r o isnt at is. told_lock_released_mail now r o isnt (none-some r) is)
     (λ o at is. own_mail_idle s h p (Release l) o now.idle (λ m e. absurd cc) (λ e. absurd cc) is)
 told_lock_mail_released s h c p l (q ∷ xs) u now all =
     each_set s.processors (IsMail s h) (IsMail s (did h p (Release l))) c.transit q (Some (transition_grant c q u))
@@ -262,7 +276,7 @@ told_lock_mail_released s h c p l (q ∷ xs) u now all =
       | inl own ↦ (let P : ℕ → Type 0 = λ x. IsMail s h x o → IsMail s (did h p (Release l)) x o in
           subst P (sym own) (own_mail_idle s h p (Release l) o now.idle (λ m e. absurd cc) (λ e. absurd cc)) is)
       | inr apart ↦
-          told_lock_released_mail s h p l r (q ∷ xs) o now.may apart now.line (λ e. isnt (sym (same_Some q r e))) is
+          told_lock_released_mail now r o apart (λ e. isnt (sym (same_Some q r e))) is
     ]
 
 -- the notices of messages that were there, and of the one that is posted
@@ -281,17 +295,20 @@ told_lock_passed_notices c (q ∷ xs) u r m t at time old = elim (cases_eq r q) 
 ]
 
 -- p releases a lock that it holds
-pub told_release : (s : Sizes) (h : List Event) (b : State) (p l : ℕ) (records : List Changes) → Represents s h b
-    → l < s.locks → slice_get b.awaits p ≡ Some None → Holds h p l
-    → AreIntervalContents s h p (count_of is_closing h p) records
+pub told_release : {s : Sizes} {h : List Event} {b : State} {p : ℕ} → IsIdleTold s h b p → (l : ℕ) (records : List Changes)
+    → l < s.locks → Holds h p l → AreIntervalContents s h p (count_of is_closing h p) records
     → Represents s (did h p (Release l)) (transition_released b p l records)
-told_release s h b p l records told range idle held stored =
+told_release {s} {h} {b} {p} call l records range held stored =
     told_closing s h b p told lt (Release l) may (transition_released b p l records)
     (record {
       locks = each_set s.locks (HasLineOfLock s.processors h) (HasLineOfLock s.processors (did h p (Release l))) b.locks.locks l
           (released_lock (lock_at b.locks l) now) told.locks
-          (λ m x isnt at is. told_lock_kept s.processors h p (Release l) m x (λ e. absurd cc) (λ e. absurd cc)
-          (λ e. isnt (cc e)) (line_idle_no_ask h p m free) is)
+          (λ m x isnt at is. told_lock_kept (record {
+            ask = λ e. absurd cc;
+            acquire = λ e. absurd cc;
+            release = λ e. isnt (cc e);
+            none = line_idle_no_ask h p m free;
+          }) is)
           (told_lock_passed s.processors (did h p (Release l)) l (lock_at b.locks l).queue now line_now time);
       barrier = barrier_stage_kept s h p (Release l) b.barrier refl refl told.barrier;
       flags = flags_kept s h p (Release l) b.flags (λ f e. absurd cc) told.flags;
@@ -304,6 +321,12 @@ told_release s h b p l records told range idle held stored =
     })
     refl refl records stored refl
   where
+    told : Represents s h b
+    told = call.told
+
+    idle : slice_get b.awaits p ≡ Some None
+    idle = call.idle
+
     lt : p < s.processors
     lt = times_is_processor s h b p None told idle
 
@@ -321,8 +344,7 @@ told_release s h b p l records told range idle held stored =
     lock = each_is_at s.locks (HasLineOfLock s.processors h) b.locks.locks l (unheld_lock b.locks.processors) told.locks range
 
     line_now : IsLine (did h p (Release l)) l (lock_at b.locks l).queue
-    line_now = told_lock_line_passed s.processors h p l (lock_at b.locks l).holder (lock_at b.locks l).queue
-        (lock_at b.locks l).time (line_idle_no_ask h p l free) held lock
+    line_now = told_lock_line_passed (lock_at b.locks l) (line_idle_no_ask h p l free) held lock
 
     time : IsStamp s.processors (did h p (Release l))
         (UpToSome (did h p (Release l)) (SomeDoes (did h p (Release l)) (Release l))) now

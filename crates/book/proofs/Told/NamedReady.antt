@@ -42,25 +42,25 @@ quiet_makes_ready k (Await f) takes is none = true≢false (sym (ap is_closing i
 quiet_makes_ready k _ takes is none = absurd cc
 
 -- what q may do after p's event, it could do before, or the event lets it
-newly_ready : (s : Sizes) (h : List Event) (p : ℕ) (k : Kind) → MayFollow s h (event p k) → (q : ℕ) → q ≢ p → (a : Kind)
+newly_ready : {s : Sizes} {h : List Event} {p : ℕ} {k : Kind} → MayFollow s h (event p k) → (q : ℕ) → q ≢ p → (a : Kind)
     → IsTrue (is_taking a) → Allowed s (did h p k) q a → MakesReady k a ⊎ Allowed s h q a
-newly_ready s h p k may q isnt (Acquire l) takes allowed = elim (mail_news_cases k (Acquire l))
+newly_ready {s} {h} {p} {k} may q isnt (Acquire l) takes allowed = elim (mail_news_cases k (Acquire l))
     [ inl news ↦ inl news | inr none ↦ inr (mail_allowed_back s h p k may q isnt (Acquire l) tt none allowed) ]
-newly_ready s h p k may q isnt Depart takes allowed = elim (mail_news_cases k Depart)
+newly_ready {s} {h} {p} {k} may q isnt Depart takes allowed = elim (mail_news_cases k Depart)
     [ inl news ↦ inl news | inr none ↦ inr (mail_allowed_back s h p k may q isnt Depart tt none allowed) ]
-newly_ready s h p k may q isnt (Await f) takes (i, m, r, last, set) =
+newly_ready {s} {h} {p} {k} may q isnt (Await f) takes (i, m, r, last, set) =
     elim (slice_push_cases h (event p k) m (event r (Set f)) set)
     [ inl old ↦ inr (i, m, r, before, old.1) | inr new ↦ inl (ap (λ (e : Event). e.kind) new.1) ]
   where
     before : LastIs h q i (Watch f)
     before =
         elim (last_cases h (event p k) q i (Watch f) last) [ inl own ↦ absurd (isnt (sym own.0)) | inr o ↦ o.1 ]
-newly_ready s h p k may q isnt _ takes allowed = absurd cc
+newly_ready may q isnt _ takes allowed = absurd cc
 
 -- what q may do after p's block, it could do before
-named_block_back : (s : Sizes) (h block : List Event) (p q : ℕ) (a : Kind) → q ≢ p → IsTrue (is_taking a)
+named_block_back : {s : Sizes} {p q : ℕ} → (h block : List Event) (a : Kind) → q ≢ p → IsTrue (is_taking a)
     → IsBlockOfCalls s p block → WellFormed s (h ++ block) → Allowed s (h ++ block) q a → Allowed s h q a
-named_block_back s h block p q a isnt takes =
+named_block_back {s} {p} {q} h block a isnt takes =
     slice_push_induction
     (λ (es : List Event). IsBlockOfCalls s p es → WellFormed s (h ++ es) → Allowed s (h ++ es) q a → Allowed s h q a) start step
     block
@@ -79,7 +79,7 @@ named_block_back s h block p q a isnt takes =
         let both = (well_formed_push s (h ++ es) e).0 (subst (WellFormed s) (sym longer) well) in
         let now = subst (λ (f : Event). Allowed s ((h ++ es) ++ f ∷ []) q a) (sym same)
         (subst (λ (xs : List Event). Allowed s xs q a) (sym longer) allowed) in
-        elim (newly_ready s (h ++ es) p e.kind (subst (MayFollow s (h ++ es)) (sym same) both.1) q isnt a takes now) [
+        elim (newly_ready {k = e.kind} (subst (MayFollow s (h ++ es)) (sym same) both.1) q isnt a takes now) [
           | inl brings ↦ absurd (quiet_makes_ready e.kind a takes brings own.closes)
           | inr old ↦ ih (λ k f at. inner k f (numbered_at_longer es (e ∷ []) k f at)) both.0 old
         ]
@@ -184,7 +184,7 @@ module _ (s : Sizes) (h block : List Event) (b : State) (p : ℕ) (k : Kind) (q 
   named_followed = (well_formed_push s (h ++ block) (event p k)).0 told.well_formed
 
   named_never_ready : (a : Kind) → IsTrue (is_taking a) → ¬ Allowed s (h ++ block) q a
-  named_never_ready a takes allowed = lets.before (a, takes, named_block_back s h block p q a lets.other takes inner named_followed.0 allowed)
+  named_never_ready a takes allowed = lets.before (a, takes, named_block_back h block a lets.other takes inner named_followed.0 allowed)
 
   -- where q may depart since p has arrived, p may depart, too
   both_ready_to_depart : k ≡ Arrive → Allowed s (did (h ++ block) p k) q Depart → Allowed s (did (h ++ block) p k) p Depart
@@ -223,7 +223,7 @@ module _ (s : Sizes) (h block : List Event) (b : State) (p : ℕ) (k : Kind) (q 
   pub lets_named : IsNamedWaiting b p k q
   lets_named =
       let r = lets.after in
-      elim (newly_ready s (h ++ block) p k named_followed.1 q lets.other r.0 r.1 r.2) [
+      elim (newly_ready named_followed.1 q lets.other r.0 r.1 r.2) [
         | inl brings ↦ by_kind r.0 r.1 r.2 brings
         | inr old ↦ absurd (named_never_ready r.0 r.1 old)
       ]

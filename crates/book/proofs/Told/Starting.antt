@@ -39,7 +39,7 @@ use Rattle.book.proofs.Parts.Flags.{flags_kept}
 use Rattle.book.proofs.Parts.BarrierStages.{barrier_stage_kept}
 use Rattle.book.proofs.Parts.ClosedIntervals.{closed_quiet}
 use Rattle.book.proofs.Parts.History.{history_new, history_on}
-use Rattle.book.proofs.Parts.TimesAndAwaits.{times_same_sizes, times_is_processor, idle_awaits_none, awaits_follows}
+use Rattle.book.proofs.Parts.TimesAndAwaits.{IsIdleTold, times_same_sizes, times_is_processor, idle_awaits_none, awaits_follows}
 use Rattle.book.proofs.Told.Events.{told_event}
 use Rattle.book.proofs.Told.Locks.{told_locks_kept}
 
@@ -135,14 +135,17 @@ told_journal s h b log same holds told = record {
 }
 
 -- one load, store or fetch
-told_quiet : (s : Sizes) (h : List Event) (b : State) (p : ℕ) (k : Kind) → Represents s h b
-    → slice_get b.awaits p ≡ Some None → is_taking k ≡ false → is_closing k ≡ false → KindInRange s k
-    → Represents s (did h p k) (transition_handed_in b (event p k ∷ []))
-told_quiet s h b p k told idle takes closes range =
+told_quiet : {s : Sizes} {h : List Event} {b : State} {p : ℕ} → IsIdleTold s h b p → (k : Kind) → is_taking k ≡ false
+    → is_closing k ≡ false → KindInRange s k → Represents s (did h p k) (transition_handed_in b (event p k ∷ []))
+told_quiet {s} {h} {b} {p} call k takes closes range =
     told_event s h b p told lt k may (transition_handed_in b (event p k ∷ []))
     (record {
-      locks = told_locks_kept s h p k b.locks.locks ask (λ l. last_event_unlike is_taking k (Acquire l) takes refl) release
-          (λ l. line_idle_no_ask h p l free) told.locks;
+      locks = told_locks_kept s h p k b.locks.locks (λ l. record {
+        ask = ask l;
+        acquire = last_event_unlike is_taking k (Acquire l) takes refl;
+        release = release l;
+        none = line_idle_no_ask h p l free;
+      }) told.locks;
       barrier = barrier_stage_kept s h p k b.barrier plain.arrives plain.departs told.barrier;
       flags = flags_kept s h p k b.flags (λ f. last_event_unlike is_closing k (Set f) closes refl) told.flags;
       transit = each_own s.processors (IsMail s h) (IsMail s (did h p k)) b.transit p told.transit
@@ -161,6 +164,12 @@ told_quiet s h b p k told idle takes closes range =
     })
     told.tight (ap (λ ws. record (transition_handed_in b (event p k ∷ [])) { awaits = ws }) waits)
   where
+    told : Represents s h b
+    told = call.told
+
+    idle : slice_get b.awaits p ≡ Some None
+    idle = call.idle
+
     lt : p < s.processors
     lt = times_is_processor s h b p None told idle
 
@@ -199,7 +208,8 @@ told_block s h block b p told idle all =
         → Represents s (h ++ (es ++ e ∷ [])) (transition_handed_in b (es ++ e ∷ []))
     pushed es e x now =
         let same : event p e.kind ≡ e = ap (λ q. event q e.kind) (sym x.mine) in
-        let one = told_quiet s (h ++ es) (transition_handed_in b es) p e.kind now idle x.takes x.closes x.in_range in
+        let call : IsIdleTold s (h ++ es) (transition_handed_in b es) p = record { told = now; idle = idle } in
+        let one = told_quiet call e.kind x.takes x.closes x.in_range in
         let read = subst (λ f. Represents s ((h ++ es) ++ f ∷ [])
         (record b { journal = record b.journal { events = (b.journal.events ++ es) ++ f ∷ [] } })) same one in
         subst₂ (λ xs ys. Represents s xs (record b { journal = record b.journal { events = ys } }))

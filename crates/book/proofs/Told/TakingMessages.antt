@@ -72,12 +72,20 @@ taking_lock s h p (Acquire m) l x posted (i, last, granted) is = elim (cases_eq 
       subst P (sym same)
       (told_lock_taken s.processors h p l i x (subst (λ n. LastIs h p i (Ask n)) same last)
       (subst (λ n. MayBeGranted h i n) same granted) is))
-  | inr apart ↦ told_lock_kept s.processors h p (Acquire m) l x (λ e. absurd cc) (λ e. apart (cc e)) (λ e. absurd cc)
-      (λ n ask. apart (cc ((last_unique h p i n (Ask m) (Ask l) last ask).1))) is
+  | inr apart ↦ told_lock_kept (record {
+    ask = λ e. absurd cc;
+    acquire = λ e. apart (cc e);
+    release = λ e. absurd cc;
+    none = λ n ask. apart (cc ((last_unique h p i n (Ask m) (Ask l) last ask).1));
+  }) is
 ]
 taking_lock s h p Depart l x posted (i, last, all) is =
-    told_lock_kept s.processors h p Depart l x (λ e. absurd cc) (λ e. absurd cc) (λ e. absurd cc)
-    (λ n ask. absurd (cc ((last_unique h p i n Arrive (Ask l) last ask).1))) is
+    told_lock_kept (record {
+      ask = λ e. absurd cc;
+      acquire = λ e. absurd cc;
+      release = λ e. absurd cc;
+      none = λ n ask. absurd (cc ((last_unique h p i n Arrive (Ask l) last ask).1));
+    }) is
 taking_lock s h p _ l x posted allowed is = absurd posted
 
 -- what takes closes nothing

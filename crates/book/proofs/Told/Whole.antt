@@ -59,16 +59,18 @@ nothing_told s h b told =
     (subst (λ (es : List Event). Represents s h (record b { journal = record b.journal { events = es } }))
     (sym (append-nil b.journal.events)) told)
 
-given_told : (s : Sizes) (h block : List Event) (b : State) (p : ℕ) (w : Option Kind) → Represents s h b
+-- who waits hands in nothing
+given_told : {s : Sizes} {h : List Event} {b : State} {p : ℕ} {block : List Event} → Represents s h b → (w : Option Kind)
     → slice_get b.awaits p ≡ Some w → (w ≢ None → block ≡ []) → IsBlockOfCalls s p block
     → Represents s (h ++ block) (transition_handed_in b block)
-given_told s h block b p None told at none inner = block_told s h block b p told (record { idle = at; inner = inner })
-given_told s h block b p (Some k) told at none inner =
+given_told {s} {h} {b} {p} {block} told None at none inner =
+    block_told s h block b p told (record { idle = at; inner = inner })
+given_told {s} {h} {b} told (Some k) at none inner =
     subst (λ es. Represents s (h ++ es) (transition_handed_in b es)) (sym (none (λ e. none-some k (sym e))))
     (nothing_told s h b told)
 
 pub hand_in_law : HandInLaw
-hand_in_law s h block b p told may = given_told s h block b p may.waits.0 told may.waits.1 may.waits.2 may.inner
+hand_in_law s h block b p told may = given_told told may.waits.0 may.waits.1 may.waits.2 may.inner
 
 pub last_law : LastLaw
 last_law s h block b p told may =
@@ -78,12 +80,12 @@ last_law s h block b p told may =
 
 pub ask_law : AskLaw
 ask_law s h block b p l records told may are range free =
-    told_ask s (h ++ block) (transition_handed_in b block) p l records (block_told s h block b p told may) range may.idle
+    told_ask (record { told = block_told s h block b p told may; idle = may.idle }) l records range
     (λ held. free ((whole_block_holds s h block p l may.inner).0 held)) are
 
 pub release_law : ReleaseLaw
 release_law s h block b p l records told may are range held =
-    told_release s (h ++ block) (transition_handed_in b block) p l records (block_told s h block b p told may) range may.idle
+    told_release (record { told = block_told s h block b p told may; idle = may.idle }) l records range
     ((whole_block_holds s h block p l may.inner).1 held) are
 
 pub arrive_law : ArriveLaw
@@ -116,7 +118,7 @@ pub message_law : MessageLaw
 message_law s h b p k m told waits is = message_is s h b p told k m waits is
 
 pub news_law : NewsLaw
-news_law s h b p n k u told lt brings = news_are s h b p n k u told lt brings
+news_law s h b p n k u told lt brings = news_are n k u told lt brings
 
 pub news_order_law : NewsOrderLaw
 news_order_law s h b n old new told = sent_news_in_order s h b.closed n old new told.closed

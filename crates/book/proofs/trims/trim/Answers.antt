@@ -4,7 +4,7 @@ use Rattle.interval.specs.Closings.{Closings, closings_trimmed_below}
 use Rattle.book.specs.Transitions.{transition_trimmed_by}
 use Rattle.book.specs.Calls.{AllowsTrimOfCall}
 use Rattle.book.proofs.Parts.ClosedIntervals.{length-transition_trimmed_by}
-use Rattle.book.proofs.Parts.Trimmed.{trimmed_spared}
+use Rattle.book.proofs.Parts.Trimmed.{IsSpared, trimmed_spared}
 use Rattle.book.proofs.trims.trim.Goals.{then-has_risen, else-has_risen+else-owner-processor}
 use Rattle.book.proofs.trims.trim.Goals as goal
 
@@ -28,7 +28,15 @@ spared c times p owner one two before own may lt is now old le apart =
     let was = get_or_from_slice_get before owner two 0 old in
     let more : 1 < length times = omega arith in
     let next : suc owner ≡ owner + 1 = omega arith in
-    sym (trimmed_spared c times p owner before own (omega arith) at (omega arith) (may.tight more) may.from)
+    let spares : IsSpared c times owner = record {
+      p = p;
+      old = before;
+      new = own;
+      at = at;
+      le = omega arith;
+      tight = may.tight more;
+    } in
+    sym (trimmed_spared spares (omega arith) may.from)
     ∙ ap (λ (m : ℕ). transition_trimmed_by c times m) next
 
 pub loop-owner-preserved : goal.loop-owner-preserved

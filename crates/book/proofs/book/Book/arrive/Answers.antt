@@ -141,9 +141,7 @@ made : (c : In_ok-departures) → (c.closing_time-time.result ≡ tick (state_ti
 made c = (
   c.closing_time-time.ensures ∙ ap (λ (b : State). tick (state_time_of b c.args.processor) c.args.processor)
       (c.parts.view_is ∙ c.deref_mut-parts.ensures.value ∙ c.self.view_is),
-  arrived_departures_made c.args.self.now (book_state c.parts.inside) c.args.processor (map arc_value c.args.records.items)
-      c.open_interval-interval.result c.closing_time-time.result
-      (letters c.in_ok-departures.departures)
+  arrived_departures_made c.args.processor (map arc_value c.args.records.items) c.closing_time-time.result
       (c.parts.view_is ∙ c.deref_mut-parts.ensures.value ∙ c.self.view_is) c.open_interval-interval.ensures
       c.in_ok-departures.ensures,
 )

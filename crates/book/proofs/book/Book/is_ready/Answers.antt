@@ -4,7 +4,7 @@ use Rattle.std.specs.Option.{option_map}
 use Rattle.journal.specs.Closing.{awaited_kind}
 use Rattle.book.specs.BookInvariant.{book_state}
 use Rattle.book.specs.State.{State}
-use Rattle.book.proofs.Calling.Receiving.{IsReceiving, reads_receiving, IsReceivedComeRead, receiving_comes, receiving, receiving_not_idle}
+use Rattle.book.proofs.Calling.Receiving.{IsReceiving, IsAwaitedRead, reads_receiving, IsReceivedComeRead, receiving_comes, receiving, receiving_not_idle}
 use Rattle.book.proofs.book.Book.is_ready.Goals.{In-Some}
 use Rattle.book.proofs.book.Book.is_ready.Goals.{After-parts}
 use Rattle.book.proofs.book.Book.is_ready.Goals as goal
@@ -27,16 +27,26 @@ index-requires c =
 
 pub unreachable-requires : goal.unreachable-requires
 unreachable-requires c =
-    receiving_not_idle (book_state c.parts.inside) c.args.self.now c.parts.inside.awaits.items c.args.processor c.index.result.now refl
-    (same (goal.at.unreachable-requires c).After-parts) c.requires.call c.index.ensures c.in_default.is
+    let read : IsAwaitedRead (book_state c.parts.inside) c.args.self.now c.args.processor c.index.result.now = record {
+      all = c.parts.inside.awaits.items;
+      kept = refl;
+      same = same (goal.at.unreachable-requires c).After-parts;
+      may = c.requires.call;
+      is = c.index.ensures;
+    } in
+    receiving_not_idle read c.in_default.is
 
 -- what p waits for
 waits : (c : In-Some) → IsReceiving (book_state c.parts.inside) c.args.processor (awaited_kind c.in-Some.awaited)
 waits c =
-    reads_receiving (book_state c.parts.inside)
-    c.args.self.now c.parts.inside.awaits.items c.args.processor c.index.result.now refl
-    (c.parts.view_is ∙ c.deref-parts.ensures ∙ c.self.view_is) c.requires.call
-    c.index.ensures c.in-Some.awaited c.in-Some.is
+    let read : IsAwaitedRead (book_state c.parts.inside) c.args.self.now c.args.processor c.index.result.now = record {
+      all = c.parts.inside.awaits.items;
+      kept = refl;
+      same = c.parts.view_is ∙ c.deref-parts.ensures ∙ c.self.view_is;
+      may = c.requires.call;
+      is = c.index.ensures;
+    } in
+    reads_receiving read c.in-Some.awaited c.in-Some.is
 
 pub has_come-requires-clause-processor : goal.has_come-requires-clause-processor
 has_come-requires-clause-processor c = (waits (goal.at.has_come-requires-clause-processor c).In-Some).transit

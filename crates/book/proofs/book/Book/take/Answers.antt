@@ -18,7 +18,7 @@ use Rattle.book.specs.State.{State, state_time_of}
 use Rattle.book.specs.Transitions.{transition_trimmed_by, transition_taken}
 use Rattle.book.specs.Told.{Represents}
 use Rattle.book.proofs.Calling.Closing.{closing_own_read}
-use Rattle.book.proofs.Calling.Receiving.{IsReceiving, reads_receiving, receiving_allows_trim, receiving_log_is, receiving_address, received_book_is, IsReceivedComeRead, receiving_comes, IsFoundToReceive, received_is, received_brings, receiving, receiving_not_idle}
+use Rattle.book.proofs.Calling.Receiving.{IsReceiving, IsAwaitedRead, reads_receiving, receiving_allows_trim, receiving_log_is, receiving_address, received_book_is, IsReceivedComeRead, receiving_comes, IsFoundToReceive, received_is, received_brings, receiving, receiving_not_idle}
 use Rattle.book.proofs.book.Book.take.Goals.{In-Some, After-has_come, After-index-2, In_ok-message, After-index_mut}
 use Rattle.book.proofs.book.Book.take.Goals.{After-parts}
 use Rattle.book.proofs.book.Book.take.Goals as goal
@@ -41,16 +41,26 @@ index-requires c =
 
 pub unreachable-requires : goal.unreachable-requires
 unreachable-requires c =
-    receiving_not_idle (book_state c.parts.inside) c.args.self.now c.parts.inside.awaits.items c.args.processor c.index.result.now refl
-    (same (goal.at.unreachable-requires c).After-parts) c.requires.call c.index.ensures c.in_default.is
+    let read : IsAwaitedRead (book_state c.parts.inside) c.args.self.now c.args.processor c.index.result.now = record {
+      all = c.parts.inside.awaits.items;
+      kept = refl;
+      same = same (goal.at.unreachable-requires c).After-parts;
+      may = c.requires.call;
+      is = c.index.ensures;
+    } in
+    receiving_not_idle read c.in_default.is
 
 -- what p waits for
 waits : (c : In-Some) → IsReceiving (book_state c.parts.inside) c.args.processor (awaited_kind c.in-Some.awaited)
 waits c =
-    reads_receiving (book_state c.parts.inside)
-    c.args.self.now c.parts.inside.awaits.items c.args.processor c.index.result.now refl
-    (c.parts.view_is ∙ c.deref_mut-parts.ensures.value ∙ c.self.view_is) c.requires.call
-    c.index.ensures c.in-Some.awaited c.in-Some.is
+    let read : IsAwaitedRead (book_state c.parts.inside) c.args.self.now c.args.processor c.index.result.now = record {
+      all = c.parts.inside.awaits.items;
+      kept = refl;
+      same = c.parts.view_is ∙ c.deref_mut-parts.ensures.value ∙ c.self.view_is;
+      may = c.requires.call;
+      is = c.index.ensures;
+    } in
+    reads_receiving read c.in-Some.awaited c.in-Some.is
 
 -- it has come exactly where p is ready
 come : (c : After-has_come) → IsReceiving (book_state c.parts.inside) c.args.processor (awaited_kind c.in-Some.awaited)
@@ -193,8 +203,7 @@ pub trim-requires : goal.trim-requires
 trim-requires c =
     let at = goal.at.trim-requires c in
     let w = waits at.In-Some in
-    receiving_allows_trim (book_state c.parts.inside) c.args.processor (awaited_kind c.in-Some.awaited)
-    c.deref-3.result.now c.copy-before.result c.join.new.self w c.deref-3.ensures.value
+    receiving_allows_trim w c.join.new.self c.deref-3.ensures.value
     (c.join.ensures.same_length ∙ ap length (written at.After-index_mut w) ∙ w.own_long)
     (c.copy-before.ensures
     ∙ closing_own_read c.parts.inside.times.items c.args.processor c.index-3.result.now w.times c.index-3.ensures)

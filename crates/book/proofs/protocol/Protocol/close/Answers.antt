@@ -98,8 +98,7 @@ pub returns : goal.returns
 returns c =
     let at = goal.at.returns c in
     let records = c.args.interval.records in
-    let log = closing_logs_are c.self.inside.journal c.make_room.new.journal c.append_all.new.journal c.append.new.self
-    c.self.inside.owing c.args.block.now
+    let log = closing_logs_are c.self.inside.journal c.self.inside.owing c.args.block.now
     (event c.args.processor c.kind-kind.result) c.in_ok-make_room.ensures.same c.append_all.ensures c.append.ensures in
     let closed = c.in_ok-push.ensures.ok ∙ ap (λ (i : ClosedInterval). pushed c.self.inside.closed i) c.requires.open
     ∙ ap (λ (b : State). pushed c.self.inside.closed (transition_open_interval b c.args.processor records)) (sym c.self.view_is) in

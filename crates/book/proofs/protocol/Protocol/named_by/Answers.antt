@@ -13,7 +13,7 @@ pub one_who_may_go_on-requires-clause-one : goal.one_who_may_go_on-requires-clau
 one_who_may_go_on-requires-clause-one c =
     let stands = subst (λ (b : State). NamedStandsAfter b c.args.processor c.args.kind) (sym c.self.view_is)
     (named_stands_after c.args.self.now c.args.processor c.args.kind c.requires.closed) in
-    named_next_within (book_state c.self.inside) c.args.processor c.args.kind c.in-Release.lock c.deref.result.now stands c.in-Release.is
+    named_next_within c.deref.result.now stands c.in-Release.is
     (ap (map (option_map awaited_kind)) (sym c.deref.ensures.value)) c.holder-next.result c.holder-next.ensures.value
 
 pub ready-requires : goal.ready-requires
