@@ -19,22 +19,22 @@ use Rattle.journal.proofs.CopyOfPage.Stores.{stores_to}
 use Rattle.journal.proofs.Missing.GapsTaken.{gaps_apart}
 use Rattle.journal.proofs.Order.CountedAndNumbered.{numbered_at_within, count_of-mono, count_of-past, count_of-take-le}
 use Rattle.journal.proofs.Times.PushesCovered.{covered}
-use Rattle.judge.specs.Gaps.{FetchedUpTo}
+use Rattle.judge.specs.Gaps.{GapFetchedUpTo}
 use Rattle.causes.specs.declared.originating.Applied.{Applied}
 use Rattle.causes.specs.declared.originating.PageFetch.{PageFetch}
 use Rattle.causes.specs.declared.stores.NumberedStore.{NumberedStore}
-use Rattle.causes.specs.Index.{IsClosing}
-use Rattle.causes.specs.Origins.{IsAppliedBefore, IsBroughtStore}
-use Rattle.causes.specs.OriginSteps.{IsFetchOf, IsLastApplied, IsLaterApplied, LastApplied}
-use Rattle.causes.specs.Stores.{AreStoresBelow, IsLastUnder, NoneUnder}
-use Rattle.causes.proofs.Fresh.{number_in_front}
-use Rattle.causes.proofs.StoreRows.{intervals_rise}
+use Rattle.causes.specs.Index.{IsIndexedClosing}
+use Rattle.causes.specs.Origins.{IsOriginAppliedBefore, IsOriginBrought}
+use Rattle.causes.specs.OriginSteps.{IsOriginFetch, IsOriginLastApplied, IsOriginLaterApplied, OriginLastApplied}
+use Rattle.causes.specs.Stores.{AreStoresBelow, IsLastStoredUnder, NoneStoredUnder}
+use Rattle.causes.proofs.FreshNews.{news_number_in_front}
+use Rattle.causes.proofs.StoreRows.{store_intervals_rise}
 
 -- in the gap of p's next event after the first m are the stores that its timestamp counts and its last fetch doesn't
-gap_between : (s : Sizes) (j : List Event) (p m q i a v n : ℕ) (f t : ℕ → ℕ) → FetchedUpTo s (take m j) p n f
+origin_brought_gap_between : (s : Sizes) (j : List Event) (p m q i a v n : ℕ) (f t : ℕ → ℕ) → GapFetchedUpTo s (take m j) p n f
     → IsTimeOf (take m j) p t → q ≢ p → Does j i q (Store a v) → a / s.words ≡ n
     → InGap s (take m j) p n i ↔ ((f q ≤ interval_at j q i) × (interval_at j q i < t q))
-gap_between s j p m q i a v n f t fetched time apart does page = (there, back)
+origin_brought_gap_between s j p m q i a v n f t fetched time apart does page = (there, back)
   where
     h : List Event
     h = take m j
@@ -46,7 +46,7 @@ gap_between s j p m q i a v n f t fetched time apart does page = (there, back)
     there g =
         let low : i < m = within_front i g in
         let here = front low in
-        let same = number_in_front j m q i (omega arith) in
+        let same = news_number_in_front j m q i (omega arith) in
         let less = (covered h p q i (Store a v) t time here apart).0 g.past in (
           elim (cases_lt (interval_at h q i) (f q)) [
             | inl before ↦ absurd (((brought_gap_is s h p n i).0 g).2 ((fetched.brought q i a v apart here page).1 before))
@@ -70,7 +70,7 @@ gap_between s j p m q i a v n f t fetched time apart does page = (there, back)
               absurd (omega arith))
         ] in
         let here = front low in
-        let same = number_in_front j m q i (omega arith) in
+        let same = news_number_in_front j m q i (omega arith) in
         (brought_gap_is s h p n i).1 (
           (covered h p q i (Store a v) t time here apart).1 (omega arith),
           stores_to s h n i q a v here page,
@@ -78,25 +78,25 @@ gap_between s j p m q i a v n f t fetched time apart does page = (there, back)
         )
 
 -- p's own stores are not brought
-pub brought_own : (s : Sizes) (j : List Event) (p a m q i c : ℕ) → q ≡ p → ¬ IsBroughtStore s j p a m q i c
+pub brought_own : (s : Sizes) (j : List Event) (p a m q i c : ℕ) → q ≡ p → ¬ IsOriginBrought s j p a m q i c
 brought_own s j p a m q i c mine x =
     let low =
     slice_get-take_within j m i (event x.gap.store.by (Store x.gap.store.address x.gap.store.value)) x.gap.store.does in
     gaps_apart s (take m j) p (a / s.words) q i a x.value x.gap (slice_get-take j m i low ∙ x.does) mine
 
 -- the number of a brought store's interval lies between the fetch's timestamps
-pub brought_between : (s : Sizes) (j : List Event) (x : PageFetch) (a q i c : ℕ) → IsFetchOf s j x
-    → a / s.words ≡ x.page → q ≢ x.reader → IsBroughtStore s j x.reader a x.place q i c
+pub brought_between : (s : Sizes) (j : List Event) (x : PageFetch) (a q i c : ℕ) → IsOriginFetch s j x
+    → a / s.words ≡ x.page → q ≢ x.reader → IsOriginBrought s j x.reader a x.place q i c
     → (slice_index x.from q ≤ interval_at j q i) × (interval_at j q i < slice_index x.to q)
 brought_between s j x a q i c fetch page apart b =
-    (gap_between s j x.reader x.place q i a b.value x.page (slice_index x.from) (slice_index x.to) fetch.from fetch.to
+    (origin_brought_gap_between s j x.reader x.place q i a b.value x.page (slice_index x.from) (slice_index x.to) fetch.from fetch.to
     apart b.does page).0 (subst (λ n. InGap s (take x.place j) x.reader n i) page b.gap)
 
 -- and one that lies there is brought
-pub between_brought : (s : Sizes) (j : List Event) (x : PageFetch) (a q i v c : ℕ) → IsFetchOf s j x
+pub between_brought : (s : Sizes) (j : List Event) (x : PageFetch) (a q i v c : ℕ) → IsOriginFetch s j x
     → a / s.words ≡ x.page → q ≢ x.reader → Does j i q (Store a v)
     → slice_index x.from q ≤ interval_at j q i → interval_at j q i < slice_index x.to q
-    → IsClosing j q (interval_at j q i) c → IsBroughtStore s j x.reader a x.place q i c
+    → IsIndexedClosing j q (interval_at j q i) c → IsOriginBrought s j x.reader a x.place q i c
 between_brought s j x a q i v c fetch page apart does from to closing = record {
   fetches =
       (let f = fetch.fetches in
@@ -105,26 +105,26 @@ between_brought s j x a q i v c fetch page apart does from to closing = record {
   does = does;
   gap =
       subst (λ n. InGap s (take x.place j) x.reader n i) (sym page)
-      ((gap_between s j x.reader x.place q i a v x.page (slice_index x.from) (slice_index x.to) fetch.from fetch.to apart
+      ((origin_brought_gap_between s j x.reader x.place q i a v x.page (slice_index x.from) (slice_index x.to) fetch.from fetch.to apart
       does page).1 (from, to));
   closes = closing.closes;
   interval = closing.number;
 }
 
 -- an interval of a processor's that lies in a fetch is one that it closes
-pub fetched_closed : (s : Sizes) (j : List Event) (x : PageFetch) (q n : ℕ) → IsFetchOf s j x
+pub origin_brought_fetched_closed : (s : Sizes) (j : List Event) (x : PageFetch) (q n : ℕ) → IsOriginFetch s j x
     → n < slice_index x.to q → n < count_of is_closing j q
-fetched_closed s j x q n fetch lt =
+origin_brought_fetched_closed s j x q n fetch lt =
     let most = fetch.to.within q in
     let le = count_of-take-le is_closing j x.place q in
     omega arith
 
 -- of one's stores below the limit the last is applied last
 pub brought_last : (s : Sizes) (j : List Event) (x : PageFetch) (a q c : ℕ) (stores : List NumberedStore)
-    → (y : NumberedStore) → IsFetchOf s j x → a / s.words ≡ x.page → q ≢ x.reader
-    → AreStoresBelow j a q (length j) stores → IsLastUnder stores (slice_index x.to q) y
-    → slice_index x.from q ≤ y.interval → IsClosing j q y.interval c
-    → IsLastApplied s j x.reader a x.place (λ r. r ≡ q) (record { store = y.place; closed = c })
+    → (y : NumberedStore) → IsOriginFetch s j x → a / s.words ≡ x.page → q ≢ x.reader
+    → AreStoresBelow j a q (length j) stores → IsLastStoredUnder stores (slice_index x.to q) y
+    → slice_index x.from q ≤ y.interval → IsIndexedClosing j q y.interval c
+    → IsOriginLastApplied s j x.reader a x.place (λ r. r ≡ q) (record { store = y.place; closed = c })
 brought_last s j x a q c stores y fetch page apart are is from closing = record {
   by = q;
   one = refl;
@@ -133,14 +133,14 @@ brought_last s j x a q c stores y fetch page apart are is from closing = record 
       let number = here.interval in
       let under = is.under in
       between_brought s j x a q y.place here.value c fetch page apart here.does (omega arith) (omega arith)
-      (subst (λ n. IsClosing j q n c) number closing));
+      (subst (λ n. IsIndexedClosing j q n c) number closing));
   last = λ r i d mine b later.
-      (let other : IsBroughtStore s j x.reader a x.place q i d =
-      subst (λ w. IsBroughtStore s j x.reader a x.place w i d) mine b in
+      (let other : IsOriginBrought s j x.reader a x.place q i d =
+      subst (λ w. IsOriginBrought s j x.reader a x.place w i d) mine b in
       not_later i d other later);
 }
   where
-    not_later : (i d : ℕ) → IsBroughtStore s j x.reader a x.place q i d → ¬ IsAppliedBefore y.place c i d
+    not_later : (i d : ℕ) → IsOriginBrought s j x.reader a x.place q i d → ¬ IsOriginAppliedBefore y.place c i d
     not_later i d b later =
         let between = brought_between s j x a q i d fetch page apart b in
         let to = between.1 in
@@ -170,7 +170,7 @@ brought_last s j x a q c stores y fetch page apart are is from closing = record 
         within k w does = numbered_at_within j k (event q (Store a w)) does
 
         no_later : (k e : ℕ) → k ≤ y.place → interval_at j q k ≤ y.interval
-            → IsBroughtStore s j x.reader a x.place q k e → ¬ IsAppliedBefore y.place c k e
+            → IsOriginBrought s j x.reader a x.place q k e → ¬ IsOriginAppliedBefore y.place c k e
         no_later k e le low b (inl lt) =
             let up = count_of-past is_closing j c e q closing.closes.kind closing.closes.does closing.closes.closes lt in
             let one = closing.number in
@@ -180,8 +180,8 @@ brought_last s j x a q c stores y fetch page apart are is from closing = record 
 
 -- where one has none below the limit, or the last of these lies before the last fetch, none of its stores is brought
 pub brought_none : (s : Sizes) (j : List Event) (x : PageFetch) (a q : ℕ) (stores : List NumberedStore)
-    → IsFetchOf s j x → a / s.words ≡ x.page → q ≢ x.reader → AreStoresBelow j a q (length j) stores
-    → NoneUnder stores (slice_index x.to q) → (i c : ℕ) → ¬ IsBroughtStore s j x.reader a x.place q i c
+    → IsOriginFetch s j x → a / s.words ≡ x.page → q ≢ x.reader → AreStoresBelow j a q (length j) stores
+    → NoneStoredUnder stores (slice_index x.to q) → (i c : ℕ) → ¬ IsOriginBrought s j x.reader a x.place q i c
 brought_none s j x a q stores fetch page apart are none i c b =
     let between = brought_between s j x a q i c fetch page apart b in
     let to = between.1 in
@@ -192,9 +192,9 @@ brought_none s j x a q stores fetch page apart are none i c b =
     omega arith
 
 pub brought_before : (s : Sizes) (j : List Event) (x : PageFetch) (a q : ℕ) (stores : List NumberedStore)
-    → (y : NumberedStore) → IsFetchOf s j x → a / s.words ≡ x.page → q ≢ x.reader
-    → AreStoresBelow j a q (length j) stores → IsLastUnder stores (slice_index x.to q) y
-    → y.interval < slice_index x.from q → (i c : ℕ) → ¬ IsBroughtStore s j x.reader a x.place q i c
+    → (y : NumberedStore) → IsOriginFetch s j x → a / s.words ≡ x.page → q ≢ x.reader
+    → AreStoresBelow j a q (length j) stores → IsLastStoredUnder stores (slice_index x.to q) y
+    → y.interval < slice_index x.from q → (i c : ℕ) → ¬ IsOriginBrought s j x.reader a x.place q i c
 brought_before s j x a q stores y fetch page apart are is low i c b =
     let between = brought_between s j x a q i c fetch page apart b in
     let from = between.0 in
@@ -205,7 +205,7 @@ brought_before s j x a q stores y fetch page apart are is low i c b =
     elim (cases_lt is.index z.0) [
       | inl behind ↦ (let high = is.later z.0 z.1 behind z.2 in omega arith)
       | inr up ↦
-          (let rises = intervals_rise j a q (length j) stores are in
+          (let rises = store_intervals_rise j a q (length j) stores are in
           elim (cases_eq z.0 is.index) [
             | inl same ↦
                 (let one : z.1 ≡ y = same_Some z.1 y (sym z.2 ∙ ap (slice_get stores) same ∙ is.at) in
@@ -216,12 +216,12 @@ brought_before s j x a q stores y fetch page apart are is low i c b =
     ]
 
 -- what is applied before one that isn't applied after a third is applied before that
-applied_under : (i c k d l e : ℕ) → IsAppliedBefore i c l e → ¬ IsAppliedBefore k d l e → IsAppliedBefore i c k d
-applied_under i c k d l e (inl lt) other = elim (cases_lt d e) [
+origin_brought_applied_under : (i c k d l e : ℕ) → IsOriginAppliedBefore i c l e → ¬ IsOriginAppliedBefore k d l e → IsOriginAppliedBefore i c k d
+origin_brought_applied_under i c k d l e (inl lt) other = elim (cases_lt d e) [
   | inl less ↦ absurd (other (inl less))
   | inr le ↦ inl (omega arith)
 ]
-applied_under i c k d l e (inr w) other = elim (cases_lt d e) [
+origin_brought_applied_under i c k d l e (inr w) other = elim (cases_lt d e) [
   | inl less ↦ absurd (other (inl less))
   | inr le ↦ elim (cases_eq e d) [
     | inl is ↦ elim (cases_lt k l) [
@@ -233,23 +233,23 @@ applied_under i c k d l e (inr w) other = elim (cases_lt d e) [
 ]
 
 -- and before what that is applied before
-applied_on : (i c k d l e : ℕ) → IsAppliedBefore i c k d → IsAppliedBefore k d l e → IsAppliedBefore i c l e
-applied_on i c k d l e (inl lt) (inl less) = inl (omega arith)
-applied_on i c k d l e (inl lt) (inr w) = let same = w.0 in inl (omega arith)
-applied_on i c k d l e (inr w) (inl less) = let same = w.0 in inl (omega arith)
-applied_on i c k d l e (inr w) (inr z) = let low = w.1 in let high = z.1 in inr (w.0 ∙ z.0, omega arith)
+origin_brought_applied_longer : (i c k d l e : ℕ) → IsOriginAppliedBefore i c k d → IsOriginAppliedBefore k d l e → IsOriginAppliedBefore i c l e
+origin_brought_applied_longer i c k d l e (inl lt) (inl less) = inl (omega arith)
+origin_brought_applied_longer i c k d l e (inl lt) (inr w) = let same = w.0 in inl (omega arith)
+origin_brought_applied_longer i c k d l e (inr w) (inl less) = let same = w.0 in inl (omega arith)
+origin_brought_applied_longer i c k d l e (inr w) (inr z) = let low = w.1 in let high = z.1 in inr (w.0 ∙ z.0, omega arith)
 
 -- of no processors there is none
-pub applied_start : (s : Sizes) (j : List Event) (p a m : ℕ) → LastApplied s j p a m (λ q. q < 0) None
-applied_start s j p a m q i c low = absurd (omega arith)
+pub origin_brought_applied_start : (s : Sizes) (j : List Event) (p a m : ℕ) → OriginLastApplied s j p a m (λ q. q < 0) None
+origin_brought_applied_start s j p a m q i c low = absurd (omega arith)
 
 -- of those below n + 1 it is the later of that of those below n and that of n
-pub applied_next : (s : Sizes) (j : List Event) (p a m n : ℕ) (o b r : Option Applied) → IsLaterApplied o b r
-    → LastApplied s j p a m (λ q. q < n) o → LastApplied s j p a m (λ q. q ≡ n) b
-    → LastApplied s j p a m (λ q. q < n + 1) r
-applied_next s j p a m n None None r is none other = subst (LastApplied s j p a m (λ q. q < n + 1)) (sym is)
+pub origin_brought_applied_next : (s : Sizes) (j : List Event) (p a m n : ℕ) (o b r : Option Applied) → IsOriginLaterApplied o b r
+    → OriginLastApplied s j p a m (λ q. q < n) o → OriginLastApplied s j p a m (λ q. q ≡ n) b
+    → OriginLastApplied s j p a m (λ q. q < n + 1) r
+origin_brought_applied_next s j p a m n None None r is none other = subst (OriginLastApplied s j p a m (λ q. q < n + 1)) (sym is)
     (λ q i c low. elim (cases_eq q n) [ inl same ↦ other q i c same | inr isnt ↦ none q i c (omega arith) ])
-applied_next s j p a m n None (Some y) r is none last = subst (LastApplied s j p a m (λ q. q < n + 1)) (sym is) (record {
+origin_brought_applied_next s j p a m n None (Some y) r is none last = subst (OriginLastApplied s j p a m (λ q. q < n + 1)) (sym is) (record {
   by = last.by;
   one = (let same = last.one in omega arith);
   brought = last.brought;
@@ -258,7 +258,7 @@ applied_next s j p a m n None (Some y) r is none last = subst (LastApplied s j p
     | inr isnt ↦ absurd (none q i c (omega arith) x)
   ];
 })
-applied_next s j p a m n (Some x) None r is last none = subst (LastApplied s j p a m (λ q. q < n + 1)) (sym is) (record {
+origin_brought_applied_next s j p a m n (Some x) None r is last none = subst (OriginLastApplied s j p a m (λ q. q < n + 1)) (sym is) (record {
   by = last.by;
   one = (let low = last.one in omega arith);
   brought = last.brought;
@@ -267,17 +267,17 @@ applied_next s j p a m n (Some x) None r is last none = subst (LastApplied s j p
     | inr isnt ↦ last.last q i c (omega arith) z
   ];
 })
-applied_next s j p a m n (Some x) (Some y) r (inl w) one two = subst (LastApplied s j p a m (λ q. q < n + 1)) (sym w.0) (record {
+origin_brought_applied_next s j p a m n (Some x) (Some y) r (inl w) one two = subst (OriginLastApplied s j p a m (λ q. q < n + 1)) (sym w.0) (record {
   by = one.by;
   one = (let low = one.one in omega arith);
   brought = one.brought;
   last = λ q i c low z later. elim (cases_eq q n) [
     | inl same ↦
-        w.1 (applied_under x.store x.closed y.store y.closed i c later (two.last q i c same z))
+        w.1 (origin_brought_applied_under x.store x.closed y.store y.closed i c later (two.last q i c same z))
     | inr isnt ↦ one.last q i c (omega arith) z later
   ];
 })
-applied_next s j p a m n (Some x) (Some y) r (inr w) one two = subst (LastApplied s j p a m (λ q. q < n + 1)) (sym w.0) (record {
+origin_brought_applied_next s j p a m n (Some x) (Some y) r (inr w) one two = subst (OriginLastApplied s j p a m (λ q. q < n + 1)) (sym w.0) (record {
   by = two.by;
   one = (let same = two.one in omega arith);
   brought = two.brought;
@@ -285,6 +285,6 @@ applied_next s j p a m n (Some x) (Some y) r (inr w) one two = subst (LastApplie
     | inl same ↦ two.last q i c same z later
     | inr isnt ↦
         one.last q i c (omega arith) z
-        (applied_on x.store x.closed y.store y.closed i c w.1 later)
+        (origin_brought_applied_longer x.store x.closed y.store y.closed i c w.1 later)
   ];
 })

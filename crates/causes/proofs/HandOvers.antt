@@ -11,22 +11,22 @@ use Rattle.journal.specs.HappensBeforeEdges.{HappensBefore}
 use Rattle.journal.specs.Pasts.{UpTo}
 use Rattle.journal.proofs.Order.HappensBefore.{before_goes_forward}
 use Rattle.journal.proofs.Order.EdgesIntoPast.{past_up_to_back}
-use Rattle.causes.specs.HandOvers.{AreHandOvers, AreLastFrom}
-use Rattle.causes.specs.News.{AreNewlyOrdered}
+use Rattle.causes.specs.HandOvers.{AreHandOvers, AreLastHandOversFrom}
+use Rattle.causes.specs.News.{AreNewsInOrder}
 
 -- behind the last of the news there is none
-pub last_none : (j : List Event) (news : List ℕ) (n : ℕ) (places : List ℕ) → length news ≤ n → places ≡ []
-    → AreLastFrom j news n places
-last_none j news n places end none = subst (AreLastFrom j news n) (sym none) (record {
+pub hand_over_last_none : (j : List Event) (news : List ℕ) (n : ℕ) (places : List ℕ) → length news ≤ n → places ≡ []
+    → AreLastHandOversFrom j news n places
+hand_over_last_none j news n places end none = subst (AreLastHandOversFrom j news n) (sym none) (record {
   each = λ m at. absurd (none-some m at.1);
   last = λ m x i at. absurd (none-some m at.1);
   all = λ x i le at. absurd (let lt = slice_get_within news x i at in omega arith);
 })
 
 -- one that is up to one of them
-pub last_other : (j : List Event) (news : List ℕ) (n p : ℕ) (places : List ℕ) → slice_get news n ≡ Some p
-    → (m : ℕ) × Has places m × UpTo j m p → AreLastFrom j news (n + 1) places → AreLastFrom j news n places
-last_other j news n p places at up old = record {
+pub hand_over_last_others : (j : List Event) (news : List ℕ) (n p : ℕ) (places : List ℕ) → slice_get news n ≡ Some p
+    → (m : ℕ) × Has places m × UpTo j m p → AreLastHandOversFrom j news (n + 1) places → AreLastHandOversFrom j news n places
+hand_over_last_others j news n p places at up old = record {
   each = old.each;
   last = old.last;
   all = λ x i le to. elim (cases_eq x n) [
@@ -38,10 +38,10 @@ last_other j news n p places at up old = record {
 }
 
 -- and one that is up to none
-pub last_next : (j : List Event) (news : List ℕ) (n p : ℕ) (places : List ℕ) → InOrder (λ i m. i < m) news
-    → slice_get news n ≡ Some p → ((m : ℕ) → Has places m → ¬ UpTo j m p) → AreLastFrom j news (n + 1) places
-    → AreLastFrom j news n (places ++ p ∷ [])
-last_next j news n p places rising at away old = record { each = each; last = last; all = all }
+pub hand_over_last_next : (j : List Event) (news : List ℕ) (n p : ℕ) (places : List ℕ) → InOrder (λ i m. i < m) news
+    → slice_get news n ≡ Some p → ((m : ℕ) → Has places m → ¬ UpTo j m p) → AreLastHandOversFrom j news (n + 1) places
+    → AreLastHandOversFrom j news n (places ++ p ∷ [])
+hand_over_last_next j news n p places rising at away old = record { each = each; last = last; all = all }
   where
     each : (m : ℕ) → Has (places ++ p ∷ []) m → (x : ℕ) × (slice_get news x ≡ Some m)
     each m has = elim (slice_push_cases places p has.0 m has.1) [
@@ -82,9 +82,9 @@ last_next j news n p places rising at away old = record { each = each; last = la
     ]
 
 -- the last of all news
-pub last_all : (j : List Event) (k : ℕ) (news places : List ℕ) → AreNewlyOrdered j k news → AreLastFrom j news 0 places
+pub hand_over_last_all : (j : List Event) (k : ℕ) (news places : List ℕ) → AreNewsInOrder j k news → AreLastHandOversFrom j news 0 places
     → AreHandOvers j k places
-last_all j k news places are last = record {
+hand_over_last_all j k news places are last = record {
   each = λ n has. (let x = last.each n has in (are.has n).0 x);
   last = λ n i has new. (let x = (are.has i).1 new in last.last n x.0 i has x.1);
   all = λ i new. (let x = (are.has i).1 new in last.all x.0 i (omega arith) x.1);

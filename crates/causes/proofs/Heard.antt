@@ -18,7 +18,7 @@ use Rattle.journal.proofs.FromBase.Uncut.{uncut_race}
 use Rattle.causes.specs.Heard.{IsHeard}
 
 -- q's event at place i happens before place k, and no later one of q below place n does
-pub record IsLastBelow (j : List Event) (q k n i : ℕ) : Type 0 where
+pub record IsLastHeardBelow (j : List Event) (q k n i : ℕ) : Type 0 where
   pub kind : Kind
   pub does : Does j i q kind
   pub before : HappensBefore j i k
@@ -27,7 +27,7 @@ pub record IsLastBelow (j : List Event) (q k n i : ℕ) : Type 0 where
 -- the last event of q below place n that happens before place k, where there is one
 abbrev pub IsHeardBelow : List Event → ℕ → ℕ → ℕ → Option ℕ → Type 0
 IsHeardBelow j q k n o =
-    MatchOption o ((m : ℕ) (a : Kind) → m < n → Does j m q a → ¬ HappensBefore j m k) (IsLastBelow j q k n)
+    MatchOption o ((m : ℕ) (a : Kind) → m < n → Does j m q a → ¬ HappensBefore j m k) (IsLastHeardBelow j q k n)
 
 -- one place more, whose event is q's and happens before place k
 pub heard_next : (j : List Event) (q k n : ℕ) (e : Event) → At j n e → e.processor ≡ q → HappensBefore j n k
@@ -66,50 +66,50 @@ heard_all j q k n (Some i) le old = record {
 }
 
 -- where nothing was cut off, the first race from there is the first race
-pub first_race_whole : (size : ℕ) (j : List Event) (i k : ℕ) → IsFirstRaceFrom (no_base size) j i k → IsFirstRace j i k
-first_race_whole size j i k f = record {
+pub heard_first_race_whole : (size : ℕ) (j : List Event) (i k : ℕ) → IsFirstRaceFrom (no_base size) j i k → IsFirstRace j i k
+heard_first_race_whole size j i k f = record {
   race = (uncut_race size j i k).1 f.race;
   least_second = λ m n r. f.least_second m n ((uncut_race size j m n).0 r);
   least_first = λ m r. f.least_first m ((uncut_race size j m k).0 r);
 }
 
-pub race_free_whole : (size : ℕ) (j : List Event) → RaceFreeFrom (no_base size) j → RaceFree j
-race_free_whole size j free i k r = free i k ((uncut_race size j i k).0 r)
+pub heard_race_free_whole : (size : ℕ) (j : List Event) → RaceFreeFrom (no_base size) j → RaceFree j
+heard_race_free_whole size j free i k r = free i k ((uncut_race size j i k).0 r)
 
-race_base : (size : ℕ) (j : List Event) (o : Option (ℕ × ℕ))
+heard_race_base : (size : ℕ) (j : List Event) (o : Option (ℕ × ℕ))
     → MatchOption o (RaceFreeFrom (no_base size) j) (λ r. IsFirstRaceFrom (no_base size) j r.0 r.1)
     → MatchOption o (RaceFree j) (λ r. IsFirstRace j r.0 r.1)
-race_base size j None free = race_free_whole size j free
-race_base size j (Some r) first = first_race_whole size j r.0 r.1 first
+heard_race_base size j None free = heard_race_free_whole size j free
+heard_race_base size j (Some r) first = heard_first_race_whole size j r.0 r.1 first
 
 -- what a journal of the whole history says of its first race is the history's
-pub race_whole : (log : Log) (j : List Event) (o : Option (ℕ × ℕ)) → HoldsHistory log j
+pub heard_race_whole : (log : Log) (j : List Event) (o : Option (ℕ × ℕ)) → HoldsHistory log j
     → MatchOption o (RaceFreeFrom log.base log.events) (λ r. IsFirstRaceFrom log.base log.events r.0 r.1)
     → MatchOption o (RaceFree j) (λ r. IsFirstRace j r.0 r.1)
-race_whole log j o holds tells =
-    race_base log.addresses j o
+heard_race_whole log j o holds tells =
+    heard_race_base log.addresses j o
     (subst₂ (λ (b : Base) (xs : List Event). MatchOption o (RaceFreeFrom b xs) (λ r. IsFirstRaceFrom b xs r.0 r.1))
     holds.whole holds.history tells)
 
 -- the events of a race: they are of two processors, and the second one takes nothing
-pub record AreApart (j : List Event) (i k : ℕ) (e : Event) : Type 0 where
+pub record AreHeardApart (j : List Event) (i k : ℕ) (e : Event) : Type 0 where
   pub within : i < length j
   pub second : Event
   pub at : At j k second
   pub quiet : is_taking second.kind ≡ false
   pub apart : e.processor ≢ second.processor
 
-access_quiet : (k : Kind) (a : ℕ) → address_of k ≡ Some a → is_taking k ≡ false
-access_quiet (Load a v) b is = refl
-access_quiet (Store a v) b is = refl
-access_quiet _ b is = absurd cc
+heard_access_quiet : (k : Kind) (a : ℕ) → address_of k ≡ Some a → is_taking k ≡ false
+heard_access_quiet (Load a v) b is = refl
+heard_access_quiet (Store a v) b is = refl
+heard_access_quiet _ b is = absurd cc
 
-pub are_apart : (j : List Event) (i k : ℕ) (e : Event) → Race j i k → (i < length j → At j i e) → AreApart j i k e
-are_apart j i k e race at = record {
+pub heard_are_apart : (j : List Event) (i k : ℕ) (e : Event) → Race j i k → (i < length j → At j i e) → AreHeardApart j i k e
+heard_are_apart j i k e race at = record {
   within = within;
   second = race.second;
   at = race.second_at;
-  quiet = access_quiet race.second.kind race.conflict.address race.conflict.second;
+  quiet = heard_access_quiet race.second.kind race.conflict.address race.conflict.second;
   apart =
       subst (λ (x : Event). x.processor ≢ race.second.processor) (numbered_at_same j i race.first e race.first_at (at within))
       race.apart;

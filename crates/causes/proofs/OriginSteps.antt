@@ -17,32 +17,32 @@ use Rattle.journal.specs.Events.{At}
 use Rattle.journal.specs.Sizes.{Sizes}
 use Rattle.journal.specs.WellFormed.{Does}
 use Rattle.journal.proofs.Order.CountedAndNumbered.{numbered_at_same, numbered_does_same}
-use Rattle.judge.specs.Tallies.{row_index}
+use Rattle.judge.specs.GapTally.{gap_tally_row_index}
 use Rattle.causes.specs.declared.originating.Applied.{Applied}
 use Rattle.causes.specs.declared.originating.WordOrigin.{WordOrigin}
 use Rattle.causes.specs.declared.originating.PageFetch.{PageFetch}
-use Rattle.causes.specs.Origins.{AreOrigins, IsBroughtStore, IsOrigin, IsOriginAt, IsWordOriginOf, WritesWord}
-use Rattle.causes.specs.OriginSteps.{AreOriginsBefore, ArePartFetched, IsOriginAfter, LastApplied}
+use Rattle.causes.specs.Origins.{AreOrigins, IsOriginBrought, IsOrigin, IsOriginAt, IsWordOriginOf, OriginWritesWord}
+use Rattle.causes.specs.OriginSteps.{AreOriginsBefore, AreOriginsPartFetched, IsOriginAfter, OriginLastApplied}
 use Rattle.causes.proofs.StoreRows.{row_same}
 
 -- an event that doesn't write the word keeps its origin
-pub origin_kept : (s : Sizes) (j : List Event) (p a k : ℕ) (o : Option WordOrigin) → ((i : ℕ) → ¬ WritesWord s j p a k i)
+pub origin_kept : (s : Sizes) (j : List Event) (p a k : ℕ) (o : Option WordOrigin) → ((i : ℕ) → ¬ OriginWritesWord s j p a k i)
     → IsWordOriginOf s j p a k o → IsWordOriginOf s j p a (k + 1) o
 origin_kept s j p a k None away none = λ m i lt. elim (cases_eq m k) [
-  | inl is ↦ λ w. away i (subst (λ n. WritesWord s j p a n i) is w)
+  | inl is ↦ λ w. away i (subst (λ n. OriginWritesWord s j p a n i) is w)
   | inr isnt ↦ none m i (omega arith)
 ]
 origin_kept s j p a k (Some x) away is = record {
   before = (let lt = is.before in omega arith);
   writes = is.writes;
   last = λ m i low lt. elim (cases_eq m k) [
-    | inl same ↦ λ w. away i (subst (λ n. WritesWord s j p a n i) same w)
+    | inl same ↦ λ w. away i (subst (λ n. OriginWritesWord s j p a n i) same w)
     | inr isnt ↦ is.last m i low (omega arith)
   ];
 }
 
 -- one that does is the new one's
-pub origin_written : (s : Sizes) (j : List Event) (p a k i : ℕ) → WritesWord s j p a k i
+pub origin_written : (s : Sizes) (j : List Event) (p a k i : ℕ) → OriginWritesWord s j p a k i
     → IsOrigin s j p a (k + 1) (record { store = i; write = k })
 origin_written s j p a k i writes = record {
   before = omega arith;
@@ -56,16 +56,16 @@ pub origins_start : (s : Sizes) (j : List Event) (words : List (Option WordOrigi
     → ((n : ℕ) (o : Option WordOrigin) → slice_get words n ≡ Some o → o ≡ None) → AreOriginsBefore s j 0 words
 origins_start s j words long none = record {
   long = long;
-  each = λ a q o lt at. subst (IsWordOriginOf s j q a 0) (sym (none (row_index a q) o at)) (λ m i low. absurd (omega arith));
+  each = λ a q o lt at. subst (IsWordOriginOf s j q a 0) (sym (none (gap_tally_row_index a q) o at)) (λ m i low. absurd (omega arith));
 }
 
 -- an event writes no word but of its own processor's copy: the one that it stores, or those of the page that it fetches
-pub writes_only : (s : Sizes) (j : List Event) (p a k i : ℕ) (e : Event) → At j k e
+pub origin_writes_only : (s : Sizes) (j : List Event) (p a k i : ℕ) (e : Event) → At j k e
     → ((v : ℕ) → e ≢ event p (Store a v)) → ((w r d : ℕ) → e ≢ event p (Fetch w (a / s.words) r d))
-    → ¬ WritesWord s j p a k i
-writes_only s j p a k i e at stores fetches (inl own) =
+    → ¬ OriginWritesWord s j p a k i
+origin_writes_only s j p a k i e at stores fetches (inl own) =
     stores own.1.0 (numbered_at_same j k e (event p (Store a own.1.0)) at own.1.1)
-writes_only s j p a k i e at stores fetches (inr last) =
+origin_writes_only s j p a k i e at stores fetches (inr last) =
     let f = last.brought.fetches in
     fetches f.0 f.1 f.2 (numbered_at_same j k e (event p (Fetch f.0 (a / s.words) f.1 f.2)) at f.3)
 
@@ -77,26 +77,26 @@ origins_quiet s j k e words at stores fetches old = record {
   long = old.long;
   each = λ a q o lt there.
       origin_kept s j q a k o
-      (λ i. writes_only s j q a k i e at (λ v is. stores a v (ap (λ (f : Event). f.kind) is))
+      (λ i. origin_writes_only s j q a k i e at (λ v is. stores a v (ap (λ (f : Event). f.kind) is))
       (λ w r d is. fetches w (a / s.words) r d (ap (λ (f : Event). f.kind) is)))
       (old.each a q o lt there);
 }
 
-store_address : (a v b w : ℕ) → Store a v ≡ Store b w → a ≡ b
-store_address a v b w is = cc
+origin_store_address : (a v b w : ℕ) → Store a v ≡ Store b w → a ≡ b
+origin_store_address a v b w is = cc
 
-store_no_fetch : (a v w n r d : ℕ) → Store a v ≢ Fetch w n r d
-store_no_fetch a v w n r d is = cc
+origin_store_no_fetch : (a v w n r d : ℕ) → Store a v ≢ Fetch w n r d
+origin_store_no_fetch a v w n r d is = cc
 
-fetch_page : (w n r d x m y z : ℕ) → Fetch w n r d ≡ Fetch x m y z → n ≡ m
-fetch_page w n r d x m y z is = cc
+origin_fetch_page : (w n r d x m y z : ℕ) → Fetch w n r d ≡ Fetch x m y z → n ≡ m
+origin_fetch_page w n r d x m y z is = cc
 
 -- a store writes the word of its address
 pub origins_stored : (s : Sizes) (j : List Event) (k p a v : ℕ) (words : List (Option WordOrigin)) → Does j k p (Store a v)
     → p < 16 → AreOriginsBefore s j k words
-    → AreOriginsBefore s j (k + 1) (slice_set words (row_index a p) (Some (record { store = k; write = k })))
+    → AreOriginsBefore s j (k + 1) (slice_set words (gap_tally_row_index a p) (Some (record { store = k; write = k })))
 origins_stored s j k p a v words does low old = record {
-  long = length-set words (row_index a p) (Some own) ∙ old.long;
+  long = length-set words (gap_tally_row_index a p) (Some own) ∙ old.long;
   each = each;
 }
   where
@@ -104,14 +104,14 @@ origins_stored s j k p a v words does low old = record {
     own = record { store = k; write = k }
 
     each : (b q : ℕ) (o : Option WordOrigin) → q < 16
-        → slice_get (slice_set words (row_index a p) (Some own)) (row_index b q) ≡ Some o
+        → slice_get (slice_set words (gap_tally_row_index a p) (Some own)) (gap_tally_row_index b q) ≡ Some o
         → IsWordOriginOf s j q b (k + 1) o
-    each b q o lt at = elim (cases_eq (row_index b q) (row_index a p)) [
+    each b q o lt at = elim (cases_eq (gap_tally_row_index b q) (gap_tally_row_index a p)) [
       | inl same ↦
           (let both = row_same b q a p lt low same in
           let is : Some own ≡ o =
-          slice_get-set_found words (row_index a p) (Some own) o
-          (subst (λ m. slice_get (slice_set words (row_index a p) (Some own)) m ≡ Some o) same at) in
+          slice_get-set_found words (gap_tally_row_index a p) (Some own) o
+          (subst (λ m. slice_get (slice_set words (gap_tally_row_index a p) (Some own)) m ≡ Some o) same at) in
           subst (IsWordOriginOf s j q b (k + 1)) is
           (origin_written s j q b k k (inl (
             refl,
@@ -119,36 +119,36 @@ origins_stored s j k p a v words does low old = record {
           ))))
       | inr isnt ↦
           origin_kept s j q b k o
-          (λ i. writes_only s j q b k i (event p (Store a v)) does
+          (λ i. origin_writes_only s j q b k i (event p (Store a v)) does
           (λ w is. isnt
           (let by = ap (λ (f : Event). f.processor) is in
-          let to = store_address a v b w (ap (λ (f : Event). f.kind) is) in
+          let to = origin_store_address a v b w (ap (λ (f : Event). f.kind) is) in
           omega arith))
-          (λ w r d is. store_no_fetch a v w (b / s.words) r d (ap (λ (f : Event). f.kind) is)))
-          (old.each b q o lt (sym (slice_get-set_other words (row_index a p) (row_index b q) (Some own) isnt) ∙ at))
+          (λ w r d is. origin_store_no_fetch a v w (b / s.words) r d (ap (λ (f : Event). f.kind) is)))
+          (old.each b q o lt (sym (slice_get-set_other words (gap_tally_row_index a p) (gap_tally_row_index b q) (Some own) isnt) ∙ at))
     ]
 
 -- before a fetch's first word none is done
-pub fetched_start : (s : Sizes) (j : List Event) (k p from : ℕ) (words : List (Option WordOrigin))
-    → AreOriginsBefore s j k words → ArePartFetched s j k p from from words
-fetched_start s j k p from words old = record {
+pub origins_fetched_start : (s : Sizes) (j : List Event) (k p from : ℕ) (words : List (Option WordOrigin))
+    → AreOriginsBefore s j k words → AreOriginsPartFetched s j k p from from words
+origins_fetched_start s j k p from words old = record {
   long = old.long;
   fetched = λ a o low high at. absurd (omega arith);
   others = λ a q o lt away at. old.each a q o lt at;
 }
 
 -- what the fetch makes of a word
-pub fetched_word : (s : Sizes) (j : List Event) (k p a : ℕ) (o r : Option WordOrigin) (b : Option Applied) → p < 16
+pub origins_fetched_word : (s : Sizes) (j : List Event) (k p a : ℕ) (o r : Option WordOrigin) (b : Option Applied) → p < 16
     → ((v : ℕ) → ¬ Does j k p (Store a v))
-    → ((q i c : ℕ) → IsBroughtStore s j p a k q i c → q < 16) → LastApplied s j p a k (λ q. q < 16) b
+    → ((q i c : ℕ) → IsOriginBrought s j p a k q i c → q < 16) → OriginLastApplied s j p a k (λ q. q < 16) b
     → IsOriginAfter o k b r → IsWordOriginOf s j p a k o → IsWordOriginOf s j p a (k + 1) r
-fetched_word s j k p a o r None lt no_store range none is old =
+origins_fetched_word s j k p a o r None lt no_store range none is old =
     subst (IsWordOriginOf s j p a (k + 1)) (sym is) (origin_kept s j p a k o away old)
   where
-    away : (i : ℕ) → ¬ WritesWord s j p a k i
+    away : (i : ℕ) → ¬ OriginWritesWord s j p a k i
     away i (inl own) = no_store own.1.0 own.1.1
     away i (inr last) = none last.by i last.closed (range last.by i last.closed last.brought) last.brought
-fetched_word s j k p a o r (Some x) lt no_store range last is old =
+origins_fetched_word s j k p a o r (Some x) lt no_store range last is old =
     subst (IsWordOriginOf s j p a (k + 1)) (sym is)
     (origin_written s j p a k x.store (inr (record {
       by = last.by;
@@ -158,52 +158,52 @@ fetched_word s j k p a o r (Some x) lt no_store range last is old =
     })))
 
 -- a word more
-pub fetched_next : (s : Sizes) (j : List Event) (k p from a : ℕ) (words : List (Option WordOrigin)) (r : Option WordOrigin)
-    → p < 16 → from ≤ a → IsWordOriginOf s j p a (k + 1) r → ArePartFetched s j k p from a words
-    → ArePartFetched s j k p from (a + 1) (slice_set words (row_index a p) r)
-fetched_next s j k p from a words r low le now old = record {
-  long = length-set words (row_index a p) r ∙ old.long;
+pub origins_fetched_next : (s : Sizes) (j : List Event) (k p from a : ℕ) (words : List (Option WordOrigin)) (r : Option WordOrigin)
+    → p < 16 → from ≤ a → IsWordOriginOf s j p a (k + 1) r → AreOriginsPartFetched s j k p from a words
+    → AreOriginsPartFetched s j k p from (a + 1) (slice_set words (gap_tally_row_index a p) r)
+origins_fetched_next s j k p from a words r low le now old = record {
+  long = length-set words (gap_tally_row_index a p) r ∙ old.long;
   fetched = fetched;
   others = λ b q o lt away at.
       old.others b q o lt (λ mine up below. away mine up (omega arith))
-      (sym (slice_get-set_other words (row_index a p) (row_index b q) r (λ same.
+      (sym (slice_get-set_other words (gap_tally_row_index a p) (gap_tally_row_index b q) r (λ same.
       let both = row_same b q a p lt low same in
       let one = both.0 in
       away both.1 (omega arith) (omega arith))) ∙ at);
 }
   where
     fetched : (b : ℕ) (o : Option WordOrigin) → from ≤ b → b < a + 1
-        → slice_get (slice_set words (row_index a p) r) (row_index b p) ≡ Some o → IsWordOriginOf s j p b (k + 1) o
+        → slice_get (slice_set words (gap_tally_row_index a p) r) (gap_tally_row_index b p) ≡ Some o → IsWordOriginOf s j p b (k + 1) o
     fetched b o up below at = elim (cases_eq b a) [
       | inl same ↦
           (let is : r ≡ o =
-          slice_get-set_found words (row_index a p) r o
-          (subst (λ c. slice_get (slice_set words (row_index a p) r) (row_index c p) ≡ Some o) same at) in
+          slice_get-set_found words (gap_tally_row_index a p) r o
+          (subst (λ c. slice_get (slice_set words (gap_tally_row_index a p) r) (gap_tally_row_index c p) ≡ Some o) same at) in
           subst (IsWordOriginOf s j p b (k + 1)) is
           (subst (λ c. IsWordOriginOf s j p c (k + 1) r) (sym same) now))
       | inr isnt ↦
           old.fetched b o up (omega arith)
-          (sym (slice_get-set_other words (row_index a p) (row_index b p) r (λ same. isnt (omega arith))) ∙ at)
+          (sym (slice_get-set_other words (gap_tally_row_index a p) (gap_tally_row_index b p) r (λ same. isnt (omega arith))) ∙ at)
     ]
 
 -- the words of a page
-in_page : (a w n : ℕ) → 0 < w → a / w ≡ n → (n * w ≤ a) × (a < n * w + w)
-in_page a w n some is = subst (λ m. (m * w ≤ a) × (a < m * w + w)) is (omega arith, omega arith)
+origin_in_page : (a w n : ℕ) → 0 < w → a / w ≡ n → (n * w ≤ a) × (a < n * w + w)
+origin_in_page a w n some is = subst (λ m. (m * w ≤ a) × (a < m * w + w)) is (omega arith, omega arith)
 
 -- all words of the page
-pub fetched_all : (s : Sizes) (j : List Event) (k p n w r d : ℕ) (words : List (Option WordOrigin))
-    → Does j k p (Fetch w n r d) → ArePartFetched s j k p (n * s.words) (n * s.words + s.words) words
+pub origins_fetched_all : (s : Sizes) (j : List Event) (k p n w r d : ℕ) (words : List (Option WordOrigin))
+    → Does j k p (Fetch w n r d) → AreOriginsPartFetched s j k p (n * s.words) (n * s.words + s.words) words
     → AreOriginsBefore s j (k + 1) words
-fetched_all s j k p n w r d words does old = record { long = old.long; each = each }
+origins_fetched_all s j k p n w r d words does old = record { long = old.long; each = each }
   where
-    each : (a q : ℕ) (o : Option WordOrigin) → q < 16 → slice_get words (row_index a q) ≡ Some o
+    each : (a q : ℕ) (o : Option WordOrigin) → q < 16 → slice_get words (gap_tally_row_index a q) ≡ Some o
         → IsWordOriginOf s j q a (k + 1) o
     each a q o lt at = elim (cases_eq q p) [
       | inl mine ↦ elim (cases_eq (a / s.words) n) [
         | inl is ↦
-            (let range = in_page a s.words n some is in
+            (let range = origin_in_page a s.words n some is in
             subst (λ x. IsWordOriginOf s j x a (k + 1) o) (sym mine)
-            (old.fetched a o range.0 range.1 (subst (λ x. slice_get words (row_index a x) ≡ Some o) mine at)))
+            (old.fetched a o range.0 range.1 (subst (λ x. slice_get words (gap_tally_row_index a x) ≡ Some o) mine at)))
         | inr isnt ↦
             origin_kept s j q a k o (λ i. quiet i (λ _ same. isnt (sym same)))
             (old.others a q o lt (λ _ up below. isnt (out_page up below)) at)
@@ -219,9 +219,9 @@ fetched_all s j k p n w r d words does old = record { long = old.long; each = ea
           | inr none ↦
               (let zero : s.words ≡ 0 = omega arith in
               let long = old.long in
-              let within = slice_get_within words (row_index a q) o at in
-              absurd (let lt : row_index a q < (s.pages * 0) * 16 =
-              subst (λ x. row_index a q < (s.pages * x) * 16) zero (omega arith) in
+              let within = slice_get_within words (gap_tally_row_index a q) o at in
+              absurd (let lt : gap_tally_row_index a q < (s.pages * 0) * 16 =
+              subst (λ x. gap_tally_row_index a q < (s.pages * x) * 16) zero (omega arith) in
               omega arith))
         ]
 
@@ -230,25 +230,25 @@ fetched_all s j k p n w r d words does old = record { long = old.long; each = ea
             let rest : a ≡ n * s.words + (a - n * s.words) = omega arith in
             ap (λ (x : ℕ). x / s.words) rest ∙ div-mul-add n s.words (a - n * s.words) (omega arith)
 
-        quiet : (i : ℕ) → (p ≡ q → n ≡ a / s.words → ⊥) → ¬ WritesWord s j q a k i
+        quiet : (i : ℕ) → (p ≡ q → n ≡ a / s.words → ⊥) → ¬ OriginWritesWord s j q a k i
         quiet i away =
-            writes_only s j q a k i (event p (Fetch w n r d)) does
-            (λ v is. store_no_fetch a v w n r d (sym (ap (λ (f : Event). f.kind) is)))
+            origin_writes_only s j q a k i (event p (Fetch w n r d)) does
+            (λ v is. origin_store_no_fetch a v w n r d (sym (ap (λ (f : Event). f.kind) is)))
             (λ x y z is.
             away (ap (λ (f : Event). f.processor) is)
-            (fetch_page w n r d x (a / s.words) y z (ap (λ (f : Event). f.kind) is)))
+            (origin_fetch_page w n r d x (a / s.words) y z (ap (λ (f : Event). f.kind) is)))
 
 -- so after a fetch that was taken note of
-pub fetched_done : (s : Sizes) (j : List Event) (k p n w r d : ℕ) (f : PageFetch) (size : ℕ) (words : List (Option WordOrigin))
+pub origins_fetched_done : (s : Sizes) (j : List Event) (k p n w r d : ℕ) (f : PageFetch) (size : ℕ) (words : List (Option WordOrigin))
     → f.place ≡ k → f.reader ≡ p → f.page ≡ n → size ≡ s.words → Does j k p (Fetch w n r d)
-    → ArePartFetched s j f.place f.reader (f.page * size) (f.page * size + size) words
+    → AreOriginsPartFetched s j f.place f.reader (f.page * size) (f.page * size + size) words
     → AreOriginsBefore s j (k + 1) words
-fetched_done s j k p n w r d f size words place reader page is does old =
-    fetched_all s j k p n w r d words does
-    (subst (λ z. ArePartFetched s j z p (n * s.words) (n * s.words + s.words) words) place
-    (subst (λ z. ArePartFetched s j f.place z (n * s.words) (n * s.words + s.words) words) reader
-    (subst (λ z. ArePartFetched s j f.place f.reader (z * s.words) (z * s.words + s.words) words) page
-    (subst (λ z. ArePartFetched s j f.place f.reader (f.page * z) (f.page * z + z) words) is old))))
+origins_fetched_done s j k p n w r d f size words place reader page is does old =
+    origins_fetched_all s j k p n w r d words does
+    (subst (λ z. AreOriginsPartFetched s j z p (n * s.words) (n * s.words + s.words) words) place
+    (subst (λ z. AreOriginsPartFetched s j f.place z (n * s.words) (n * s.words + s.words) words) reader
+    (subst (λ z. AreOriginsPartFetched s j f.place f.reader (z * s.words) (z * s.words + s.words) words) page
+    (subst (λ z. AreOriginsPartFetched s j f.place f.reader (f.page * z) (f.page * z + z) words) is old))))
 
 -- a row more
 pub origin_rows_next : (s : Sizes) (j : List Event) (rows : List (Option WordOrigin)) (k : ℕ) (o : Option WordOrigin)
@@ -260,19 +260,19 @@ origin_rows_next s j rows k o long are now n other at = elim (slice_push_cases r
       subst (IsOriginAt s j n) new.1 (subst (λ m. IsOriginAt s j m o) is now))
 ]
 
-load_address : (a v b w : ℕ) → Load a v ≡ Load b w → a ≡ b
-load_address a v b w is = cc
+origin_load_address : (a v b w : ℕ) → Load a v ≡ Load b w → a ≡ b
+origin_load_address a v b w is = cc
 
 -- what is said of a load
 pub origin_read : (s : Sizes) (j : List Event) (k a v : ℕ) (e : Event) (words : List (Option WordOrigin))
     → (o : Option WordOrigin) → At j k e → e.kind ≡ Load a v → e.processor < 16
-    → slice_get words (row_index a e.processor) ≡ Some o → AreOriginsBefore s j k words → IsOriginAt s j k o
+    → slice_get words (gap_tally_row_index a e.processor) ≡ Some o → AreOriginsBefore s j k words → IsOriginAt s j k o
 origin_read s j k a v e words o at kind low there are = record {
   loads = λ p b w does.
       (let here : Does j k e.processor (Load a v) = subst (λ x. At j k (event e.processor x)) kind at in
       let same = numbered_does_same j k e.processor p (Load a v) (Load b w) here does in
       subst (λ x. IsWordOriginOf s j x b k o) same.0
-      (subst (λ c. IsWordOriginOf s j e.processor c k o) (load_address a v b w same.1)
+      (subst (λ c. IsWordOriginOf s j e.processor c k o) (origin_load_address a v b w same.1)
       (are.each a e.processor o low there)));
   others = λ none. absurd (none e.processor a v (subst (λ x. At j k (event e.processor x)) kind at));
 }

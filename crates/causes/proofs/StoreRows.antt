@@ -14,7 +14,7 @@ use Rattle.journal.specs.DidEvent.{event}
 use Rattle.journal.specs.Events.{At, interval_at, is_closing}
 use Rattle.journal.specs.WellFormed.{Does}
 use Rattle.journal.proofs.Order.CountedAndNumbered.{numbered_at_same, count_of-mono, numbered_does_at}
-use Rattle.judge.specs.Tallies.{row_index}
+use Rattle.judge.specs.GapTally.{gap_tally_row_index}
 use Rattle.causes.specs.declared.stores.NumberedStore.{NumberedStore}
 use Rattle.causes.specs.declared.stores.StoreRows.{StoreRows}
 use Rattle.causes.specs.Stores.{AreStoreRows, AreStoresBelow, IsNumberedStore}
@@ -102,24 +102,24 @@ store_rows_quiet j n e x at quiet old = record {
 }
 
 -- where two rows are one, so are address and processor
-pub row_same : (a q b p : ℕ) → q < 16 → p < 16 → row_index a q ≡ row_index b p → (a ≡ b) × (q ≡ p)
+pub row_same : (a q b p : ℕ) → q < 16 → p < 16 → gap_tally_row_index a q ≡ gap_tally_row_index b p → (a ≡ b) × (q ≡ p)
 row_same a q b p lt to is = (omega arith, omega arith)
 
 -- and with a store
 pub store_rows_stored : (j : List Event) (n a v : ℕ) (e : Event) (y : NumberedStore) (x : StoreRows)
     → (row new : Vec NumberedStore) → (rows : List (Vec NumberedStore)) → At j n e → e.kind ≡ Store a v
     → e.processor < 16 → y.place ≡ n → y.interval ≡ interval_at j e.processor n
-    → slice_get x.rows.items (row_index a e.processor) ≡ Some row → new.items ≡ row.items ++ y ∷ []
-    → rows ≡ slice_set x.rows.items (row_index a e.processor) new → AreStoreRows j n x
-    → ((b q : ℕ) (other : Vec NumberedStore) → q < 16 → slice_get rows (row_index b q) ≡ Some other
+    → slice_get x.rows.items (gap_tally_row_index a e.processor) ≡ Some row → new.items ≡ row.items ++ y ∷ []
+    → rows ≡ slice_set x.rows.items (gap_tally_row_index a e.processor) new → AreStoreRows j n x
+    → ((b q : ℕ) (other : Vec NumberedStore) → q < 16 → slice_get rows (gap_tally_row_index b q) ≡ Some other
     → AreStoresBelow j b q (n + 1) other.items)
 store_rows_stored j n a v e y x row new rows at kind low place number there is set old b q other lt to =
-    elim (cases_eq (row_index b q) (row_index a e.processor)) [
+    elim (cases_eq (gap_tally_row_index b q) (gap_tally_row_index a e.processor)) [
       | inl same ↦
           (let both = row_same b q a e.processor lt low same in
           let one : new ≡ other =
-          slice_get-set_found x.rows.items (row_index a e.processor) new other
-          (subst (λ m. slice_get (slice_set x.rows.items (row_index a e.processor) new) m ≡ Some other) same moved) in
+          slice_get-set_found x.rows.items (gap_tally_row_index a e.processor) new other
+          (subst (λ m. slice_get (slice_set x.rows.items (gap_tally_row_index a e.processor) new) m ≡ Some other) same moved) in
           let now : AreStoresBelow j a e.processor (n + 1) new.items =
           subst (AreStoresBelow j a e.processor (n + 1)) (sym is)
           (stores_now j a e.processor v n y row.items (subst (λ k. At j n (event e.processor k)) kind at) place number
@@ -130,25 +130,25 @@ store_rows_stored j n a v e y x row new rows at kind low place number there is s
       | inr isnt ↦
           stores_other j b q n e other.items at (λ w same. isnt (apart w same))
           (old.each b q other lt
-          (sym (slice_get-set_other x.rows.items (row_index a e.processor) (row_index b q) new isnt) ∙ moved))
+          (sym (slice_get-set_other x.rows.items (gap_tally_row_index a e.processor) (gap_tally_row_index b q) new isnt) ∙ moved))
     ]
   where
-    moved : slice_get (slice_set x.rows.items (row_index a e.processor) new) (row_index b q) ≡ Some other
-    moved = subst (λ xs. slice_get xs (row_index b q) ≡ Some other) set to
+    moved : slice_get (slice_set x.rows.items (gap_tally_row_index a e.processor) new) (gap_tally_row_index b q) ≡ Some other
+    moved = subst (λ xs. slice_get xs (gap_tally_row_index b q) ≡ Some other) set to
 
     address : (c w d z : ℕ) → Store c w ≡ Store d z → c ≡ d
     address c w d z same = cc
 
-    apart : (w : ℕ) → e ≡ event q (Store b w) → row_index b q ≡ row_index a e.processor
+    apart : (w : ℕ) → e ≡ event q (Store b w) → gap_tally_row_index b q ≡ gap_tally_row_index a e.processor
     apart w same =
         let by = ap (λ (f : Event). f.processor) same in
         let to_a = address a v b w (sym kind ∙ ap (λ (f : Event). f.kind) same) in
         omega arith
 
 -- of rising stores the intervals do not fall
-pub intervals_rise : (j : List Event) (a q n : ℕ) (stores : List NumberedStore) → AreStoresBelow j a q n stores
+pub store_intervals_rise : (j : List Event) (a q n : ℕ) (stores : List NumberedStore) → AreStoresBelow j a q n stores
     → InOrder (λ (x y : NumberedStore). x.interval ≤ y.interval) stores
-intervals_rise j a q n stores are k m x y lt at to =
+store_intervals_rise j a q n stores are k m x y lt at to =
     let rise = are.rising k m x y lt at to in
     let one = (are.each k x at).interval in
     let two = (are.each m y to).interval in

@@ -8,38 +8,38 @@ use Rattle.journal.specs.declared.event.Kind.TheVariants.{Fetch}
 use Rattle.journal.specs.PageImages.{HasImageCount, StoredInGapOfImage}
 use Rattle.journal.specs.Events.{At}
 use Rattle.journal.specs.Sizes.{Sizes}
-use Rattle.judge.specs.Gaps.{StoresInPage}
-use Rattle.judge.specs.Tallies.{row_index}
+use Rattle.judge.specs.Gaps.{GapStoresInPage}
+use Rattle.judge.specs.GapTally.{gap_tally_row_index}
 use Rattle.causes.specs.declared.missing.Due.{Due}
 use Rattle.causes.specs.declared.missing.Span.{Span}
 
 -- p's copy of page n lacks what q stored there in its interval m
-abbrev pub Lacks : Sizes → List Event → ℕ → ℕ → ℕ → ℕ → Type 0
-Lacks s j p n q m = (a : ℕ) × StoredInGapOfImage s j p n (q, m, a)
+abbrev pub DueLacks : Sizes → List Event → ℕ → ℕ → ℕ → ℕ → Type 0
+DueLacks s j p n q m = (a : ℕ) × StoredInGapOfImage s j p n (q, m, a)
 
 -- it lacks that after the event at place k, and didn't before
-abbrev pub ComesToLack : Sizes → List Event → ℕ → ℕ → ℕ → ℕ → ℕ → Type 0
-ComesToLack s j k p n q m = Lacks s (take (k + 1) j) p n q m × (¬ Lacks s (take k j) p n q m)
+abbrev pub DueComesToLack : Sizes → List Event → ℕ → ℕ → ℕ → ℕ → ℕ → Type 0
+DueComesToLack s j k p n q m = DueLacks s (take (k + 1) j) p n q m × (¬ DueLacks s (take k j) p n q m)
 
 -- p's event of this kind at place k tells of that record: a fetch where its copy of that page lacks it, another where a copy
 -- comes to lack it
-abbrev pub IsToldBy : Sizes → List Event → ℕ → ℕ → Kind → ℕ → ℕ → ℕ → Type 0
-IsToldBy s j k p (Fetch w l r d) n q m = (l ≡ n) × Lacks s (take k j) p n q m
-IsToldBy s j k p _ n q m = ComesToLack s j k p n q m
+abbrev pub IsDueToldBy : Sizes → List Event → ℕ → ℕ → Kind → ℕ → ℕ → ℕ → Type 0
+IsDueToldBy s j k p (Fetch w l r d) n q m = (l ≡ n) × DueLacks s (take k j) p n q m
+IsDueToldBy s j k p _ n q m = DueComesToLack s j k p n q m
 
 -- the event e at place k tells of that many records of the writer in the page, and of some
-pub record IsMissingRecord (s : Sizes) (j : List Event) (k : ℕ) (e : Event) (x : Due) : Type 0 where
+pub record IsDueRecord (s : Sizes) (j : List Event) (k : ℕ) (e : Event) (x : Due) : Type 0 where
   pub some : x.records ≢ 0
-  pub count : HasImageCount (IsToldBy s j k e.processor e.kind x.page x.writer) x.records
+  pub count : HasImageCount (IsDueToldBy s j k e.processor e.kind x.page x.writer) x.records
 
 -- by rising pages, and for each page by rising writers
-abbrev pub ByPageAndWriter : Due → Due → Type 0
-ByPageAndWriter x y = (x.page < y.page) ⊎ ((x.page ≡ y.page) × (x.writer < y.writer))
+abbrev pub DuesByPageAndWriter : Due → Due → Type 0
+DuesByPageAndWriter x y = (x.page < y.page) ⊎ ((x.page ≡ y.page) × (x.writer < y.writer))
 
 -- these are all of which the event e at place k tells, in order
 pub record AreDues (s : Sizes) (j : List Event) (k : ℕ) (e : Event) (dues : List Due) : Type 0 where
-  pub has : (x : Due) → Has dues x ↔ IsMissingRecord s j k e x
-  pub order : InOrder ByPageAndWriter dues
+  pub has : (x : Due) → Has dues x ↔ IsDueRecord s j k e x
+  pub order : InOrder DuesByPageAndWriter dues
 
 -- and of which the first events do
 abbrev pub AreAllDues : Sizes → List Event → List (Vec Due) → Type 0
@@ -48,22 +48,22 @@ AreAllDues s j rows = (k : ℕ) (e : Event) (row : Vec Due) → At j k e → sli
 
 -- the writer, another one than the span's reader, stores in the page, which is one of the span's, in that many of the
 -- intervals that the span has of it, and in some
-pub record IsInSpan (s : Sizes) (j : List Event) (span : Span) (x : Due) : Type 0 where
+pub record IsDueInSpan (s : Sizes) (j : List Event) (span : Span) (x : Due) : Type 0 where
   pub low : x.writer < 16
   pub apart : x.writer ≢ span.reader
   pub from : span.first ≤ x.page
   pub to : x.page < span.end
   pub some : x.records ≢ 0
-  pub count : HasImageCount (λ m. StoresInPage s j x.page x.writer m × (slice_index span.from x.writer ≤ m)
+  pub count : HasImageCount (λ m. GapStoresInPage s j x.page x.writer m × (slice_index span.from x.writer ≤ m)
       × (m < slice_index span.to x.writer)) x.records
 
 -- what there is of this page and writer in the span
-abbrev pub IsOneOf : Sizes → List Event → Span → ℕ → ℕ → Option Due → Type 0
-IsOneOf s j span n q o =
-    MatchOption o ((x : Due) → IsInSpan s j span x → x.page ≡ n → x.writer ≡ q → ⊥)
-    (λ x. IsInSpan s j span x × (x.page ≡ n) × (x.writer ≡ q))
+abbrev pub IsOneOfDues : Sizes → List Event → Span → ℕ → ℕ → Option Due → Type 0
+IsOneOfDues s j span n q o =
+    MatchOption o ((x : Due) → IsDueInSpan s j span x → x.page ≡ n → x.writer ≡ q → ⊥)
+    (λ x. IsDueInSpan s j span x × (x.page ≡ n) × (x.writer ≡ q))
 
 -- these are what there is in the span of the rows below this one, in order
-pub record MissingBelow (s : Sizes) (j : List Event) (span : Span) (row : ℕ) (dues : List Due) : Type 0 where
-  pub has : (x : Due) → Has dues x ↔ (IsInSpan s j span x × (row_index x.page x.writer < row))
-  pub order : InOrder (λ (x y : Due). row_index x.page x.writer < row_index y.page y.writer) dues
+pub record DuesBelow (s : Sizes) (j : List Event) (span : Span) (row : ℕ) (dues : List Due) : Type 0 where
+  pub has : (x : Due) → Has dues x ↔ (IsDueInSpan s j span x × (gap_tally_row_index x.page x.writer < row))
+  pub order : InOrder (λ (x y : Due). gap_tally_row_index x.page x.writer < gap_tally_row_index y.page y.writer) dues

@@ -18,8 +18,8 @@ pub record AreEdges (j : List Event) (k : ℕ) (places : List ℕ) : Type 0 wher
 
 -- an event of the first kind, before which its processor arrived so often, lets on one of the second, before which its
 -- processor departed so often
-abbrev pub LeadsOn : Kind → ℕ → Kind → ℕ → Type 0
-LeadsOn from arrived (Acquire l) departed = from ≡ Release l
-LeadsOn from arrived (Await f) departed = from ≡ Set f
-LeadsOn from arrived Depart departed = (from ≡ Arrive) × (arrived ≡ departed)
-LeadsOn from arrived _ departed = ⊥
+abbrev pub EdgeLeadsOn : Kind → ℕ → Kind → ℕ → Type 0
+EdgeLeadsOn from arrived (Acquire l) departed = from ≡ Release l
+EdgeLeadsOn from arrived (Await f) departed = from ≡ Set f
+EdgeLeadsOn from arrived Depart departed = (from ≡ Arrive) × (arrived ≡ departed)
+EdgeLeadsOn from arrived _ departed = ⊥

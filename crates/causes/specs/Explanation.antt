@@ -3,7 +3,7 @@ use Rattle.std.specs.Prelude.{◌≡◌, List, MatchOption, length, vec_len}
 use Rattle.journal.specs.declared.event.Event.{Event}
 use Rattle.journal.specs.Races.{RaceFree}
 use Rattle.journal.specs.Sizes.{Sizes}
-use Rattle.judge.specs.Sources.Latest.{AreReadableRows}
+use Rattle.judge.specs.Sources.Latest.{AreLatestRows}
 use Rattle.causes.specs.declared.explaining.Explanation.{Explanation}
 use Rattle.causes.specs.Origins.{AreOrigins, NameOrigins}
 use Rattle.causes.specs.Source.{AreSources}
@@ -15,7 +15,7 @@ use Rattle.causes.specs.Waits.{AreWaits}
 -- what each processor waits for
 pub record IsExplanation (s : Sizes) (j : List Event) (x : Explanation) : Type 0 where
   pub latest_long : vec_len x.latest ≡ length j
-  pub latest : AreReadableRows j x.latest.items
+  pub latest : AreLatestRows j x.latest.items
   pub origins_long : vec_len x.origins ≡ length j
   pub origins : AreOrigins s j x.origins.items
   pub long : vec_len x.loads ≡ length j

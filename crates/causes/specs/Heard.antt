@@ -9,8 +9,8 @@ use Rattle.journal.specs.WellFormed.{Does}
 use Rattle.causes.specs.declared.racing.FirstRace.{FirstRace}
 
 -- no event of q happens before place k
-abbrev pub HearsNothing : List Event → ℕ → ℕ → Type 0
-HearsNothing j q k = (m : ℕ) (a : Kind) → Does j m q a → ¬ HappensBefore j m k
+abbrev pub HeardNothing : List Event → ℕ → ℕ → Type 0
+HeardNothing j q k = (m : ℕ) (a : Kind) → Does j m q a → ¬ HappensBefore j m k
 
 -- q's event at place i happens before place k, and no later one of q does
 pub record IsLastHeard (j : List Event) (q k i : ℕ) : Type 0 where
@@ -21,7 +21,7 @@ pub record IsLastHeard (j : List Event) (q k i : ℕ) : Type 0 where
 
 -- the last event of q that happens before place k, where there is one
 abbrev pub IsHeard : List Event → ℕ → ℕ → Option ℕ → Type 0
-IsHeard j q k o = MatchOption o (HearsNothing j q k) (IsLastHeard j q k)
+IsHeard j q k o = MatchOption o (HeardNothing j q k) (IsLastHeard j q k)
 
 -- the first race, and the last event of the first one's processor that happens before the second one
 pub record IsFirstRaceTold (j : List Event) (r : FirstRace) : Type 0 where

@@ -8,30 +8,30 @@ use Rattle.causes.specs.declared.index.Index.{Index}
 use Rattle.causes.specs.declared.index.Turn.{Turn}
 
 -- so often q had arrived and departed before place i
-pub record IsEventTurn (j : List Event) (i q : ℕ) (t : Turn) : Type 0 where
+pub record IsIndexedTurn (j : List Event) (i q : ℕ) (t : Turn) : Type 0 where
   pub arrived : t.arrived ≡ count_of is_arrive (take i j) q
   pub departed : t.departed ≡ count_of is_depart (take i j) q
 
 -- so often the processor of each event had
-pub record AreEventTurns (j : List Event) (turns : List Turn) : Type 0 where
+pub record AreIndexedTurns (j : List Event) (turns : List Turn) : Type 0 where
   pub long : length turns ≡ length j
-  pub each : (i : ℕ) (e : Event) (t : Turn) → At j i e → slice_get turns i ≡ Some t → IsEventTurn j i e.processor t
+  pub each : (i : ℕ) (e : Event) (t : Turn) → At j i e → slice_get turns i ≡ Some t → IsIndexedTurn j i e.processor t
 
 -- at place i, q closes its interval of this number
-pub record IsClosing (j : List Event) (q n i : ℕ) : Type 0 where
+pub record IsIndexedClosing (j : List Event) (q n i : ℕ) : Type 0 where
   pub closes : ClosesAt j q i
   pub number : interval_at j q i ≡ n
 
 -- q closes its intervals at these places, in order
-pub record AreClosingsOf (j : List Event) (q : ℕ) (places : List ℕ) : Type 0 where
+pub record AreIndexedClosingsOf (j : List Event) (q : ℕ) (places : List ℕ) : Type 0 where
   pub long : length places ≡ count_of is_closing j q
-  pub each : (n i : ℕ) → slice_get places n ≡ Some i → IsClosing j q n i
+  pub each : (n i : ℕ) → slice_get places n ≡ Some i → IsIndexedClosing j q n i
 
 -- and each processor at its places
-pub record AreClosings (j : List Event) (rows : List (Vec ℕ)) : Type 0 where
+pub record AreIndexedClosings (j : List Event) (rows : List (Vec ℕ)) : Type 0 where
   pub long : length rows ≡ 16
-  pub each : (q : ℕ) (row : Vec ℕ) → slice_get rows q ≡ Some row → AreClosingsOf j q row.items
+  pub each : (q : ℕ) (row : Vec ℕ) → slice_get rows q ≡ Some row → AreIndexedClosingsOf j q row.items
 
 pub record IsIndex (j : List Event) (x : Index) : Type 0 where
-  pub turns : AreEventTurns j x.turns.items
-  pub closings : AreClosings j x.closings.items
+  pub turns : AreIndexedTurns j x.turns.items
+  pub closings : AreIndexedClosings j x.closings.items

@@ -15,16 +15,16 @@ pub record IsNews (j : List Event) (i k : ℕ) : Type 0 where
   pub first : (m : ℕ) (f : Event) → m < k → At j m f → f.processor ≡ leads.edge.to.processor → ¬ HappensBefore j i m
 
 -- these are the places that are news to place k, rising
-pub record AreNewlyOrdered (j : List Event) (k : ℕ) (places : List ℕ) : Type 0 where
+pub record AreNewsInOrder (j : List Event) (k : ℕ) (places : List ℕ) : Type 0 where
   pub has : (i : ℕ) → Has places i ↔ IsNews j i k
   pub order : InOrder (λ i m. i < m) places
 
 -- these are the news of the first places
 abbrev pub AreIncoming : List Event → List (Vec ℕ) → Type 0
-AreIncoming j rows = (k : ℕ) (row : Vec ℕ) → slice_get rows k ≡ Some row → AreNewlyOrdered j k row.items
+AreIncoming j rows = (k : ℕ) (row : Vec ℕ) → slice_get rows k ≡ Some row → AreNewsInOrder j k row.items
 
 -- the timestamps are those before and after the event at this place
-pub record TimesAround (j : List Event) (x : Step) : Type 0 where
+pub record TimesAroundNews (j : List Event) (x : Step) : Type 0 where
   pub event : Event
   pub at : At j x.place event
   pub before : IsTimeOf (take x.place j) event.processor (slice_index x.before)
@@ -32,7 +32,7 @@ pub record TimesAround (j : List Event) (x : Step) : Type 0 where
 
 -- q closes an interval at place i, which has an edge to the step's event; the timestamps count it after that, and not
 -- before
-pub record IsNewOf (j : List Event) (x : Step) (q i : ℕ) : Type 0 where
+pub record IsNewsOfStep (j : List Event) (x : Step) (q i : ℕ) : Type 0 where
   pub closes : ClosesAt j q i
   pub leads : EdgeFromOther j i x.place
   pub late : slice_index x.before q ≤ interval_at j q i

@@ -5,49 +5,49 @@ use Rattle.journal.specs.PageImages.{FetchesPage}
 use Rattle.journal.specs.InRange.{ProcessorsInRange}
 use Rattle.journal.specs.Sizes.{Sizes}
 use Rattle.journal.specs.Times.{IsTimeOf}
-use Rattle.judge.specs.Gaps.{FetchedUpTo}
-use Rattle.judge.specs.Tallies.{row_index}
+use Rattle.judge.specs.Gaps.{GapFetchedUpTo}
+use Rattle.judge.specs.GapTally.{gap_tally_row_index}
 use Rattle.causes.specs.declared.originating.Applied.{Applied}
 use Rattle.causes.specs.declared.originating.LookedUp.{LookedUp}
 use Rattle.causes.specs.declared.originating.WordOrigin.{WordOrigin}
 use Rattle.causes.specs.declared.originating.PageFetch.{PageFetch}
 use Rattle.causes.specs.Index.{IsIndex}
-use Rattle.causes.specs.Origins.{IsAppliedBefore, IsBroughtStore, IsWordOriginOf}
+use Rattle.causes.specs.Origins.{IsOriginAppliedBefore, IsOriginBrought, IsWordOriginOf}
 use Rattle.causes.specs.Stores.{AreStoreRows}
 
 -- what is looked up is the history's
-pub record IsLookedUp (j : List Event) (x : LookedUp) : Type 0 where
+pub record IsOriginLookedUp (j : List Event) (x : LookedUp) : Type 0 where
   pub index : IsIndex j x.index
   pub stores : AreStoreRows j (length j) x.stores
   pub processors : ProcessorsInRange 16 j
   pub few : x.stores.addresses ≤ 2 ^ 12
 
 -- the fetch stands at its place, and what it brings lies between its timestamps
-pub record IsFetchOf (s : Sizes) (j : List Event) (x : PageFetch) : Type 0 where
+pub record IsOriginFetch (s : Sizes) (j : List Event) (x : PageFetch) : Type 0 where
   pub within : x.place ≤ length j
   pub fetches : FetchesPage j x.place x.reader x.page
-  pub from : FetchedUpTo s (take x.place j) x.reader x.page (slice_index x.from)
+  pub from : GapFetchedUpTo s (take x.place j) x.reader x.page (slice_index x.from)
   pub to : IsTimeOf (take x.place j) x.reader (slice_index x.to)
 
 -- of the stores to a of these processors that p's fetch at place m brings, this one is applied last
-pub record IsLastApplied (s : Sizes) (j : List Event) (p a m : ℕ) (among : ℕ → Type 0) (x : Applied) : Type 0 where
+pub record IsOriginLastApplied (s : Sizes) (j : List Event) (p a m : ℕ) (among : ℕ → Type 0) (x : Applied) : Type 0 where
   pub by : ℕ
   pub one : among by
-  pub brought : IsBroughtStore s j p a m by x.store x.closed
-  pub last : (q i c : ℕ) → among q → IsBroughtStore s j p a m q i c → ¬ IsAppliedBefore x.store x.closed i c
+  pub brought : IsOriginBrought s j p a m by x.store x.closed
+  pub last : (q i c : ℕ) → among q → IsOriginBrought s j p a m q i c → ¬ IsOriginAppliedBefore x.store x.closed i c
 
 -- where it brings one
-abbrev pub LastApplied : Sizes → List Event → ℕ → ℕ → ℕ → (ℕ → Type 0) → Option Applied → Type 0
-LastApplied s j p a m among o =
-    MatchOption o ((q i c : ℕ) → among q → ¬ IsBroughtStore s j p a m q i c) (IsLastApplied s j p a m among)
+abbrev pub OriginLastApplied : Sizes → List Event → ℕ → ℕ → ℕ → (ℕ → Type 0) → Option Applied → Type 0
+OriginLastApplied s j p a m among o =
+    MatchOption o ((q i c : ℕ) → among q → ¬ IsOriginBrought s j p a m q i c) (IsOriginLastApplied s j p a m among)
 
 -- r is that of two which is applied later
-abbrev pub IsLaterApplied : Option Applied → Option Applied → Option Applied → Type 0
-IsLaterApplied None two r = r ≡ two
-IsLaterApplied (Some x) None r = r ≡ Some x
-IsLaterApplied (Some x) (Some y) r =
-    ((r ≡ Some x) × (¬ IsAppliedBefore x.store x.closed y.store y.closed))
-    ⊎ ((r ≡ Some y) × IsAppliedBefore x.store x.closed y.store y.closed)
+abbrev pub IsOriginLaterApplied : Option Applied → Option Applied → Option Applied → Type 0
+IsOriginLaterApplied None two r = r ≡ two
+IsOriginLaterApplied (Some x) None r = r ≡ Some x
+IsOriginLaterApplied (Some x) (Some y) r =
+    ((r ≡ Some x) × (¬ IsOriginAppliedBefore x.store x.closed y.store y.closed))
+    ⊎ ((r ≡ Some y) × IsOriginAppliedBefore x.store x.closed y.store y.closed)
 
 -- so r comes after o by a fetch at place m that brings this
 abbrev pub IsOriginAfter : Option WordOrigin → ℕ → Option Applied → Option WordOrigin → Type 0
@@ -57,13 +57,13 @@ IsOriginAfter o m (Some x) r = r ≡ Some (record { store = x.store; write = m }
 -- these are the origins of each address in each of sixteen processors' copies before place k
 pub record AreOriginsBefore (s : Sizes) (j : List Event) (k : ℕ) (words : List (Option WordOrigin)) : Type 0 where
   pub long : length words ≡ (s.pages * s.words) * 16
-  pub each : (a q : ℕ) (o : Option WordOrigin) → q < 16 → slice_get words (row_index a q) ≡ Some o
+  pub each : (a q : ℕ) (o : Option WordOrigin) → q < 16 → slice_get words (gap_tally_row_index a q) ≡ Some o
       → IsWordOriginOf s j q a k o
 
 -- p's words of the addresses from `from` on and below `to` are those after place k, all others those before it
-pub record ArePartFetched (s : Sizes) (j : List Event) (k p from to : ℕ) (words : List (Option WordOrigin)) : Type 0 where
+pub record AreOriginsPartFetched (s : Sizes) (j : List Event) (k p from to : ℕ) (words : List (Option WordOrigin)) : Type 0 where
   pub long : length words ≡ (s.pages * s.words) * 16
-  pub fetched : (a : ℕ) (o : Option WordOrigin) → from ≤ a → a < to → slice_get words (row_index a p) ≡ Some o
+  pub fetched : (a : ℕ) (o : Option WordOrigin) → from ≤ a → a < to → slice_get words (gap_tally_row_index a p) ≡ Some o
       → IsWordOriginOf s j p a (k + 1) o
   pub others : (a q : ℕ) (o : Option WordOrigin) → q < 16 → (q ≡ p → from ≤ a → a < to → ⊥)
-      → slice_get words (row_index a q) ≡ Some o → IsWordOriginOf s j q a k o
+      → slice_get words (gap_tally_row_index a q) ≡ Some o → IsWordOriginOf s j q a k o

@@ -15,7 +15,7 @@ use Rattle.causes.specs.declared.source.Source.{Source}
 use Rattle.causes.specs.declared.source.Source.TheVariants.{StoreAt}
 
 -- p's fetch at place m of the page of a brings q's store to a at place i, whose interval is closed at place c
-pub record IsBroughtStore (s : Sizes) (j : List Event) (p a m q i c : ℕ) : Type 0 where
+pub record IsOriginBrought (s : Sizes) (j : List Event) (p a m q i c : ℕ) : Type 0 where
   pub fetches : FetchesPage j m p (a / s.words)
   pub value : ℕ
   pub does : Does j i q (Store a value)
@@ -24,30 +24,30 @@ pub record IsBroughtStore (s : Sizes) (j : List Event) (p a m q i c : ℕ) : Typ
   pub interval : interval_at j q c ≡ interval_at j q i
 
 -- the store at place i, whose interval is closed at place c, is applied before that at place k, whose is closed at place d
-abbrev pub IsAppliedBefore : ℕ → ℕ → ℕ → ℕ → Type 0
-IsAppliedBefore i c k d = (c < d) ⊎ ((c ≡ d) × (i < k))
+abbrev pub IsOriginAppliedBefore : ℕ → ℕ → ℕ → ℕ → Type 0
+IsOriginAppliedBefore i c k d = (c < d) ⊎ ((c ≡ d) × (i < k))
 
 -- of the stores to a that p's fetch at place m brings, that at place i is applied last
-pub record IsLastBrought (s : Sizes) (j : List Event) (p a m i : ℕ) : Type 0 where
+pub record IsOriginLastBrought (s : Sizes) (j : List Event) (p a m i : ℕ) : Type 0 where
   pub by : ℕ
   pub closed : ℕ
-  pub brought : IsBroughtStore s j p a m by i closed
-  pub last : (q k d : ℕ) → IsBroughtStore s j p a m q k d → ¬ IsAppliedBefore i closed k d
+  pub brought : IsOriginBrought s j p a m by i closed
+  pub last : (q k d : ℕ) → IsOriginBrought s j p a m q k d → ¬ IsOriginAppliedBefore i closed k d
 
 -- by its event at place m, p's copy has the word at a from the store at place i: from its own store, which that event is,
 -- or from the last one that its fetch applies
-abbrev pub WritesWord : Sizes → List Event → ℕ → ℕ → ℕ → ℕ → Type 0
-WritesWord s j p a m i = ((i ≡ m) × ((v : ℕ) × Does j m p (Store a v))) ⊎ IsLastBrought s j p a m i
+abbrev pub OriginWritesWord : Sizes → List Event → ℕ → ℕ → ℕ → ℕ → Type 0
+OriginWritesWord s j p a m i = ((i ≡ m) × ((v : ℕ) × Does j m p (Store a v))) ⊎ IsOriginLastBrought s j p a m i
 
 -- before place k, p's copy has the word at a from this store, by this event, and by none that comes later
 pub record IsOrigin (s : Sizes) (j : List Event) (p a k : ℕ) (x : WordOrigin) : Type 0 where
   pub before : x.write < k
-  pub writes : WritesWord s j p a x.write x.store
-  pub last : (m i : ℕ) → x.write < m → m < k → ¬ WritesWord s j p a m i
+  pub writes : OriginWritesWord s j p a x.write x.store
+  pub last : (m i : ℕ) → x.write < m → m < k → ¬ OriginWritesWord s j p a m i
 
 -- it has it from no store
 abbrev pub HasNoOrigin : Sizes → List Event → ℕ → ℕ → ℕ → Type 0
-HasNoOrigin s j p a k = (m i : ℕ) → m < k → ¬ WritesWord s j p a m i
+HasNoOrigin s j p a k = (m i : ℕ) → m < k → ¬ OriginWritesWord s j p a m i
 
 abbrev pub IsWordOriginOf : Sizes → List Event → ℕ → ℕ → ℕ → Option WordOrigin → Type 0
 IsWordOriginOf s j p a k o = MatchOption o (HasNoOrigin s j p a k) (IsOrigin s j p a k)

@@ -9,7 +9,7 @@ use Rattle.journal.specs.WellFormed.{Does}
 use Rattle.causes.specs.declared.paths.Ways.{Ways}
 use Rattle.causes.specs.declared.reaching.Reach.{Reach}
 use Rattle.causes.specs.HandOvers.{AreAllHandOvers}
-use Rattle.causes.specs.Takings.{AreAllTakings, AreNumbers}
+use Rattle.causes.specs.Takings.{AreAllTakings, AreTakingNumbers}
 
 -- these places lead from place i to place k: each has an edge to the next
 pub record IsWay (j : List Event) (i k : ℕ) (places : List ℕ) : Type 0 where
@@ -18,22 +18,22 @@ pub record IsWay (j : List Event) (i k : ℕ) (places : List ℕ) : Type 0 where
   pub steps : (n a b : ℕ) → slice_get places n ≡ Some a → slice_get places (n + 1) ≡ Some b → Edge j a b
 
 -- place i is q's event at place m, or happens before it, and is and does so of no earlier one of q
-pub record IsFirstReached (j : List Event) (i q m : ℕ) : Type 0 where
+pub record IsFirstReachedByPath (j : List Event) (i q m : ℕ) : Type 0 where
   pub kind : Kind
   pub does : Does j m q kind
   pub reached : UpTo j m i
   pub first : (k : ℕ) (a : Kind) → k < m → Does j k q a → ¬ UpTo j k i
 
 -- that event of q, where it has one
-abbrev pub FirstReached : List Event → ℕ → ℕ → Option ℕ → Type 0
-FirstReached j i q o = MatchOption o ((k : ℕ) (a : Kind) → Does j k q a → ¬ UpTo j k i) (IsFirstReached j i q)
+abbrev pub PathFirstReached : List Event → ℕ → ℕ → Option ℕ → Type 0
+PathFirstReached j i q o = MatchOption o ((k : ℕ) (a : Kind) → Does j k q a → ¬ UpTo j k i) (IsFirstReachedByPath j i q)
 
 -- what is looked up is the history's
-pub record IsReach (j : List Event) (x : Reach) : Type 0 where
+pub record IsPathReach (j : List Event) (x : Reach) : Type 0 where
   pub processors : ProcessorsInRange 16 j
-  pub numbers : AreNumbers j x.numbers.items
+  pub numbers : AreTakingNumbers j x.numbers.items
   pub takings : AreAllTakings j (length j) x.takings.items
 
-pub record AreWays (j : List Event) (x : Ways) : Type 0 where
-  pub reach : IsReach j x.reach
+pub record ArePathWays (j : List Event) (x : Ways) : Type 0 where
+  pub reach : IsPathReach j x.reach
   pub hand_overs : AreAllHandOvers j x.hand_overs.items

@@ -6,7 +6,7 @@ use Rattle.journal.specs.declared.event.Event.{Event}
 use Rattle.journal.specs.declared.event.Kind.TheVariants.{Store}
 use Rattle.journal.specs.Events.{interval_at}
 use Rattle.journal.specs.WellFormed.{Does}
-use Rattle.judge.specs.Tallies.{row_index}
+use Rattle.judge.specs.GapTally.{gap_tally_row_index}
 use Rattle.causes.specs.declared.stores.NumberedStore.{NumberedStore}
 use Rattle.causes.specs.declared.stores.StoreRows.{StoreRows}
 
@@ -27,15 +27,15 @@ pub record AreStoresBelow (j : List Event) (a q n : ℕ) (stores : List Numbered
 -- and these are those of each address and each of sixteen processors
 pub record AreStoreRows (j : List Event) (n : ℕ) (x : StoreRows) : Type 0 where
   pub long : vec_len x.rows ≡ x.addresses * 16
-  pub each : (a q : ℕ) (row : Vec NumberedStore) → q < 16 → slice_get x.rows.items (row_index a q) ≡ Some row
+  pub each : (a q : ℕ) (row : Vec NumberedStore) → q < 16 → slice_get x.rows.items (gap_tally_row_index a q) ≡ Some row
       → AreStoresBelow j a q n row.items
 
 -- none of these stores is of an interval below the limit
-abbrev pub NoneUnder : List NumberedStore → ℕ → Type 0
-NoneUnder stores limit = (m : ℕ) (x : NumberedStore) → slice_get stores m ≡ Some x → limit ≤ x.interval
+abbrev pub NoneStoredUnder : List NumberedStore → ℕ → Type 0
+NoneStoredUnder stores limit = (m : ℕ) (x : NumberedStore) → slice_get stores m ≡ Some x → limit ≤ x.interval
 
 -- x is the last one that is
-pub record IsLastUnder (stores : List NumberedStore) (limit : ℕ) (x : NumberedStore) : Type 0 where
+pub record IsLastStoredUnder (stores : List NumberedStore) (limit : ℕ) (x : NumberedStore) : Type 0 where
   pub index : ℕ
   pub at : slice_get stores index ≡ Some x
   pub under : x.interval < limit

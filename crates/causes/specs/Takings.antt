@@ -29,11 +29,11 @@ pub record AreAllTakings (j : List Event) (n : ℕ) (rows : List (Vec Taking)) :
   pub each : (q : ℕ) (row : Vec Taking) → slice_get rows q ≡ Some row → AreTakings j q n row.items
 
 -- none of these timestamps counts more than this many of p's intervals
-abbrev pub NoneAbove : List Taking → ℕ → ℕ → Type 0
-NoneAbove takings p number = (m : ℕ) (x : Taking) → slice_get takings m ≡ Some x → slice_index x.after p ≤ number
+abbrev pub NoTakingAbove : List Taking → ℕ → ℕ → Type 0
+NoTakingAbove takings p number = (m : ℕ) (x : Taking) → slice_get takings m ≡ Some x → slice_index x.after p ≤ number
 
 -- the first of these timestamps that does is that after the event at this place
-pub record IsFirstAbove (takings : List Taking) (p number place : ℕ) : Type 0 where
+pub record IsFirstTakingAbove (takings : List Taking) (p number place : ℕ) : Type 0 where
   pub index : ℕ
   pub taking : Taking
   pub at : slice_get takings index ≡ Some taking
@@ -42,6 +42,6 @@ pub record IsFirstAbove (takings : List Taking) (p number place : ℕ) : Type 0 
   pub below : (m : ℕ) (x : Taking) → m < index → slice_get takings m ≡ Some x → slice_index x.after p ≤ number
 
 -- these are the numbers of the intervals of the first events
-pub record AreNumbers (j : List Event) (numbers : List ℕ) : Type 0 where
+pub record AreTakingNumbers (j : List Event) (numbers : List ℕ) : Type 0 where
   pub long : length numbers ≡ length j
   pub each : (k : ℕ) (e : Event) → At j k e → slice_index numbers k ≡ interval_at j e.processor k

@@ -10,8 +10,8 @@ use Rattle.causes.specs.declared.waiting.Wait.{Wait}
 use Rattle.causes.specs.declared.waiting.Wait.TheVariants.{Nothing, Lock, Flag, Barrier}
 
 -- p has done nothing
-abbrev pub HasNoEvents : List Event → ℕ → Type 0
-HasNoEvents j p = (m : ℕ) (e : Event) → At j m e → e.processor ≢ p
+abbrev pub WaitsWithoutEvents : List Event → ℕ → Type 0
+WaitsWithoutEvents j p = (m : ℕ) (e : Event) → At j m e → e.processor ≢ p
 
 -- these are the processors below n of which this holds, rising
 pub record AreThose (holds : ℕ → Type 0) (n : ℕ) (processors : List ℕ) : Type 0 where
@@ -19,12 +19,12 @@ pub record AreThose (holds : ℕ → Type 0) (n : ℕ) (processors : List ℕ) :
   pub order : InOrder (λ p q. p < q) processors
 
 -- q's ask of l is open and stands before place i
-abbrev pub AsksBefore : List Event → ℕ → ℕ → ℕ → Type 0
-AsksBefore j l i q = (k : ℕ) × (k < i) × LastIs j q k (Ask l)
+abbrev pub WaitAsksBefore : List Event → ℕ → ℕ → ℕ → Type 0
+WaitAsksBefore j l i q = (k : ℕ) × (k < i) × LastIs j q k (Ask l)
 
 -- q hasn't arrived at the episode that p departs from next
-abbrev pub IsAbsent : List Event → ℕ → ℕ → Type 0
-IsAbsent j p q = count_of is_arrive j q ≤ count_of is_depart j p
+abbrev pub WaitsForAbsent : List Event → ℕ → ℕ → Type 0
+WaitsForAbsent j p q = count_of is_arrive j q ≤ count_of is_depart j p
 
 -- what is said of what p waits for, one of n processors: nothing; a lock, which this one holds or nobody, and of which
 -- the asks of these are earlier; a flag, and whether it is set; or that these arrive
@@ -33,10 +33,10 @@ IsWait n j p Nothing = WaitsForNothing j p
 IsWait n j p (Lock l holder earlier) =
     (i : ℕ) × LastIs j p i (Ask l)
     × MatchOption holder ((q : ℕ) → q < n → ¬ Holds j q l) (λ q. Holds j q l)
-    × AreThose (AsksBefore j l i) n earlier.items
+    × AreThose (WaitAsksBefore j l i) n earlier.items
 IsWait n j p (Flag f set) =
     ((i : ℕ) × LastIs j p i (Watch f)) × (IsTrue set ↔ ((k q : ℕ) × Does j k q (Set f)))
-IsWait n j p (Barrier absent) = ((i : ℕ) × LastIs j p i Arrive) × AreThose (IsAbsent j p) n absent.items
+IsWait n j p (Barrier absent) = ((i : ℕ) × LastIs j p i Arrive) × AreThose (WaitsForAbsent j p) n absent.items
 
 -- this is said of the first processors
 abbrev pub AreWaits : ℕ → List Event → List Wait → Type 0

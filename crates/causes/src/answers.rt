@@ -4,7 +4,7 @@ ghost use Rattle.base.specs.InOrderOnce.{Has};
 ghost use Rattle.journal.specs.declared.event.Kind.TheVariants.{Store};
 ghost use Rattle.journal.specs.Events.{At};
 ghost use Rattle.judge.specs.Sources.Latest.{AreLatest};
-ghost use Rattle.judge.specs.Sources.Prelude.{AreReadableRows, IsReadableRow};
+ghost use Rattle.judge.specs.Sources.Prelude.{AreLatestRows, IsLatestRow};
 ghost use Rattle.causes.specs.Prelude.{AreSources, IsOriginAmong, IsSource, IsSourceAt, NameOrigins, NamesOrigin};
 ghost use Rattle.causes.specs.Prelude.{NamesOriginAt};
 
@@ -98,10 +98,10 @@ fn source_at(
     event: Event,
     origin: Option<WordOrigin>,
 ) -> Option<Source>
-    requires row { (k : ℕ) × At events.now k event × IsReadableRow events.now k places.now }
-    ensures source { (k : ℕ) → At events.now k event → IsReadableRow events.now k places.now
+    requires row { (k : ℕ) × At events.now k event × IsLatestRow events.now k places.now }
+    ensures source { (k : ℕ) → At events.now k event → IsLatestRow events.now k places.now
         → IsSourceAt events.now k result }
-    ensures origin { (k : ℕ) → At events.now k event → IsReadableRow events.now k places.now
+    ensures origin { (k : ℕ) → At events.now k event → IsLatestRow events.now k places.now
         → NamesOriginAt events.now k origin result }
 {
     match event.kind {
@@ -123,7 +123,7 @@ pub fn loads(
     events: &[Event],
 ) -> Result<Vec<Option<Source>>, AllocError>
     requires latest_long { length latest.now ≡ length events.now }
-    requires latest { AreReadableRows events.now latest.now }
+    requires latest { AreLatestRows events.now latest.now }
     requires origins_long { length origins.now ≡ length events.now }
     ensures long { IfOk result (λ v. vec_len v ≡ length events.now) }
     ensures sources { IfOk result (λ v. AreSources events.now v.items) }

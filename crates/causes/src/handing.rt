@@ -4,7 +4,7 @@ ghost use Rattle.base.specs.InOrderOnce.{Has, InOrder};
 ghost use Rattle.base.specs.Prelude.{most_held, most_processors};
 ghost use Rattle.journal.specs.Pasts.{UpTo};
 ghost use Rattle.journal.specs.Prelude.{ProcessorsInRange};
-ghost use Rattle.causes.specs.Prelude.{AreAllHandOvers, AreIncoming, AreLastFrom, IsReach};
+ghost use Rattle.causes.specs.Prelude.{AreAllHandOvers, AreIncoming, AreLastHandOversFrom, IsPathReach};
 
 use crate::news::incoming;
 use crate::reaching::Reach;
@@ -13,7 +13,7 @@ use std::alloc::{AllocError, Global};
 
 /// Whether the event at `from` is one of those at these places, or happens before one.
 fn reaches_some(reach: &Reach, events: &[Event], from: usize, places: &[usize]) -> bool
-    requires tells { IsReach events.now reach.now }
+    requires tells { IsPathReach events.now reach.now }
     requires from { from < length events.now }
     requires places { (n : ℕ) → Has places.now n → n < length events.now }
     ensures { IsTrue result ↔ ((n : ℕ) × Has places.now n × UpTo events.now n from) }
@@ -33,10 +33,10 @@ fn last_ones(
     events: &[Event],
     news: &[usize],
 ) -> Result<Vec<usize>, AllocError>
-    requires tells { IsReach events.now reach.now }
+    requires tells { IsPathReach events.now reach.now }
     requires within { (n : ℕ) → Has news.now n → n < length events.now }
     requires rising { InOrder (λ i m. i < m) news.now }
-    ensures { IfOk result (λ v. AreLastFrom events.now news.now 0 v.items) }
+    ensures { IfOk result (λ v. AreLastHandOversFrom events.now news.now 0 v.items) }
 {
     let mut places = Vec::new(alloc);
     for index in 0..news.len() {
@@ -55,7 +55,7 @@ fn all_last(
     events: &[Event],
     rows: &[Vec<usize>],
 ) -> Result<Vec<Vec<usize>>, AllocError>
-    requires tells { IsReach events.now reach.now }
+    requires tells { IsPathReach events.now reach.now }
     requires long { length rows.now ≡ length events.now }
     requires news { AreIncoming events.now rows.now }
     ensures { IfOk result (λ v. AreAllHandOvers events.now v.items) }
@@ -77,7 +77,7 @@ pub(crate) fn hand_overs_by(
     requires few { length events.now ≤ most_held }
     requires few_processors { processors ≤ most_processors }
     requires processors { ProcessorsInRange processors events.now }
-    requires tells { IsReach events.now reach.now }
+    requires tells { IsPathReach events.now reach.now }
     ensures { IfOk result (λ v. AreAllHandOvers events.now v.items) }
 {
     let rows = incoming(alloc, processors, events)?;

@@ -3,7 +3,7 @@
 ghost use Rattle.std.specs.Prelude.{◌≡◌, ◌==◌, ◌&&◌, ◌+◌, ◌<◌, ◌≤◌, ◌^◌, IfOk, cond, length};
 ghost use Rattle.base.specs.Prelude.{most_held};
 ghost use Rattle.journal.specs.Prelude.{ProcessorsInRange, is_arrive, is_closing, is_depart};
-ghost use Rattle.causes.specs.Prelude.{AreClosings, AreClosingsOf, AreEventTurns, IsIndex};
+ghost use Rattle.causes.specs.Prelude.{AreIndexedClosings, AreIndexedClosingsOf, AreIndexedTurns, IsIndex};
 
 use journal::{Event, Kind};
 use std::alloc::{AllocError, Global};
@@ -60,7 +60,7 @@ fn turn_after(turn: Turn, kind: Kind) -> Turn
 fn turns(alloc: Global, events: &[Event]) -> Result<Vec<Turn>, AllocError>
     requires few { length events.now ≤ most_held }
     requires processors { ProcessorsInRange 16 events.now }
-    ensures { IfOk result (λ v. AreEventTurns events.now v.items) }
+    ensures { IfOk result (λ v. AreIndexedTurns events.now v.items) }
 {
     let mut next = [Turn {
         arrived: 0,
@@ -78,7 +78,7 @@ fn turns(alloc: Global, events: &[Event]) -> Result<Vec<Turn>, AllocError>
 
 /// The places of the events that close the processor's intervals.
 fn closings_of(alloc: Global, events: &[Event], by: usize) -> Result<Vec<usize>, AllocError>
-    ensures { IfOk result (λ v. AreClosingsOf events.now by v.items) }
+    ensures { IfOk result (λ v. AreIndexedClosingsOf events.now by v.items) }
 {
     let mut places = Vec::new(alloc);
     for place in 0..events.len() {
@@ -91,7 +91,7 @@ fn closings_of(alloc: Global, events: &[Event], by: usize) -> Result<Vec<usize>,
 
 /// Those of each of sixteen processors.
 fn closings(alloc: Global, events: &[Event]) -> Result<Vec<Vec<usize>>, AllocError>
-    ensures { IfOk result (λ v. AreClosings events.now v.items) }
+    ensures { IfOk result (λ v. AreIndexedClosings events.now v.items) }
 {
     let mut closings = Vec::with_capacity(alloc, 16)?;
     for by in 0..16 {

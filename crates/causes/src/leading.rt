@@ -2,7 +2,7 @@
 ghost use Rattle.std.specs.Prelude.{◌≡◌, ◌↔◌, ◌==◌, ◌&&◌, ◌<◌, ◌≤◌, IsTrue, IfOk, cond, length, take};
 ghost use Rattle.journal.specs.declared.event.Kind.TheVariants.{Release, Set};
 ghost use Rattle.journal.specs.Prelude.{ProcessorsInRange, count_of, is_arrive, is_depart};
-ghost use Rattle.causes.specs.Prelude.{AreEdges, LeadsOn};
+ghost use Rattle.causes.specs.Prelude.{AreEdges, EdgeLeadsOn};
 
 use journal::{Event, Kind};
 use std::alloc::{AllocError, Global};
@@ -58,7 +58,7 @@ fn departures_of(event: Event, processor: usize) -> usize
 /// Whether what `from` is lets on what `to` is, where `arrived` arrivals of the one's processor stand before it and
 /// `departed` departures of the other's.
 pub(crate) fn lets_on(from: Kind, arrived: usize, to: Kind, departed: usize) -> bool
-    ensures { IsTrue result ↔ LeadsOn from arrived to departed }
+    ensures { IsTrue result ↔ EdgeLeadsOn from arrived to departed }
 {
     match to {
         Kind::Acquire(lock) => releases(from, lock),

@@ -5,8 +5,8 @@ ghost use Rattle.journal.specs.declared.event.Event.{Event};
 ghost use Rattle.journal.specs.declared.event.Kind.TheVariants.{Fetch};
 ghost use Rattle.journal.specs.Events.{At};
 ghost use Rattle.journal.specs.Prelude.{IsTimeOf, is_taking};
-ghost use Rattle.judge.specs.Prelude.{AreSmall, IsWithin, TellsGaps, row_index, sizes_of};
-ghost use Rattle.causes.specs.Prelude.{AreAllDues, MissingBelow, AreDues, IsOneOf};
+ghost use Rattle.judge.specs.Prelude.{AreSizesSmall, IsMiscountWithin, TellsGaps, gap_tally_row_index, sizes_of};
+ghost use Rattle.causes.specs.Prelude.{AreAllDues, DuesBelow, AreDues, IsOneOfDues};
 
 use crate::takings::takes;
 use journal::{Clock, Event, Kind};
@@ -46,7 +46,7 @@ fn found(gaps: &Gaps, span: &Span, page: usize, writer: usize) -> Option<Due>
     requires page { page < gaps.now.sizes.pages }
     requires writer { writer < 16 }
     ensures { (j : List Event) → TellsGaps j gaps.now
-        → IsOneOf (sizes_of gaps.now.sizes) j span.now page writer result }
+        → IsOneOfDues (sizes_of gaps.now.sizes) j span.now page writer result }
 {
     if writer == span.reader || span.to[writer] <= span.from[writer] {
         return None;
@@ -69,8 +69,8 @@ fn add_dues(dues: &mut Vec<Due>, gaps: &Gaps, span: &Span, page: usize) -> Resul
     requires to { page < span.now.end }
     requires page { page < gaps.now.sizes.pages }
     ensures { OnOk result ((j : List Event) → TellsGaps j gaps.now
-        → MissingBelow (sizes_of gaps.now.sizes) j span.now (page * 16) dues.old.items
-        → MissingBelow (sizes_of gaps.now.sizes) j span.now (page * 16 + 16) dues.new.items) }
+        → DuesBelow (sizes_of gaps.now.sizes) j span.now (page * 16) dues.old.items
+        → DuesBelow (sizes_of gaps.now.sizes) j span.now (page * 16 + 16) dues.new.items) }
 {
     for writer in 0..16 {
         if let Some(due) = found(gaps, span, page, writer) {
@@ -86,7 +86,7 @@ fn dues_in(alloc: Global, gaps: &Gaps, span: &Span) -> Result<Vec<Due>, AllocErr
     requires order { span.now.first ≤ span.now.end }
     requires pages { span.now.end ≤ gaps.now.sizes.pages }
     ensures { IfOk result (λ v. (j : List Event) → TellsGaps j gaps.now
-        → MissingBelow (sizes_of gaps.now.sizes) j span.now (span.now.end * 16) v.items) }
+        → DuesBelow (sizes_of gaps.now.sizes) j span.now (span.now.end * 16) v.items) }
 {
     let mut dues = Vec::new(alloc);
     for page in span.first..span.end {
@@ -136,7 +136,7 @@ fn taken(
     requires few { length events.now ≤ most_held }
     requires tells { TellsGaps (take (place + 1) events.now) gaps.now }
     requires place { place < length events.now }
-    requires within { (k : ℕ) (e : Event) → At events.now k e → IsWithin (sizes_of gaps.now.sizes) e }
+    requires within { (k : ℕ) (e : Event) → At events.now k e → IsMiscountWithin (sizes_of gaps.now.sizes) e }
     requires takes { (e : Event) → At events.now place e → is_taking e.kind ≡ true }
     requires before { (e : Event) → At events.now place e
         → IsTimeOf (take place events.now) e.processor (slice_index before.now) }
@@ -164,7 +164,7 @@ fn dues_at(
 ) -> Result<Vec<Due>, AllocError>
     requires few { length events.now ≤ most_held }
     requires place { place < length events.now }
-    requires within { (k : ℕ) (e : Event) → At events.now k e → IsWithin (sizes_of gaps.old.sizes) e }
+    requires within { (k : ℕ) (e : Event) → At events.now k e → IsMiscountWithin (sizes_of gaps.old.sizes) e }
     requires so_far { TellsGaps (take place events.now) gaps.old }
     ensures sizes { gaps.new.sizes ≡ gaps.old.sizes }
     ensures tells { OnOk result (TellsGaps (take (place + 1) events.now) gaps.new) }
@@ -189,7 +189,7 @@ fn dues_at(
 /// Takes note of all events, and answers of which records each tells. The gaps tell nothing so far.
 fn dues_of(alloc: Global, gaps: &mut Gaps, events: &[Event]) -> Result<Vec<Vec<Due>>, AllocError>
     requires few { length events.now ≤ most_held }
-    requires within { (k : ℕ) (e : Event) → At events.now k e → IsWithin (sizes_of gaps.old.sizes) e }
+    requires within { (k : ℕ) (e : Event) → At events.now k e → IsMiscountWithin (sizes_of gaps.old.sizes) e }
     requires start { TellsGaps [] gaps.old }
     ensures long { IfOk result (λ v. vec_len v ≡ length events.now) }
     ensures dues { IfOk result (λ v. AreAllDues (sizes_of gaps.old.sizes) events.now v.items) }
@@ -208,9 +208,9 @@ fn dues_of(alloc: Global, gaps: &mut Gaps, events: &[Event]) -> Result<Vec<Vec<D
 /// The only error is running out of memory. It takes time in the order of the events, and for each event that takes that
 /// of the pages times the processors of which it brings news, times the logarithm of the events.
 pub fn dues(alloc: Global, sizes: Sizes, events: &[Event]) -> Result<Vec<Vec<Due>>, AllocError>
-    requires sizes { AreSmall (sizes_of sizes) }
+    requires sizes { AreSizesSmall (sizes_of sizes) }
     requires few { length events.now ≤ most_held }
-    requires within { (k : ℕ) (e : Event) → At events.now k e → IsWithin (sizes_of sizes) e }
+    requires within { (k : ℕ) (e : Event) → At events.now k e → IsMiscountWithin (sizes_of sizes) e }
     ensures long { IfOk result (λ v. vec_len v ≡ length events.now) }
     ensures dues { IfOk result (λ v. AreAllDues (sizes_of sizes) events.now v.items) }
 {

@@ -4,7 +4,7 @@ ghost use Rattle.base.specs.Prelude.{Has, most_held, most_processors};
 ghost use Rattle.base.specs.InOrderOnce.{IsOnce};
 ghost use Rattle.journal.specs.Times.{ClosesAt};
 ghost use Rattle.journal.specs.Prelude.{AreClocks, ProcessorsInRange};
-ghost use Rattle.causes.specs.Prelude.{AreIncoming, AreNewlyOrdered, AreEventTurns, EdgeFromOther, IsIndex, IsNewOf, TimesAround};
+ghost use Rattle.causes.specs.Prelude.{AreIncoming, AreNewsInOrder, AreIndexedTurns, EdgeFromOther, IsIndex, IsNewsOfStep, TimesAroundNews};
 
 use crate::index::{Index, Turn, index_of};
 use crate::leading::lets_on;
@@ -23,7 +23,7 @@ pub(crate) struct Step {
 pub(crate) fn leads(events: &[Event], turns: &[Turn], from: usize, to: usize) -> bool
     requires from { from < length events.now }
     requires to { to < length events.now }
-    requires turns { AreEventTurns events.now turns.now }
+    requires turns { AreIndexedTurns events.now turns.now }
     ensures { IsTrue result ↔ EdgeFromOther events.now from to }
 {
     let start = events[from];
@@ -50,9 +50,9 @@ fn add_news(
 ) -> Result<(), AllocError>
     requires by { by < 16 }
     requires index { IsIndex events.now index.now }
-    requires step { TimesAround events.now step.now }
+    requires step { TimesAroundNews events.now step.now }
     ensures has { OnOk result ((i : ℕ)
-        → Has places.new.items i ↔ (Has places.old.items i ⊎ IsNewOf events.now step.now by i)) }
+        → Has places.new.items i ↔ (Has places.old.items i ⊎ IsNewsOfStep events.now step.now by i)) }
     ensures once { OnOk result (IsOnce places.old.items
         → ((i : ℕ) → Has places.old.items i → ¬ ClosesAt events.now by i) → IsOnce places.new.items) }
 {
@@ -74,8 +74,8 @@ fn news(
 ) -> Result<Vec<usize>, AllocError>
     requires processors { ProcessorsInRange 16 events.now }
     requires index { IsIndex events.now index.now }
-    requires step { TimesAround events.now step.now }
-    ensures { IfOk result (λ v. AreNewlyOrdered events.now step.now.place v.items) }
+    requires step { TimesAroundNews events.now step.now }
+    ensures { IfOk result (λ v. AreNewsInOrder events.now step.now.place v.items) }
 {
     let mut places = Vec::new(alloc);
     for by in 0..16 {
@@ -97,7 +97,7 @@ pub(crate) fn take_step(
     requires so_far { AreClocks (take place events.now) clocks.old }
     ensures clocks { OnOk result (AreClocks (take (place + 1) events.now) clocks.new) }
     ensures present { OnOk result (clocks.new.present ≡ clocks.old.present) }
-    ensures step { IfOk result (TimesAround events.now) }
+    ensures step { IfOk result (TimesAroundNews events.now) }
     ensures place { IfOk result (λ s. s.place ≡ place) }
 {
     let by = events[place].processor;

@@ -5,10 +5,10 @@ ghost use Rattle.journal.specs.declared.event.Event.{Event};
 ghost use Rattle.journal.specs.PageImages.{FetchesPage};
 ghost use Rattle.journal.specs.Events.{At};
 ghost use Rattle.journal.specs.Sizes.{Sizes as SizesOf};
-ghost use Rattle.judge.specs.Prelude.{AreSmall, IsWithin, TellsGaps, sizes_of};
+ghost use Rattle.judge.specs.Prelude.{AreSizesSmall, IsMiscountWithin, TellsGaps, sizes_of};
 ghost use Rattle.causes.specs.declared.originating.WordOrigin.{WordOrigin};
-ghost use Rattle.causes.specs.Prelude.{AreOrigins, AreOriginsBefore, ArePartFetched, IsFetchOf, IsLaterApplied};
-ghost use Rattle.causes.specs.Prelude.{IsLookedUp, IsOriginAfter, IsOriginAt, LastApplied};
+ghost use Rattle.causes.specs.Prelude.{AreOrigins, AreOriginsBefore, AreOriginsPartFetched, IsOriginFetch, IsOriginLaterApplied};
+ghost use Rattle.causes.specs.Prelude.{IsOriginLookedUp, IsOriginAfter, IsOriginAt, OriginLastApplied};
 
 use crate::index::{Index, index_of};
 use crate::stores::StoreRows;
@@ -53,12 +53,12 @@ pub(crate) struct LookedUp {
 
 /// The last applied of the stores of `by` to the address that the fetch brings.
 fn brought_by(looked: &LookedUp, fetch: &PageFetch, address: usize, by: usize) -> Option<Applied>
-    requires told { (s : SizesOf) × (j : List Event) × IsLookedUp j looked.now × IsFetchOf s j fetch.now }
+    requires told { (s : SizesOf) × (j : List Event) × IsOriginLookedUp j looked.now × IsOriginFetch s j fetch.now }
     requires address { address < looked.now.stores.addresses }
     requires by { by < 16 }
-    ensures { (s : SizesOf) (j : List Event) → IsLookedUp j looked.now → IsFetchOf s j fetch.now
+    ensures { (s : SizesOf) (j : List Event) → IsOriginLookedUp j looked.now → IsOriginFetch s j fetch.now
         → address / s.words ≡ fetch.now.page
-        → LastApplied s j fetch.now.reader address fetch.now.place (λ q. q ≡ by) result }
+        → OriginLastApplied s j fetch.now.reader address fetch.now.place (λ q. q ≡ by) result }
 {
     if by == fetch.reader {
         return None;
@@ -77,7 +77,7 @@ fn brought_by(looked: &LookedUp, fetch: &PageFetch, address: usize, by: usize) -
 
 /// That of the two which is applied later.
 fn later(one: Option<Applied>, two: Option<Applied>) -> Option<Applied>
-    ensures { IsLaterApplied one two result }
+    ensures { IsOriginLaterApplied one two result }
 {
     let Some(first) = one else {
         return two;
@@ -92,11 +92,11 @@ fn later(one: Option<Applied>, two: Option<Applied>) -> Option<Applied>
 
 /// The last applied of the stores to the address that the fetch brings.
 fn last_brought(looked: &LookedUp, fetch: &PageFetch, address: usize) -> Option<Applied>
-    requires told { (s : SizesOf) × (j : List Event) × IsLookedUp j looked.now × IsFetchOf s j fetch.now }
+    requires told { (s : SizesOf) × (j : List Event) × IsOriginLookedUp j looked.now × IsOriginFetch s j fetch.now }
     requires address { address < looked.now.stores.addresses }
-    ensures { (s : SizesOf) (j : List Event) → IsLookedUp j looked.now → IsFetchOf s j fetch.now
+    ensures { (s : SizesOf) (j : List Event) → IsOriginLookedUp j looked.now → IsOriginFetch s j fetch.now
         → address / s.words ≡ fetch.now.page
-        → LastApplied s j fetch.now.reader address fetch.now.place (λ q. q < 16) result }
+        → OriginLastApplied s j fetch.now.reader address fetch.now.place (λ q. q < 16) result }
 {
     let mut last = None;
     for by in 0..16 {
@@ -124,15 +124,15 @@ fn origin_after(
 
 /// Takes note of the fetch of a page of so many words.
 fn fetch_words(words: &mut [Option<WordOrigin>], looked: &LookedUp, fetch: &PageFetch, size: usize)
-    requires told { (s : SizesOf) × (j : List Event) × IsLookedUp j looked.now × IsFetchOf s j fetch.now
+    requires told { (s : SizesOf) × (j : List Event) × IsOriginLookedUp j looked.now × IsOriginFetch s j fetch.now
         × (s.pages * s.words ≡ looked.now.stores.addresses) × (size ≡ s.words)
         × AreOriginsBefore s j fetch.now.place words.old }
     requires page { fetch.now.page * size + size ≤ looked.now.stores.addresses }
     requires reader { fetch.now.reader < 16 }
     requires few { looked.now.stores.addresses ≤ 4096 }
-    ensures { (s : SizesOf) (j : List Event) → IsLookedUp j looked.now → IsFetchOf s j fetch.now → size ≡ s.words
+    ensures { (s : SizesOf) (j : List Event) → IsOriginLookedUp j looked.now → IsOriginFetch s j fetch.now → size ≡ s.words
         → AreOriginsBefore s j fetch.now.place words.old
-        → ArePartFetched s j fetch.now.place fetch.now.reader (fetch.now.page * size)
+        → AreOriginsPartFetched s j fetch.now.place fetch.now.reader (fetch.now.page * size)
         (fetch.now.page * size + size) words.new }
 {
     for offset in 0..size {
@@ -152,7 +152,7 @@ fn fetch_at(gaps: &Gaps, place: usize, reader: usize, page: usize) -> PageFetch
     requires reader { reader < 16 }
     requires page { page < gaps.now.sizes.pages }
     ensures fetch { (j : List Event) → TellsGaps (take place j) gaps.now → place ≤ length j → FetchesPage j place reader page
-        → IsFetchOf (sizes_of gaps.now.sizes) j result }
+        → IsOriginFetch (sizes_of gaps.now.sizes) j result }
     ensures place { result.place ≡ place }
     ensures reader { result.reader ≡ reader }
     ensures page { result.page ≡ page }
@@ -176,9 +176,9 @@ fn note_words(
     size: usize,
 )
     requires place { place < length events.now }
-    requires within { (k : ℕ) (e : Event) → At events.now k e → IsWithin (sizes_of gaps.now.sizes) e }
+    requires within { (k : ℕ) (e : Event) → At events.now k e → IsMiscountWithin (sizes_of gaps.now.sizes) e }
     requires tells { TellsGaps (take place events.now) gaps.now }
-    requires looked { IsLookedUp events.now looked.now }
+    requires looked { IsOriginLookedUp events.now looked.now }
     requires addresses { looked.now.stores.addresses ≡ gaps.now.sizes.pages * gaps.now.sizes.words }
     requires size { size ≡ gaps.now.sizes.words }
     requires so_far { AreOriginsBefore (sizes_of gaps.now.sizes) events.now place words.old }
@@ -204,9 +204,9 @@ fn note_words(
 fn origin_at(words: &[Option<WordOrigin>], events: &[Event], place: usize) -> Option<WordOrigin>
     requires place { place < length events.now }
     requires so_far { (s : SizesOf) × AreOriginsBefore s events.now place words.now
-        × ((k : ℕ) (e : Event) → At events.now k e → IsWithin s e) × (s.processors ≤ 16) }
+        × ((k : ℕ) (e : Event) → At events.now k e → IsMiscountWithin s e) × (s.processors ≤ 16) }
     ensures { (s : SizesOf) → AreOriginsBefore s events.now place words.now
-        → ((k : ℕ) (e : Event) → At events.now k e → IsWithin s e) → s.processors ≤ 16
+        → ((k : ℕ) (e : Event) → At events.now k e → IsMiscountWithin s e) → s.processors ≤ 16
         → IsOriginAt s events.now place result }
 {
     let event = events[place];
@@ -226,10 +226,10 @@ fn all_origins(
     sizes: Sizes,
 ) -> Result<Vec<Option<WordOrigin>>, AllocError>
     requires few { length events.now ≤ most_held }
-    requires within { (k : ℕ) (e : Event) → At events.now k e → IsWithin (sizes_of sizes) e }
+    requires within { (k : ℕ) (e : Event) → At events.now k e → IsMiscountWithin (sizes_of sizes) e }
     requires sizes { gaps.old.sizes ≡ sizes }
     requires start { TellsGaps [] gaps.old }
-    requires looked { IsLookedUp events.now looked.now }
+    requires looked { IsOriginLookedUp events.now looked.now }
     requires addresses { looked.now.stores.addresses ≡ sizes.pages * sizes.words }
     requires words { AreOriginsBefore (sizes_of sizes) events.now 0 words.old }
     ensures long { IfOk result (λ v. vec_len v ≡ length events.now) }
@@ -269,9 +269,9 @@ pub fn origins(
     sizes: Sizes,
     events: &[Event],
 ) -> Result<Vec<Option<WordOrigin>>, AllocError>
-    requires sizes { AreSmall (sizes_of sizes) }
+    requires sizes { AreSizesSmall (sizes_of sizes) }
     requires few { length events.now ≤ most_held }
-    requires within { (k : ℕ) (e : Event) → At events.now k e → IsWithin (sizes_of sizes) e }
+    requires within { (k : ℕ) (e : Event) → At events.now k e → IsMiscountWithin (sizes_of sizes) e }
     ensures long { IfOk result (λ v. vec_len v ≡ length events.now) }
     ensures origins { IfOk result (λ v. AreOrigins (sizes_of sizes) events.now v.items) }
 {

@@ -3,7 +3,7 @@ ghost use Rattle.std.specs.Prelude.{◌≡◌, ◌↔◌, ℕ, ◌<◌, ◌≤�
 ghost use Rattle.base.specs.Prelude.{most_held, most_processors};
 ghost use Rattle.journal.specs.Pasts.{UpTo};
 ghost use Rattle.journal.specs.Prelude.{Edge, ProcessorsInRange};
-ghost use Rattle.causes.specs.Prelude.{AreWays, EdgeFromOther, FirstReached, IsNews, IsWay};
+ghost use Rattle.causes.specs.Prelude.{ArePathWays, EdgeFromOther, PathFirstReached, IsNews, IsWay};
 
 use crate::handing::hand_overs_by;
 use crate::reaching::Reach;
@@ -26,7 +26,7 @@ impl Ways {
         requires few { length events.now ≤ most_held }
         requires few_processors { processors ≤ most_processors }
         requires processors { ProcessorsInRange processors events.now }
-        ensures { IfOk result (AreWays events.now) }
+        ensures { IfOk result (ArePathWays events.now) }
     {
         let reach = Reach::new(alloc, processors, events)?;
         let hand_overs = hand_overs_by(alloc, processors, &reach, events)?;
@@ -36,17 +36,17 @@ impl Ways {
     /// The processor's first event that the one at `from` is, or happens before; None where there is none. It takes time in
     /// the order of the logarithm of the events.
     pub fn first(&self, events: &[Event], from: usize, processor: usize) -> Option<usize>
-        requires tells { AreWays events.now self.now }
+        requires tells { ArePathWays events.now self.now }
         requires from { from < length events.now }
         requires processor { processor < 16 }
-        ensures { FirstReached events.now from processor result }
+        ensures { PathFirstReached events.now from processor result }
     {
         self.reach.first(events, from, processor)
     }
 
     /// Whether the event at `from` is the one at this place, or happens before it.
     fn reaches(&self, events: &[Event], from: usize, place: usize) -> bool
-        requires tells { AreWays events.now self.now }
+        requires tells { ArePathWays events.now self.now }
         requires from { from < length events.now }
         requires place { place < length events.now }
         ensures { IsTrue result ↔ UpTo events.now place from }
@@ -56,7 +56,7 @@ impl Ways {
 
     /// Of the news of the event at this place, one that the event at `from` reaches.
     fn entrance(&self, events: &[Event], from: usize, place: usize) -> Option<usize>
-        requires tells { AreWays events.now self.now }
+        requires tells { ArePathWays events.now self.now }
         requires from { from < length events.now }
         requires place { place < length events.now }
         ensures { MatchOption result ((i : ℕ) → IsNews events.now i place → ¬ UpTo events.now i from)
@@ -72,7 +72,7 @@ impl Ways {
 
     /// The place before the one at `to` on a way from `from`; None where they are one.
     fn step_back(&self, events: &[Event], from: usize, to: usize) -> Option<usize>
-        requires tells { AreWays events.now self.now }
+        requires tells { ArePathWays events.now self.now }
         requires from { from < length events.now }
         requires to { to < length events.now }
         requires reached { UpTo events.now to from }
@@ -93,7 +93,7 @@ impl Ways {
         from: usize,
         to: usize,
     ) -> Result<Vec<usize>, AllocError>
-        requires tells { AreWays events.now self.now }
+        requires tells { ArePathWays events.now self.now }
         requires from { from < length events.now }
         requires to { to < length events.now }
         requires reached { UpTo events.now to from }
@@ -120,7 +120,7 @@ impl Ways {
         from: usize,
         to: usize,
     ) -> Result<Option<Vec<usize>>, AllocError>
-        requires tells { AreWays events.now self.now }
+        requires tells { ArePathWays events.now self.now }
         requires from { from < length events.now }
         requires to { to < length events.now }
         ensures found { IfOk result (λ o. IsSome o ↔ UpTo events.now to from) }

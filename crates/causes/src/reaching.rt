@@ -3,7 +3,7 @@ ghost use Rattle.std.specs.Prelude.{◌↔◌, ◌<◌, ◌≤◌, IsTrue, IfOk,
 ghost use Rattle.base.specs.Prelude.{most_held, most_processors};
 ghost use Rattle.journal.specs.Pasts.{UpTo};
 ghost use Rattle.journal.specs.Prelude.{ProcessorsInRange};
-ghost use Rattle.causes.specs.Prelude.{FirstReached, IsReach};
+ghost use Rattle.causes.specs.Prelude.{PathFirstReached, IsPathReach};
 
 use crate::takings::{Taking, first_above, numbers_of, takings_of};
 use journal::Event;
@@ -31,7 +31,7 @@ impl Reach {
         requires few { length events.now ≤ most_held }
         requires few_processors { processors ≤ most_processors }
         requires processors { ProcessorsInRange processors events.now }
-        ensures { IfOk result (IsReach events.now) }
+        ensures { IfOk result (IsPathReach events.now) }
     {
         let numbers = numbers_of(alloc, events)?;
         let takings = takings_of(alloc, processors, events)?;
@@ -40,10 +40,10 @@ impl Reach {
 
     /// The processor's first event that the one at `from` is, or happens before.
     pub(crate) fn first(&self, events: &[Event], from: usize, processor: usize) -> Option<usize>
-        requires tells { IsReach events.now self.now }
+        requires tells { IsPathReach events.now self.now }
         requires from { from < length events.now }
         requires processor { processor < 16 }
-        ensures { FirstReached events.now from processor result }
+        ensures { PathFirstReached events.now from processor result }
     {
         let by = events[from].processor;
         if by == processor {
@@ -54,7 +54,7 @@ impl Reach {
 
     /// Whether the event at `from` is the one at this place, or happens before it.
     pub(crate) fn reaches(&self, events: &[Event], from: usize, place: usize) -> bool
-        requires tells { IsReach events.now self.now }
+        requires tells { IsPathReach events.now self.now }
         requires from { from < length events.now }
         requires place { place < length events.now }
         ensures { IsTrue result ↔ UpTo events.now place from }

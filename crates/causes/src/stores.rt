@@ -5,8 +5,8 @@ ghost use Rattle.base.specs.InOrderOnce.{InOrder};
 ghost use Rattle.base.specs.Prelude.{most_held};
 ghost use Rattle.journal.specs.declared.event.Event.{Event};
 ghost use Rattle.journal.specs.Prelude.{AddressesInRange, ProcessorsInRange};
-ghost use Rattle.judge.specs.Prelude.{row_index};
-ghost use Rattle.causes.specs.Prelude.{AreNumbers, AreStoreRows, IsLastUnder, NoneUnder};
+ghost use Rattle.judge.specs.Prelude.{gap_tally_row_index};
+ghost use Rattle.causes.specs.Prelude.{AreTakingNumbers, AreStoreRows, IsLastStoredUnder, NoneStoredUnder};
 
 use crate::takings::numbers_of;
 use journal::{Event, Kind};
@@ -44,7 +44,7 @@ fn empty_rows(alloc: Global, count: usize) -> Result<Vec<Vec<NumberedStore>>, Al
 /// The last of these stores that is of an interval below the limit. It is found by halving.
 fn last_under(stores: &[NumberedStore], limit: u32) -> Option<NumberedStore>
     requires { InOrder (λ x y. x.interval ≤ y.interval) stores.now }
-    ensures { MatchOption result (NoneUnder stores.now limit) (IsLastUnder stores.now limit) }
+    ensures { MatchOption result (NoneStoredUnder stores.now limit) (IsLastStoredUnder stores.now limit) }
 {
     let count = stores.partition_point(|store| store.interval < limit);
     if count == 0 {
@@ -68,7 +68,7 @@ impl StoreRows {
     /// Adds the event at this place, the next one, if it is a store.
     fn add(&mut self, events: &[Event], numbers: &[u32], place: usize) -> Result<(), AllocError>
         requires place { place < length events.now }
-        requires numbers { AreNumbers events.now numbers.now }
+        requires numbers { AreTakingNumbers events.now numbers.now }
         requires few { self.old.addresses ≤ 2 ^ 12 }
         requires processors { ProcessorsInRange 16 events.now }
         requires addresses { AddressesInRange self.old.addresses events.now }
@@ -115,8 +115,8 @@ impl StoreRows {
         requires few { self.now.addresses ≤ 2 ^ 12 }
         requires address { address < self.now.addresses }
         requires processor { processor < 16 }
-        ensures { (row : Vec NumberedStore) × (slice_get self.now.rows.items (row_index address processor) ≡ Some row)
-            × MatchOption result (NoneUnder row.items limit) (IsLastUnder row.items limit) }
+        ensures { (row : Vec NumberedStore) × (slice_get self.now.rows.items (gap_tally_row_index address processor) ≡ Some row)
+            × MatchOption result (NoneStoredUnder row.items limit) (IsLastStoredUnder row.items limit) }
     {
         last_under(&self.rows[address * 16 + processor], limit)
     }

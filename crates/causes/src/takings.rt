@@ -4,7 +4,7 @@ ghost use Rattle.base.specs.InOrderOnce.{InOrder};
 ghost use Rattle.base.specs.Prelude.{most_held, most_processors};
 ghost use Rattle.journal.specs.declared.event.Event.{Event};
 ghost use Rattle.journal.specs.Prelude.{ProcessorsInRange, is_closing, is_taking};
-ghost use Rattle.causes.specs.Prelude.{AreAllTakings, AreNumbers, IsFirstAbove, TimesAround, NoneAbove};
+ghost use Rattle.causes.specs.Prelude.{AreAllTakings, AreTakingNumbers, IsFirstTakingAbove, TimesAroundNews, NoTakingAbove};
 
 use crate::index::closes;
 use crate::news::{Step, take_step};
@@ -39,7 +39,7 @@ fn closing_of(event: Event) -> u32
 pub(crate) fn numbers_of(alloc: Global, events: &[Event]) -> Result<Vec<u32>, AllocError>
     requires few { length events.now ≤ most_held }
     requires processors { ProcessorsInRange 16 events.now }
-    ensures { IfOk result (λ v. AreNumbers events.now v.items) }
+    ensures { IfOk result (λ v. AreTakingNumbers events.now v.items) }
 {
     let mut closed = [0; 16];
     let mut numbers = Vec::with_capacity(alloc, events.len())?;
@@ -69,7 +69,7 @@ fn add_taking(
     events: &[Event],
     step: &Step,
 ) -> Result<(), AllocError>
-    requires step { TimesAround events.now step.now }
+    requires step { TimesAroundNews events.now step.now }
     requires processors { ProcessorsInRange 16 events.now }
     requires so_far { AreAllTakings events.now step.now.place takings.old.items }
     ensures { OnOk result (AreAllTakings events.now (step.now.place + 1) takings.new.items) }
@@ -112,7 +112,7 @@ pub(crate) fn first_above(takings: &[Taking], processor: usize, number: u32) -> 
     requires processor { processor < 16 }
     requires parted { InOrder
         (λ x y. slice_index y.after processor ≤ number → slice_index x.after processor ≤ number) takings.now }
-    ensures { MatchOption result (NoneAbove takings.now processor number) (IsFirstAbove takings.now processor number) }
+    ensures { MatchOption result (NoTakingAbove takings.now processor number) (IsFirstTakingAbove takings.now processor number) }
 {
     let index = takings.partition_point(|taking| taking.after[processor] <= number);
     if index < takings.len() {

@@ -3,7 +3,7 @@ ghost use Rattle.std.specs.Prelude.{◌≡◌, ◌≢◌, ◌↔◌, ◌==◌, �
 ghost use Rattle.journal.specs.declared.event.Kind.TheVariants.{Acquire, Release, Set};
 ghost use Rattle.journal.specs.WellFormed.{Does, LastIs};
 ghost use Rattle.journal.specs.Prelude.{Holds, count_of, event as an_event, is_arrive};
-ghost use Rattle.causes.specs.Prelude.{AreThose, AreWaits, AsksBefore, HasNoEvents, IsAbsent, IsWait};
+ghost use Rattle.causes.specs.Prelude.{AreThose, AreWaits, WaitAsksBefore, WaitsWithoutEvents, WaitsForAbsent, IsWait};
 
 use crate::leading::{arrives, departures_before, sets};
 use journal::{Event, Kind};
@@ -46,7 +46,7 @@ pub(crate) struct Last {
 
 /// What the processor did last; None where it did nothing.
 fn last_of(events: &[Event], by: usize) -> Option<Last>
-    ensures { MatchOption result (HasNoEvents events.now by) (λ x. LastIs events.now by x.place x.kind) }
+    ensures { MatchOption result (WaitsWithoutEvents events.now by) (λ x. LastIs events.now by x.place x.kind) }
 {
     let mut last = None;
     for place in 0..events.len() {
@@ -121,7 +121,7 @@ fn holder(processors: usize, events: &[Event], lock: usize) -> Option<usize>
 
 /// Whether the processor's ask of the lock is open and stands before this place.
 fn asks_before(events: &[Event], by: usize, lock: usize, place: usize) -> bool
-    ensures { IsTrue result ↔ AsksBefore events.now lock place by }
+    ensures { IsTrue result ↔ WaitAsksBefore events.now lock place by }
 {
     match last_of(events, by) {
         Some(last) => last.place < place && last.kind == Kind::Ask(lock),
@@ -137,7 +137,7 @@ fn earlier(
     lock: usize,
     place: usize,
 ) -> Result<Vec<usize>, AllocError>
-    ensures { IfOk result (λ v. AreThose (AsksBefore events.now lock place) processors v.items) }
+    ensures { IfOk result (λ v. AreThose (WaitAsksBefore events.now lock place) processors v.items) }
 {
     let mut earlier = Vec::new(alloc);
     for processor in 0..processors {
@@ -185,7 +185,7 @@ fn absent(
     events: &[Event],
     by: usize,
 ) -> Result<Vec<usize>, AllocError>
-    ensures { IfOk result (λ v. AreThose (IsAbsent events.now by) processors v.items) }
+    ensures { IfOk result (λ v. AreThose (WaitsForAbsent events.now by) processors v.items) }
 {
     let departed = departures_before(events, by, events.len());
     let mut absent = Vec::new(alloc);

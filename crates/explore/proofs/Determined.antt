@@ -12,63 +12,63 @@ use Rattle.journal.specs.declared.event.Event.{Event}
 use Rattle.lrc_script.specs.Plan.{Plan}
 use Rattle.explore.specs.declared.flat_state.FlatState.{FlatState}
 use Rattle.explore.specs.declared.waiting.Waiting.{Waiting}
-use Rattle.explore.specs.Machines.{SameState, Knows, items_of}
-use Rattle.explore.specs.Waiting.{AreAsked, AsksAt, IsLikeWaiting, TellsWaiting}
-use Rattle.explore.proofs.Queued.{AskedBefore}
-use Rattle.explore.proofs.Waits.{ending_once, seated_once}
-use Rattle.explore.proofs.Searched.{same_replies}
+use Rattle.explore.specs.Machines.{SameMachineState, Knows, machine_rows}
+use Rattle.explore.specs.Waiting.{AreAskedWaiting, WaitingAsksAt, IsLikeWaiting, TellsWaiting}
+use Rattle.explore.proofs.Queued.{QueuedBefore}
+use Rattle.explore.proofs.Waits.{wait_code_ending_once, wait_code_seated_once}
+use Rattle.explore.proofs.Searched.{search_same_replies}
 
 -- lists that read the same are the same
-same_read : {A : Type 0} (d : A) (xs ys : List A) → length xs ≡ length ys
+determined_read : {A : Type 0} (d : A) (xs ys : List A) → length xs ≡ length ys
     → ((p : ℕ) → p < length xs → slice_index_or xs p d ≡ slice_index_or ys p d) → xs ≡ ys
-same_read d [] [] long same = refl
-same_read d [] (y ∷ ys) long same = absurd cc
-same_read d (x ∷ xs) [] long same = absurd cc
-same_read d (x ∷ xs) (y ∷ ys) long same =
+determined_read d [] [] long same = refl
+determined_read d [] (y ∷ ys) long same = absurd cc
+determined_read d (x ∷ xs) [] long same = absurd cc
+determined_read d (x ∷ xs) (y ∷ ys) long same =
     let first : x ≡ y = same 0 (omega arith) in
     let rest : length xs ≡ length ys = omega arith in
-    ap₂ (λ z zs. z ∷ zs) first (same_read d xs ys rest (λ p lt. same (suc p) (omega arith)))
+    ap₂ (λ z zs. z ∷ zs) first (determined_read d xs ys rest (λ p lt. same (suc p) (omega arith)))
 
 -- options that are the same value wherever one is some
-same_option : {A : Type 0} (a b : Option A) → ((x : A) → (a ≡ Some x) ↔ (b ≡ Some x)) → a ≡ b
-same_option None None same = refl
-same_option None (Some y) same = absurd (none-some y ((same y).1 refl))
-same_option (Some x) b same = sym ((same x).0 refl)
+determined_option : {A : Type 0} (a b : Option A) → ((x : A) → (a ≡ Some x) ↔ (b ≡ Some x)) → a ≡ b
+determined_option None None same = refl
+determined_option None (Some y) same = absurd (none-some y ((same y).1 refl))
+determined_option (Some x) b same = sym ((same x).0 refl)
 
-same_bool : (a b : Bool) → IsTrue a ↔ IsTrue b → a ≡ b
-same_bool true b same = sym (same.0 refl)
-same_bool false true same = absurd (false≢true (same.1 refl))
-same_bool false false same = refl
+determined_bool : (a b : Bool) → IsTrue a ↔ IsTrue b → a ≡ b
+determined_bool true b same = sym (same.0 refl)
+determined_bool false true same = absurd (false≢true (same.1 refl))
+determined_bool false false same = refl
 
 -- lists of the same items in one strict order are the same
 module _ {A : Type 0} (R : A → A → Type 0) (P : A → Type 0) (strict : (a b : A) → P a → P b → R a b → R b a → ⊥) where
-  rest_order : (x : A) (xs : List A) → InOrder R (x ∷ xs) → InOrder R xs
-  rest_order x xs order i k a b lt at_a at_b = order (suc i) (suc k) a b (omega arith) at_a at_b
+  determined_order_rest : (x : A) (xs : List A) → InOrder R (x ∷ xs) → InOrder R xs
+  determined_order_rest x xs order i k a b lt at_a at_b = order (suc i) (suc k) a b (omega arith) at_a at_b
 
-  first_before : (x : A) (xs : List A) → InOrder R (x ∷ xs) → (a : A) → Has xs a → R x a
-  first_before x xs order a has = order 0 (suc has.0) x a (omega arith) refl has.1
+  determined_first_before : (x : A) (xs : List A) → InOrder R (x ∷ xs) → (a : A) → Has xs a → R x a
+  determined_first_before x xs order a has = order 0 (suc has.0) x a (omega arith) refl has.1
 
-  same_order : (xs ys : List A) → ((a : A) → Has xs a → P a) → ((a : A) → Has ys a → P a)
+  determined_order : (xs ys : List A) → ((a : A) → Has xs a → P a) → ((a : A) → Has ys a → P a)
       → ((a : A) → Has xs a ↔ Has ys a) → InOrder R xs → InOrder R ys → xs ≡ ys
-  same_order [] [] p q same first second = refl
-  same_order [] (y ∷ ys) p q same first second = absurd (has-nil y ((same y).1 (0, refl)))
-  same_order (x ∷ xs) [] p q same first second = absurd (has-nil x ((same x).0 (0, refl)))
-  same_order (x ∷ xs) (y ∷ ys) p q same first second =
+  determined_order [] [] p q same first second = refl
+  determined_order [] (y ∷ ys) p q same first second = absurd (has-nil y ((same y).1 (0, refl)))
+  determined_order (x ∷ xs) [] p q same first second = absurd (has-nil x ((same x).0 (0, refl)))
+  determined_order (x ∷ xs) (y ∷ ys) p q same first second =
       let is : x ≡ y = elim ((has-cons y ys x).0 ((same x).0 (0, refl))) [
         | inl e ↦ sym e
         | inr later ↦ elim ((has-cons x xs y).0 ((same y).1 (0, refl))) [
           | inl e ↦ e
           | inr after ↦
-              absurd (strict x y (p x (0, refl)) (q y (0, refl)) (first_before x xs first y after)
-              (first_before y ys second x later))
+              absurd (strict x y (p x (0, refl)) (q y (0, refl)) (determined_first_before x xs first y after)
+              (determined_first_before y ys second x later))
         ]
       ] in
       ap₂ (λ z zs. z ∷ zs) is
-      (same_order xs ys (λ a has. p a (suc has.0, has.1)) (λ a has. q a (suc has.0, has.1))
+      (determined_order xs ys (λ a has. p a (suc has.0, has.1)) (λ a has. q a (suc has.0, has.1))
       (λ a. (
         λ has. elim ((has-cons y ys a).0 ((same a).0 (suc has.0, has.1))) [
           | inl e ↦
-              (let r = first_before x xs first a has in
+              (let r = determined_first_before x xs first a has in
               let self = subst (λ b. R b a) (is ∙ e) r in
               let mine = p a (suc has.0, has.1) in
               absurd (strict a a mine mine self self))
@@ -76,18 +76,18 @@ module _ {A : Type 0} (R : A → A → Type 0) (P : A → Type 0) (strict : (a b
         ],
         λ has. elim ((has-cons x xs a).0 ((same a).1 (suc has.0, has.1))) [
           | inl e ↦
-              (let r = first_before y ys second a has in
+              (let r = determined_first_before y ys second a has in
               let self = subst (λ b. R b a) (sym is ∙ e) r in
               let mine = q a (suc has.0, has.1) in
               absurd (strict a a mine mine self self))
           | inr later ↦ later
         ],
-      )) (rest_order x xs first) (rest_order y ys second))
+      )) (determined_order_rest x xs first) (determined_order_rest y ys second))
 
 -- who asked
-same_asked : (g : List Event) (xs ys : List ℕ) → AreAsked g xs → AreAsked g ys → xs ≡ ys
-same_asked g xs ys first second =
-    same_order (AskedBefore g) (λ p. (i : ℕ) × AsksAt g p i)
+determined_asked : (g : List Event) (xs ys : List ℕ) → AreAskedWaiting g xs → AreAskedWaiting g ys → xs ≡ ys
+determined_asked g xs ys first second =
+    determined_order (QueuedBefore g) (λ p. (i : ℕ) × WaitingAsksAt g p i)
     (λ a b x y before after.
     let one = before x.0 y.0 x.1 y.1 in
     let two = after y.0 x.0 y.1 x.1 in
@@ -95,47 +95,47 @@ same_asked g xs ys first second =
     (λ a. ((λ has. (second.each a).1 ((first.each a).0 has)), (λ has. (first.each a).1 ((second.each a).0 has))))
     first.order second.order
 
-both : {A B C : Type 0} → A ↔ B → C ↔ B → A ↔ C
-both first second = ((λ a. second.1 (first.0 a)), (λ c. first.1 (second.0 c)))
+determined_both : {A B C : Type 0} → A ↔ B → C ↔ B → A ↔ C
+determined_both first second = ((λ a. second.1 (first.0 a)), (λ c. first.1 (second.0 c)))
 
-same_waiting : (g : List Event) (x y : Waiting) → TellsWaiting g x → TellsWaiting g y → IsLikeWaiting x y
-same_waiting g x y first second = record {
-  waits = same_read None y.waits x.waits (second.long ∙ sym first.long)
-      (λ p lt. ending_once _ _ (same_option _ _ (λ k. both (second.waits p k) (first.waits p k))));
-  arrivals = same_read 0 y.arrivals x.arrivals (second.arrivals_long ∙ sym first.arrivals_long)
+determined_waiting : (g : List Event) (x y : Waiting) → TellsWaiting g x → TellsWaiting g y → IsLikeWaiting x y
+determined_waiting g x y first second = record {
+  waits = determined_read None y.waits x.waits (second.long ∙ sym first.long)
+      (λ p lt. wait_code_ending_once _ _ (determined_option _ _ (λ k. determined_both (second.waits p k) (first.waits p k))));
+  arrivals = determined_read 0 y.arrivals x.arrivals (second.arrivals_long ∙ sym first.arrivals_long)
       (λ p lt. second.arrivals p ∙ sym (first.arrivals p));
-  holders = same_read None y.holders x.holders (second.holders_long ∙ sym first.holders_long)
-      (λ l lt. seated_once _ _ (same_option _ _ (λ q. both (second.holders l q) (first.holders l q))));
-  flags = same_read false y.flags x.flags (second.flags_long ∙ sym first.flags_long)
-      (λ f lt. same_bool _ _ (both (second.flags f) (first.flags f)));
-  asked = same_asked g y.asked.items x.asked.items second.asked first.asked;
+  holders = determined_read None y.holders x.holders (second.holders_long ∙ sym first.holders_long)
+      (λ l lt. wait_code_seated_once _ _ (determined_option _ _ (λ q. determined_both (second.holders l q) (first.holders l q))));
+  flags = determined_read false y.flags x.flags (second.flags_long ∙ sym first.flags_long)
+      (λ f lt. determined_bool _ _ (determined_both (second.flags f) (first.flags f)));
+  asked = determined_asked g y.asked.items x.asked.items second.asked first.asked;
 }
 
-pub same_machine : (s : Plan) (g : List Event) (m n : FlatState) → Knows s g m → Knows s g n → SameState m n
-same_machine s g m n first second = record {
+pub determined_machine : (s : Plan) (g : List Event) (m n : FlatState) → Knows s g m → Knows s g n → SameMachineState m n
+determined_machine s g m n first second = record {
   done = (
       let one = first.long in
       let two = second.long in
-      same_read 0 n.done m.done (two ∙ sym one)
+      determined_read 0 n.done m.done (two ∙ sym one)
       (λ p lt. second.done p (omega arith) ∙ sym (first.done p (omega arith))));
-  replies = same_replies s g (items_of n.replies.items) (items_of m.replies.items) second.replies first.replies;
+  replies = search_same_replies s g (machine_rows n.replies.items) (machine_rows m.replies.items) second.replies first.replies;
   memory = second.memory ∙ sym first.memory;
-  waiting = same_waiting g m.waiting n.waiting first.waiting second.waiting;
+  waiting = determined_waiting g m.waiting n.waiting first.waiting second.waiting;
 }
 
 -- keys of a set differ
-pub apart_at : {K : Type 0} (eq : K → K → Bool) (ks : List K) → IsDistinct eq ks → (i k : ℕ) (a b : K) → i < k
+pub determined_apart_at : {K : Type 0} (eq : K → K → Bool) (ks : List K) → IsDistinct eq ks → (i k : ℕ) (a b : K) → i < k
     → slice_get ks i ≡ Some a → slice_get ks k ≡ Some b → eq a b ≡ false
 unfolding IsDistinct
-apart_at eq [] distinct i k a b lt at_a at_b = absurd (none-some a at_a)
-apart_at eq (x ∷ xs) distinct zero zero a b lt at_a at_b = absurd (omega arith)
-apart_at eq (x ∷ xs) distinct zero (suc k) a b lt at_a at_b =
+determined_apart_at eq [] distinct i k a b lt at_a at_b = absurd (none-some a at_a)
+determined_apart_at eq (x ∷ xs) distinct zero zero a b lt at_a at_b = absurd (omega arith)
+determined_apart_at eq (x ∷ xs) distinct zero (suc k) a b lt at_a at_b =
     subst (λ y. eq y b ≡ false) (same_Some x a at_a) (each xs distinct.0 k at_b)
   where
     each : (ys : List _) → AllByRecursion (λ y. eq x y ≡ false) ys → (j : ℕ) → slice_get ys j ≡ Some b → eq x b ≡ false
     each [] all j at = absurd (none-some b at)
     each (y ∷ ys) all zero at = subst (λ z. eq x z ≡ false) (same_Some y b at) all.0
     each (y ∷ ys) all (suc j) at = each ys all.1 j at
-apart_at eq (x ∷ xs) distinct (suc i) zero a b lt at_a at_b = absurd (omega arith)
-apart_at eq (x ∷ xs) distinct (suc i) (suc k) a b lt at_a at_b =
-    apart_at eq xs distinct.1 i k a b (omega arith) at_a at_b
+determined_apart_at eq (x ∷ xs) distinct (suc i) zero a b lt at_a at_b = absurd (omega arith)
+determined_apart_at eq (x ∷ xs) distinct (suc i) (suc k) a b lt at_a at_b =
+    determined_apart_at eq xs distinct.1 i k a b (omega arith) at_a at_b

@@ -9,7 +9,7 @@ use Rattle.journal.proofs.Order.HappensBefore.{before_shorter}
 use Rattle.journal.proofs.Order.CountedAndNumbered.{numbered_at_longer, numbered_at_within}
 use Rattle.lrc_script.specs.Plan.{Plan}
 use Rattle.explore.specs.Prefixes.Beginnings.{IsFlatBeginning}
-use Rattle.explore.proofs.prefixes.Beginnings.{front_begins}
+use Rattle.explore.proofs.prefixes.Beginnings.{beginning_front}
 
 -- a race of a front is one of the whole
 race_longer : (c j : List Event) (i k : ℕ) → Race c i k → Race (c ++ j) i k
@@ -31,24 +31,24 @@ first_shorter c j i k lt first = record {
   least_first = λ m r. first.least_first m (race_longer c j m k r);
 }
 
-pub length_front : (es : List Event) (k : ℕ) → k < length es → length (take (k + 1) es) ≡ k + 1
-length_front es k lt = length-take (k + 1) es ∙ omega arith
+pub first_race_front_length : (es : List Event) (k : ℕ) → k < length es → length (take (k + 1) es) ≡ k + 1
+first_race_front_length es k lt = length-take (k + 1) es ∙ omega arith
 
 -- so the first race of a history is that of its front up to it
 pub first_of_front : (es : List Event) (i k : ℕ) → k < length es → IsFirstRace es i k → IsFirstRace (take (k + 1) es) i k
 first_of_front es i k lt first =
-    let long = length_front es k lt in
+    let long = first_race_front_length es k lt in
     first_shorter (take (k + 1) es) (drop (k + 1) es) i k (omega arith)
     (subst (λ xs. IsFirstRace xs i k) (sym (take-append-drop (k + 1) es)) first)
 
-pub front_is_beginning : (s : Plan) (es : List Event) (n : ℕ) → IsFlatBeginning s es → IsFlatBeginning s (take n es)
-front_is_beginning s es n begins =
-    front_begins s (take n es) (drop n es) (subst (IsFlatBeginning s) (sym (take-append-drop n es)) begins)
+pub first_race_front_begins : (s : Plan) (es : List Event) (n : ℕ) → IsFlatBeginning s es → IsFlatBeginning s (take n es)
+first_race_front_begins s es n begins =
+    beginning_front s (take n es) (drop n es) (subst (IsFlatBeginning s) (sym (take-append-drop n es)) begins)
 
 -- what is there where one of two cases is not so
-pub is_there : {A : Type 0} (o : Option A) (P : Type 0) (Q : A → Type 0) → MatchOption o P Q → ¬ P → IsSome o
-is_there None P Q h isnt = absurd (isnt h)
-is_there (Some x) P Q h isnt = refl
+pub first_race_is_there : {A : Type 0} (o : Option A) (P : Type 0) (Q : A → Type 0) → MatchOption o P Q → ¬ P → IsSome o
+first_race_is_there None P Q h isnt = absurd (isnt h)
+first_race_is_there (Some x) P Q h isnt = refl
 
 pub told : {A : Type 0} (o : Option A) (x : A) (P : Type 0) (Q : A → Type 0) → o ≡ Some x → MatchOption o P Q → Q x
 told o x P Q is h = subst (λ p. MatchOption p P Q) is h

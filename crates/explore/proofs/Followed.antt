@@ -12,18 +12,18 @@ use Rattle.explore.specs.Prefixes.Beginnings.{IsFlatBeginning}
 use Rattle.explore.specs.declared.states.States.{States}
 use Rattle.explore.specs.declared.states.Origin.{Origin}
 use Rattle.explore.specs.declared.flat_state.FlatState.{FlatState}
-use Rattle.explore.specs.Found.{AreFound, ComesFrom, StaysPossible, StateAdded, IsStateFollowed, IsKnown, Keeps, WasPushed, WasThere, states_of}
+use Rattle.explore.specs.Found.{AreFound, FoundComesFrom, FoundStaysPossible, FoundStateAdded, IsFoundStateFollowed, IsFoundState, KeepsFound, WasPushedToFound, WasFoundBefore, states_found}
 use Rattle.explore.specs.Machines.{Knows}
 use Rattle.explore.proofs.Likes.{knows_like}
 
 -- states that are pushed on
-pub keeps_push : (old new : List FlatState) (m : FlatState) → new ≡ old ++ m ∷ [] → Keeps old new
-keeps_push old new m is place f at =
+pub followed_keeps_push : (old new : List FlatState) (m : FlatState) → new ≡ old ++ m ∷ [] → KeepsFound old new
+followed_keeps_push old new m is place f at =
     ap (λ ms. slice_get ms place) is
     ∙ (slice_get-append_left old (m ∷ []) place (slice_get_within old place f at) ∙ at)
 
-pub known_kept : (s : Plan) (old new : List FlatState) (g : List Event) → Keeps old new → IsKnown s old g → IsKnown s new g
-known_kept s old new g keeps known = record {
+pub followed_known_kept : (s : Plan) (old new : List FlatState) (g : List Event) → KeepsFound old new → IsFoundState s old g → IsFoundState s new g
+followed_known_kept s old new g keeps known = record {
   place = known.place;
   state = known.state;
   at = keeps known.place known.state known.at;
@@ -31,10 +31,10 @@ known_kept s old new g keeps known = record {
 }
 
 -- where a state comes from stays so
-comes_kept : (s : Plan) (old new : List FlatState) (place : ℕ) (m : FlatState) (o : Option Origin) → Keeps old new
-    → place ≤ length old → ComesFrom s old place m o → ComesFrom s new place m o
-comes_kept s old new place m None keeps within from = from
-comes_kept s old new place m (Some o) keeps within from = record {
+followed_comes_kept : (s : Plan) (old new : List FlatState) (place : ℕ) (m : FlatState) (o : Option Origin) → KeepsFound old new
+    → place ≤ length old → FoundComesFrom s old place m o → FoundComesFrom s new place m o
+followed_comes_kept s old new place m None keeps within from = from
+followed_comes_kept s old new place m (Some o) keeps within from = record {
   earlier = from.earlier;
   after = λ f g at knows.
       let lt = from.earlier in
@@ -49,34 +49,34 @@ comes_kept s old new place m (Some o) keeps within from = record {
     there (x ∷ xs) (suc k) lt = there xs k (omega arith)
 
 -- a state that comes from somewhere is pushed on
-module _ (s : Plan) (x y : States) (m : FlatState) (o : Option Origin) (pushed : WasPushed x y m o) where
-  pushed_keeps : Keeps (states_of x) (states_of y)
-  pushed_keeps = keeps_push (states_of x) (states_of y) m pushed.states
+module _ (s : Plan) (x y : States) (m : FlatState) (o : Option Origin) (pushed : WasPushedToFound x y m o) where
+  followed_pushed_keeps : KeepsFound (states_found x) (states_found y)
+  followed_pushed_keeps = followed_keeps_push (states_found x) (states_found y) m pushed.states
 
-  pushed_at : slice_get (states_of y) (length (states_of x)) ≡ Some m
-  pushed_at = ap (λ ms. slice_get ms (length (states_of x))) pushed.states ∙ slice_get-last (states_of x) m
+  followed_pushed_at : slice_get (states_found y) (length (states_found x)) ≡ Some m
+  followed_pushed_at = ap (λ ms. slice_get ms (length (states_found x))) pushed.states ∙ slice_get-last (states_found x) m
 
-  pub pushed_found : AreFound s x → (g : List Event) → Knows s g m → ComesFrom s (states_of x) (length (states_of x)) m o
+  pub followed_pushed_found : AreFound s x → (g : List Event) → Knows s g m → FoundComesFrom s (states_found x) (length (states_found x)) m o
       → AreFound s y
-  pushed_found old g knows from = record {
+  followed_pushed_found old g knows from = record {
     long = (
         let before = old.long in
         let states = ap (λ (ms : List FlatState). length ms) pushed.states in
         let origins = ap (λ (os : List (Option Origin)). length os) pushed.origins in
-        let one = length-append (states_of x) (m ∷ []) in
+        let one = length-append (states_found x) (m ∷ []) in
         let two = length-append x.origins.items (o ∷ []) in
         omega arith);
-    known = λ place f at. elim (slice_push_cases (states_of x) m place f (ap (λ ms. slice_get ms place) (sym pushed.states) ∙ at)) [
+    known = λ place f at. elim (slice_push_cases (states_found x) m place f (ap (λ ms. slice_get ms place) (sym pushed.states) ∙ at)) [
       | inl before ↦ old.known place f before.1
       | inr now ↦ (g, subst (Knows s g) now.1 knows)
     ];
     come = λ place f p at from_at.
-        elim (slice_push_cases (states_of x) m place f (ap (λ ms. slice_get ms place) (sym pushed.states) ∙ at)) [
+        elim (slice_push_cases (states_found x) m place f (ap (λ ms. slice_get ms place) (sym pushed.states) ∙ at)) [
           | inl before ↦
               elim (slice_push_cases x.origins.items o place p (ap (λ os. slice_get os place) (sym pushed.origins) ∙ from_at)) [
                 | inl was ↦
                     (let lt = before.0 in
-                    comes_kept s (states_of x) (states_of y) place f p pushed_keeps (omega arith)
+                    followed_comes_kept s (states_found x) (states_found y) place f p followed_pushed_keeps (omega arith)
                     (old.come place f p before.1 was.1))
                 | inr wrong ↦ (let lt = before.0 in let is = wrong.0 in let long = old.long in absurd (omega arith))
               ]
@@ -84,37 +84,37 @@ module _ (s : Plan) (x y : States) (m : FlatState) (o : Option Origin) (pushed :
               elim (slice_push_cases x.origins.items o place p (ap (λ os. slice_get os place) (sym pushed.origins) ∙ from_at)) [
                 | inl wrong ↦ (let lt = wrong.0 in let is = now.0 in let long = old.long in absurd (omega arith))
                 | inr mine ↦
-                    subst (λ q. ComesFrom s (states_of y) place f q) mine.1
-                    (subst (λ q. ComesFrom s (states_of y) place q o) now.1
-                    (subst (λ n. ComesFrom s (states_of y) n m o) (sym now.0)
-                    (comes_kept s (states_of x) (states_of y) (length (states_of x)) m o pushed_keeps (omega arith) from)))
+                    subst (λ q. FoundComesFrom s (states_found y) place f q) mine.1
+                    (subst (λ q. FoundComesFrom s (states_found y) place q o) now.1
+                    (subst (λ n. FoundComesFrom s (states_found y) n m o) (sym now.0)
+                    (followed_comes_kept s (states_found x) (states_found y) (length (states_found x)) m o followed_pushed_keeps (omega arith) from)))
               ]
         ];
-    first = known_kept s (states_of x) (states_of y) [] pushed_keeps old.first;
+    first = followed_known_kept s (states_found x) (states_found y) [] followed_pushed_keeps old.first;
   }
 
-  pub pushed_known : (g : List Event) → Knows s g m → IsKnown s (states_of y) g
-  pushed_known g knows = record { place = length (states_of x); state = m; at = pushed_at; knows = knows }
+  pub followed_pushed_known : (g : List Event) → Knows s g m → IsFoundState s (states_found y) g
+  followed_pushed_known g knows = record { place = length (states_found x); state = m; at = followed_pushed_at; knows = knows }
 
 -- a state that was there
-module _ (s : Plan) (x y : States) (m : FlatState) (was : WasThere x y m) where
-  there_keeps : Keeps (states_of x) (states_of y)
-  there_keeps place f at = ap (λ ms. slice_get ms place) was.states ∙ at
+module _ (s : Plan) (x y : States) (m : FlatState) (was : WasFoundBefore x y m) where
+  followed_there_keeps : KeepsFound (states_found x) (states_found y)
+  followed_there_keeps place f at = ap (λ ms. slice_get ms place) was.states ∙ at
 
-  pub there_found : AreFound s x → AreFound s y
-  there_found old = record {
+  pub followed_there_found : AreFound s x → AreFound s y
+  followed_there_found old = record {
     long = ap (λ (os : List (Option Origin)). length os) was.origins ∙ old.long
         ∙ ap (λ (ms : List FlatState). length ms) (sym was.states);
     known = λ place f at. old.known place f (ap (λ ms. slice_get ms place) (sym was.states) ∙ at);
     come = λ place f p at from_at.
-        subst (λ ms. ComesFrom s ms place f p) (sym was.states)
+        subst (λ ms. FoundComesFrom s ms place f p) (sym was.states)
         (old.come place f p (ap (λ ms. slice_get ms place) (sym was.states) ∙ at)
         (ap (λ os. slice_get os place) (sym was.origins) ∙ from_at));
-    first = known_kept s (states_of x) (states_of y) [] there_keeps old.first;
+    first = followed_known_kept s (states_found x) (states_found y) [] followed_there_keeps old.first;
   }
 
-  pub there_known : (g : List Event) → Knows s g m → IsKnown s (states_of y) g
-  there_known g knows = record {
+  pub followed_there_known : (g : List Event) → Knows s g m → IsFoundState s (states_found y) g
+  followed_there_known g knows = record {
     place = was.place;
     state = was.state;
     at = ap (λ ms. slice_get ms was.place) was.states ∙ was.at;
@@ -123,57 +123,57 @@ module _ (s : Plan) (x y : States) (m : FlatState) (was : WasThere x y m) where
 
 -- what a state comes to is found
 pub followed : (s : Plan) (x y : States) (place p : ℕ) (k : Kind) (f m : FlatState) → AreFound s x
-    → slice_get (states_of x) place ≡ Some f → StaysPossible s f p k
+    → slice_get (states_found x) place ≡ Some f → FoundStaysPossible s f p k
     → ((g : List Event) → Knows s g f → IsFlatBeginning s (did g p k) → Knows s (did g p k) m)
-    → StateAdded x y m (Some (record { from = place; event = event p k })) → IsStateFollowed s x y place p k
+    → FoundStateAdded x y m (Some (record { from = place; event = event p k })) → IsFoundStateFollowed s x y place p k
 followed s x y place p k f m old at goes steps (inl was) = record {
-  keeps = there_keeps s x y m was;
-  found = there_found s x y m was old;
+  keeps = followed_there_keeps s x y m was;
+  found = followed_there_found s x y m was old;
   known = λ h g here knows.
       let same = same_Some h f (sym here ∙ at) in
       let mine = subst (Knows s g) same knows in
-      there_known s x y m was (did g p k) (steps g mine (goes g mine));
+      followed_there_known s x y m was (did g p k) (steps g mine (goes g mine));
   few = (let same = ap (λ (ms : List FlatState). length ms) was.states in omega (arith, same));
 }
 followed s x y place p k f m old at goes steps (inr pushed) = record {
-  keeps = pushed_keeps s x y m _ pushed;
+  keeps = followed_pushed_keeps s x y m _ pushed;
   found =
       (let first = old.known place f at in
-      pushed_found s x y m _ pushed old (did first.0 p k) (steps first.0 first.1 (goes first.0 first.1))
+      followed_pushed_found s x y m _ pushed old (did first.0 p k) (steps first.0 first.1 (goes first.0 first.1))
       (record {
-        earlier = slice_get_within (states_of x) place f at;
+        earlier = slice_get_within (states_found x) place f at;
         after = λ h g here knows.
             let mine = subst (Knows s g) (same_Some h f (sym here ∙ at)) knows in
             steps g mine (goes g mine);
       }));
   known = λ h g here knows.
       let mine = subst (Knows s g) (same_Some h f (sym here ∙ at)) knows in
-      pushed_known s x y m _ pushed (did g p k) (steps g mine (goes g mine));
+      followed_pushed_known s x y m _ pushed (did g p k) (steps g mine (goes g mine));
   few = (
       let more = ap (λ (ms : List FlatState). length ms) pushed.states in
-      let one = length-append (states_of x) (m ∷ []) in
+      let one = length-append (states_found x) (m ∷ []) in
       omega (arith, more, one));
 }
 
 -- one state is added to none
-pub first_few : (x y : States) (m : FlatState) (o : Option Origin) → states_of x ≡ [] → StateAdded x y m o
-    → length (states_of y) ≤ 1
-first_few x y m o none (inl was) =
+pub followed_first_few : (x y : States) (m : FlatState) (o : Option Origin) → states_found x ≡ [] → FoundStateAdded x y m o
+    → length (states_found y) ≤ 1
+followed_first_few x y m o none (inl was) =
     let same = ap (λ (ms : List FlatState). length ms) was.states in
     let no = ap (λ (ms : List FlatState). length ms) none in
     omega (arith, same, no)
-first_few x y m o none (inr pushed) =
+followed_first_few x y m o none (inr pushed) =
     let more = ap (λ (ms : List FlatState). length ms) pushed.states in
-    let one = length-append (states_of x) (m ∷ []) in
+    let one = length-append (states_found x) (m ∷ []) in
     let no = ap (λ (ms : List FlatState). length ms) none in
     omega (arith, more, one, no)
 
 -- the first state alone
-pub first_found : (s : Plan) (x y : States) (m : FlatState) → states_of x ≡ [] → x.origins.items ≡ [] → Knows s [] m
-    → StateAdded x y m None → AreFound s y
-first_found s x y m states origins knows (inl was) =
+pub followed_first_found : (s : Plan) (x y : States) (m : FlatState) → states_found x ≡ [] → x.origins.items ≡ [] → Knows s [] m
+    → FoundStateAdded x y m None → AreFound s y
+followed_first_found s x y m states origins knows (inl was) =
     absurd (none-some was.state (sym (ap (λ ms. slice_get ms was.place) states) ∙ was.at))
-first_found s x y m states origins knows (inr pushed) =
+followed_first_found s x y m states origins knows (inr pushed) =
     let all = pushed.states ∙ ap (λ ms. ms ++ m ∷ []) states in
     let from = pushed.origins ∙ ap (λ os. os ++ None ∷ []) origins in
     record {
@@ -183,7 +183,7 @@ first_found s x y m states origins knows (inr pushed) =
         subst (Knows s []) (only m place f (ap (λ ms. slice_get ms place) (sym all) ∙ at)) knows,
       );
       come = λ place f p at from_at.
-          subst (λ q. ComesFrom s (states_of y) place f q) (only None place p (ap (λ os. slice_get os place) (sym from) ∙ from_at))
+          subst (λ q. FoundComesFrom s (states_found y) place f q) (only None place p (ap (λ os. slice_get os place) (sym from) ∙ from_at))
           (subst (Knows s []) (only m place f (ap (λ ms. slice_get ms place) (sym all) ∙ at)) knows);
       first = record { place = 0; state = m; at = ap (λ ms. slice_get ms 0) all; knows = knows };
     }

@@ -20,137 +20,137 @@ use Rattle.conformance.specs.Follows.{followed_calls, FollowsSection}
 use Rattle.conformance.specs.FlatRuns.{FlatRunHasNoFetch}
 use Rattle.conformance.proofs.Calls.{followed_calls-own, followed_calls-others}
 use Rattle.explore.specs.Prefixes.Beginnings.{IsFlatBeginning}
-use Rattle.explore.specs.Prefixes.Calling.{load_steps, section_steps, shown_by, steps_of, steps_of_all}
-use Rattle.explore.proofs.prefixes.Calling.{follows_length}
+use Rattle.explore.specs.Prefixes.Calling.{prefix_calling_load_steps, prefix_calling_section_steps, prefix_calling_shown_by, prefix_calling_steps, prefix_calling_all_steps}
+use Rattle.explore.proofs.prefixes.Calling.{prefix_calling_follows_length}
 
 -- steps of instructions
-two_at_most : (i : Instruction) → length (steps_of i) ≤ 2
-two_at_most (Load a) = omega arith
-two_at_most (Store a v) = omega arith
-two_at_most (Add a v) = omega arith
-two_at_most (Acquire l) = omega arith
-two_at_most (Release l) = omega arith
-two_at_most Barrier = omega arith
-two_at_most (Set f) = omega arith
-two_at_most (Await f) = omega arith
-two_at_most Cut = omega arith
+step_length_two : (i : Instruction) → length (prefix_calling_steps i) ≤ 2
+step_length_two (Load a) = omega arith
+step_length_two (Store a v) = omega arith
+step_length_two (Add a v) = omega arith
+step_length_two (Acquire l) = omega arith
+step_length_two (Release l) = omega arith
+step_length_two Barrier = omega arith
+step_length_two (Set f) = omega arith
+step_length_two (Await f) = omega arith
+step_length_two Cut = omega arith
 
-steps_few : (is : List Instruction) → length (steps_of_all is) ≤ 2 * length is
-steps_few [] = omega arith
-steps_few (i ∷ is) =
-    let one = two_at_most i in
-    let rest = steps_few is in
-    let both = length-append (steps_of i) (steps_of_all is) in
+steps_length_few : (is : List Instruction) → length (prefix_calling_all_steps is) ≤ 2 * length is
+steps_length_few [] = omega arith
+steps_length_few (i ∷ is) =
+    let one = step_length_two i in
+    let rest = steps_length_few is in
+    let both = length-append (prefix_calling_steps i) (prefix_calling_all_steps is) in
     omega arith
 
-loads_few : (shown : List ℕ) → length (load_steps shown) ≡ length shown
-loads_few [] = refl
-loads_few (a ∷ shown) = ap suc (loads_few shown)
+load_steps_length : (shown : List ℕ) → length (prefix_calling_load_steps shown) ≡ length shown
+load_steps_length [] = refl
+load_steps_length (a ∷ shown) = ap suc (load_steps_length shown)
 
-pub section_few : (section : List Instruction) (shown : List ℕ) → length section ≤ 10000 → length shown ≤ 64
-    → length (section_steps section shown) ≤ 20066
-section_few section shown few shows =
-    let own = steps_few section in
-    let loads = loads_few shown in
-    let both = length-append (steps_of_all section) (section_steps [] shown) in
+pub section_length_few : (section : List Instruction) (shown : List ℕ) → length section ≤ 10000 → length shown ≤ 64
+    → length (prefix_calling_section_steps section shown) ≤ 20066
+section_length_few section shown few shows =
+    let own = steps_length_few section in
+    let loads = load_steps_length shown in
+    let both = length-append (prefix_calling_all_steps section) (prefix_calling_section_steps [] shown) in
     omega arith
 
 -- calls that begin a section
-pub begun_few : (section : List Instruction) (shown : List ℕ) (kinds : List Kind) → BeginsSection section shown kinds
-    → length kinds ≤ length (section_steps section shown)
-begun_few section shown kinds begins =
-    let whole = follows_length section shown (kinds ++ begins.rest)
+pub begun_length_few : (section : List Instruction) (shown : List ℕ) (kinds : List Kind) → BeginsSection section shown kinds
+    → length kinds ≤ length (prefix_calling_section_steps section shown)
+begun_length_few section shown kinds begins =
+    let whole = prefix_calling_follows_length section shown (kinds ++ begins.rest)
     (record { rest = []; follows = subst (FollowsSection section shown) (sym (append-nil (kinds ++ begins.rest))) begins.follows }) in
     let long = whole.0 begins.follows in
     let both = length-append kinds begins.rest in
     omega arith
 
 -- the sum of the first n
-abbrev total : (ℕ → ℕ) → ℕ → ℕ
-total f zero = 0
-total f (suc n) = total f n + f n
+abbrev lengths_total : (ℕ → ℕ) → ℕ → ℕ
+lengths_total f zero = 0
+lengths_total f (suc n) = lengths_total f n + f n
 
-total_zero : (n : ℕ) → total (λ _. 0) n ≡ 0
-total_zero zero = refl
-total_zero (suc n) = let rest = total_zero n in omega arith
+lengths_total_zero : (n : ℕ) → lengths_total (λ _. 0) n ≡ 0
+lengths_total_zero zero = refl
+lengths_total_zero (suc n) = let rest = lengths_total_zero n in omega arith
 
-total_same : (f h : ℕ → ℕ) (n : ℕ) → ((q : ℕ) → q < n → h q ≡ f q) → total h n ≡ total f n
-total_same f h zero same = refl
-total_same f h (suc n) same =
-    let rest = total_same f h n (λ q lt. same q (omega arith)) in
+lengths_total_same : (f h : ℕ → ℕ) (n : ℕ) → ((q : ℕ) → q < n → h q ≡ f q) → lengths_total h n ≡ lengths_total f n
+lengths_total_same f h zero same = refl
+lengths_total_same f h (suc n) same =
+    let rest = lengths_total_same f h n (λ q lt. same q (omega arith)) in
     let one = same n (omega arith) in
     omega arith
 
-total_more : (f h : ℕ → ℕ) (n p : ℕ) → p < n → h p ≡ suc (f p) → ((q : ℕ) → p ≢ q → h q ≡ f q)
-    → total h n ≡ suc (total f n)
-total_more f h zero p lt more others = absurd (omega arith)
-total_more f h (suc n) p lt more others = elim (cases_eq p n) [
+lengths_total_more : (f h : ℕ → ℕ) (n p : ℕ) → p < n → h p ≡ suc (f p) → ((q : ℕ) → p ≢ q → h q ≡ f q)
+    → lengths_total h n ≡ suc (lengths_total f n)
+lengths_total_more f h zero p lt more others = absurd (omega arith)
+lengths_total_more f h (suc n) p lt more others = elim (cases_eq p n) [
   | inl is ↦
-      (let rest = total_same f h n (λ q less. others q (λ same. absurd (omega arith))) in
+      (let rest = lengths_total_same f h n (λ q less. others q (λ same. absurd (omega arith))) in
       let one = subst (λ m. h m ≡ suc (f m)) is more in
       omega arith)
   | inr isnt ↦
-      (let rest = total_more f h n p (omega arith) more others in
+      (let rest = lengths_total_more f h n p (omega arith) more others in
       let one = others n isnt in
       omega arith)
 ]
 
-total_few : (f : ℕ → ℕ) (n most : ℕ) → ((q : ℕ) → q < n → f q ≤ most) → total f n ≤ n * most
-total_few f zero most few = omega arith
-total_few f (suc n) most few =
-    let rest = total_few f n most (λ q lt. few q (omega arith)) in
+lengths_total_few : (f : ℕ → ℕ) (n most : ℕ) → ((q : ℕ) → q < n → f q ≤ most) → lengths_total f n ≤ n * most
+lengths_total_few f zero most few = omega arith
+lengths_total_few f (suc n) most few =
+    let rest = lengths_total_few f n most (λ q lt. few q (omega arith)) in
     let one = few n (omega arith) in
     omega arith
 
 -- each event is its processor's call
 length_total : (n : ℕ) (g : List Event) → FlatRunHasNoFetch g → ProcessorsInRange n g
-    → length g ≡ total (λ p. length (followed_calls g p)) n
+    → length g ≡ lengths_total (λ p. length (followed_calls g p)) n
 length_total n = slice_push_induction (λ (g : List Event). FlatRunHasNoFetch g → ProcessorsInRange n g
-    → length g ≡ total (λ p. length (followed_calls g p)) n) (λ none within. sym (total_zero n)) step
+    → length g ≡ lengths_total (λ p. length (followed_calls g p)) n) (λ none within. sym (lengths_total_zero n)) step
   where
     step : (g : List Event) (e : Event)
-        → (FlatRunHasNoFetch g → ProcessorsInRange n g → length g ≡ total (λ p. length (followed_calls g p)) n)
+        → (FlatRunHasNoFetch g → ProcessorsInRange n g → length g ≡ lengths_total (λ p. length (followed_calls g p)) n)
         → FlatRunHasNoFetch (g ++ e ∷ []) → ProcessorsInRange n (g ++ e ∷ [])
-        → length (g ++ e ∷ []) ≡ total (λ p. length (followed_calls (g ++ e ∷ []) p)) n
+        → length (g ++ e ∷ []) ≡ lengths_total (λ p. length (followed_calls (g ++ e ∷ []) p)) n
     step g e old none within =
         let before = old (λ i f at. none i f (numbered_at_longer g (e ∷ []) i f at)) (λ i f at. within i f (numbered_at_longer g (e ∷ []) i f at)) in
         let call = none (length g) e (numbered_at_last g e) in
         let mine : length (followed_calls (g ++ e ∷ []) e.processor) ≡ suc (length (followed_calls g e.processor)) =
         (let own = ap (λ (ks : List Kind). length ks) (followed_calls-own g e.processor e.kind call) in
         let both = length-append (followed_calls g e.processor) (e.kind ∷ []) in omega arith) in
-        let more = total_more (λ p. length (followed_calls g p)) (λ p. length (followed_calls (g ++ e ∷ []) p)) n e.processor
+        let more = lengths_total_more (λ p. length (followed_calls g p)) (λ p. length (followed_calls (g ++ e ∷ []) p)) n e.processor
         (within (length g) e (numbered_at_last g e)) mine
         (λ q apart. ap (λ (ks : List Kind). length ks) (followed_calls-others g e.processor q e.kind apart)) in
         let longer = length-append g (e ∷ []) in
         omega arith
 
-pub shown_few : (s : Plan) (p : ℕ) → IsLawful s → length (shown_by s p) ≤ 64
-shown_few s p lawful = go (p == 0)
+pub shown_length_few : (s : Plan) (p : ℕ) → IsLawful s → length (prefix_calling_shown_by s p) ≤ 64
+shown_length_few s p lawful = go (p == 0)
   where
     go : (b : Bool) → length (cond b s.shown []) ≤ 64
     go true = lawful.but_uneven.most_shown
     go false = omega arith
 
 -- no processor calls more than its section says
-pub calls_few : (s : Plan) (g : List Event) (p : ℕ) → IsLawful s → IsFlatBeginning s g → p < s.processors
+pub calls_length_few : (s : Plan) (g : List Event) (p : ℕ) → IsLawful s → IsFlatBeginning s g → p < s.processors
     → length (followed_calls g p) ≤ 20066
-calls_few s g p lawful begins lt =
+calls_length_few s g p lawful begins lt =
     let long = lawful.but_uneven.one_each in
     let within : p < length s.sections = omega arith in
     let section = slice_index_or s.sections p [] in
     let is = All-get_or (IsLawfulSection s) s.sections p [] within lawful.but_uneven.sections in
-    let begun = begun_few section (shown_by s p) (followed_calls g p) (begins.begins p section (slice_get-get_or s.sections p [] within)) in
-    let few = section_few section (shown_by s p) is.most (shown_few s p lawful) in
+    let begun = begun_length_few section (prefix_calling_shown_by s p) (followed_calls g p) (begins.begins p section (slice_get-get_or s.sections p [] within)) in
+    let few = section_length_few section (prefix_calling_shown_by s p) is.most (shown_length_few s p lawful) in
     omega arith
 
 -- the processors of a beginning
-pub processors_of : (s : Plan) (g : List Event) → IsFlatBeginning s g → ProcessorsInRange s.processors g
-processors_of s g begins i e at = (begins.well_formed i e at).processor
+pub length_processors_of : (s : Plan) (g : List Event) → IsFlatBeginning s g → ProcessorsInRange s.processors g
+length_processors_of s g begins i e at = (begins.well_formed i e at).processor
 
 -- a journal can hold a beginning
-pub history_few : (s : Plan) (g : List Event) → IsLawful s → IsFlatBeginning s g → length g < most_held
-history_few s g lawful begins =
-    let is = length_total s.processors g begins.no_fetch (processors_of s g begins) in
-    let few = total_few (λ p. length (followed_calls g p)) s.processors 20066 (λ q lt. calls_few s g q lawful begins lt) in
+pub history_length_few : (s : Plan) (g : List Event) → IsLawful s → IsFlatBeginning s g → length g < most_held
+history_length_few s g lawful begins =
+    let is = length_total s.processors g begins.no_fetch (length_processors_of s g begins) in
+    let few = lengths_total_few (λ p. length (followed_calls g p)) s.processors 20066 (λ q lt. calls_length_few s g q lawful begins lt) in
     let most = lawful.but_uneven.sizes.most_processors in
     omega arith

@@ -17,4 +17,4 @@ pub mod Searched
 pub mod locksets
 pub mod reduced
 pub mod Determined
-pub mod Counted
+pub mod CountedStates

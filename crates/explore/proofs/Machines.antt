@@ -21,94 +21,94 @@ use Rattle.lrc_script.specs.Plan.{Plan}
 use Rattle.lrc_script.specs.Lawful.{plan_addresses, IsLawful, IsLawfulSection}
 use Rattle.conformance.specs.Follows.{followed_calls, is_followed_fetch, followed_plan_sizes}
 use Rattle.conformance.proofs.Calls.{followed_calls-own, followed_calls-others}
-use Rattle.judge.specs.Sizes.{AreSmall}
+use Rattle.judge.specs.Sizes.{AreSizesSmall}
 use Rattle.conformance.proofs.Script.SectionSteps.{told, section_load_told, is_section_load}
 use Rattle.explore.specs.declared.prefixes.script_call.ScriptCall.{ScriptCall}
 use Rattle.explore.specs.declared.prefixes.script_call.ScriptCall.TheVariants.{Call, Adds}
 use Rattle.explore.specs.declared.flat_state.FlatState.{FlatState}
 use Rattle.explore.specs.Prefixes.Beginnings.{IsFlatBeginning}
-use Rattle.explore.specs.Prefixes.Calling.{AreStepsOf, IsCalledNext, IsStep, last_reply, replyless, section_steps, shown_by}
-use Rattle.explore.specs.Machines.{AreLawfulSteps, StepReads, IsProper, Knows}
-use Rattle.explore.proofs.prefixes.Beginnings.{next_begins}
+use Rattle.explore.specs.Prefixes.Calling.{AreCallingSteps, IsCalledNext, IsCallOfStep, last_reply_of_calls, replyless_call, prefix_calling_section_steps, prefix_calling_shown_by}
+use Rattle.explore.specs.Machines.{AreLawfulMachineSteps, MachineStepReads, IsProperMachineStep, Knows}
+use Rattle.explore.proofs.prefixes.Beginnings.{beginning_next}
 use Rattle.explore.proofs.Proper.{proper_section}
 
 -- a load with the word of the memory is the one that the step says
-pub load_call : (reply a w v : ℕ) (memory : List ℕ) → slice_get memory a ≡ Some v → (k : Kind)
-    → (kind.Load a v ≡ k) ↔ (IsStep reply (Call (kind.Load a w)) k × AnswersFlatWord memory k)
-load_call reply a w v memory at k = (there, back)
+pub machine_load_call : (reply a w v : ℕ) (memory : List ℕ) → slice_get memory a ≡ Some v → (k : Kind)
+    → (kind.Load a v ≡ k) ↔ (IsCallOfStep reply (Call (kind.Load a w)) k × AnswersFlatWord memory k)
+machine_load_call reply a w v memory at k = (there, back)
   where
-    there : kind.Load a v ≡ k → IsStep reply (Call (kind.Load a w)) k × AnswersFlatWord memory k
-    there is = subst (λ x. IsStep reply (Call (kind.Load a w)) x × AnswersFlatWord memory x) is (refl, at)
+    there : kind.Load a v ≡ k → IsCallOfStep reply (Call (kind.Load a w)) k × AnswersFlatWord memory k
+    there is = subst (λ x. IsCallOfStep reply (Call (kind.Load a w)) x × AnswersFlatWord memory x) is (refl, at)
 
-    back : IsStep reply (Call (kind.Load a w)) k × AnswersFlatWord memory k → kind.Load a v ≡ k
+    back : IsCallOfStep reply (Call (kind.Load a w)) k × AnswersFlatWord memory k → kind.Load a v ≡ k
     back h =
         let load = section_load_told k a h.0 in
         let word : slice_get memory a ≡ Some load.0 = subst (AnswersFlatWord memory) load.1 h.1 in
         ap (λ x. kind.Load a x) (same_Some v load.0 (sym at ∙ word)) ∙ sym load.1
 
 -- any other call is itself
-replyless_other : (c : Kind) → ((a w : ℕ) → c ≢ kind.Load a w) → (replyless c ≡ c) × (is_section_load c ≡ false)
-replyless_other (kind.Load a w) other = absurd (other a w refl)
-replyless_other _ other = (refl, refl)
+machine_replyless_others : (c : Kind) → ((a w : ℕ) → c ≢ kind.Load a w) → (replyless_call c ≡ c) × (is_section_load c ≡ false)
+machine_replyless_others (kind.Load a w) other = absurd (other a w refl)
+machine_replyless_others _ other = (refl, refl)
 
-other_word : (memory : List ℕ) (c : Kind) → ((a w : ℕ) → c ≢ kind.Load a w) → AnswersFlatWord memory c
-other_word memory (kind.Load a w) other = absurd (other a w refl)
-other_word memory _ other = tt
+machine_other_word : (memory : List ℕ) (c : Kind) → ((a w : ℕ) → c ≢ kind.Load a w) → AnswersFlatWord memory c
+machine_other_word memory (kind.Load a w) other = absurd (other a w refl)
+machine_other_word memory _ other = tt
 
-pub other_call : (reply : ℕ) (c : Kind) (memory : List ℕ) → ((a w : ℕ) → c ≢ kind.Load a w) → (k : Kind)
-    → (c ≡ k) ↔ (IsStep reply (Call c) k × AnswersFlatWord memory k)
-other_call reply c memory other k = (
-  λ is. subst (λ x. IsStep reply (Call c) x × AnswersFlatWord memory x) is (refl, other_word memory c other),
-  λ h. let same = replyless_other c other in sym (told k c (h.0 ∙ same.0) same.1),
+pub machine_other_call : (reply : ℕ) (c : Kind) (memory : List ℕ) → ((a w : ℕ) → c ≢ kind.Load a w) → (k : Kind)
+    → (c ≡ k) ↔ (IsCallOfStep reply (Call c) k × AnswersFlatWord memory k)
+machine_other_call reply c memory other k = (
+  λ is. subst (λ x. IsCallOfStep reply (Call c) x × AnswersFlatWord memory x) is (refl, machine_other_word memory c other),
+  λ h. let same = machine_replyless_others c other in sym (told k c (h.0 ∙ same.0) same.1),
 )
 
 -- the store of an add is
-pub adds_call : (reply a v : ℕ) (memory : List ℕ) (k : Kind)
-    → (kind.Store a ((reply + v) % 2 ^ 32) ≡ k) ↔ (IsStep reply (Adds a v) k × AnswersFlatWord memory k)
-adds_call reply a v memory k = ((λ is. (sym is, subst (AnswersFlatWord memory) is tt)), (λ h. sym h.0))
+pub machine_adds_call : (reply a v : ℕ) (memory : List ℕ) (k : Kind)
+    → (kind.Store a ((reply + v) % 2 ^ 32) ≡ k) ↔ (IsCallOfStep reply (Adds a v) k × AnswersFlatWord memory k)
+machine_adds_call reply a v memory k = ((λ is. (sym is, subst (AnswersFlatWord memory) is tt)), (λ h. sym h.0))
 
 -- what a proper step says is in range, and no fetch
-range_replyless : (s : Sizes) (k : Kind) → KindInRange s k ↔ KindInRange s (replyless k)
-range_replyless s (kind.Load a v) = ((λ h. h), (λ h. h))
-range_replyless s _ = ((λ h. h), (λ h. h))
+machine_range_replyless : (s : Sizes) (k : Kind) → KindInRange s k ↔ KindInRange s (replyless_call k)
+machine_range_replyless s (kind.Load a v) = ((λ h. h), (λ h. h))
+machine_range_replyless s _ = ((λ h. h), (λ h. h))
 
-fetch_replyless : (k : Kind) → is_followed_fetch (replyless k) ≡ is_followed_fetch k
-fetch_replyless (kind.Load a v) = refl
-fetch_replyless _ = refl
+machine_fetch_replyless : (k : Kind) → is_followed_fetch (replyless_call k) ≡ is_followed_fetch k
+machine_fetch_replyless (kind.Load a v) = refl
+machine_fetch_replyless _ = refl
 
-pub step_range : (s : Plan) (reply : ℕ) (x : ScriptCall) (k : Kind) → IsProper s x → IsStep reply x k
+pub machine_step_range : (s : Plan) (reply : ℕ) (x : ScriptCall) (k : Kind) → IsProperMachineStep s x → IsCallOfStep reply x k
     → KindInRange (followed_plan_sizes s) k
-step_range s reply (Call c) k proper is =
-    (range_replyless (followed_plan_sizes s) k).1
-    (subst (KindInRange (followed_plan_sizes s)) (sym is) ((range_replyless (followed_plan_sizes s) c).0 proper.0))
-step_range s reply (Adds a v) k proper is = subst (KindInRange (followed_plan_sizes s)) (sym is) proper
+machine_step_range s reply (Call c) k proper is =
+    (machine_range_replyless (followed_plan_sizes s) k).1
+    (subst (KindInRange (followed_plan_sizes s)) (sym is) ((machine_range_replyless (followed_plan_sizes s) c).0 proper.0))
+machine_step_range s reply (Adds a v) k proper is = subst (KindInRange (followed_plan_sizes s)) (sym is) proper
 
-step_call : (s : Plan) (reply : ℕ) (x : ScriptCall) (k : Kind) → IsProper s x → IsStep reply x k → is_followed_fetch k ≡ false
-step_call s reply (Call c) k proper is =
-    sym (fetch_replyless k) ∙ ap is_followed_fetch is ∙ fetch_replyless c ∙ proper.1
-step_call s reply (Adds a v) k proper is = ap is_followed_fetch is
+machine_step_call : (s : Plan) (reply : ℕ) (x : ScriptCall) (k : Kind) → IsProperMachineStep s x → IsCallOfStep reply x k → is_followed_fetch k ≡ false
+machine_step_call s reply (Call c) k proper is =
+    sym (machine_fetch_replyless k) ∙ ap is_followed_fetch is ∙ machine_fetch_replyless c ∙ proper.1
+machine_step_call s reply (Adds a v) k proper is = ap is_followed_fetch is
 
 -- and its address has a word
-pub step_word : (s : Plan) (x : ScriptCall) (size : ℕ) → size ≡ plan_addresses s → IsProper s x → StepReads size x
-step_word s (Call (kind.Load a v)) size is proper = subst (λ n. a < n) (sym is) proper.0
-step_word s _ size is proper = tt
+pub machine_step_word : (s : Plan) (x : ScriptCall) (size : ℕ) → size ≡ plan_addresses s → IsProperMachineStep s x → MachineStepReads size x
+machine_step_word s (Call (kind.Load a v)) size is proper = subst (λ n. a < n) (sym is) proper.0
+machine_step_word s _ size is proper = tt
 
 -- the memory keeps its length
-pub memory_long : (s : Plan) (g : List Event) (m : FlatState) → Knows s g m → length m.memory.items ≡ plan_addresses s
-memory_long s g m knows =
+pub machine_memory_long : (s : Plan) (g : List Event) (m : FlatState) → Knows s g m → length m.memory.items ≡ plan_addresses s
+machine_memory_long s g m knows =
     ap (λ (xs : List ℕ). length xs) knows.memory
     ∙ length-written (λ (e : Event). flat_write e.kind) (replicate (plan_addresses s) 0) g
     ∙ length-replicate (plan_addresses s) 0
 
 -- the section that a row of steps is of
-pub record IsRowOf (s : Plan) (p : ℕ) (row : Vec ScriptCall) : Type 0 where
+pub record IsMachineRow (s : Plan) (p : ℕ) (row : Vec ScriptCall) : Type 0 where
   pub section : List Instruction
   pub at : slice_get s.sections p ≡ Some section
-  pub are : row.items ≡ section_steps section (shown_by s p)
+  pub are : row.items ≡ prefix_calling_section_steps section (prefix_calling_shown_by s p)
 
-pub row_steps : (s : Plan) (steps : List (Vec ScriptCall)) (p : ℕ) (row : Vec ScriptCall) → AreStepsOf s steps
-    → slice_get steps p ≡ Some row → IsRowOf s p row
-row_steps s steps p row are at =
+pub machine_row_steps : (s : Plan) (steps : List (Vec ScriptCall)) (p : ℕ) (row : Vec ScriptCall) → AreCallingSteps s steps
+    → slice_get steps p ≡ Some row → IsMachineRow s p row
+machine_row_steps s steps p row are at =
     let within = slice_get_within steps p row at in
     let long = are.long in
     let here : slice_get s.sections p ≡ Some (slice_index_or s.sections p []) =
@@ -119,57 +119,57 @@ row_steps s steps p row are at =
       are = are.each p (slice_index_or s.sections p []) row here at;
     }
 
-shown_small : (s : Plan) (p : ℕ) → IsLawful s → All (λ a. a < plan_addresses s) (shown_by s p)
-shown_small s p lawful = go (p == 0)
+machine_shown_small : (s : Plan) (p : ℕ) → IsLawful s → All (λ a. a < plan_addresses s) (prefix_calling_shown_by s p)
+machine_shown_small s p lawful = go (p == 0)
   where
     go : (b : Bool) → All (λ a. a < plan_addresses s) (cond b s.shown [])
     go true = lawful.but_uneven.shown
     go false = λ k d lt. absurd (omega arith)
 
 -- its steps are proper
-pub row_proper : (s : Plan) (p : ℕ) (row : Vec ScriptCall) (n : ℕ) (x : ScriptCall) → IsLawful s → IsRowOf s p row
-    → slice_get row.items n ≡ Some x → IsProper s x
-row_proper s p row n x lawful of at =
+pub machine_row_proper : (s : Plan) (p : ℕ) (row : Vec ScriptCall) (n : ℕ) (x : ScriptCall) → IsLawful s → IsMachineRow s p row
+    → slice_get row.items n ≡ Some x → IsProperMachineStep s x
+machine_row_proper s p row n x lawful of at =
     let section_lawful = subst (IsLawfulSection s)
     (same_Some (slice_index_or s.sections p []) of.section
     (sym (slice_get-get_or s.sections p [] (slice_get_within s.sections p of.section of.at)) ∙ of.at))
     (All-get_or (IsLawfulSection s) s.sections p [] (slice_get_within s.sections p of.section of.at)
     lawful.but_uneven.sections) in
-    proper_section s of.section (shown_by s p) section_lawful.in_range (shown_small s p lawful) x
+    proper_section s of.section (prefix_calling_shown_by s p) section_lawful.in_range (machine_shown_small s p lawful) x
     (n, subst (λ xs. slice_get xs n ≡ Some x) of.are at)
 
-module _ (s : Plan) (g : List Event) (m : FlatState) (p : ℕ) (row : Vec ScriptCall) (lawful : IsLawful s) (of : IsRowOf s p row)
+module _ (s : Plan) (g : List Event) (m : FlatState) (p : ℕ) (row : Vec ScriptCall) (lawful : IsLawful s) (of : IsMachineRow s p row)
     (small : p < 16) (knows : Knows s g m) where
-  called : (k : Kind) → IsFlatBeginning s (did g p k) → IsCalledNext row.items (followed_calls g p) k
-  called k h =
+  machine_called : (k : Kind) → IsFlatBeginning s (did g p k) → IsCalledNext row.items (followed_calls g p) k
+  machine_called k h =
       subst (λ xs. IsCalledNext xs (followed_calls g p) k) (sym of.are)
-      (((next_begins s g p k).0 h).1.calls.next of.section of.at)
+      (((beginning_next s g p k).0 h).1.calls.next of.section of.at)
 
   -- where all calls are made, there is no next one
-  pub past_steps : length row.items ≤ slice_index m.done p → (k : Kind) → ¬ IsFlatBeginning s (did g p k)
-  past_steps past k h =
-      let next = called k h in
+  pub machine_past_steps : length row.items ≤ slice_index m.done p → (k : Kind) → ¬ IsFlatBeginning s (did g p k)
+  machine_past_steps past k h =
+      let next = machine_called k h in
       let within = slice_get_within row.items (length (followed_calls g p)) next.step next.at in
       let done = knows.done p small in
       omega (arith, within, done)
 
   -- else the next step says which it may be
-  pub at_step : (reply : ℕ) → reply ≡ last_reply (followed_calls g p) → (x : ScriptCall)
+  pub machine_at_step : (reply : ℕ) → reply ≡ last_reply_of_calls (followed_calls g p) → (x : ScriptCall)
       → slice_get row.items (slice_index m.done p) ≡ Some x → (c : Kind)
-      → ((k : Kind) → (c ≡ k) ↔ (IsStep reply x k × AnswersFlatWord m.memory.items k)) → (k : Kind)
+      → ((k : Kind) → (c ≡ k) ↔ (IsCallOfStep reply x k × AnswersFlatWord m.memory.items k)) → (k : Kind)
       → IsFlatBeginning s (did g p k) ↔ (MayFollow (followed_plan_sizes s) g (event p c) × (c ≡ k))
-  at_step reply told x at c says k = (there, back)
+  machine_at_step reply told x at c says k = (there, back)
     where
       next_at : slice_get row.items (length (followed_calls g p)) ≡ Some x
       next_at = subst (λ n. slice_get row.items n ≡ Some x) (knows.done p small) at
 
       there : IsFlatBeginning s (did g p k) → MayFollow (followed_plan_sizes s) g (event p c) × (c ≡ k)
       there h =
-          let next = called k h in
-          let all = ((next_begins s g p k).0 h).1 in
+          let next = machine_called k h in
+          let all = ((beginning_next s g p k).0 h).1 in
           let same = same_Some next.step x (sym next.at ∙ next_at) in
-          let step = subst (λ y. IsStep (last_reply (followed_calls g p)) y k) same next.is in
-          let mine = subst (λ r. IsStep r x k) (sym told) step in
+          let step = subst (λ y. IsCallOfStep (last_reply_of_calls (followed_calls g p)) y k) same next.is in
+          let mine = subst (λ r. IsCallOfStep r x k) (sym told) step in
           let word = subst (λ xs. AnswersFlatWord xs k) (sym knows.memory) all.answers in
           let is = (says k).1 (mine, word) in
           (subst (λ y. MayFollow (followed_plan_sizes s) g (event p y)) (sym is) all.may_follow, is)
@@ -177,16 +177,16 @@ module _ (s : Plan) (g : List Event) (m : FlatState) (p : ℕ) (row : Vec Script
       back : MayFollow (followed_plan_sizes s) g (event p c) × (c ≡ k) → IsFlatBeginning s (did g p k)
       back h =
           let both = (says k).0 h.1 in
-          let step = subst (λ r. IsStep r x k) told both.0 in
-          (next_begins s g p k).1 (
+          let step = subst (λ r. IsCallOfStep r x k) told both.0 in
+          (beginning_next s g p k).1 (
             knows.beginning,
             record {
               may_follow = subst (λ y. MayFollow (followed_plan_sizes s) g (event p y)) h.1 h.0;
               calls = record {
-                call = step_call s (last_reply (followed_calls g p)) x k (row_proper s p row (slice_index m.done p) x lawful of at) step;
+                call = machine_step_call s (last_reply_of_calls (followed_calls g p)) x k (machine_row_proper s p row (slice_index m.done p) x lawful of at) step;
                 next = λ section here.
                     subst (λ ys. IsCalledNext ys (followed_calls g p) k)
-                    (of.are ∙ ap (λ y. section_steps y (shown_by s p)) (same_Some of.section section (sym of.at ∙ here)))
+                    (of.are ∙ ap (λ y. prefix_calling_section_steps y (prefix_calling_shown_by s p)) (same_Some of.section section (sym of.at ∙ here)))
                     (record { step = x; at = next_at; is = step });
               };
               answers = subst (λ xs. AnswersFlatWord xs k) knows.memory both.1;
@@ -194,8 +194,8 @@ module _ (s : Plan) (g : List Event) (m : FlatState) (p : ℕ) (row : Vec Script
           )
 
 -- the sizes of a lawful script
-pub sizes_small : (s : Plan) → IsLawful s → AreSmall (followed_plan_sizes s)
-sizes_small s lawful =
+pub machine_sizes_small : (s : Plan) → IsLawful s → AreSizesSmall (followed_plan_sizes s)
+machine_sizes_small s lawful =
     let sizes = lawful.but_uneven.sizes in
     record {
       processors = sizes.most_processors;
@@ -206,52 +206,52 @@ sizes_small s lawful =
     }
 
 -- its rows of steps are as many as its processors
-pub rows_many : (s : Plan) (steps : List (Vec ScriptCall)) → AreLawfulSteps s steps → s.processors ≡ length steps
-rows_many s steps steps_are =
+pub machine_rows_many : (s : Plan) (steps : List (Vec ScriptCall)) → AreLawfulMachineSteps s steps → s.processors ≡ length steps
+machine_rows_many s steps steps_are =
     let one = steps_are.lawful.but_uneven.one_each in
     let long = steps_are.are.long in
     omega arith
 
-pub rows_few : (s : Plan) (steps : List (Vec ScriptCall)) → AreLawfulSteps s steps → length steps ≤ 16
-rows_few s steps steps_are =
-    let many = rows_many s steps steps_are in
+pub machine_rows_few : (s : Plan) (steps : List (Vec ScriptCall)) → AreLawfulMachineSteps s steps → length steps ≤ 16
+machine_rows_few s steps steps_are =
+    let many = machine_rows_many s steps steps_are in
     let most = steps_are.lawful.but_uneven.sizes.most_processors in
     omega arith
 
 -- a list has an item at each place within it
-pub some_at : {A : Type 0} (xs : List A) (k : ℕ) → k < length xs → (x : A) × (slice_get xs k ≡ Some x)
-some_at [] k lt = absurd (omega arith)
-some_at (x ∷ xs) zero lt = (x, refl)
-some_at (x ∷ xs) (suc k) lt = some_at xs k (omega arith)
+pub machine_some_at : {A : Type 0} (xs : List A) (k : ℕ) → k < length xs → (x : A) × (slice_get xs k ≡ Some x)
+machine_some_at [] k lt = absurd (omega arith)
+machine_some_at (x ∷ xs) zero lt = (x, refl)
+machine_some_at (x ∷ xs) (suc k) lt = machine_some_at xs k (omega arith)
 
 -- the item that is read
-pub read_at : {A : Type 0} (xs : List A) (k : ℕ) (x : A) → k < length xs → x ≡ slice_index_or xs k x
+pub machine_read_at : {A : Type 0} (xs : List A) (k : ℕ) (x : A) → k < length xs → x ≡ slice_index_or xs k x
     → slice_get xs k ≡ Some x
-read_at xs k x lt is = slice_get-get_or xs k x lt ∙ ap Some (sym is)
+machine_read_at xs k x lt is = slice_get-get_or xs k x lt ∙ ap Some (sym is)
 
 -- an address in range is one of the memory
-pub kind_address : (s : Plan) (k : Kind) (size : ℕ) → size ≡ plan_addresses s → KindInRange (followed_plan_sizes s) k → AddressInRange size k
-kind_address s (kind.Load a v) size is range = subst (λ n. a < n) (sym is) range
-kind_address s (kind.Store a v) size is range = subst (λ n. a < n) (sym is) range
-kind_address s _ size is range = tt
+pub machine_kind_address : (s : Plan) (k : Kind) (size : ℕ) → size ≡ plan_addresses s → KindInRange (followed_plan_sizes s) k → AddressInRange size k
+machine_kind_address s (kind.Load a v) size is range = subst (λ n. a < n) (sym is) range
+machine_kind_address s (kind.Store a v) size is range = subst (λ n. a < n) (sym is) range
+machine_kind_address s _ size is range = tt
 
 module _ (s : Plan) (g : List Event) (p : ℕ) (k : Kind) (next : IsFlatBeginning s (did g p k)) where
-  pub next_may : MayFollow (followed_plan_sizes s) g (event p k)
-  next_may = ((next_begins s g p k).0 next).1.may_follow
+  pub machine_next_may : MayFollow (followed_plan_sizes s) g (event p k)
+  machine_next_may = ((beginning_next s g p k).0 next).1.may_follow
 
-  pub next_call : is_followed_fetch k ≡ false
-  next_call = ((next_begins s g p k).0 next).1.calls.call
+  pub machine_next_call : is_followed_fetch k ≡ false
+  machine_next_call = ((beginning_next s g p k).0 next).1.calls.call
 
-  pub next_within : p < s.processors
-  next_within = next_may.processor
+  pub machine_next_within : p < s.processors
+  machine_next_within = machine_next_may.processor
 
   -- what processors have done, after one call more
-  pub done_next : (ns : List ℕ) → length ns ≡ 16 → p < 16 → ((q : ℕ) → q < 16 → slice_index ns q ≡ length (followed_calls g q))
+  pub machine_done_next : (ns : List ℕ) → length ns ≡ 16 → p < 16 → ((q : ℕ) → q < 16 → slice_index ns q ≡ length (followed_calls g q))
       → (q : ℕ) → q < 16 → slice_index (slice_set ns p (slice_index ns p + 1)) q ≡ length (followed_calls (did g p k) q)
-  done_next ns long small old q lt = elim (cases_eq q p) [
+  machine_done_next ns long small old q lt = elim (cases_eq q p) [
     | inl same ↦
         (let n = slice_index ns p + 1 in
-        let mine = ap (λ (ks : List Kind). length ks) (followed_calls-own g p k next_call) in
+        let mine = ap (λ (ks : List Kind). length ks) (followed_calls-own g p k machine_next_call) in
         let both = length-append (followed_calls g p) (k ∷ []) in
         let was = old p small in
         let now : slice_index (slice_set ns p n) p ≡ n = get_or-set_same ns p n 0 (omega arith) in
@@ -263,13 +263,13 @@ module _ (s : Plan) (g : List Event) (p : ℕ) (k : Kind) (next : IsFlatBeginnin
   ]
 
   -- and the memory
-  pub memory_next : (old : List ℕ) → old ≡ memory_after (replicate (plan_addresses s) 0) g
+  pub machine_memory_next : (old : List ℕ) → old ≡ memory_after (replicate (plan_addresses s) 0) g
       → wrote old (flat_write k) ≡ memory_after (replicate (plan_addresses s) 0) (did g p k)
-  memory_next old is =
+  machine_memory_next old is =
       ap (λ words. wrote words (flat_write k)) is
       ∙ sym (written-append (λ (e : Event). flat_write e.kind) (replicate (plan_addresses s) 0) g (event p k ∷ []))
 
 -- what is no Some is None
-pub none_of : {A : Type 0} (o : Option A) → ((x : A) → o ≢ Some x) → o ≡ None
-none_of None h = refl
-none_of (Some x) h = absurd (h x refl)
+pub machine_none_of : {A : Type 0} (o : Option A) → ((x : A) → o ≢ Some x) → o ≡ None
+machine_none_of None h = refl
+machine_none_of (Some x) h = absurd (h x refl)

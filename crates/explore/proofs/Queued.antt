@@ -11,121 +11,121 @@ use Rattle.journal.specs.DidEvent.{did, event}
 use Rattle.journal.specs.Sizes.{Sizes}
 use Rattle.journal.specs.WellFormed.{LastIs, MayFollow}
 use Rattle.journal.proofs.Journals.WellFormedLast.{last_now}
-use Rattle.explore.specs.Waiting.{AreAsked, AreAskedAfter, AsksAt, unqueued}
+use Rattle.explore.specs.Waiting.{AreAskedWaiting, WaitingAskedAfter, WaitingAsksAt, waiting_unqueued}
 use Rattle.explore.proofs.Asked.{asks_acquires, asks_fresh, asks_old, asks_other, asks_own}
 
 -- p is one of these
-pub has_single : (p q : ℕ) → Has (p ∷ []) q → p ≡ q
-has_single p q has = elim ((has-cons p [] q).0 has) [ inl is ↦ is | inr none ↦ absurd (has-nil q none) ]
+pub queued_single : (p q : ℕ) → Has (p ∷ []) q → p ≡ q
+queued_single p q has = elim ((has-cons p [] q).0 has) [ inl is ↦ is | inr none ↦ absurd (has-nil q none) ]
 
 -- a after b by the places of their asks
-abbrev pub AskedBefore : List Event → ℕ → ℕ → Type 0
-AskedBefore j p q = (i k : ℕ) → AsksAt j p i → AsksAt j q k → i < k
+abbrev pub QueuedBefore : List Event → ℕ → ℕ → Type 0
+QueuedBefore j p q = (i k : ℕ) → WaitingAsksAt j p i → WaitingAsksAt j q k → i < k
 
 -- asks that are the same as before are in the same order
-order_same : (j h : List Event) (asked : List ℕ)
-    → ((q i : ℕ) → Has asked q → AsksAt h q i → AsksAt j q i) → InOrder (AskedBefore j) asked
-    → InOrder (AskedBefore h) asked
-order_same j h asked back order x y a b lt at_a at_b i k asks_a asks_b =
+queued_order_same : (j h : List Event) (asked : List ℕ)
+    → ((q i : ℕ) → Has asked q → WaitingAsksAt h q i → WaitingAsksAt j q i) → InOrder (QueuedBefore j) asked
+    → InOrder (QueuedBefore h) asked
+queued_order_same j h asked back order x y a b lt at_a at_b i k asks_a asks_b =
     order x y a b lt at_a at_b i k (back a i (x, at_a) asks_a) (back b k (y, at_b) asks_b)
 
 module _ (s : Sizes) (j : List Event) (p : ℕ) (k : Kind) (asked : List ℕ) (may : MayFollow s j (event p k))
-    (old : AreAsked j asked) where
+    (old : AreAskedWaiting j asked) where
   -- where p doesn't ask, no ask is new
-  no_new : ((l : ℕ) → k ≢ Ask l) → (q i : ℕ) → AsksAt (did j p k) q i → AsksAt j q i
-  no_new other q i asks = elim (cases_eq p q) [
+  queued_none_new : ((l : ℕ) → k ≢ Ask l) → (q i : ℕ) → WaitingAsksAt (did j p k) q i → WaitingAsksAt j q i
+  queued_none_new other q i asks = elim (cases_eq p q) [
     | inl is ↦
-        (let mine = asks_own j p i k (subst (λ r. AsksAt (did j p k) r i) (sym is) asks) in
+        (let mine = asks_own j p i k (subst (λ r. WaitingAsksAt (did j p k) r i) (sym is) asks) in
         absurd (other mine.1.0 mine.1.1))
     | inr isnt ↦ (asks_other j p q i k isnt).1 asks
   ]
 
   -- nor does one end, where p doesn't acquire
-  none_ends : ((l : ℕ) → k ≢ Acquire l) → (q i : ℕ) → AsksAt j q i → AsksAt (did j p k) q i
-  none_ends other q i asks = elim (cases_eq p q) [
+  queued_none_ends : ((l : ℕ) → k ≢ Acquire l) → (q i : ℕ) → WaitingAsksAt j q i → WaitingAsksAt (did j p k) q i
+  queued_none_ends other q i asks = elim (cases_eq p q) [
     | inl is ↦
-        (let ends = asks_acquires s j p k may i (subst (λ r. AsksAt j r i) (sym is) asks) in
+        (let ends = asks_acquires s j p k may i (subst (λ r. WaitingAsksAt j r i) (sym is) asks) in
         absurd (other ends.0 ends.1))
     | inr isnt ↦ (asks_other j p q i k isnt).0 asks
   ]
 
-  pub asked_kept : ((l : ℕ) → k ≢ Ask l) → ((l : ℕ) → k ≢ Acquire l) → AreAsked (did j p k) asked
-  asked_kept no_ask no_acquire = record {
+  pub queued_kept : ((l : ℕ) → k ≢ Ask l) → ((l : ℕ) → k ≢ Acquire l) → AreAskedWaiting (did j p k) asked
+  queued_kept no_ask no_acquire = record {
     each = λ q. (
-      λ has. let asks = (old.each q).0 has in (asks.0, none_ends no_acquire q asks.0 asks.1),
-      λ asks. (old.each q).1 (asks.0, no_new no_ask q asks.0 asks.1),
+      λ has. let asks = (old.each q).0 has in (asks.0, queued_none_ends no_acquire q asks.0 asks.1),
+      λ asks. (old.each q).1 (asks.0, queued_none_new no_ask q asks.0 asks.1),
     );
-    order = order_same j (did j p k) asked (λ q i has. no_new no_ask q i) old.order;
+    order = queued_order_same j (did j p k) asked (λ q i has. queued_none_new no_ask q i) old.order;
     small = old.small;
   }
 
   -- p didn't ask before
-  pub asked_more : (l : ℕ) → k ≡ Ask l → p < 16 → AreAsked (did j p k) (asked ++ p ∷ [])
-  asked_more l is small = record {
+  pub queued_more : (l : ℕ) → k ≡ Ask l → p < 16 → AreAskedWaiting (did j p k) (asked ++ p ∷ [])
+  queued_more l is small = record {
     each = λ q. (there q, back q);
     order =
-        in_order-append (AskedBefore (did j p k)) asked (p ∷ [])
-        (order_same j (did j p k) asked (λ q i has. was q i has) old.order)
-        (joined_in_order_single (AskedBefore (did j p k)) p) across;
+        in_order-append (QueuedBefore (did j p k)) asked (p ∷ [])
+        (queued_order_same j (did j p k) asked (λ q i has. was q i has) old.order)
+        (joined_in_order_single (QueuedBefore (did j p k)) p) across;
     small = λ q has. elim ((has-append asked (p ∷ []) q).0 has) [
       | inl before ↦ old.small q before
-      | inr now ↦ subst (λ r. r < 16) (has_single p q now) small
+      | inr now ↦ subst (λ r. r < 16) (queued_single p q now) small
     ];
   }
     where
       apart : (q : ℕ) → Has asked q → p ≢ q
       apart q has same =
           let asks = (old.each q).0 has in
-          asks_fresh s j p k may l asks.0 is (subst (λ r. AsksAt j r asks.0) (sym same) asks.1)
+          asks_fresh s j p k may l asks.0 is (subst (λ r. WaitingAsksAt j r asks.0) (sym same) asks.1)
 
-      was : (q i : ℕ) → Has asked q → AsksAt (did j p k) q i → AsksAt j q i
+      was : (q i : ℕ) → Has asked q → WaitingAsksAt (did j p k) q i → WaitingAsksAt j q i
       was q i has = (asks_other j p q i k (apart q has)).1
 
-      mine : AsksAt (did j p k) p (length j)
+      mine : WaitingAsksAt (did j p k) p (length j)
       mine = (l, subst (LastIs (did j p k) p (length j)) is (last_now j (event p k)))
 
-      there : (q : ℕ) → Has (asked ++ p ∷ []) q → (i : ℕ) × AsksAt (did j p k) q i
+      there : (q : ℕ) → Has (asked ++ p ∷ []) q → (i : ℕ) × WaitingAsksAt (did j p k) q i
       there q has = elim ((has-append asked (p ∷ []) q).0 has) [
         | inl before ↦
             (let asks = (old.each q).0 before in (asks.0, (asks_other j p q asks.0 k (apart q before)).0 asks.1))
-        | inr now ↦ (length j, subst (λ r. AsksAt (did j p k) r (length j)) (has_single p q now) mine)
+        | inr now ↦ (length j, subst (λ r. WaitingAsksAt (did j p k) r (length j)) (queued_single p q now) mine)
       ]
 
-      back : (q : ℕ) → (i : ℕ) × AsksAt (did j p k) q i → Has (asked ++ p ∷ []) q
+      back : (q : ℕ) → (i : ℕ) × WaitingAsksAt (did j p k) q i → Has (asked ++ p ∷ []) q
       back q asks = (has-append asked (p ∷ []) q).1 (elim (cases_eq p q) [
         | inl same ↦ inr ((has-cons p [] q).1 (inl same))
         | inr isnt ↦ inl ((old.each q).1 (asks.0, (asks_other j p q asks.0 k isnt).1 asks.1))
       ])
 
-      across : (a b : ℕ) → Has asked a → Has (p ∷ []) b → AskedBefore (did j p k) a b
+      across : (a b : ℕ) → Has asked a → Has (p ∷ []) b → QueuedBefore (did j p k) a b
       across a b has one i m asks_a asks_b =
           let before = asks_old j a i (was a i has asks_a) in
-          let now = asks_own j p m k (subst (λ r. AsksAt (did j p k) r m) (sym (has_single p b one)) asks_b) in
+          let now = asks_own j p m k (subst (λ r. WaitingAsksAt (did j p k) r m) (sym (queued_single p b one)) asks_b) in
           omega (arith, before, now.0)
 
-  pub asked_less : (l : ℕ) → k ≡ Acquire l → AreAsked (did j p k) (unqueued asked p)
-  asked_less l is = record {
+  pub queued_less : (l : ℕ) → k ≡ Acquire l → AreAskedWaiting (did j p k) (waiting_unqueued asked p)
+  queued_less l is = record {
     each = λ q. (there q, back q);
     order =
-        in_order-filter (AskedBefore (did j p k)) (λ q. not (q == p)) asked
-        (order_same j (did j p k) asked (λ q i has. no_new no_ask q i) old.order);
+        in_order-filter (QueuedBefore (did j p k)) (λ q. not (q == p)) asked
+        (queued_order_same j (did j p k) asked (λ q i has. queued_none_new no_ask q i) old.order);
     small = λ q has. old.small q ((has-filter (λ r. not (r == p)) asked q).0 has).0;
   }
     where
       no_ask : (m : ℕ) → k ≢ Ask m
       no_ask m same = let both = sym is ∙ same in absurd cc
 
-      there : (q : ℕ) → Has (unqueued asked p) q → (i : ℕ) × AsksAt (did j p k) q i
+      there : (q : ℕ) → Has (waiting_unqueued asked p) q → (i : ℕ) × WaitingAsksAt (did j p k) q i
       there q has =
           let r = (has-filter (λ r. not (r == p)) asked q).0 has in
           let asks = (old.each q).0 r.0 in
           let isnt : p ≢ q = λ same. false≢true (ap not (sym (eq-eqb q p (sym same))) ∙ r.1) in
           (asks.0, (asks_other j p q asks.0 k isnt).0 asks.1)
 
-      back : (q : ℕ) → (i : ℕ) × AsksAt (did j p k) q i → Has (unqueued asked p) q
+      back : (q : ℕ) → (i : ℕ) × WaitingAsksAt (did j p k) q i → Has (waiting_unqueued asked p) q
       back q asks = elim (cases_eq p q) [
         | inl same ↦
-            (let mine = asks_own j p asks.0 k (subst (λ r. AsksAt (did j p k) r asks.0) (sym same) asks.1) in
+            (let mine = asks_own j p asks.0 k (subst (λ r. WaitingAsksAt (did j p k) r asks.0) (sym same) asks.1) in
             absurd (no_ask mine.1.0 mine.1.1))
         | inr isnt ↦
             (has-filter (λ r. not (r == p)) asked q).1 (
@@ -134,11 +134,11 @@ module _ (s : Sizes) (j : List Event) (p : ℕ) (k : Kind) (asked : List ℕ) (m
             )
       ]
 
-pub asked_next : (s : Sizes) (j : List Event) (p : ℕ) (k : Kind) (asked new : List ℕ) → MayFollow s j (event p k)
-    → p < 16 → AreAsked j asked → AreAskedAfter asked new p k → AreAsked (did j p k) new
-asked_next s j p (Ask l) asked new may small old is =
-    subst (AreAsked (did j p (Ask l))) (sym is) (asked_more s j p (Ask l) asked may old l refl small)
-asked_next s j p (Acquire l) asked new may small old is =
-    subst (AreAsked (did j p (Acquire l))) (sym is) (asked_less s j p (Acquire l) asked may old l refl)
-asked_next s j p k asked new may small old is =
-    subst (AreAsked (did j p k)) (sym is) (asked_kept s j p k asked may old (λ l same. absurd cc) (λ l same. absurd cc))
+pub queued_next : (s : Sizes) (j : List Event) (p : ℕ) (k : Kind) (asked new : List ℕ) → MayFollow s j (event p k)
+    → p < 16 → AreAskedWaiting j asked → WaitingAskedAfter asked new p k → AreAskedWaiting (did j p k) new
+queued_next s j p (Ask l) asked new may small old is =
+    subst (AreAskedWaiting (did j p (Ask l))) (sym is) (queued_more s j p (Ask l) asked may old l refl small)
+queued_next s j p (Acquire l) asked new may small old is =
+    subst (AreAskedWaiting (did j p (Acquire l))) (sym is) (queued_less s j p (Acquire l) asked may old l refl)
+queued_next s j p k asked new may small old is =
+    subst (AreAskedWaiting (did j p k)) (sym is) (queued_kept s j p k asked may old (λ l same. absurd cc) (λ l same. absurd cc))

@@ -14,88 +14,88 @@ use Rattle.journal.specs.DidEvent.{did}
 use Rattle.lrc_script.specs.Plan.{Plan}
 use Rattle.conformance.specs.Follows.{followed_calls, is_followed_fetch}
 use Rattle.conformance.proofs.Calls.{followed_calls-own, followed_calls-others}
-use Rattle.explore.specs.Prefixes.Calling.{last_reply, reply_after}
-use Rattle.explore.specs.Machines.{items_of, last_or}
-use Rattle.explore.specs.Outcomes.{AreReplies, replies_in}
+use Rattle.explore.specs.Prefixes.Calling.{last_reply_of_calls, reply_after_call}
+use Rattle.explore.specs.Machines.{machine_rows, machine_last_or}
+use Rattle.explore.specs.Outcomes.{AreOutcomeReplies, outcome_replies_in}
 
 -- replies of calls that are put together
-replies_in-append : (xs ys : List Kind) → replies_in (xs ++ ys) ≡ replies_in xs ++ replies_in ys
-replies_in-append [] ys = refl
-replies_in-append (kind.Load a v ∷ xs) ys = ap (λ words. v ∷ words) (replies_in-append xs ys)
-replies_in-append (k ∷ xs) ys = replies_in-append xs ys
+outcome_replies_in-append : (xs ys : List Kind) → outcome_replies_in (xs ++ ys) ≡ outcome_replies_in xs ++ outcome_replies_in ys
+outcome_replies_in-append [] ys = refl
+outcome_replies_in-append (kind.Load a v ∷ xs) ys = ap (λ words. v ∷ words) (outcome_replies_in-append xs ys)
+outcome_replies_in-append (k ∷ xs) ys = outcome_replies_in-append xs ys
 
 -- the reply that was given last is the last one
-last_reply_from : (reply : ℕ) (kinds : List Kind) → last_or reply (replies_in kinds) ≡ fold reply_after reply kinds
-last_reply_from reply [] = refl
-last_reply_from reply (kind.Load a v ∷ kinds) = last_reply_from v kinds
-last_reply_from reply (k ∷ kinds) = last_reply_from reply kinds
+last_of_replies_from : (reply : ℕ) (kinds : List Kind) → machine_last_or reply (outcome_replies_in kinds) ≡ fold reply_after_call reply kinds
+last_of_replies_from reply [] = refl
+last_of_replies_from reply (kind.Load a v ∷ kinds) = last_of_replies_from v kinds
+last_of_replies_from reply (k ∷ kinds) = last_of_replies_from reply kinds
 
-last_at : (word : ℕ) (words : List ℕ) → slice_get (word ∷ words) (length words) ≡ Some (last_or word words)
-last_at word [] = refl
-last_at word (w ∷ words) = last_at w words
+last_at_replies : (word : ℕ) (words : List ℕ) → slice_get (word ∷ words) (length words) ≡ Some (machine_last_or word words)
+last_at_replies word [] = refl
+last_at_replies word (w ∷ words) = last_at_replies w words
 
-pub last_some : (word : ℕ) (words : List ℕ) (w : ℕ) → slice_get words (length words - 1) ≡ Some w
-    → w ≡ last_or word words
-last_some word [] w at = absurd (none-some w at)
-last_some word (x ∷ words) w at =
+pub replies_last_some : (word : ℕ) (words : List ℕ) (w : ℕ) → slice_get words (length words - 1) ≡ Some w
+    → w ≡ machine_last_or word words
+replies_last_some word [] w at = absurd (none-some w at)
+replies_last_some word (x ∷ words) w at =
     let e : suc (length words) - 1 ≡ length words = omega arith in
     let here = subst (λ n. slice_get (x ∷ words) n ≡ Some w) e at in
-    same_Some w (last_or x words) (sym here ∙ last_at x words)
+    same_Some w (machine_last_or x words) (sym here ∙ last_at_replies x words)
 
-pub last_none : (word : ℕ) (words : List ℕ) → slice_get words (length words - 1) ≡ None → word ≡ last_or word words
-last_none word [] at = refl
-last_none word (x ∷ words) at =
+pub replies_last_none : (word : ℕ) (words : List ℕ) → slice_get words (length words - 1) ≡ None → word ≡ machine_last_or word words
+replies_last_none word [] at = refl
+replies_last_none word (x ∷ words) at =
     let e : suc (length words) - 1 ≡ length words = omega arith in
     let here = subst (λ n. slice_get (x ∷ words) n ≡ None) e at in
-    absurd (none-some (last_or x words) (sym here ∙ last_at x words))
+    absurd (none-some (machine_last_or x words) (sym here ∙ last_at_replies x words))
 
 -- a row of these
-pub items_at : (vs : List (Vec ℕ)) (p : ℕ) (v : Vec ℕ) → slice_get vs p ≡ Some v → slice_get (items_of vs) p ≡ Some v.items
-items_at vs p v at = slice_get-map (λ (v : Vec ℕ). v.items) vs p ∙ ap (option_map (λ (v : Vec ℕ). v.items)) at
+pub replies_row_at : (vs : List (Vec ℕ)) (p : ℕ) (v : Vec ℕ) → slice_get vs p ≡ Some v → slice_get (machine_rows vs) p ≡ Some v.items
+replies_row_at vs p v at = slice_get-map (λ (v : Vec ℕ). v.items) vs p ∙ ap (option_map (λ (v : Vec ℕ). v.items)) at
 
-items_set : (vs : List (Vec ℕ)) (p : ℕ) (v : Vec ℕ) → items_of (slice_set vs p v) ≡ slice_set (items_of vs) p v.items
-items_set [] p v = refl
-items_set (x ∷ vs) zero v = refl
-items_set (x ∷ vs) (suc p) v = ap (λ rows. x.items ∷ rows) (items_set vs p v)
+replies_row_set : (vs : List (Vec ℕ)) (p : ℕ) (v : Vec ℕ) → machine_rows (slice_set vs p v) ≡ slice_set (machine_rows vs) p v.items
+replies_row_set [] p v = refl
+replies_row_set (x ∷ vs) zero v = refl
+replies_row_set (x ∷ vs) (suc p) v = ap (λ rows. x.items ∷ rows) (replies_row_set vs p v)
 
-pub length-items_of : (vs : List (Vec ℕ)) → length (items_of vs) ≡ length vs
-length-items_of [] = refl
-length-items_of (v ∷ vs) = ap suc (length-items_of vs)
+pub length-machine_rows : (vs : List (Vec ℕ)) → length (machine_rows vs) ≡ length vs
+length-machine_rows [] = refl
+length-machine_rows (v ∷ vs) = ap suc (length-machine_rows vs)
 
-pub items_push : (vs : List (Vec ℕ)) (v : Vec ℕ) → items_of (vs ++ v ∷ []) ≡ items_of vs ++ v.items ∷ []
-items_push [] v = refl
-items_push (x ∷ vs) v = ap (λ rows. x.items ∷ rows) (items_push vs v)
+pub replies_row_push : (vs : List (Vec ℕ)) (v : Vec ℕ) → machine_rows (vs ++ v ∷ []) ≡ machine_rows vs ++ v.items ∷ []
+replies_row_push [] v = refl
+replies_row_push (x ∷ vs) v = ap (λ rows. x.items ∷ rows) (replies_row_push vs v)
 
 module _ (s : Plan) (g : List Event) (p : ℕ) (vs : List (Vec ℕ)) (v : Vec ℕ) (within : p < s.processors)
-    (at : slice_get vs p ≡ Some v) (old : AreReplies s g (items_of vs)) where
+    (at : slice_get vs p ≡ Some v) (old : AreOutcomeReplies s g (machine_rows vs)) where
   -- the row of a processor has its replies
-  pub row_replies : v.items ≡ replies_in (followed_calls g p)
-  row_replies = same_Some v.items (replies_in (followed_calls g p)) (sym (items_at vs p v at) ∙ old.each p within)
+  pub row_replies : v.items ≡ outcome_replies_in (followed_calls g p)
+  row_replies = same_Some v.items (outcome_replies_in (followed_calls g p)) (sym (replies_row_at vs p v at) ∙ old.each p within)
 
-  pub last_told : (reply : ℕ) → reply ≡ last_or 0 v.items → reply ≡ last_reply (followed_calls g p)
-  last_told reply is = is ∙ ap (last_or 0) row_replies ∙ last_reply_from 0 (followed_calls g p)
+  pub replies_last_told : (reply : ℕ) → reply ≡ machine_last_or 0 v.items → reply ≡ last_reply_of_calls (followed_calls g p)
+  replies_last_told reply is = is ∙ ap (machine_last_or 0) row_replies ∙ last_of_replies_from 0 (followed_calls g p)
 
   -- and after its next call
-  pub replies_next : (k : Kind) (new : Vec ℕ) → is_followed_fetch k ≡ false → new.items ≡ v.items ++ replies_in (k ∷ [])
-      → AreReplies s (did g p k) (items_of (slice_set vs p new))
-  replies_next k new call is = subst (AreReplies s (did g p k)) (sym (items_set vs p new)) (record {
-    long = length-set (items_of vs) p new.items ∙ old.long;
+  pub replies_next : (k : Kind) (new : Vec ℕ) → is_followed_fetch k ≡ false → new.items ≡ v.items ++ outcome_replies_in (k ∷ [])
+      → AreOutcomeReplies s (did g p k) (machine_rows (slice_set vs p new))
+  replies_next k new call is = subst (AreOutcomeReplies s (did g p k)) (sym (replies_row_set vs p new)) (record {
+    long = length-set (machine_rows vs) p new.items ∙ old.long;
     each = λ q lt. elim (cases_eq q p) [
       | inl same ↦
-          subst (λ r. slice_get (slice_set (items_of vs) p new.items) r ≡ Some (replies_in (followed_calls (did g p k) r)))
+          subst (λ r. slice_get (slice_set (machine_rows vs) p new.items) r ≡ Some (outcome_replies_in (followed_calls (did g p k) r)))
           (sym same) mine
       | inr isnt ↦
-          slice_get-set_other (items_of vs) p q new.items isnt ∙ old.each q lt
-          ∙ ap (λ ks. Some (replies_in ks)) (sym (followed_calls-others g p q k (λ e. isnt (sym e))))
+          slice_get-set_other (machine_rows vs) p q new.items isnt ∙ old.each q lt
+          ∙ ap (λ ks. Some (outcome_replies_in ks)) (sym (followed_calls-others g p q k (λ e. isnt (sym e))))
     ];
   })
     where
-      told : new.items ≡ replies_in (followed_calls (did g p k) p)
+      told : new.items ≡ outcome_replies_in (followed_calls (did g p k) p)
       told =
-          is ∙ ap (λ words. words ++ replies_in (k ∷ [])) row_replies
-          ∙ sym (replies_in-append (followed_calls g p) (k ∷ [])) ∙ ap replies_in (sym (followed_calls-own g p k call))
+          is ∙ ap (λ words. words ++ outcome_replies_in (k ∷ [])) row_replies
+          ∙ sym (outcome_replies_in-append (followed_calls g p) (k ∷ [])) ∙ ap outcome_replies_in (sym (followed_calls-own g p k call))
 
-      mine : slice_get (slice_set (items_of vs) p new.items) p ≡ Some (replies_in (followed_calls (did g p k) p))
+      mine : slice_get (slice_set (machine_rows vs) p new.items) p ≡ Some (outcome_replies_in (followed_calls (did g p k) p))
       mine =
-          slice_get-set_same (items_of vs) p new.items (slice_get_within (items_of vs) p v.items (items_at vs p v at))
+          slice_get-set_same (machine_rows vs) p new.items (slice_get_within (machine_rows vs) p v.items (replies_row_at vs p v at))
           ∙ ap Some told

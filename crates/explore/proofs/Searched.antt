@@ -16,9 +16,9 @@ use Rattle.journal.specs.DidEvent.{did}
 use Rattle.lrc_script.specs.Plan.{Plan}
 use Rattle.conformance.specs.Follows.{Follows}
 use Rattle.explore.specs.declared.prefixes.script_call.ScriptCall.{ScriptCall}
-use Rattle.explore.specs.Prefixes.Beginnings.{IsFlatBeginning, IsHang}
-use Rattle.explore.specs.Prefixes.Laws.{HasNoNeighbours}
-use Rattle.explore.proofs.prefixes.Beginnings.{next_begins}
+use Rattle.explore.specs.Prefixes.Beginnings.{IsFlatBeginning, IsHangingBeginning}
+use Rattle.explore.specs.Prefixes.Laws.{NoNeighboursByLaw}
+use Rattle.explore.proofs.prefixes.Beginnings.{beginning_next}
 use Rattle.explore.specs.declared.flat_state.FlatState.{FlatState}
 use Rattle.explore.specs.declared.neighbours.Neighbours.{Neighbours}
 use Rattle.explore.specs.declared.search.Search.{Search}
@@ -26,29 +26,29 @@ use Rattle.explore.specs.declared.explored.Hanging.{Hanging}
 use Rattle.explore.specs.declared.explored.Hanging.TheVariants as hanging
 use Rattle.explore.specs.declared.explored.Verdict.{Verdict}
 use Rattle.explore.specs.declared.explored.Verdict.TheVariants as verdict
-use Rattle.explore.specs.Explored.{AreAllOutcomes, AreOutcomes, outcome_replies, settles}
+use Rattle.explore.specs.Explored.{AreAllOutcomesExplored, AreExploredOutcomes, explored_outcome, explored_settles}
 use Rattle.explore.specs.Followed.{AreFollowed}
 use Rattle.explore.specs.Free.{IsChoice}
-use Rattle.explore.specs.Found.{AreFound, IsKnown, Keeps, states_of}
-use Rattle.explore.specs.Machines.{AreLawfulSteps, Knows, items_of}
+use Rattle.explore.specs.Found.{AreFound, IsFoundState, KeepsFound, states_found}
+use Rattle.explore.specs.Machines.{AreLawfulMachineSteps, Knows, machine_rows}
 use Rattle.explore.specs.Nexts.{AreNexts, AreNextInConflict}
-use Rattle.explore.specs.Outcomes.{AreReplies}
-use Rattle.explore.specs.Searched.{AreOutcomesShown, Hangs, IsAmong, IsFollowedFree, IsFollowedWhole, IsReduced, OutcomesNoted, IsOpenHanging, IsOpenVerdict, IsQuiet, VisitedUpTo, IsShownBy, HasUnvisited, MayNote, NoneHangs}
-use Rattle.explore.proofs.Followed.{known_kept}
-use Rattle.explore.proofs.Machines.{some_at}
-use Rattle.explore.proofs.reduced.Ends.{MayConflict, ShowsThis, conflict_lasts, follows_ends, hang_lasts, shows_last}
-use Rattle.explore.proofs.reduced.Reaching.{FollowsAll, FollowsOne, reached}
+use Rattle.explore.specs.Outcomes.{AreOutcomeReplies}
+use Rattle.explore.specs.Searched.{AreSearchOutcomesShown, HangsSearched, IsAmongSearched, SearchFollowsFree, SearchFollowsWhole, IsSearchReduced, SearchOutcomesNoted, IsSearchHangingOpen, IsSearchVerdictOpen, IsSearchQuiet, SearchedUpTo, IsShownBySearch, HasMoreToSearch, SearchMayNote, NoneSearchedHangs}
+use Rattle.explore.proofs.Followed.{followed_known_kept}
+use Rattle.explore.proofs.Machines.{machine_some_at}
+use Rattle.explore.proofs.reduced.Ends.{EndsInConflict, EndsShowing, reduced_ends_conflict_lasts, follows_ends, reduced_ends_hang_lasts, reduced_ends_shows_last}
+use Rattle.explore.proofs.reduced.Reaching.{ReachingFollowsAll, ReachingFollowsOne, reached}
 
 -- a state of the first ones was there before
-pub was_at : (old new : List FlatState) (place : ℕ) (m : FlatState) → Keeps old new → place < length old
+pub search_was_at : (old new : List FlatState) (place : ℕ) (m : FlatState) → KeepsFound old new → place < length old
     → slice_get new place ≡ Some m → slice_get old place ≡ Some m
-was_at old new place m keeps lt at =
-    let f = some_at old place lt in
+search_was_at old new place m keeps lt at =
+    let f = machine_some_at old place lt in
     subst (λ z. slice_get old place ≡ Some z) (same_Some f.0 m (sym (keeps place f.0 f.1) ∙ at)) f.1
 
-module _ (s : Plan) (old new : List FlatState) (n : ℕ) (keeps : Keeps old new) (within : n ≤ length old) where
-  shown_kept : (replies : List (List ℕ)) → IsShownBy s old n replies ↔ IsShownBy s new n replies
-  shown_kept replies = (
+module _ (s : Plan) (old new : List FlatState) (n : ℕ) (keeps : KeepsFound old new) (within : n ≤ length old) where
+  search_shown_kept : (replies : List (List ℕ)) → IsShownBySearch s old n replies ↔ IsShownBySearch s new n replies
+  search_shown_kept replies = (
     λ x. record {
       place = x.place;
       within = x.within;
@@ -63,7 +63,7 @@ module _ (s : Plan) (old new : List FlatState) (n : ℕ) (keeps : Keeps old new)
       place = x.place;
       within = x.within;
       state = x.state;
-      at = (let lt = x.within in was_at old new x.place x.state keeps (omega arith) x.at);
+      at = (let lt = x.within in search_was_at old new x.place x.state keeps (omega arith) x.at);
       events = x.events;
       knows = x.knows;
       follows = x.follows;
@@ -71,64 +71,64 @@ module _ (s : Plan) (old new : List FlatState) (n : ℕ) (keeps : Keeps old new)
     },
   )
 
-  hangs_kept : (o : Option ℕ) → MatchOption o (NoneHangs s old n) (Hangs s old)
-      → MatchOption o (NoneHangs s new n) (Hangs s new)
-  hangs_kept None h = λ place m g lt at knows. h place m g lt (was_at old new place m keeps (omega arith) at) knows
-  hangs_kept (Some place) h = record {
+  search_hangs_kept : (o : Option ℕ) → MatchOption o (NoneSearchedHangs s old n) (HangsSearched s old)
+      → MatchOption o (NoneSearchedHangs s new n) (HangsSearched s new)
+  search_hangs_kept None h = λ place m g lt at knows. h place m g lt (search_was_at old new place m keeps (omega arith) at) knows
+  search_hangs_kept (Some place) h = record {
     within = (
-        let f = some_at old place h.within in slice_get_within new place f.0 (keeps place f.0 f.1));
-    hangs = λ m g at knows. h.hangs m g (was_at old new place m keeps h.within at) knows;
+        let f = machine_some_at old place h.within in slice_get_within new place f.0 (keeps place f.0 f.1));
+    hangs = λ m g at knows. h.hangs m g (search_was_at old new place m keeps h.within at) knows;
   }
 
-  pub noted_kept : (x y : Search) → states_of x.found ≡ old → states_of y.found ≡ new → y.outcomes.keys ≡ x.outcomes.keys
-      → y.hang ≡ x.hang → OutcomesNoted s x n → OutcomesNoted s y n
-  noted_kept x y is_old is_new outcomes hang noted =
-      let shows = subst (λ ms. AreOutcomesShown s ms n (map outcome_replies x.outcomes.keys)) is_old noted.shown in
-      let hung = subst (λ ms. MatchOption x.hang (NoneHangs s ms n) (Hangs s ms)) is_old noted.hang in
+  pub search_noted_kept : (x y : Search) → states_found x.found ≡ old → states_found y.found ≡ new → y.outcomes.keys ≡ x.outcomes.keys
+      → y.hang ≡ x.hang → SearchOutcomesNoted s x n → SearchOutcomesNoted s y n
+  search_noted_kept x y is_old is_new outcomes hang noted =
+      let shows = subst (λ ms. AreSearchOutcomesShown s ms n (map explored_outcome x.outcomes.keys)) is_old noted.shown in
+      let search_hung = subst (λ ms. MatchOption x.hang (NoneSearchedHangs s ms n) (HangsSearched s ms)) is_old noted.hang in
       record {
         shown =
-            subst (λ ms. AreOutcomesShown s ms n (map outcome_replies y.outcomes.keys)) (sym is_new)
-            (subst (λ ks. AreOutcomesShown s new n (map outcome_replies ks)) (sym outcomes) (record {
+            subst (λ ms. AreSearchOutcomesShown s ms n (map explored_outcome y.outcomes.keys)) (sym is_new)
+            (subst (λ ks. AreSearchOutcomesShown s new n (map explored_outcome ks)) (sym outcomes) (record {
               each = λ replies. (
-                λ has. (shown_kept replies).0 ((shows.each replies).0 has),
-                λ by. (shows.each replies).1 ((shown_kept replies).1 by),
+                λ has. (search_shown_kept replies).0 ((shows.each replies).0 has),
+                λ by. (shows.each replies).1 ((search_shown_kept replies).1 by),
               );
               once = shows.once;
             }));
         hang =
-            subst (λ ms. MatchOption y.hang (NoneHangs s ms n) (Hangs s ms)) (sym is_new)
-            (subst (λ o. MatchOption o (NoneHangs s new n) (Hangs s new)) (sym hang) (hangs_kept x.hang hung));
+            subst (λ ms. MatchOption y.hang (NoneSearchedHangs s ms n) (HangsSearched s ms)) (sym is_new)
+            (subst (λ o. MatchOption o (NoneSearchedHangs s new n) (HangsSearched s new)) (sym hang) (search_hangs_kept x.hang search_hung));
       }
 
-  reduced_kept : (rows : List (Vec ScriptCall)) → IsReduced s rows old n → IsReduced s rows new n
-  reduced_kept rows reduced place m lt at = elim (reduced place m lt (was_at old new place m keeps (omega arith) at)) [
-    | inl whole ↦ inl (λ g p k knows next. known_kept s old new (did g p k) keeps (whole g p k knows next))
+  search_reduced_kept : (rows : List (Vec ScriptCall)) → IsSearchReduced s rows old n → IsSearchReduced s rows new n
+  search_reduced_kept rows reduced place m lt at = elim (reduced place m lt (search_was_at old new place m keeps (omega arith) at)) [
+    | inl whole ↦ inl (λ g p k knows next. followed_known_kept s old new (did g p k) keeps (whole g p k knows next))
     | inr one ↦ inr (record {
       processor = one.processor;
       kind = one.kind;
       free = one.free;
       next = one.next;
-      known = λ g knows. known_kept s old new (did g one.processor one.kind) keeps (one.known g knows);
+      known = λ g knows. followed_known_kept s old new (did g one.processor one.kind) keeps (one.known g knows);
     })
   ]
 
-  quiet_kept : IsQuiet s old n → IsQuiet s new n
-  quiet_kept quiet place m g p q a b lt at knows = quiet place m g p q a b lt (was_at old new place m keeps (omega arith) at) knows
+  search_quiet_kept : IsSearchQuiet s old n → IsSearchQuiet s new n
+  search_quiet_kept quiet place m g p q a b lt at knows = quiet place m g p q a b lt (search_was_at old new place m keeps (omega arith) at) knows
 
 -- before the first state is looked at
-pub begun : (s : Plan) (x : Search) (rows : List (Vec ScriptCall)) → AreFound s x.found → x.outcomes.keys ≡ []
-    → x.hang ≡ None → VisitedUpTo s x rows 0
-begun s x rows found outcomes hang = record {
+pub search_begun : (s : Plan) (x : Search) (rows : List (Vec ScriptCall)) → AreFound s x.found → x.outcomes.keys ≡ []
+    → x.hang ≡ None → SearchedUpTo s x rows 0
+search_begun s x rows found outcomes hang = record {
   found = found;
   within = omega arith;
   closed = λ place m lt. absurd (omega arith);
   quiet = λ place m g p q a b lt. absurd (omega arith);
   noted = record {
-    shown = subst (λ ks. AreOutcomesShown s (states_of x.found) 0 (map outcome_replies ks)) (sym outcomes) (record {
+    shown = subst (λ ks. AreSearchOutcomesShown s (states_found x.found) 0 (map explored_outcome ks)) (sym outcomes) (record {
       each = λ replies. ((λ has. absurd (has-nil replies has)), (λ by. absurd (let lt = by.within in omega arith)));
       once = in_order-nil _;
     });
-    hang = subst (λ o. MatchOption o (NoneHangs s (states_of x.found) 0) (Hangs s (states_of x.found))) (sym hang)
+    hang = subst (λ o. MatchOption o (NoneSearchedHangs s (states_found x.found) 0) (HangsSearched s (states_found x.found))) (sym hang)
         (λ place m g lt. absurd (omega arith));
   };
 }
@@ -136,8 +136,8 @@ begun s x rows found outcomes hang = record {
 -- the state at this place is neither whole nor a hang
 module _ (s : Plan) (states : List FlatState) (n : ℕ) (f : FlatState) (at : slice_get states n ≡ Some f)
     (unfinished : (g : List Event) → Knows s g f → ¬ Follows s g) where
-  skipped_shown : (replies : List (List ℕ)) → IsShownBy s states n replies ↔ IsShownBy s states (n + 1) replies
-  skipped_shown replies = (
+  search_skipped_shown : (replies : List (List ℕ)) → IsShownBySearch s states n replies ↔ IsShownBySearch s states (n + 1) replies
+  search_skipped_shown replies = (
     λ x. record {
       place = x.place;
       within = (let lt = x.within in omega arith);
@@ -165,17 +165,17 @@ module _ (s : Plan) (states : List FlatState) (n : ℕ) (f : FlatState) (at : sl
     },
   )
 
-  pub unfinished_shown : (x y : Search) → states_of x.found ≡ states → states_of y.found ≡ states
-      → y.outcomes.keys ≡ x.outcomes.keys → AreOutcomesShown s (states_of x.found) n (map outcome_replies x.outcomes.keys)
-      → AreOutcomesShown s (states_of y.found) (n + 1) (map outcome_replies y.outcomes.keys)
-  unfinished_shown x y is_x is_y outcomes old =
-      subst (λ ms. AreOutcomesShown s ms (n + 1) (map outcome_replies y.outcomes.keys)) (sym is_y)
-      (subst (λ ks. AreOutcomesShown s states (n + 1) (map outcome_replies ks)) (sym outcomes)
-      (let shows = subst (λ ms. AreOutcomesShown s ms n (map outcome_replies x.outcomes.keys)) is_x old in
+  pub search_unfinished_shown : (x y : Search) → states_found x.found ≡ states → states_found y.found ≡ states
+      → y.outcomes.keys ≡ x.outcomes.keys → AreSearchOutcomesShown s (states_found x.found) n (map explored_outcome x.outcomes.keys)
+      → AreSearchOutcomesShown s (states_found y.found) (n + 1) (map explored_outcome y.outcomes.keys)
+  search_unfinished_shown x y is_x is_y outcomes old =
+      subst (λ ms. AreSearchOutcomesShown s ms (n + 1) (map explored_outcome y.outcomes.keys)) (sym is_y)
+      (subst (λ ks. AreSearchOutcomesShown s states (n + 1) (map explored_outcome ks)) (sym outcomes)
+      (let shows = subst (λ ms. AreSearchOutcomesShown s ms n (map explored_outcome x.outcomes.keys)) is_x old in
       record {
         each = λ replies. (
-          λ has. (skipped_shown replies).0 ((shows.each replies).0 has),
-          λ by. (shows.each replies).1 ((skipped_shown replies).1 by),
+          λ has. (search_skipped_shown replies).0 ((shows.each replies).0 has),
+          λ by. (shows.each replies).1 ((search_skipped_shown replies).1 by),
         );
         once = shows.once;
       }))
@@ -184,74 +184,74 @@ module _ (s : Plan) (states : List FlatState) (n : ℕ) (f : FlatState) (at : sl
 module _ (s : Plan) (states : List FlatState) (n : ℕ) (f : FlatState) (at : slice_get states n ≡ Some f)
     (one : length s.sections ≡ s.processors)
     (goes : (g : List Event) → Knows s g f → ((p : ℕ) (k : Kind) → ¬ IsFlatBeginning s (did g p k)) → ⊥) where
-  skipped_hang : (o : Option ℕ) → MatchOption o (NoneHangs s states n) (Hangs s states)
-      → MatchOption o (NoneHangs s states (n + 1)) (Hangs s states)
-  skipped_hang None h = λ place m g lt here knows hang. elim (cases_eq place n) [
+  search_skipped_hang : (o : Option ℕ) → MatchOption o (NoneSearchedHangs s states n) (HangsSearched s states)
+      → MatchOption o (NoneSearchedHangs s states (n + 1)) (HangsSearched s states)
+  search_skipped_hang None h = λ place m g lt here knows hang. elim (cases_eq place n) [
     | inl is ↦
         (let same = same_Some m f (sym here ∙ ap (slice_get states) is ∙ at) in
         goes g (subst (Knows s g) same knows) hang.stuck)
     | inr isnt ↦ h place m g (omega arith) here knows hang
   ]
-  skipped_hang (Some place) h = h
+  search_skipped_hang (Some place) h = h
 
-  pub noted_skips : (x : Search) → states_of x.found ≡ states → OutcomesNoted s x n → OutcomesNoted s x (n + 1)
-  noted_skips x is noted = record {
+  pub search_noted_skips : (x : Search) → states_found x.found ≡ states → SearchOutcomesNoted s x n → SearchOutcomesNoted s x (n + 1)
+  search_noted_skips x is noted = record {
     shown =
-        unfinished_shown s states n f at (λ g knows follows. goes g knows (λ p k next. follows_ends s g p k one follows next))
+        search_unfinished_shown s states n f at (λ g knows follows. goes g knows (λ p k next. follows_ends s g p k one follows next))
         x x is is refl
         noted.shown;
-    hang = subst (λ ms. MatchOption x.hang (NoneHangs s ms (n + 1)) (Hangs s ms)) (sym is)
-        (skipped_hang x.hang (subst (λ ms. MatchOption x.hang (NoneHangs s ms n) (Hangs s ms)) is noted.hang));
+    hang = subst (λ ms. MatchOption x.hang (NoneSearchedHangs s ms (n + 1)) (HangsSearched s ms)) (sym is)
+        (search_skipped_hang x.hang (subst (λ ms. MatchOption x.hang (NoneSearchedHangs s ms n) (HangsSearched s ms)) is noted.hang));
   }
 
 -- the state is a hang
-hung : (s : Plan) (states : List FlatState) (n : ℕ) (f : FlatState) → slice_get states n ≡ Some f
-    → ((g : List Event) → Knows s g f → IsHang s g) → (o : Option ℕ)
-    → MatchOption o (NoneHangs s states n) (Hangs s states) → Hangs s states (unwrap_or o n)
-hung s states n f at hangs None h = record {
+search_hung : (s : Plan) (states : List FlatState) (n : ℕ) (f : FlatState) → slice_get states n ≡ Some f
+    → ((g : List Event) → Knows s g f → IsHangingBeginning s g) → (o : Option ℕ)
+    → MatchOption o (NoneSearchedHangs s states n) (HangsSearched s states) → HangsSearched s states (unwrap_or o n)
+search_hung s states n f at hangs None h = record {
   within = slice_get_within states n f at;
   hangs = λ m g here knows. hangs g (subst (Knows s g) (same_Some m f (sym here ∙ at)) knows);
 }
-hung s states n f at hangs (Some place) h = h
+search_hung s states n f at hangs (Some place) h = h
 
-pub noted_hangs : (s : Plan) (x y : Search) (steps : List (Vec ScriptCall)) (n : ℕ) (f : FlatState) → MayNote s x steps n
-    → slice_get (states_of x.found) n ≡ Some f → ((g : List Event) → Knows s g f → ¬ Follows s g)
-    → states_of y.found ≡ states_of x.found → y.outcomes.keys ≡ x.outcomes.keys → y.hang ≡ Some (unwrap_or x.hang n)
-    → OutcomesNoted s y (n + 1)
-noted_hangs s x y steps n f may at unfinished found outcomes hang =
-    let is_hang : (g : List Event) → Knows s g f → IsHang s g = λ g knows. record {
+pub search_noted_hangs : (s : Plan) (x y : Search) (steps : List (Vec ScriptCall)) (n : ℕ) (f : FlatState) → SearchMayNote s x steps n
+    → slice_get (states_found x.found) n ≡ Some f → ((g : List Event) → Knows s g f → ¬ Follows s g)
+    → states_found y.found ≡ states_found x.found → y.outcomes.keys ≡ x.outcomes.keys → y.hang ≡ Some (unwrap_or x.hang n)
+    → SearchOutcomesNoted s y (n + 1)
+search_noted_hangs s x y steps n f may at unfinished found outcomes hang =
+    let is_hang : (g : List Event) → Knows s g f → IsHangingBeginning s g = λ g knows. record {
       beginning = knows.beginning;
       unfinished = unfinished g knows;
       stuck = λ p k next. may.over f at g p k knows next;
     } in
     record {
-      shown = unfinished_shown s (states_of x.found) n f at unfinished x y refl found outcomes may.noted.shown;
+      shown = search_unfinished_shown s (states_found x.found) n f at unfinished x y refl found outcomes may.noted.shown;
       hang =
-          subst (λ ms. MatchOption y.hang (NoneHangs s ms (n + 1)) (Hangs s ms)) (sym found)
-          (subst (λ o. MatchOption o (NoneHangs s (states_of x.found) (n + 1)) (Hangs s (states_of x.found))) (sym hang)
-          (hung s (states_of x.found) n f at is_hang x.hang may.noted.hang));
+          subst (λ ms. MatchOption y.hang (NoneSearchedHangs s ms (n + 1)) (HangsSearched s ms)) (sym found)
+          (subst (λ o. MatchOption o (NoneSearchedHangs s (states_found x.found) (n + 1)) (HangsSearched s (states_found x.found))) (sym hang)
+          (search_hung s (states_found x.found) n f at is_hang x.hang may.noted.hang));
     }
 
 -- lists of replies of one history are the same
-past_none : {A : Type 0} (xs : List A) (k : ℕ) → length xs ≤ k → slice_get xs k ≡ None
-past_none [] k le = refl
-past_none (x ∷ xs) zero le = absurd (omega arith)
-past_none (x ∷ xs) (suc k) le = past_none xs k (omega arith)
+search_past_none : {A : Type 0} (xs : List A) (k : ℕ) → length xs ≤ k → slice_get xs k ≡ None
+search_past_none [] k le = refl
+search_past_none (x ∷ xs) zero le = absurd (omega arith)
+search_past_none (x ∷ xs) (suc k) le = search_past_none xs k (omega arith)
 
-pub same_replies : (s : Plan) (g : List Event) (a b : List (List ℕ)) → AreReplies s g a → AreReplies s g b → a ≡ b
-same_replies s g a b first second = slice_sets_same a b (λ k. elim (cases_lt k s.processors) [
+pub search_same_replies : (s : Plan) (g : List Event) (a b : List (List ℕ)) → AreOutcomeReplies s g a → AreOutcomeReplies s g b → a ≡ b
+search_same_replies s g a b first second = slice_sets_same a b (λ k. elim (cases_lt k s.processors) [
   | inl lt ↦ first.each k lt ∙ sym (second.each k lt)
   | inr past ↦
       (let one = first.long in
       let two = second.long in
-      past_none a k (omega arith) ∙ sym (past_none b k (omega arith)))
+      search_past_none a k (omega arith) ∙ sym (search_past_none b k (omega arith)))
 ])
 
 -- the state is whole
-module _ (s : Plan) (x : Search) (steps : List (Vec ScriptCall)) (n : ℕ) (f : FlatState) (may : MayNote s x steps n)
-    (at : slice_get (states_of x.found) n ≡ Some f) (whole : (g : List Event) → Knows s g f → Follows s g) where
-  shows_mine : IsShownBy s (states_of x.found) (n + 1) (items_of f.replies.items)
-  shows_mine =
+module _ (s : Plan) (x : Search) (steps : List (Vec ScriptCall)) (n : ℕ) (f : FlatState) (may : SearchMayNote s x steps n)
+    (at : slice_get (states_found x.found) n ≡ Some f) (whole : (g : List Event) → Knows s g f → Follows s g) where
+  search_shows_mine : IsShownBySearch s (states_found x.found) (n + 1) (machine_rows f.replies.items)
+  search_shows_mine =
       let g = may.found.known n f at in
       record {
         place = n;
@@ -264,9 +264,9 @@ module _ (s : Plan) (x : Search) (steps : List (Vec ScriptCall)) (n : ℕ) (f : 
         are = g.1.replies;
       }
 
-  shows_before : (replies : List (List ℕ)) → IsShownBy s (states_of x.found) n replies
-      → IsShownBy s (states_of x.found) (n + 1) replies
-  shows_before replies y = record {
+  search_shows_before : (replies : List (List ℕ)) → IsShownBySearch s (states_found x.found) n replies
+      → IsShownBySearch s (states_found x.found) (n + 1) replies
+  search_shows_before replies y = record {
     place = y.place;
     within = (let lt = y.within in omega arith);
     state = y.state;
@@ -277,13 +277,13 @@ module _ (s : Plan) (x : Search) (steps : List (Vec ScriptCall)) (n : ℕ) (f : 
     are = y.are;
   }
 
-  shows_one : (replies : List (List ℕ)) → IsShownBy s (states_of x.found) (n + 1) replies
-      → IsShownBy s (states_of x.found) n replies ⊎ (items_of f.replies.items ≡ replies)
-  shows_one replies y = elim (cases_eq y.place n) [
+  search_shows_one : (replies : List (List ℕ)) → IsShownBySearch s (states_found x.found) (n + 1) replies
+      → IsShownBySearch s (states_found x.found) n replies ⊎ (machine_rows f.replies.items ≡ replies)
+  search_shows_one replies y = elim (cases_eq y.place n) [
     | inl is ↦
-        (let same = same_Some y.state f (sym y.at ∙ ap (slice_get (states_of x.found)) is ∙ at) in
+        (let same = same_Some y.state f (sym y.at ∙ ap (slice_get (states_found x.found)) is ∙ at) in
         let knows = subst (Knows s y.events) same y.knows in
-        inr (same_replies s y.events (items_of f.replies.items) replies knows.replies y.are))
+        inr (search_same_replies s y.events (machine_rows f.replies.items) replies knows.replies y.are))
     | inr isnt ↦ inl (record {
       place = y.place;
       within = (let lt = y.within in omega arith);
@@ -296,103 +296,103 @@ module _ (s : Plan) (x : Search) (steps : List (Vec ScriptCall)) (n : ℕ) (f : 
     })
   ]
 
-  shown_more : (old new : List (List (List ℕ))) → AreOutcomesShown s (states_of x.found) n old
-      → IsAmong old new (items_of f.replies.items) → AreOutcomesShown s (states_of x.found) (n + 1) new
-  shown_more old new shows (inl was) = record {
+  search_shown_more : (old new : List (List (List ℕ))) → AreSearchOutcomesShown s (states_found x.found) n old
+      → IsAmongSearched old new (machine_rows f.replies.items) → AreSearchOutcomesShown s (states_found x.found) (n + 1) new
+  search_shown_more old new shows (inl was) = record {
     each = λ replies. (
-      λ has. shows_before replies ((shows.each replies).0 (subst (λ rs. Has rs replies) was.1 has)),
-      λ by. subst (λ rs. Has rs replies) (sym was.1) (elim (shows_one replies by) [
+      λ has. search_shows_before replies ((shows.each replies).0 (subst (λ rs. Has rs replies) was.1 has)),
+      λ by. subst (λ rs. Has rs replies) (sym was.1) (elim (search_shows_one replies by) [
         | inl before ↦ (shows.each replies).1 before
         | inr is ↦ subst (Has old) is was.0
       ]),
     );
     once = subst IsOnce (sym was.1) shows.once;
   }
-  shown_more old new shows (inr pushed) = record {
+  search_shown_more old new shows (inr pushed) = record {
     each = λ replies. (
-      λ has. elim ((has-append old (items_of f.replies.items ∷ []) replies).0 (subst (λ rs. Has rs replies) pushed.1 has)) [
-        | inl before ↦ shows_before replies ((shows.each replies).0 before)
-        | inr now ↦ subst (IsShownBy s (states_of x.found) (n + 1)) (one_of (items_of f.replies.items) replies now) shows_mine
+      λ has. elim ((has-append old (machine_rows f.replies.items ∷ []) replies).0 (subst (λ rs. Has rs replies) pushed.1 has)) [
+        | inl before ↦ search_shows_before replies ((shows.each replies).0 before)
+        | inr now ↦ subst (IsShownBySearch s (states_found x.found) (n + 1)) (one_of (machine_rows f.replies.items) replies now) search_shows_mine
       ],
       λ by. subst (λ rs. Has rs replies) (sym pushed.1)
-          ((has-append old (items_of f.replies.items ∷ []) replies).1 (elim (shows_one replies by) [
+          ((has-append old (machine_rows f.replies.items ∷ []) replies).1 (elim (search_shows_one replies by) [
             | inl before ↦ inl ((shows.each replies).1 before)
-            | inr is ↦ inr ((has-cons (items_of f.replies.items) [] replies).1 (inl is))
+            | inr is ↦ inr ((has-cons (machine_rows f.replies.items) [] replies).1 (inl is))
           ])),
     );
     once =
         subst IsOnce (sym pushed.1)
-        (in_order-append (λ (a b : List (List ℕ)). a ≢ b) old (items_of f.replies.items ∷ []) shows.once
-        (joined_in_order_single (λ (a b : List (List ℕ)). a ≢ b) (items_of f.replies.items))
-        (λ a b has one same. pushed.0 (subst (Has old) (same ∙ sym (one_of (items_of f.replies.items) b one)) has)));
+        (in_order-append (λ (a b : List (List ℕ)). a ≢ b) old (machine_rows f.replies.items ∷ []) shows.once
+        (joined_in_order_single (λ (a b : List (List ℕ)). a ≢ b) (machine_rows f.replies.items))
+        (λ a b has one same. pushed.0 (subst (Has old) (same ∙ sym (one_of (machine_rows f.replies.items) b one)) has)));
   }
     where
       one_of : (a b : List (List ℕ)) → Has (a ∷ []) b → a ≡ b
       one_of a b has = elim ((has-cons a [] b).0 has) [ inl is ↦ is | inr none ↦ absurd (has-nil b none) ]
 
-  whole_hang : (o : Option ℕ) → MatchOption o (NoneHangs s (states_of x.found) n) (Hangs s (states_of x.found))
-      → MatchOption o (NoneHangs s (states_of x.found) (n + 1)) (Hangs s (states_of x.found))
-  whole_hang None h = λ place m g lt here knows hang. elim (cases_eq place n) [
+  search_whole_hang : (o : Option ℕ) → MatchOption o (NoneSearchedHangs s (states_found x.found) n) (HangsSearched s (states_found x.found))
+      → MatchOption o (NoneSearchedHangs s (states_found x.found) (n + 1)) (HangsSearched s (states_found x.found))
+  search_whole_hang None h = λ place m g lt here knows hang. elim (cases_eq place n) [
     | inl is ↦
-        (let same = same_Some m f (sym here ∙ ap (slice_get (states_of x.found)) is ∙ at) in
+        (let same = same_Some m f (sym here ∙ ap (slice_get (states_found x.found)) is ∙ at) in
         hang.unfinished (whole g (subst (Knows s g) same knows)))
     | inr isnt ↦ h place m g (omega arith) here knows hang
   ]
-  whole_hang (Some place) h = h
+  search_whole_hang (Some place) h = h
 
-  pub noted_whole : (y : Search) → states_of y.found ≡ states_of x.found → y.hang ≡ x.hang
-      → IsAmong (map outcome_replies x.outcomes.keys) (map outcome_replies y.outcomes.keys) (items_of f.replies.items)
-      → OutcomesNoted s y (n + 1)
-  noted_whole y found hang among = record {
+  pub search_noted_whole : (y : Search) → states_found y.found ≡ states_found x.found → y.hang ≡ x.hang
+      → IsAmongSearched (map explored_outcome x.outcomes.keys) (map explored_outcome y.outcomes.keys) (machine_rows f.replies.items)
+      → SearchOutcomesNoted s y (n + 1)
+  search_noted_whole y found hang among = record {
     shown =
-        subst (λ ms. AreOutcomesShown s ms (n + 1) (map outcome_replies y.outcomes.keys)) (sym found)
-        (shown_more (map outcome_replies x.outcomes.keys) (map outcome_replies y.outcomes.keys) may.noted.shown among);
+        subst (λ ms. AreSearchOutcomesShown s ms (n + 1) (map explored_outcome y.outcomes.keys)) (sym found)
+        (search_shown_more (map explored_outcome x.outcomes.keys) (map explored_outcome y.outcomes.keys) may.noted.shown among);
     hang =
-        subst (λ ms. MatchOption y.hang (NoneHangs s ms (n + 1)) (Hangs s ms)) (sym found)
-        (subst (λ o. MatchOption o (NoneHangs s (states_of x.found) (n + 1)) (Hangs s (states_of x.found))) (sym hang)
-        (whole_hang x.hang may.noted.hang));
+        subst (λ ms. MatchOption y.hang (NoneSearchedHangs s ms (n + 1)) (HangsSearched s ms)) (sym found)
+        (subst (λ o. MatchOption o (NoneSearchedHangs s (states_found x.found) (n + 1)) (HangsSearched s (states_found x.found))) (sym hang)
+        (search_whole_hang x.hang may.noted.hang));
   }
 
 -- a state more was looked at
 pub looked : (s : Plan) (x z : Search) (steps : List (Vec ScriptCall)) (n : ℕ) (nexts chosen : List (Option Kind))
-    → HasUnvisited s x steps n
-    → ((m : FlatState) → slice_get (states_of x.found) n ≡ Some m → AreNexts s m nexts)
+    → HasMoreToSearch s x steps n
+    → ((m : FlatState) → slice_get (states_found x.found) n ≡ Some m → AreNexts s m nexts)
     → ((p q : ℕ) (a b : Kind) → ¬ AreNextInConflict nexts p q a b) → IsChoice steps nexts chosen
-    → AreFollowed s x.found z.found n chosen (length chosen) → OutcomesNoted s z (n + 1) → VisitedUpTo s z steps (n + 1)
+    → AreFollowed s x.found z.found n chosen (length chosen) → SearchOutcomesNoted s z (n + 1) → SearchedUpTo s z steps (n + 1)
 looked s x z steps n nexts chosen may are none choice followed noted =
-    let old = states_of x.found in
-    let new = states_of z.found in
-    let f = some_at old n may.more in
+    let old = states_found x.found in
+    let new = states_found z.found in
+    let f = machine_some_at old n may.more in
     record {
       found = followed.found;
       within = (let lt = slice_get_within new n f.0 (followed.keeps n f.0 f.1) in omega arith);
       closed = λ place m lt at. elim (cases_eq place n) [
-        | inl is ↦ now m (was_at old new n m followed.keeps may.more (subst (λ i. slice_get new i ≡ Some m) is at))
+        | inl is ↦ now m (search_was_at old new n m followed.keeps may.more (subst (λ i. slice_get new i ≡ Some m) is at))
         | inr isnt ↦
-            reduced_kept s old new n followed.keeps may.searched.within steps may.searched.closed place m (omega arith) at
+            search_reduced_kept s old new n followed.keeps may.searched.within steps may.searched.closed place m (omega arith) at
       ];
       quiet = λ place m g p q a b lt at knows first second apart conflict. elim (cases_eq place n) [
         | inl is ↦
-            (let here = was_at old new n m followed.keeps may.more (subst (λ i. slice_get new i ≡ Some m) is at) in
+            (let here = search_was_at old new n m followed.keeps may.more (subst (λ i. slice_get new i ≡ Some m) is at) in
             let all = are m here g knows in
             none p q a b (record { apart = apart; first = (all p a).1 first; second = (all q b).1 second; conflict = conflict }))
         | inr isnt ↦
-            quiet_kept s old new n followed.keeps may.searched.within may.searched.quiet place m g p q a b (omega arith) at knows
+            search_quiet_kept s old new n followed.keeps may.searched.within may.searched.quiet place m g p q a b (omega arith) at knows
             first second apart conflict
       ];
       noted = noted;
     }
   where
     -- an event that was chosen is followed
-    known : (m : FlatState) (g : List Event) (p : ℕ) (k : Kind) → slice_get (states_of x.found) n ≡ Some m → Knows s g m
-        → slice_index_or chosen p None ≡ Some k → IsKnown s (states_of z.found) (did g p k)
+    known : (m : FlatState) (g : List Event) (p : ℕ) (k : Kind) → slice_get (states_found x.found) n ≡ Some m → Knows s g m
+        → slice_index_or chosen p None ≡ Some k → IsFoundState s (states_found z.found) (did g p k)
     known m g p k here knows told = elim (cases_lt p (length chosen)) [
       | inl less ↦ followed.known m g p k less here knows told
       | inr over ↦ absurd (none-some k (sym (get_or_past chosen p None over) ∙ told))
     ]
 
-    now : (m : FlatState) → slice_get (states_of x.found) n ≡ Some m
-        → IsFollowedWhole s (states_of z.found) m ⊎ IsFollowedFree s steps (states_of z.found) m
+    now : (m : FlatState) → slice_get (states_found x.found) n ≡ Some m
+        → SearchFollowsWhole s (states_found z.found) m ⊎ SearchFollowsFree s steps (states_found z.found) m
     now m here = elim choice [
       | inl all ↦ inl (λ g p k knows next.
           known m g p k here knows (ap (λ os. slice_index_or os p None) all ∙ (are m here g knows p k).1 next))
@@ -406,12 +406,12 @@ looked s x z steps n nexts chosen may are none choice followed noted =
     ]
 
 -- where all states are looked at, no kind of end is missed
-module _ (s : Plan) (x : Search) (steps : List (Vec ScriptCall)) (lawful : AreLawfulSteps s steps)
-    (searched : VisitedUpTo s x steps (length (states_of x.found))) where
-  followed_of : (h : List Event) → IsKnown s (states_of x.found) h
-      → FollowsAll s (IsKnown s (states_of x.found)) h ⊎ FollowsOne s steps (IsKnown s (states_of x.found)) h
-  followed_of h known =
-      let within = slice_get_within (states_of x.found) known.place known.state known.at in
+module _ (s : Plan) (x : Search) (steps : List (Vec ScriptCall)) (lawful : AreLawfulMachineSteps s steps)
+    (searched : SearchedUpTo s x steps (length (states_found x.found))) where
+  search_followed_of : (h : List Event) → IsFoundState s (states_found x.found) h
+      → ReachingFollowsAll s (IsFoundState s (states_found x.found)) h ⊎ ReachingFollowsOne s steps (IsFoundState s (states_found x.found)) h
+  search_followed_of h known =
+      let within = slice_get_within (states_found x.found) known.place known.state known.at in
       elim (searched.closed known.place known.state within known.at) [
         | inl whole ↦ inl (λ p k next. whole h p k known.knows next)
         | inr one ↦ inr (record {
@@ -423,35 +423,35 @@ module _ (s : Plan) (x : Search) (steps : List (Vec ScriptCall)) (lawful : AreLa
         })
       ]
 
-  pub none_hangs : NoneHangs s (states_of x.found) (length (states_of x.found)) → (g : List Event) → ¬ IsHang s g
-  none_hangs none g hang =
-      let r = reached s steps lawful (IsKnown s (states_of x.found)) (IsHang s) (hang_lasts s steps) followed_of
+  pub searched_none_hangs : NoneSearchedHangs s (states_found x.found) (length (states_found x.found)) → (g : List Event) → ¬ IsHangingBeginning s g
+  searched_none_hangs none g hang =
+      let r = reached s steps lawful (IsFoundState s (states_found x.found)) (IsHangingBeginning s) (reduced_ends_hang_lasts s steps) search_followed_of
       searched.found.first g hang.beginning hang in
       let known = r.found in
-      none known.place known.state r.events (slice_get_within (states_of x.found) known.place known.state known.at) known.at
+      none known.place known.state r.events (slice_get_within (states_found x.found) known.place known.state known.at) known.at
       known.knows r.has
 
-  pub no_neighbours : HasNoNeighbours s
-  no_neighbours g p q a b first second apart conflict =
-      let begins = ((next_begins s g p a).0 first).0 in
-      let r = reached s steps lawful (IsKnown s (states_of x.found)) (MayConflict s) (conflict_lasts s steps lawful) followed_of
+  pub searched_no_neighbours : NoNeighboursByLaw s
+  searched_no_neighbours g p q a b first second apart conflict =
+      let begins = ((beginning_next s g p a).0 first).0 in
+      let r = reached s steps lawful (IsFoundState s (states_found x.found)) (EndsInConflict s) (reduced_ends_conflict_lasts s steps lawful) search_followed_of
       searched.found.first g begins
       (record { p = p; q = q; a = a; b = b; first = first; second = second; apart = apart; conflict = conflict }) in
       let known = r.found in
       let c = r.has in
       searched.quiet known.place known.state r.events c.p c.q c.a c.b
-      (slice_get_within (states_of x.found) known.place known.state known.at) known.at known.knows c.first c.second c.apart
+      (slice_get_within (states_found x.found) known.place known.state known.at) known.at known.knows c.first c.second c.apart
       c.conflict
 
-  pub all_outcomes : AreAllOutcomes s (map outcome_replies x.outcomes.keys)
-  all_outcomes replies outcome =
-      let r = reached s steps lawful (IsKnown s (states_of x.found)) (ShowsThis s replies)
-      (shows_last s steps replies lawful.lawful.but_uneven.one_each) followed_of searched.found.first outcome.0
+  pub searched_all_outcomes : AreAllOutcomesExplored s (map explored_outcome x.outcomes.keys)
+  searched_all_outcomes replies outcome =
+      let r = reached s steps lawful (IsFoundState s (states_found x.found)) (EndsShowing s replies)
+      (reduced_ends_shows_last s steps replies lawful.lawful.but_uneven.one_each) search_followed_of searched.found.first outcome.0
       outcome.1.beginning (record { follows = outcome.1.follows; are = outcome.2 }) in
       let known = r.found in
       (searched.noted.shown.each replies).1 (record {
         place = known.place;
-        within = slice_get_within (states_of x.found) known.place known.state known.at;
+        within = slice_get_within (states_found x.found) known.place known.state known.at;
         state = known.state;
         at = known.at;
         events = r.events;
@@ -460,9 +460,9 @@ module _ (s : Plan) (x : Search) (steps : List (Vec ScriptCall)) (lawful : AreLa
         are = r.has.are;
       })
 
-pub some_outcomes : (s : Plan) (x : Search) (steps : List (Vec ScriptCall)) (n : ℕ) → VisitedUpTo s x steps n
-    → AreOutcomes s (map outcome_replies x.outcomes.keys)
-some_outcomes s x steps n searched = record {
+pub searched_some_outcomes : (s : Plan) (x : Search) (steps : List (Vec ScriptCall)) (n : ℕ) → SearchedUpTo s x steps n
+    → AreExploredOutcomes s (map explored_outcome x.outcomes.keys)
+searched_some_outcomes s x steps n searched = record {
   each = λ replies has.
       let by = (searched.noted.shown.each replies).0 has in
       (by.events, record { beginning = by.knows.beginning; follows = by.follows }, by.are);
@@ -470,11 +470,11 @@ some_outcomes s x steps n searched = record {
 }
 
 -- what is open is so where no two events conflict and not all states were looked at
-pub open_only : (o : Option Neighbours) (race_free through : Bool) (v : Verdict) (h : Hanging) → IsOpenVerdict o race_free v
-    → IsOpenHanging through h → (race_free ≡ false → through ≡ false) → settles v h through ≡ false
+pub search_open_only : (o : Option Neighbours) (race_free through : Bool) (v : Verdict) (h : Hanging) → IsSearchVerdictOpen o race_free v
+    → IsSearchHangingOpen through h → (race_free ≡ false → through ≡ false) → explored_settles v h through ≡ false
     → (o ≡ None) × (through ≡ false)
-open_only o race_free through verdict.RaceFree hanging.Never none opens both is = (none, is)
-open_only o race_free through verdict.RaceFree (hanging.Hangs hang) none opens both is = (none, is)
-open_only o race_free through verdict.RaceFree hanging.Undecided none opens both is = (none, opens)
-open_only o race_free through (verdict.Racy racy) h none opens both is = absurd (false≢true (sym is))
-open_only o race_free through verdict.Undecided h none opens both is = (none.0, both none.1)
+search_open_only o race_free through verdict.RaceFree hanging.Never none opens both is = (none, is)
+search_open_only o race_free through verdict.RaceFree (hanging.Hangs hang) none opens both is = (none, is)
+search_open_only o race_free through verdict.RaceFree hanging.Undecided none opens both is = (none, opens)
+search_open_only o race_free through (verdict.Racy racy) h none opens both is = absurd (false≢true (sym is))
+search_open_only o race_free through verdict.Undecided h none opens both is = (none.0, both none.1)

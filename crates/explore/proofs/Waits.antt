@@ -10,130 +10,130 @@ use Rattle.journal.specs.DidEvent.{did, event}
 use Rattle.journal.specs.Events.{count_of, is_arrive, is_depart}
 use Rattle.journal.specs.Waits.{awaited}
 use Rattle.journal.proofs.Order.CountedAndNumbered.{count_of-append}
-use Rattle.judge.specs.Why.{WaitsFor}
+use Rattle.judge.specs.Why.{WhyWaitsFor}
 use Rattle.explore.specs.declared.wait.WaitCode.{WaitCode}
 use Rattle.explore.specs.declared.wait.WaitCode.TheVariants.{Lock, Barrier, Flag}
 use Rattle.explore.specs.declared.wait.Seat.{Seat}
-use Rattle.explore.specs.Waits.{AwaitedAreKept, arrivals_open, end_of, ending, seated}
+use Rattle.explore.specs.Waits.{WaitsAreKept, wait_code_arrivals_open, wait_code_end_of, wait_code_ending, wait_code_seated}
 
 -- who waits for a lock is kept as that
-pub ending_lock : (o : Option WaitCode) (l : ℕ) → ending o ≡ Some (kind.Acquire l) → o ≡ Some (Lock l)
-ending_lock None l is = absurd (none-some (kind.Acquire l) is)
-ending_lock (Some (Lock m)) l is = cc
-ending_lock (Some Barrier) l is = absurd cc
-ending_lock (Some (Flag f)) l is = absurd cc
+pub wait_code_ending_lock : (o : Option WaitCode) (l : ℕ) → wait_code_ending o ≡ Some (kind.Acquire l) → o ≡ Some (Lock l)
+wait_code_ending_lock None l is = absurd (none-some (kind.Acquire l) is)
+wait_code_ending_lock (Some (Lock m)) l is = cc
+wait_code_ending_lock (Some Barrier) l is = absurd cc
+wait_code_ending_lock (Some (Flag f)) l is = absurd cc
 
 -- a wait is one with its end
-end_once : (v w : WaitCode) → end_of v ≡ end_of w → v ≡ w
-end_once (Lock l) (Lock m) is = cc
-end_once (Lock l) Barrier is = absurd cc
-end_once (Lock l) (Flag f) is = absurd cc
-end_once Barrier (Lock m) is = absurd cc
-end_once Barrier Barrier is = refl
-end_once Barrier (Flag f) is = absurd cc
-end_once (Flag f) (Lock m) is = absurd cc
-end_once (Flag f) Barrier is = absurd cc
-end_once (Flag f) (Flag g) is = cc
+wait_code_end_once : (v w : WaitCode) → wait_code_end_of v ≡ wait_code_end_of w → v ≡ w
+wait_code_end_once (Lock l) (Lock m) is = cc
+wait_code_end_once (Lock l) Barrier is = absurd cc
+wait_code_end_once (Lock l) (Flag f) is = absurd cc
+wait_code_end_once Barrier (Lock m) is = absurd cc
+wait_code_end_once Barrier Barrier is = refl
+wait_code_end_once Barrier (Flag f) is = absurd cc
+wait_code_end_once (Flag f) (Lock m) is = absurd cc
+wait_code_end_once (Flag f) Barrier is = absurd cc
+wait_code_end_once (Flag f) (Flag g) is = cc
 
-pub ending_once : (a b : Option WaitCode) → ending a ≡ ending b → a ≡ b
-ending_once None None is = refl
-ending_once None (Some w) is = absurd (none-some (end_of w) is)
-ending_once (Some v) None is = absurd (none-some (end_of v) (sym is))
-ending_once (Some v) (Some w) is = ap Some (end_once v w (same_Some (end_of v) (end_of w) is))
+pub wait_code_ending_once : (a b : Option WaitCode) → wait_code_ending a ≡ wait_code_ending b → a ≡ b
+wait_code_ending_once None None is = refl
+wait_code_ending_once None (Some w) is = absurd (none-some (wait_code_end_of w) is)
+wait_code_ending_once (Some v) None is = absurd (none-some (wait_code_end_of v) (sym is))
+wait_code_ending_once (Some v) (Some w) is = ap Some (wait_code_end_once v w (same_Some (wait_code_end_of v) (wait_code_end_of w) is))
 
 -- and a seat is one with its processor
-seat : ℕ → Seat
-seat p = record { 0 = p }
+wait_code_seat : ℕ → Seat
+wait_code_seat p = record { 0 = p }
 
-seat_once : (s t : Seat) → s.0 ≡ t.0 → s ≡ t
-unfolding seat
-seat_once s t is = ap seat is
+wait_code_seat_once : (s t : Seat) → s.0 ≡ t.0 → s ≡ t
+unfolding wait_code_seat
+wait_code_seat_once s t is = ap wait_code_seat is
 
-pub seated_once : (a b : Option Seat) → seated a ≡ seated b → a ≡ b
-seated_once None None is = refl
-seated_once None (Some t) is = absurd (none-some t.0 is)
-seated_once (Some s) None is = absurd (none-some s.0 (sym is))
-seated_once (Some s) (Some t) is = ap Some (seat_once s t (same_Some s.0 t.0 is))
+pub wait_code_seated_once : (a b : Option Seat) → wait_code_seated a ≡ wait_code_seated b → a ≡ b
+wait_code_seated_once None None is = refl
+wait_code_seated_once None (Some t) is = absurd (none-some t.0 is)
+wait_code_seated_once (Some s) None is = absurd (none-some s.0 (sym is))
+wait_code_seated_once (Some s) (Some t) is = ap Some (wait_code_seat_once s t (same_Some s.0 t.0 is))
 
 -- at the barrier one arrival is open, and else none
-open_at : (o : Option WaitCode) (k : Kind) → ending o ≡ Some k → arrivals_open o ≡ cond (is_depart k) 1 0
-open_at None k is = absurd (none-some k is)
-open_at (Some (Lock l)) k is = subst (λ b. arrivals_open (Some (Lock l)) ≡ cond (is_depart b) 1 0) (same_Some (kind.Acquire l) k is) refl
-open_at (Some Barrier) k is = subst (λ b. arrivals_open (Some Barrier) ≡ cond (is_depart b) 1 0) (same_Some kind.Depart k is) refl
-open_at (Some (Flag f)) k is = subst (λ b. arrivals_open (Some (Flag f)) ≡ cond (is_depart b) 1 0) (same_Some (kind.Await f) k is) refl
+wait_code_open_at : (o : Option WaitCode) (k : Kind) → wait_code_ending o ≡ Some k → wait_code_arrivals_open o ≡ cond (is_depart k) 1 0
+wait_code_open_at None k is = absurd (none-some k is)
+wait_code_open_at (Some (Lock l)) k is = subst (λ b. wait_code_arrivals_open (Some (Lock l)) ≡ cond (is_depart b) 1 0) (same_Some (kind.Acquire l) k is) refl
+wait_code_open_at (Some Barrier) k is = subst (λ b. wait_code_arrivals_open (Some Barrier) ≡ cond (is_depart b) 1 0) (same_Some kind.Depart k is) refl
+wait_code_open_at (Some (Flag f)) k is = subst (λ b. wait_code_arrivals_open (Some (Flag f)) ≡ cond (is_depart b) 1 0) (same_Some (kind.Await f) k is) refl
 
-open_none : (o : Option WaitCode) → ending o ≡ None → arrivals_open o ≡ 0
-open_none None is = refl
-open_none (Some w) is = absurd (none-some (end_of w) (sym is))
+wait_code_open_none : (o : Option WaitCode) → wait_code_ending o ≡ None → wait_code_arrivals_open o ≡ 0
+wait_code_open_none None is = refl
+wait_code_open_none (Some w) is = absurd (none-some (wait_code_end_of w) (sym is))
 
-pub open_barrier : (o : Option WaitCode) → ending o ≡ Some kind.Depart → arrivals_open o ≡ 1
-open_barrier o is = open_at o kind.Depart is
+pub wait_code_open_barrier : (o : Option WaitCode) → wait_code_ending o ≡ Some kind.Depart → wait_code_arrivals_open o ≡ 1
+wait_code_open_barrier o is = wait_code_open_at o kind.Depart is
 
 -- after an arrival one is open
-open_after : (k : Kind) (o : Option WaitCode) → ending o ≡ awaited k → arrivals_open o ≡ cond (is_arrive k) 1 0
-open_after (kind.Ask l) o is = open_at o (kind.Acquire l) is
-open_after kind.Arrive o is = open_at o kind.Depart is
-open_after (kind.Watch f) o is = open_at o (kind.Await f) is
-open_after _ o is = open_none o is
+wait_code_open_after : (k : Kind) (o : Option WaitCode) → wait_code_ending o ≡ awaited k → wait_code_arrivals_open o ≡ cond (is_arrive k) 1 0
+wait_code_open_after (kind.Ask l) o is = wait_code_open_at o (kind.Acquire l) is
+wait_code_open_after kind.Arrive o is = wait_code_open_at o kind.Depart is
+wait_code_open_after (kind.Watch f) o is = wait_code_open_at o (kind.Await f) is
+wait_code_open_after _ o is = wait_code_open_none o is
 
 -- before a departure one is open, and before any other event of its processor none is
-open_before : (k : Kind) (o : Option WaitCode) → ((b : Kind) → ending o ≡ Some b → b ≡ k)
-    → (k ≡ kind.Depart → ending o ≡ Some kind.Depart) → arrivals_open o ≡ cond (is_depart k) 1 0
-open_before kind.Depart o only departs = open_at o kind.Depart (departs refl)
-open_before k None only departs = quiet k departs
+wait_code_open_before : (k : Kind) (o : Option WaitCode) → ((b : Kind) → wait_code_ending o ≡ Some b → b ≡ k)
+    → (k ≡ kind.Depart → wait_code_ending o ≡ Some kind.Depart) → wait_code_arrivals_open o ≡ cond (is_depart k) 1 0
+wait_code_open_before kind.Depart o only departs = wait_code_open_at o kind.Depart (departs refl)
+wait_code_open_before k None only departs = quiet k departs
   where
-    quiet : (b : Kind) → (b ≡ kind.Depart → None ≡ Some kind.Depart) → arrivals_open None ≡ cond (is_depart b) 1 0
+    quiet : (b : Kind) → (b ≡ kind.Depart → None ≡ Some kind.Depart) → wait_code_arrivals_open None ≡ cond (is_depart b) 1 0
     quiet kind.Depart waits = absurd (none-some kind.Depart (waits refl))
     quiet _ waits = refl
-open_before k (Some w) only departs = open_at (Some w) k (ap Some (only (end_of w) refl))
+wait_code_open_before k (Some w) only departs = wait_code_open_at (Some w) k (ap Some (only (wait_code_end_of w) refl))
 
 -- one event counts for its processor
-count_one : (is : Kind → Bool) (j : List Event) (p q : ℕ) (k : Kind)
+wait_code_count_one : (is : Kind → Bool) (j : List Event) (p q : ℕ) (k : Kind)
     → count_of is (did j p k) q ≡ count_of is j q + cond ((p == q) && is k) 1 0
-count_one is j p q k =
+wait_code_count_one is j p q k =
     let sum : count_of is (did j p k) q ≡ count_of is j q + (0 + cond ((p == q) && is k) 1 0) =
     count_of-append is j (event p k ∷ []) q in
     omega (arith, sum)
 
-own_one : (is : Kind → Bool) (j : List Event) (p : ℕ) (k : Kind)
+wait_code_own_one : (is : Kind → Bool) (j : List Event) (p : ℕ) (k : Kind)
     → count_of is (did j p k) p ≡ count_of is j p + cond (is k) 1 0
-own_one is j p k =
-    count_one is j p p k ∙ ap (λ b. count_of is j p + cond (b && is k) 1 0) (eq-eqb p p refl)
+wait_code_own_one is j p k =
+    wait_code_count_one is j p p k ∙ ap (λ b. count_of is j p + cond (b && is k) 1 0) (eq-eqb p p refl)
 
-others_one : (is : Kind → Bool) (j : List Event) (p q : ℕ) (k : Kind) → p ≢ q
+wait_code_others_one : (is : Kind → Bool) (j : List Event) (p q : ℕ) (k : Kind) → p ≢ q
     → count_of is (did j p k) q ≡ count_of is j q
-others_one is j p q k apart =
-    let more = count_one is j p q k ∙ ap (λ b. count_of is j q + cond (b && is k) 1 0) (ne_eqb p q apart) in
+wait_code_others_one is j p q k apart =
+    let more = wait_code_count_one is j p q k ∙ ap (λ b. count_of is j q + cond (b && is k) 1 0) (ne_eqb p q apart) in
     omega (arith, more)
 
 -- so departures are told by arrivals and waits, after one more event, too
-pub departures_next : (j : List Event) (p : ℕ) (k : Kind) (waits : List (Option WaitCode)) (o : Option WaitCode)
-    → p < length waits → ending o ≡ awaited k → ((b : Kind) → WaitsFor j p b → b ≡ k)
-    → (k ≡ kind.Depart → WaitsFor j p kind.Depart) → AwaitedAreKept j waits
-    → ((q : ℕ) → count_of is_depart j q + arrivals_open (slice_index_or waits q None) ≡ count_of is_arrive j q) → (q : ℕ)
-    → count_of is_depart (did j p k) q + arrivals_open (slice_index_or (slice_set waits p o) q None)
+pub wait_code_departures_next : (j : List Event) (p : ℕ) (k : Kind) (waits : List (Option WaitCode)) (o : Option WaitCode)
+    → p < length waits → wait_code_ending o ≡ awaited k → ((b : Kind) → WhyWaitsFor j p b → b ≡ k)
+    → (k ≡ kind.Depart → WhyWaitsFor j p kind.Depart) → WaitsAreKept j waits
+    → ((q : ℕ) → count_of is_depart j q + wait_code_arrivals_open (slice_index_or waits q None) ≡ count_of is_arrive j q) → (q : ℕ)
+    → count_of is_depart (did j p k) q + wait_code_arrivals_open (slice_index_or (slice_set waits p o) q None)
     ≡ count_of is_arrive (did j p k) q
-departures_next j p k waits o within ends only departs kept old q = elim (cases_eq q p) [
+wait_code_departures_next j p k waits o within ends only departs kept old q = elim (cases_eq q p) [
   | inl is ↦
-      subst (λ r. count_of is_depart (did j p k) r + arrivals_open (slice_index_or (slice_set waits p o) r None)
+      subst (λ r. count_of is_depart (did j p k) r + wait_code_arrivals_open (slice_index_or (slice_set waits p o) r None)
       ≡ count_of is_arrive (did j p k) r) (sym is) mine
   | inr isnt ↦
       (let apart : p ≢ q = λ same. isnt (sym same) in
       let was = old q in
-      let departed = others_one is_depart j p q k apart in
-      let arrived = others_one is_arrive j p q k apart in
-      let slot = ap arrivals_open (get_or-set_other waits p q o None isnt) in
+      let departed = wait_code_others_one is_depart j p q k apart in
+      let arrived = wait_code_others_one is_arrive j p q k apart in
+      let slot = ap wait_code_arrivals_open (get_or-set_other waits p q o None isnt) in
       omega (arith, was, departed, arrived, slot))
 ]
   where
-    mine : count_of is_depart (did j p k) p + arrivals_open (slice_index_or (slice_set waits p o) p None)
+    mine : count_of is_depart (did j p k) p + wait_code_arrivals_open (slice_index_or (slice_set waits p o) p None)
         ≡ count_of is_arrive (did j p k) p
     mine =
         let was = old p in
-        let departed = own_one is_depart j p k in
-        let arrived = own_one is_arrive j p k in
-        let slot = ap arrivals_open (get_or-set_same waits p o None within) in
-        let now = open_after k o ends in
-        let before = open_before k (slice_index_or waits p None) (λ b is. only b ((kept p b).0 is))
+        let departed = wait_code_own_one is_depart j p k in
+        let arrived = wait_code_own_one is_arrive j p k in
+        let slot = ap wait_code_arrivals_open (get_or-set_same waits p o None within) in
+        let now = wait_code_open_after k o ends in
+        let before = wait_code_open_before k (slice_index_or waits p None) (λ b is. only b ((kept p b).0 is))
         (λ is. (kept p kind.Depart).1 (departs is)) in
         omega (arith, was, departed, arrived, slot, now, before)

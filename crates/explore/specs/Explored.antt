@@ -13,68 +13,68 @@ use Rattle.explore.specs.declared.explored.ScriptOutcome.{ScriptOutcome}
 use Rattle.explore.specs.declared.explored.RacyEvents.{RacyEvents}
 use Rattle.explore.specs.declared.explored.Verdict.{Verdict}
 use Rattle.explore.specs.declared.explored.Verdict.TheVariants as verdict
-use Rattle.explore.specs.Prefixes.Beginnings.{IsFlatBeginning, IsFlatRaceFree, IsHang}
+use Rattle.explore.specs.Prefixes.Beginnings.{IsFlatBeginning, IsRaceFreeBeginning, IsHangingBeginning}
 use Rattle.explore.specs.Outcomes.{IsOutcome}
-use Rattle.explore.specs.Room.{states_to_look_at}
+use Rattle.explore.specs.Room.{states_with_room}
 use Rattle.explore.specs.States.{HasStates}
-use Rattle.explore.specs.Waiting.{AreAwaited}
+use Rattle.explore.specs.Waiting.{AllWaitingTold}
 
 -- a beginning whose last event is the first that races
-pub record IsRacy (s : Plan) (racy : RacyEvents) : Type 0 where
+pub record IsExploredRacy (s : Plan) (racy : RacyEvents) : Type 0 where
   pub beginning : IsFlatBeginning s racy.events.items
   pub last : ℕ
   pub is_last : length racy.events.items ≡ last + 1
   pub race : IsFirstRace racy.events.items racy.first last
 
 -- a hang, and what each processor waits for
-pub record IsHangOf (s : Plan) (hang : Hang) : Type 0 where
-  pub is : IsHang s hang.events.items
+pub record IsExploredHang (s : Plan) (hang : Hang) : Type 0 where
+  pub is : IsHangingBeginning s hang.events.items
   pub long : length hang.waits.items ≡ s.processors
-  pub waits : AreAwaited hang.events.items hang.waits.items
+  pub waits : AllWaitingTold hang.events.items hang.waits.items
 
 -- an outcome, as it lies outside of memory
-abbrev pub outcome_replies : ScriptOutcome → List (List ℕ)
-outcome_replies o = map (λ (v : Vec ℕ). v.items) o.replies.items
+abbrev pub explored_outcome : ScriptOutcome → List (List ℕ)
+explored_outcome o = map (λ (v : Vec ℕ). v.items) o.replies.items
 
 -- whole runs show each of these, and each is there once
-pub record AreOutcomes (s : Plan) (outcomes : List (List (List ℕ))) : Type 0 where
+pub record AreExploredOutcomes (s : Plan) (outcomes : List (List (List ℕ))) : Type 0 where
   pub each : (replies : List (List ℕ)) → Has outcomes replies → IsOutcome s replies
   pub once : IsOnce outcomes
 
 -- whole runs show nothing else
-abbrev pub AreAllOutcomes : Plan → List (List (List ℕ)) → Type 0
-AreAllOutcomes s outcomes = (replies : List (List ℕ)) → IsOutcome s replies → Has outcomes replies
+abbrev pub AreAllOutcomesExplored : Plan → List (List (List ℕ)) → Type 0
+AreAllOutcomesExplored s outcomes = (replies : List (List ℕ)) → IsOutcome s replies → Has outcomes replies
 
 -- what is so by the verdict
-abbrev pub IsVerdictOn : Plan → Verdict → Type 0
-IsVerdictOn s verdict.RaceFree = IsFlatRaceFree s
-IsVerdictOn s (verdict.Racy racy) = IsRacy s racy
-IsVerdictOn s verdict.Undecided = ⊤
+abbrev pub IsExploredVerdict : Plan → Verdict → Type 0
+IsExploredVerdict s verdict.RaceFree = IsRaceFreeBeginning s
+IsExploredVerdict s (verdict.Racy racy) = IsExploredRacy s racy
+IsExploredVerdict s verdict.Undecided = ⊤
 
 -- what is so by the answer on hangs
-abbrev pub IsHangingOn : Plan → Hanging → Type 0
-IsHangingOn s hanging.Never = (g : List Event) → ¬ IsHang s g
-IsHangingOn s (hanging.Hangs hang) = IsHangOf s hang
-IsHangingOn s hanging.Undecided = ⊤
+abbrev pub IsExploredHanging : Plan → Hanging → Type 0
+IsExploredHanging s hanging.Never = (g : List Event) → ¬ IsHangingBeginning s g
+IsExploredHanging s (hanging.Hangs hang) = IsExploredHang s hang
+IsExploredHanging s hanging.Undecided = ⊤
 
 -- whether nothing is open, where all outcomes are known or not
-abbrev pub settles : Verdict → Hanging → Bool → Bool
-settles (verdict.Racy racy) _ all = true
-settles verdict.RaceFree hanging.Never all = all
-settles verdict.RaceFree (hanging.Hangs hang) all = all
-settles _ _ all = false
+abbrev pub explored_settles : Verdict → Hanging → Bool → Bool
+explored_settles (verdict.Racy racy) _ all = true
+explored_settles verdict.RaceFree hanging.Never all = all
+explored_settles verdict.RaceFree (hanging.Hangs hang) all = all
+explored_settles _ _ all = false
 
 abbrev pub is_settled : Explored → Bool
-is_settled answer = settles answer.verdict answer.hanging answer.are_all
+is_settled answer = explored_settles answer.verdict answer.hanging answer.are_all
 
 -- what an answer says, where so many states were asked for: the script has as many as were found, which are no more than
 -- those to be looked at and what comes next after one; each answer is true; and one is open only where there are more
 -- states than were asked for, or than fit
 pub record IsExplored (s : Plan) (most : ℕ) (answer : Explored) : Type 0 where
   pub states : HasStates s answer.states
-  pub few : answer.states ≤ states_to_look_at s most + 16
-  pub verdict : IsVerdictOn s answer.verdict
-  pub hanging : IsHangingOn s answer.hanging
-  pub outcomes : AreOutcomes s (map outcome_replies answer.outcomes.items)
-  pub all : IsTrue answer.are_all → AreAllOutcomes s (map outcome_replies answer.outcomes.items)
-  pub given_up : is_settled answer ≡ false → states_to_look_at s most < answer.states
+  pub few : answer.states ≤ states_with_room s most + 16
+  pub verdict : IsExploredVerdict s answer.verdict
+  pub hanging : IsExploredHanging s answer.hanging
+  pub outcomes : AreExploredOutcomes s (map explored_outcome answer.outcomes.items)
+  pub all : IsTrue answer.are_all → AreAllOutcomesExplored s (map explored_outcome answer.outcomes.items)
+  pub given_up : is_settled answer ≡ false → states_with_room s most < answer.states

@@ -22,7 +22,7 @@ pub record IsFreeOf (words : List Bool) (k : Kind) : Type 0 where
   pub guarded : (w : ℕ) → address_of k ≡ Some w → IsTrue (slice_index_or words w false)
 
 -- one event that is free is chosen of these
-pub record IsOneChosen (rows : List (Vec ScriptCall)) (nexts chosen : List (Option Kind)) : Type 0 where
+pub record IsOneFreeChosen (rows : List (Vec ScriptCall)) (nexts chosen : List (Option Kind)) : Type 0 where
   pub processor : ℕ
   pub kind : Kind
   pub at : slice_index_or nexts processor None ≡ Some kind
@@ -31,8 +31,8 @@ pub record IsOneChosen (rows : List (Vec ScriptCall)) (nexts chosen : List (Opti
 
 -- or all are
 abbrev pub IsChoice : List (Vec ScriptCall) → List (Option Kind) → List (Option Kind) → Type 0
-IsChoice rows nexts chosen = (chosen ≡ nexts) ⊎ IsOneChosen rows nexts chosen
+IsChoice rows nexts chosen = (chosen ≡ nexts) ⊎ IsOneFreeChosen rows nexts chosen
 
 -- what is chosen is among these
-abbrev pub IsAmongNexts : List (Option Kind) → List (Option Kind) → Type 0
-IsAmongNexts nexts chosen = (p : ℕ) (k : Kind) → slice_index_or chosen p None ≡ Some k → slice_index_or nexts p None ≡ Some k
+abbrev pub IsFreeAmongNexts : List (Option Kind) → List (Option Kind) → Type 0
+IsFreeAmongNexts nexts chosen = (p : ℕ) (k : Kind) → slice_index_or chosen p None ≡ Some k → slice_index_or nexts p None ≡ Some k

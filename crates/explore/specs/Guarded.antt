@@ -8,61 +8,61 @@ use Rattle.journal.specs.Events.{address_of, is_depart, is_store}
 use Rattle.lrc_script.specs.Plan.{Plan}
 use Rattle.explore.specs.declared.prefixes.script_call.ScriptCall.{ScriptCall}
 use Rattle.explore.specs.declared.prefixes.script_call.ScriptCall.TheVariants.{Call, Adds}
-use Rattle.explore.specs.Machines.{AreLawfulSteps}
-use Rattle.explore.specs.Prefixes.Beginnings.{IsFlatRaceFree}
+use Rattle.explore.specs.Machines.{AreLawfulMachineSteps}
+use Rattle.explore.specs.Prefixes.Beginnings.{IsRaceFreeBeginning}
 
 -- whether a step departs from the barrier
-abbrev pub departs : ScriptCall → Bool
-departs (Call k) = is_depart k
-departs (Adds a v) = false
+abbrev pub guard_step_departs : ScriptCall → Bool
+guard_step_departs (Call k) = is_depart k
+guard_step_departs (Adds a v) = false
 
 -- how many times a row of steps has departed before its step at place i
-abbrev pub phase_at : List ScriptCall → ℕ → ℕ
-phase_at row i = count_by departs (take i row)
+abbrev pub guard_phase_at : List ScriptCall → ℕ → ℕ
+guard_phase_at row i = count_by guard_step_departs (take i row)
 
 -- whether lock l is held after a call, where it was held before it or not
-abbrev pub is_held_after : ℕ → Bool → Kind → Bool
-is_held_after l held (Acquire m) = if m == l then true else held
-is_held_after l held (Release m) = if m == l then false else held
-is_held_after l held _ = held
+abbrev pub guard_held_after : ℕ → Bool → Kind → Bool
+guard_held_after l held (Acquire m) = if m == l then true else held
+guard_held_after l held (Release m) = if m == l then false else held
+guard_held_after l held _ = held
 
 -- the same of a step
-abbrev pub is_held_after_step : ℕ → Bool → ScriptCall → Bool
-is_held_after_step l held (Call k) = is_held_after l held k
-is_held_after_step l held (Adds a v) = held
+abbrev pub guard_held_after_step : ℕ → Bool → ScriptCall → Bool
+guard_held_after_step l held (Call k) = guard_held_after l held k
+guard_held_after_step l held (Adds a v) = held
 
 -- whether a row of steps holds lock l before its step at place i
-abbrev pub held_at : List ScriptCall → ℕ → ℕ → Bool
-held_at row i l = fold (is_held_after_step l) false (take i row)
+abbrev pub guard_held_at : List ScriptCall → ℕ → ℕ → Bool
+guard_held_at row i l = fold (guard_held_after_step l) false (take i row)
 
 -- the address that a step accesses
-abbrev pub step_address : ScriptCall → Option ℕ
-step_address (Call k) = address_of k
-step_address (Adds a v) = Some a
+abbrev pub guarded_step_address : ScriptCall → Option ℕ
+guarded_step_address (Call k) = address_of k
+guarded_step_address (Adds a v) = Some a
 
 -- whether it stores
-abbrev pub step_stores : ScriptCall → Bool
-step_stores (Call k) = is_store k
-step_stores (Adds a v) = true
+abbrev pub guarded_step_stores : ScriptCall → Bool
+guarded_step_stores (Call k) = is_store k
+guarded_step_stores (Adds a v) = true
 
 -- the step at place i of the processor's row accesses word w
-pub record IsAccessAt (rows : List (Vec ScriptCall)) (p i w : ℕ) (step : ScriptCall) : Type 0 where
+pub record IsGuardedAccessAt (rows : List (Vec ScriptCall)) (p i w : ℕ) (step : ScriptCall) : Type 0 where
   pub row : Vec ScriptCall
   pub row_at : slice_get rows p ≡ Some row
   pub at : slice_get row.items i ≡ Some step
-  pub address : step_address step ≡ Some w
+  pub address : guarded_step_address step ≡ Some w
 
 -- both rows hold a lock there
-pub record HaveCommonLock (x y : List ScriptCall) (i k : ℕ) : Type 0 where
+pub record HaveCommonGuard (x y : List ScriptCall) (i k : ℕ) : Type 0 where
   pub lock : ℕ
-  pub first : IsTrue (held_at x i lock)
-  pub second : IsTrue (held_at y k lock)
+  pub first : IsTrue (guard_held_at x i lock)
+  pub second : IsTrue (guard_held_at y k lock)
 
 -- the word is guarded
 abbrev pub IsGuarded : List (Vec ScriptCall) → ℕ → Type 0
-IsGuarded rows w = (p q i k : ℕ) (a b : ScriptCall) (x : IsAccessAt rows p i w a) (y : IsAccessAt rows q k w b) → p ≢ q
-    → IsTrue (step_stores a) ⊎ IsTrue (step_stores b) → phase_at x.row.items i ≡ phase_at y.row.items k
-    → HaveCommonLock x.row.items y.row.items i k
+IsGuarded rows w = (p q i k : ℕ) (a b : ScriptCall) (x : IsGuardedAccessAt rows p i w a) (y : IsGuardedAccessAt rows q k w b) → p ≢ q
+    → IsTrue (guarded_step_stores a) ⊎ IsTrue (guarded_step_stores b) → guard_phase_at x.row.items i ≡ guard_phase_at y.row.items k
+    → HaveCommonGuard x.row.items y.row.items i k
 
 -- the words of which this is said are guarded
 abbrev pub AreGuarded : List (Vec ScriptCall) → List Bool → Type 0
@@ -70,5 +70,5 @@ AreGuarded rows words = (w : ℕ) → IsTrue (slice_index_or words w false) → 
 
 -- a script of which all words are guarded doesn't race
 abbrev pub GuardedTextLaw : Type 0
-GuardedTextLaw = (s : Plan) (rows : List (Vec ScriptCall)) → AreLawfulSteps s rows → ((w : ℕ) → IsGuarded rows w)
-    → IsFlatRaceFree s
+GuardedTextLaw = (s : Plan) (rows : List (Vec ScriptCall)) → AreLawfulMachineSteps s rows → ((w : ℕ) → IsGuarded rows w)
+    → IsRaceFreeBeginning s

@@ -14,59 +14,59 @@ use Rattle.explore.specs.declared.prefixes.script_call.ScriptCall.{ScriptCall}
 use Rattle.explore.specs.declared.prefixes.script_call.ScriptCall.TheVariants.{Call, Adds}
 use Rattle.explore.specs.declared.flat_state.FlatState.{FlatState}
 use Rattle.explore.specs.Prefixes.Beginnings.{IsFlatBeginning}
-use Rattle.explore.specs.Prefixes.Calling.{AreStepsOf}
-use Rattle.explore.specs.Outcomes.{AreReplies}
+use Rattle.explore.specs.Prefixes.Calling.{AreCallingSteps}
+use Rattle.explore.specs.Outcomes.{AreOutcomeReplies}
 use Rattle.explore.specs.Waiting.{IsLikeWaiting, TellsWaiting}
 
 -- what vectors have, without where they lie in memory
-abbrev pub items_of : List (Vec ℕ) → List (List ℕ)
-items_of vs = map (λ (v : Vec ℕ). v.items) vs
+abbrev pub machine_rows : List (Vec ℕ) → List (List ℕ)
+machine_rows vs = map (λ (v : Vec ℕ). v.items) vs
 
 -- the last of these words, or this one
-abbrev pub last_or : ℕ → List ℕ → ℕ
-last_or word [] = word
-last_or word (w ∷ words) = last_or w words
+abbrev pub machine_last_or : ℕ → List ℕ → ℕ
+machine_last_or word [] = word
+machine_last_or word (w ∷ words) = machine_last_or w words
 
 -- the machine has done these events of the script
 pub record Knows (s : Plan) (g : List Event) (m : FlatState) : Type 0 where
   pub beginning : IsFlatBeginning s g
   pub long : length m.done ≡ 16
   pub done : (p : ℕ) → p < 16 → slice_index m.done p ≡ length (followed_calls g p)
-  pub replies : AreReplies s g (items_of m.replies.items)
+  pub replies : AreOutcomeReplies s g (machine_rows m.replies.items)
   pub memory : m.memory.items ≡ memory_after (replicate (plan_addresses s) 0) g
   pub waiting : TellsWaiting g m.waiting
 
 -- two machines are in the same state
-pub record SameState (m n : FlatState) : Type 0 where
+pub record SameMachineState (m n : FlatState) : Type 0 where
   pub done : n.done ≡ m.done
-  pub replies : items_of n.replies.items ≡ items_of m.replies.items
+  pub replies : machine_rows n.replies.items ≡ machine_rows m.replies.items
   pub memory : n.memory.items ≡ m.memory.items
   pub waiting : IsLikeWaiting m.waiting n.waiting
 
 -- the numbers of the step are the script's, and it is no fetch
-abbrev pub IsProper : Plan → ScriptCall → Type 0
-IsProper s (Call k) = KindInRange (followed_plan_sizes s) k × (is_followed_fetch k ≡ false)
-IsProper s (Adds a v) = a < plan_addresses s
+abbrev pub IsProperMachineStep : Plan → ScriptCall → Type 0
+IsProperMachineStep s (Call k) = KindInRange (followed_plan_sizes s) k × (is_followed_fetch k ≡ false)
+IsProperMachineStep s (Adds a v) = a < plan_addresses s
 
 -- of the step the memory has the word, where it loads one
-abbrev pub StepReads : ℕ → ScriptCall → Type 0
-StepReads size (Call (Load a v)) = a < size
-StepReads size _ = Unit {0}
+abbrev pub MachineStepReads : ℕ → ScriptCall → Type 0
+MachineStepReads size (Call (Load a v)) = a < size
+MachineStepReads size _ = Unit {0}
 
 -- these are the steps of a lawful script
-pub record AreLawfulSteps (s : Plan) (steps : List (Vec ScriptCall)) : Type 0 where
+pub record AreLawfulMachineSteps (s : Plan) (steps : List (Vec ScriptCall)) : Type 0 where
   pub lawful : IsLawful s
-  pub are : AreStepsOf s steps
+  pub are : AreCallingSteps s steps
 
 -- the machine has done some events of a lawful script, whose steps are these
-pub record IsRunning (m : FlatState) (steps : List (Vec ScriptCall)) : Type 0 where
+pub record IsMachineRunning (m : FlatState) (steps : List (Vec ScriptCall)) : Type 0 where
   pub plan : Plan
-  pub lawful : AreLawfulSteps plan steps
+  pub lawful : AreLawfulMachineSteps plan steps
   pub events : List Event
   pub knows : Knows plan events m
 
 -- p may do this after some events of a lawful script
-pub record IsStepOf (m : FlatState) (p : ℕ) (k : Kind) : Type 0 where
+pub record IsMachineStep (m : FlatState) (p : ℕ) (k : Kind) : Type 0 where
   pub plan : Plan
   pub lawful : IsLawful plan
   pub events : List Event

@@ -8,7 +8,7 @@ use Rattle.lrc_script.specs.Plan.{Plan}
 use Rattle.explore.specs.Prefixes.Beginnings.{IsFlatBeginning}
 use Rattle.explore.specs.declared.flat_state.FlatState.{FlatState}
 use Rattle.explore.specs.declared.neighbours.Neighbours.{Neighbours}
-use Rattle.explore.specs.Found.{StaysPossible}
+use Rattle.explore.specs.Found.{FoundStaysPossible}
 use Rattle.explore.specs.Machines.{Knows}
 
 -- of each processor what it may do next, whatever events come to m
@@ -17,8 +17,8 @@ AreNexts s m nexts = (g : List Event) → Knows s g m → (p : ℕ) (k : Kind)
     → (slice_index_or nexts p None ≡ Some k) ↔ IsFlatBeginning s (did g p k)
 
 -- nothing may come next, whatever events come to m
-abbrev pub IsOver : Plan → FlatState → Type 0
-IsOver s m = (g : List Event) (p : ℕ) (k : Kind) → Knows s g m → ¬ IsFlatBeginning s (did g p k)
+abbrev pub IsOverNext : Plan → FlatState → Type 0
+IsOverNext s m = (g : List Event) (p : ℕ) (k : Kind) → Knows s g m → ¬ IsFlatBeginning s (did g p k)
 
 -- what p and q may do next conflicts
 pub record AreNextInConflict (nexts : List (Option Kind)) (p q : ℕ) (a b : Kind) : Type 0 where
@@ -28,9 +28,9 @@ pub record AreNextInConflict (nexts : List (Option Kind)) (p q : ℕ) (a b : Kin
   pub conflict : Conflict (event p a) (event q b)
 
 -- two events that conflict may come next after the state at this place
-pub record AreNeighbours (s : Plan) (states : List FlatState) (x : Neighbours) : Type 0 where
+pub record AreNextNeighbours (s : Plan) (states : List FlatState) (x : Neighbours) : Type 0 where
   pub within : x.place < length states
   pub apart : x.first.processor ≢ x.second.processor
   pub conflict : Conflict x.first x.second
-  pub first : (m : FlatState) → slice_get states x.place ≡ Some m → StaysPossible s m x.first.processor x.first.kind
-  pub second : (m : FlatState) → slice_get states x.place ≡ Some m → StaysPossible s m x.second.processor x.second.kind
+  pub first : (m : FlatState) → slice_get states x.place ≡ Some m → FoundStaysPossible s m x.first.processor x.first.kind
+  pub second : (m : FlatState) → slice_get states x.place ≡ Some m → FoundStaysPossible s m x.second.processor x.second.kind

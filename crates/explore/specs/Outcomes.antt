@@ -5,19 +5,19 @@ use Rattle.journal.specs.declared.event.Kind.{Kind}
 use Rattle.journal.specs.declared.event.Kind.TheVariants.{Load}
 use Rattle.lrc_script.specs.Plan.{Plan}
 use Rattle.conformance.specs.Follows.{followed_calls}
-use Rattle.explore.specs.Prefixes.Beginnings.{IsWhole}
+use Rattle.explore.specs.Prefixes.Beginnings.{IsWholeBeginning}
 
 -- what the loads among these calls answered, in order
-abbrev pub replies_in : List Kind → List ℕ
-replies_in [] = []
-replies_in (Load a v ∷ kinds) = v ∷ replies_in kinds
-replies_in (_ ∷ kinds) = replies_in kinds
+abbrev pub outcome_replies_in : List Kind → List ℕ
+outcome_replies_in [] = []
+outcome_replies_in (Load a v ∷ kinds) = v ∷ outcome_replies_in kinds
+outcome_replies_in (_ ∷ kinds) = outcome_replies_in kinds
 
 -- of each processor, what its loads answered; the last ones of processor 0 show the words
-pub record AreReplies (s : Plan) (g : List Event) (replies : List (List ℕ)) : Type 0 where
+pub record AreOutcomeReplies (s : Plan) (g : List Event) (replies : List (List ℕ)) : Type 0 where
   pub long : length replies ≡ s.processors
-  pub each : (p : ℕ) → p < s.processors → slice_get replies p ≡ Some (replies_in (followed_calls g p))
+  pub each : (p : ℕ) → p < s.processors → slice_get replies p ≡ Some (outcome_replies_in (followed_calls g p))
 
 -- some whole run shows this
 abbrev pub IsOutcome : Plan → List (List ℕ) → Type 0
-IsOutcome s replies = (g : List Event) × IsWhole s g × AreReplies s g replies
+IsOutcome s replies = (g : List Event) × IsWholeBeginning s g × AreOutcomeReplies s g replies

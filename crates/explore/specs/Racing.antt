@@ -8,15 +8,15 @@ use Rattle.explore.specs.declared.prefixes.script_call.ScriptCall.{ScriptCall}
 use Rattle.explore.specs.Prefixes.Beginnings.{IsFlatBeginning}
 use Rattle.explore.specs.declared.states.States.{States}
 use Rattle.explore.specs.declared.neighbours.Neighbours.{Neighbours}
-use Rattle.explore.specs.Found.{AreFound, states_of}
-use Rattle.explore.specs.Machines.{AreLawfulSteps}
-use Rattle.explore.specs.Nexts.{AreNeighbours}
+use Rattle.explore.specs.Found.{AreFound, states_found}
+use Rattle.explore.specs.Machines.{AreLawfulMachineSteps}
+use Rattle.explore.specs.Nexts.{AreNextNeighbours}
 
 -- two next events of a lawful script conflict
 pub record AreRacing (s : Plan) (x : States) (steps : List (Vec ScriptCall)) (neighbours : Neighbours) : Type 0 where
-  pub lawful : AreLawfulSteps s steps
+  pub lawful : AreLawfulMachineSteps s steps
   pub found : AreFound s x
-  pub are : AreNeighbours s (states_of x) neighbours
+  pub are : AreNextNeighbours s (states_found x) neighbours
 
 -- a beginning that races
 pub record IsRacingBeginning (s : Plan) (g : List Event) : Type 0 where

@@ -6,23 +6,23 @@ use Rattle.lrc_script.specs.Plan.{Plan}
 use Rattle.lrc_script.specs.Lawful.{plan_addresses}
 
 -- whether an instruction loads
-abbrev pub is_loading : Instruction → Bool
-is_loading (Load a) = true
-is_loading (Add a v) = true
-is_loading _ = false
+abbrev pub room_is_loading : Instruction → Bool
+room_is_loading (Load a) = true
+room_is_loading (Add a v) = true
+room_is_loading _ = false
 
 -- how many loads a section makes
-abbrev pub loads_in : List Instruction → ℕ
-loads_in section = count_by is_loading section
+abbrev pub room_loads_in : List Instruction → ℕ
+room_loads_in section = count_by room_is_loading section
 
 -- a state has no more words: those of the memory, and a reply to each load of the sections and of what is shown
 abbrev pub words_of_state : Plan → ℕ
-words_of_state s = plan_addresses s + length s.shown + sum_by loads_in s.sections
+words_of_state s = plan_addresses s + length s.shown + sum_by room_loads_in s.sections
 
 -- so many states have 2^27 words at most
 abbrev pub states_that_fit : Plan → ℕ
 states_that_fit s = 2 ^ 27 / words_of_state s
 
 -- so many are looked at, where this number is asked for
-abbrev pub states_to_look_at : Plan → ℕ → ℕ
-states_to_look_at s most = min most (states_that_fit s)
+abbrev pub states_with_room : Plan → ℕ → ℕ
+states_with_room s most = min most (states_that_fit s)

@@ -9,7 +9,7 @@ use Rattle.journal.specs.Races.{Conflict}
 use Rattle.lrc_script.specs.Plan.{Plan}
 use Rattle.conformance.specs.Follows.{Follows}
 use Rattle.explore.specs.declared.prefixes.script_call.ScriptCall.{ScriptCall}
-use Rattle.explore.specs.Prefixes.Beginnings.{IsFlatBeginning, IsHang}
+use Rattle.explore.specs.Prefixes.Beginnings.{IsFlatBeginning, IsHangingBeginning}
 use Rattle.explore.specs.declared.flat_state.FlatState.{FlatState}
 use Rattle.explore.specs.declared.neighbours.Neighbours.{Neighbours}
 use Rattle.explore.specs.declared.search.Search.{Search}
@@ -17,40 +17,40 @@ use Rattle.explore.specs.declared.explored.Hanging.{Hanging}
 use Rattle.explore.specs.declared.explored.Hanging.TheVariants as hanging
 use Rattle.explore.specs.declared.explored.Verdict.{Verdict}
 use Rattle.explore.specs.declared.explored.Verdict.TheVariants as verdict
-use Rattle.explore.specs.Explored.{outcome_replies}
+use Rattle.explore.specs.Explored.{explored_outcome}
 use Rattle.explore.specs.Free.{IsFree}
-use Rattle.explore.specs.Found.{AreFound, IsKnown, StaysPossible, states_of}
-use Rattle.explore.specs.Machines.{AreLawfulSteps, Knows}
-use Rattle.explore.specs.Nexts.{IsOver}
+use Rattle.explore.specs.Found.{AreFound, IsFoundState, FoundStaysPossible, states_found}
+use Rattle.explore.specs.Machines.{AreLawfulMachineSteps, Knows}
+use Rattle.explore.specs.Nexts.{IsOverNext}
 use Rattle.explore.specs.Racing.{AreRacing}
-use Rattle.explore.specs.Outcomes.{AreReplies}
+use Rattle.explore.specs.Outcomes.{AreOutcomeReplies}
 
 -- all that may come next after the state m is among the states
-abbrev pub IsFollowedWhole : Plan → List FlatState → FlatState → Type 0
-IsFollowedWhole s states m = (g : List Event) (p : ℕ) (k : Kind) → Knows s g m → IsFlatBeginning s (did g p k)
-    → IsKnown s states (did g p k)
+abbrev pub SearchFollowsWhole : Plan → List FlatState → FlatState → Type 0
+SearchFollowsWhole s states m = (g : List Event) (p : ℕ) (k : Kind) → Knows s g m → IsFlatBeginning s (did g p k)
+    → IsFoundState s states (did g p k)
 
 -- or what one free event makes of it
-pub record IsFollowedFree (s : Plan) (rows : List (Vec ScriptCall)) (states : List FlatState) (m : FlatState) : Type 0 where
+pub record SearchFollowsFree (s : Plan) (rows : List (Vec ScriptCall)) (states : List FlatState) (m : FlatState) : Type 0 where
   pub processor : ℕ
   pub kind : Kind
   pub free : IsFree rows kind
-  pub next : StaysPossible s m processor kind
-  pub known : (g : List Event) → Knows s g m → IsKnown s states (did g processor kind)
+  pub next : FoundStaysPossible s m processor kind
+  pub known : (g : List Event) → Knows s g m → IsFoundState s states (did g processor kind)
 
 -- of each of the first n states
-abbrev pub IsReduced : Plan → List (Vec ScriptCall) → List FlatState → ℕ → Type 0
-IsReduced s rows states n = (place : ℕ) (m : FlatState) → place < n → slice_get states place ≡ Some m
-    → IsFollowedWhole s states m ⊎ IsFollowedFree s rows states m
+abbrev pub IsSearchReduced : Plan → List (Vec ScriptCall) → List FlatState → ℕ → Type 0
+IsSearchReduced s rows states n = (place : ℕ) (m : FlatState) → place < n → slice_get states place ≡ Some m
+    → SearchFollowsWhole s states m ⊎ SearchFollowsFree s rows states m
 
 -- and no two next events conflict
-abbrev pub IsQuiet : Plan → List FlatState → ℕ → Type 0
-IsQuiet s states n = (place : ℕ) (m : FlatState) (g : List Event) (p q : ℕ) (a b : Kind) → place < n
+abbrev pub IsSearchQuiet : Plan → List FlatState → ℕ → Type 0
+IsSearchQuiet s states n = (place : ℕ) (m : FlatState) (g : List Event) (p q : ℕ) (a b : Kind) → place < n
     → slice_get states place ≡ Some m → Knows s g m → IsFlatBeginning s (did g p a) → IsFlatBeginning s (did g q b)
     → p ≢ q → ¬ Conflict (event p a) (event q b)
 
 -- one of the first n states is whole, and shows this
-pub record IsShownBy (s : Plan) (states : List FlatState) (n : ℕ) (replies : List (List ℕ)) : Type 0 where
+pub record IsShownBySearch (s : Plan) (states : List FlatState) (n : ℕ) (replies : List (List ℕ)) : Type 0 where
   pub place : ℕ
   pub within : place < n
   pub state : FlatState
@@ -58,79 +58,79 @@ pub record IsShownBy (s : Plan) (states : List FlatState) (n : ℕ) (replies : L
   pub events : List Event
   pub knows : Knows s events state
   pub follows : Follows s events
-  pub are : AreReplies s events replies
+  pub are : AreOutcomeReplies s events replies
 
 -- these are what the first n states show, each once
-pub record AreOutcomesShown (s : Plan) (states : List FlatState) (n : ℕ) (outcomes : List (List (List ℕ))) : Type 0 where
-  pub each : (replies : List (List ℕ)) → Has outcomes replies ↔ IsShownBy s states n replies
+pub record AreSearchOutcomesShown (s : Plan) (states : List FlatState) (n : ℕ) (outcomes : List (List (List ℕ))) : Type 0 where
+  pub each : (replies : List (List ℕ)) → Has outcomes replies ↔ IsShownBySearch s states n replies
   pub once : IsOnce outcomes
 
 -- none of the first n states is a hang
-abbrev pub NoneHangs : Plan → List FlatState → ℕ → Type 0
-NoneHangs s states n = (place : ℕ) (m : FlatState) (g : List Event) → place < n → slice_get states place ≡ Some m
-    → Knows s g m → ¬ IsHang s g
+abbrev pub NoneSearchedHangs : Plan → List FlatState → ℕ → Type 0
+NoneSearchedHangs s states n = (place : ℕ) (m : FlatState) (g : List Event) → place < n → slice_get states place ≡ Some m
+    → Knows s g m → ¬ IsHangingBeginning s g
 
 -- the state at this place is
-pub record Hangs (s : Plan) (states : List FlatState) (place : ℕ) : Type 0 where
+pub record HangsSearched (s : Plan) (states : List FlatState) (place : ℕ) : Type 0 where
   pub within : place < length states
-  pub hangs : (m : FlatState) (g : List Event) → slice_get states place ≡ Some m → Knows s g m → IsHang s g
+  pub hangs : (m : FlatState) (g : List Event) → slice_get states place ≡ Some m → Knows s g m → IsHangingBeginning s g
 
 -- what is noted of the first n states: the outcomes, and a hang, if there is one
-pub record OutcomesNoted (s : Plan) (x : Search) (n : ℕ) : Type 0 where
-  pub shown : AreOutcomesShown s (states_of x.found) n (map outcome_replies x.outcomes.keys)
-  pub hang : MatchOption x.hang (NoneHangs s (states_of x.found) n) (Hangs s (states_of x.found))
+pub record SearchOutcomesNoted (s : Plan) (x : Search) (n : ℕ) : Type 0 where
+  pub shown : AreSearchOutcomesShown s (states_found x.found) n (map explored_outcome x.outcomes.keys)
+  pub hang : MatchOption x.hang (NoneSearchedHangs s (states_found x.found) n) (HangsSearched s (states_found x.found))
 
 -- the state at this place, after which nothing may come next, may be noted
-pub record MayNote (s : Plan) (x : Search) (steps : List (Vec ScriptCall)) (place : ℕ) : Type 0 where
-  pub lawful : AreLawfulSteps s steps
+pub record SearchMayNote (s : Plan) (x : Search) (steps : List (Vec ScriptCall)) (place : ℕ) : Type 0 where
+  pub lawful : AreLawfulMachineSteps s steps
   pub found : AreFound s x.found
-  pub within : place < length (states_of x.found)
-  pub over : (m : FlatState) → slice_get (states_of x.found) place ≡ Some m → IsOver s m
-  pub noted : OutcomesNoted s x place
+  pub within : place < length (states_found x.found)
+  pub over : (m : FlatState) → slice_get (states_found x.found) place ≡ Some m → IsOverNext s m
+  pub noted : SearchOutcomesNoted s x place
 
 -- the first n states have been looked at, and no two next events of them conflict
-pub record VisitedUpTo (s : Plan) (x : Search) (rows : List (Vec ScriptCall)) (n : ℕ) : Type 0 where
+pub record SearchedUpTo (s : Plan) (x : Search) (rows : List (Vec ScriptCall)) (n : ℕ) : Type 0 where
   pub found : AreFound s x.found
-  pub within : n ≤ length (states_of x.found)
-  pub closed : IsReduced s rows (states_of x.found) n
-  pub quiet : IsQuiet s (states_of x.found) n
-  pub noted : OutcomesNoted s x n
+  pub within : n ≤ length (states_found x.found)
+  pub closed : IsSearchReduced s rows (states_found x.found) n
+  pub quiet : IsSearchQuiet s (states_found x.found) n
+  pub noted : SearchOutcomesNoted s x n
 
 -- the first n states have been looked at, and there is one more
-pub record HasUnvisited (s : Plan) (x : Search) (steps : List (Vec ScriptCall)) (n : ℕ) : Type 0 where
-  pub lawful : AreLawfulSteps s steps
-  pub searched : VisitedUpTo s x steps n
-  pub more : n < length (states_of x.found)
+pub record HasMoreToSearch (s : Plan) (x : Search) (steps : List (Vec ScriptCall)) (n : ℕ) : Type 0 where
+  pub lawful : AreLawfulMachineSteps s steps
+  pub searched : SearchedUpTo s x steps n
+  pub more : n < length (states_found x.found)
 
 -- the first n states and one more have been looked at; or two next events of that one conflict
-abbrev pub IsLookedAt : Plan → Search → List (Vec ScriptCall) → ℕ → Option Neighbours → Type 0
-IsLookedAt s x steps n o =
-    MatchOption o (VisitedUpTo s x steps (n + 1)) (λ ns. VisitedUpTo s x steps n × AreRacing s x.found steps ns)
+abbrev pub IsSearchedAt : Plan → Search → List (Vec ScriptCall) → ℕ → Option Neighbours → Type 0
+IsSearchedAt s x steps n o =
+    MatchOption o (SearchedUpTo s x steps (n + 1)) (λ ns. SearchedUpTo s x steps n × AreRacing s x.found steps ns)
 
 -- some states have been looked at, and all where they are no more than this; or of one two next events conflict
-pub record IsLookedThrough (s : Plan) (x : Search) (steps : List (Vec ScriptCall)) (most : ℕ) (o : Option Neighbours)
+pub record IsSearchedThrough (s : Plan) (x : Search) (steps : List (Vec ScriptCall)) (most : ℕ) (o : Option Neighbours)
     : Type 0 where
-  pub some : (n : ℕ) × VisitedUpTo s x steps n
+  pub some : (n : ℕ) × SearchedUpTo s x steps n
   pub end :
-      MatchOption o (length (states_of x.found) ≤ most → VisitedUpTo s x steps (length (states_of x.found)))
+      MatchOption o (length (states_found x.found) ≤ most → SearchedUpTo s x steps (length (states_found x.found)))
       (AreRacing s x.found steps)
 
 -- some states have been looked at, or all
 pub record IsSearched (s : Plan) (x : Search) (steps : List (Vec ScriptCall)) (through : Bool) : Type 0 where
-  pub some : (n : ℕ) × VisitedUpTo s x steps n
-  pub all : IsTrue through → VisitedUpTo s x steps (length (states_of x.found))
+  pub some : (n : ℕ) × SearchedUpTo s x steps n
+  pub all : IsTrue through → SearchedUpTo s x steps (length (states_found x.found))
 
 -- the verdict is open only where no two events conflict and not all states were looked at
-abbrev pub IsOpenVerdict : Option Neighbours → Bool → Verdict → Type 0
-IsOpenVerdict o through verdict.RaceFree = o ≡ None
-IsOpenVerdict o through (verdict.Racy racy) = ⊤
-IsOpenVerdict o through verdict.Undecided = (o ≡ None) × (through ≡ false)
+abbrev pub IsSearchVerdictOpen : Option Neighbours → Bool → Verdict → Type 0
+IsSearchVerdictOpen o through verdict.RaceFree = o ≡ None
+IsSearchVerdictOpen o through (verdict.Racy racy) = ⊤
+IsSearchVerdictOpen o through verdict.Undecided = (o ≡ None) × (through ≡ false)
 
 -- whether it hangs is open only where not all states were looked at
-abbrev pub IsOpenHanging : Bool → Hanging → Type 0
-IsOpenHanging through hanging.Undecided = through ≡ false
-IsOpenHanging through _ = ⊤
+abbrev pub IsSearchHangingOpen : Bool → Hanging → Type 0
+IsSearchHangingOpen through hanging.Undecided = through ≡ false
+IsSearchHangingOpen through _ = ⊤
 
 -- this is one of these, or put at their end
-abbrev pub IsAmong : List (List (List ℕ)) → List (List (List ℕ)) → List (List ℕ) → Type 0
-IsAmong old new x = (Has old x × (new ≡ old)) ⊎ ((¬ Has old x) × (new ≡ old ++ x ∷ []))
+abbrev pub IsAmongSearched : List (List (List ℕ)) → List (List (List ℕ)) → List (List ℕ) → Type 0
+IsAmongSearched old new x = (Has old x × (new ≡ old)) ⊎ ((¬ Has old x) × (new ≡ old ++ x ∷ []))

@@ -9,7 +9,7 @@ use Rattle.explore.specs.declared.prefixes.script_call.ScriptCall.{ScriptCall}
 use Rattle.explore.specs.declared.prefixes.script_call.ScriptCall.TheVariants.{Call, Adds}
 use Rattle.explore.specs.declared.guarded.Users.{Users}
 use Rattle.explore.specs.declared.guarded.WordUse.{WordUse}
-use Rattle.explore.specs.Guarded.{held_at, phase_at, step_address, step_stores}
+use Rattle.explore.specs.Guarded.{guard_held_at, guard_phase_at, guarded_step_address, guarded_step_stores}
 
 -- p is among the users, who stores or not, and holds these locks
 pub record IsUser (u : Users) (p : ℕ) (store : Bool) (held : ℕ → Bool) : Type 0 where
@@ -18,68 +18,68 @@ pub record IsUser (u : Users) (p : ℕ) (store : Bool) (held : ℕ → Bool) : T
   pub locks : (l : ℕ) → IsTrue (slice_index_or u.locks l false) → IsTrue (held l)
 
 -- there is one user alone, or nobody stores, or a lock is common to all
-abbrev pub IsCleanUse : Users → Type 0
-IsCleanUse u = (u.are_several ≡ false) ⊎ ((u.stores ≡ false) ⊎ ((l : ℕ) × IsTrue (slice_index_or u.locks l false)))
+abbrev pub AreCleanUsers : Users → Type 0
+AreCleanUsers u = (u.are_several ≡ false) ⊎ ((u.stores ≡ false) ⊎ ((l : ℕ) × IsTrue (slice_index_or u.locks l false)))
 
 -- in this phase p is among the word's users
-pub record IsUsed (word : WordUse) (phase p : ℕ) (store : Bool) (held : ℕ → Bool) : Type 0 where
+pub record HasUser (word : WordUse) (phase p : ℕ) (store : Bool) (held : ℕ → Bool) : Type 0 where
   pub users : Users
   pub at : get nat_cmp word.phases phase ≡ Some users
   pub covered : IsUser users p store held
 
 -- where the word is called guarded, its users are so in each phase
-abbrev pub IsSoundUse : WordUse → Type 0
-IsSoundUse word = IsTrue word.is_guarded → (phase : ℕ) (u : Users) → get nat_cmp word.phases phase ≡ Some u → IsCleanUse u
+abbrev pub AreSoundUsers : WordUse → Type 0
+AreSoundUsers word = IsTrue word.is_guarded → (phase : ℕ) (u : Users) → get nat_cmp word.phases phase ≡ Some u → AreCleanUsers u
 
 -- these users are noted in this phase, and the others still are
-pub record HasNoted (old new : WordUse) (phase : ℕ) (user : Users) : Type 0 where
-  pub keeps : (ph p : ℕ) (store : Bool) (held : ℕ → Bool) → IsUsed old ph p store held → IsUsed new ph p store held
-  pub notes : (p : ℕ) (store : Bool) (held : ℕ → Bool) → IsUser user p store held → IsUsed new phase p store held
-  pub sound : IsSoundUse old → IsSoundUse new
+pub record HasUsersNoted (old new : WordUse) (phase : ℕ) (user : Users) : Type 0 where
+  pub keeps : (ph p : ℕ) (store : Bool) (held : ℕ → Bool) → HasUser old ph p store held → HasUser new ph p store held
+  pub notes : (p : ℕ) (store : Bool) (held : ℕ → Bool) → IsUser user p store held → HasUser new phase p store held
+  pub sound : AreSoundUsers old → AreSoundUsers new
 
 -- of word w, p is among the users in this phase
-pub record IsUsedAt (words : List WordUse) (w phase p : ℕ) (store : Bool) (held : ℕ → Bool) : Type 0 where
+pub record HasUserAt (words : List WordUse) (w phase p : ℕ) (store : Bool) (held : ℕ → Bool) : Type 0 where
   pub word : WordUse
   pub at : slice_get words w ≡ Some word
-  pub used : IsUsed word phase p store held
+  pub used : HasUser word phase p store held
 
 -- the row's first n steps are noted
-abbrev pub AreNoted : List WordUse → ℕ → List ScriptCall → ℕ → Type 0
-AreNoted words p row n = (i w : ℕ) (step : ScriptCall) → i < n → slice_get row i ≡ Some step → step_address step ≡ Some w
-    → IsUsedAt words w (phase_at row i) p (step_stores step) (held_at row i)
+abbrev pub AreStepUsersNoted : List WordUse → ℕ → List ScriptCall → ℕ → Type 0
+AreStepUsersNoted words p row n = (i w : ℕ) (step : ScriptCall) → i < n → slice_get row i ≡ Some step → guarded_step_address step ≡ Some w
+    → HasUserAt words w (guard_phase_at row i) p (guarded_step_stores step) (guard_held_at row i)
 
 -- what was noted still is, and what is called guarded is so
-pub record KeepUses (old new : List WordUse) : Type 0 where
+pub record KeepUsers (old new : List WordUse) : Type 0 where
   pub long : length new ≡ length old
-  pub keeps : (w ph p : ℕ) (store : Bool) (held : ℕ → Bool) → IsUsedAt old w ph p store held → IsUsedAt new w ph p store held
-  pub sound : ((w : ℕ) (word : WordUse) → slice_get old w ≡ Some word → IsSoundUse word)
-      → (w : ℕ) (word : WordUse) → slice_get new w ≡ Some word → IsSoundUse word
+  pub keeps : (w ph p : ℕ) (store : Bool) (held : ℕ → Bool) → HasUserAt old w ph p store held → HasUserAt new w ph p store held
+  pub sound : ((w : ℕ) (word : WordUse) → slice_get old w ≡ Some word → AreSoundUsers word)
+      → (w : ℕ) (word : WordUse) → slice_get new w ≡ Some word → AreSoundUsers word
 
-abbrev pub AreSoundUses : List WordUse → Type 0
-AreSoundUses words = (w : ℕ) (word : WordUse) → slice_get words w ≡ Some word → IsSoundUse word
+abbrev pub AllUsersSound : List WordUse → Type 0
+AllUsersSound words = (w : ℕ) (word : WordUse) → slice_get words w ≡ Some word → AreSoundUsers word
 
 -- the lock that a call takes or gives up is one of 32
-abbrev pub IsSmallLock : Kind → Type 0
-IsSmallLock (Acquire l) = l < 32
-IsSmallLock (Release l) = l < 32
-IsSmallLock _ = Unit {0}
+abbrev pub IsUserLockSmall : Kind → Type 0
+IsUserLockSmall (Acquire l) = l < 32
+IsUserLockSmall (Release l) = l < 32
+IsUserLockSmall _ = Unit {0}
 
 -- the step's word is one of so many, and its lock one of 32
-abbrev pub IsStepWithin : ℕ → ScriptCall → Type 0
-IsStepWithin size (Call k) = ((w : ℕ) → step_address (Call k) ≡ Some w → w < size) × IsSmallLock k
-IsStepWithin size (Adds a v) = a < size
+abbrev pub IsUserStepWithin : ℕ → ScriptCall → Type 0
+IsUserStepWithin size (Call k) = ((w : ℕ) → guarded_step_address (Call k) ≡ Some w → w < size) × IsUserLockSmall k
+IsUserStepWithin size (Adds a v) = a < size
 
-abbrev pub AreStepsWithin : ℕ → List ScriptCall → Type 0
-AreStepsWithin size row = (i : ℕ) (step : ScriptCall) → slice_get row i ≡ Some step → IsStepWithin size step
+abbrev pub AreUserStepsWithin : ℕ → List ScriptCall → Type 0
+AreUserStepsWithin size row = (i : ℕ) (step : ScriptCall) → slice_get row i ≡ Some step → IsUserStepWithin size step
 
-abbrev pub AreRowsWithin : ℕ → List (Vec ScriptCall) → Type 0
-AreRowsWithin size rows = (p : ℕ) (row : Vec ScriptCall) → slice_get rows p ≡ Some row → AreStepsWithin size row.items
+abbrev pub AreUserRowsWithin : ℕ → List (Vec ScriptCall) → Type 0
+AreUserRowsWithin size rows = (p : ℕ) (row : Vec ScriptCall) → slice_get rows p ≡ Some row → AreUserStepsWithin size row.items
 
 -- each row has few steps
-abbrev pub AreRowsFew : List (Vec ScriptCall) → Type 0
-AreRowsFew rows = (p : ℕ) (row : Vec ScriptCall) → slice_get rows p ≡ Some row → length row.items < 2 ^ 20
+abbrev pub AreUserRowsFew : List (Vec ScriptCall) → Type 0
+AreUserRowsFew rows = (p : ℕ) (row : Vec ScriptCall) → slice_get rows p ≡ Some row → length row.items < 2 ^ 20
 
 -- the first n rows are noted
-abbrev pub AreRowsNoted : List WordUse → List (Vec ScriptCall) → ℕ → Type 0
-AreRowsNoted words rows n = (p : ℕ) (row : Vec ScriptCall) → p < n → slice_get rows p ≡ Some row
-    → AreNoted words p row.items (length row.items)
+abbrev pub AreUserRowsNoted : List WordUse → List (Vec ScriptCall) → ℕ → Type 0
+AreUserRowsNoted words rows n = (p : ℕ) (row : Vec ScriptCall) → p < n → slice_get rows p ≡ Some row
+    → AreStepUsersNoted words p row.items (length row.items)

@@ -7,12 +7,12 @@ ghost use Rattle.journal.specs.declared.event.Kind.{Kind as AKind};
 ghost use Rattle.journal.specs.Prelude.{AddressInRange, AnswersFlatWord, did, flat_write};
 ghost use Rattle.lrc_script.specs.Prelude.{IsLawful, Plan, plan_of};
 ghost use Rattle.conformance.specs.Follows.{Follows, followed_calls};
-ghost use Rattle.explore.specs.Prefixes.Calling.{IsStep, last_reply};
+ghost use Rattle.explore.specs.Prefixes.Calling.{IsCallOfStep, last_reply_of_calls};
 ghost use Rattle.explore.specs.Prefixes.Prelude.{IsFlatBeginning};
-ghost use Rattle.explore.specs.Machines.{AreLawfulSteps, StepReads, SameState, IsRunning, IsStepOf, Knows};
-ghost use Rattle.explore.specs.Machines.{items_of, last_or};
-ghost use Rattle.explore.specs.Outcomes.{AreReplies, replies_in};
-ghost use Rattle.explore.specs.Waiting.{AreAwaited};
+ghost use Rattle.explore.specs.Machines.{AreLawfulMachineSteps, MachineStepReads, SameMachineState, IsMachineRunning, IsMachineStep, Knows};
+ghost use Rattle.explore.specs.Machines.{machine_rows, machine_last_or};
+ghost use Rattle.explore.specs.Outcomes.{AreOutcomeReplies, outcome_replies_in};
+ghost use Rattle.explore.specs.Waiting.{AllWaitingTold};
 
 use crate::prefixes::ScriptCall;
 use crate::waiting::Waiting;
@@ -34,8 +34,8 @@ pub struct FlatState {
 
 /// The call that the step says, after this reply, with the word of the memory where it loads.
 fn call_of(step: ScriptCall, reply: u32, memory: &[u32]) -> Kind
-    requires { StepReads (length memory.now) step }
-    ensures { (k : AKind) → (result ≡ k) ↔ (IsStep reply step k × AnswersFlatWord memory.now k) }
+    requires { MachineStepReads (length memory.now) step }
+    ensures { (k : AKind) → (result ≡ k) ↔ (IsCallOfStep reply step k × AnswersFlatWord memory.now k) }
 {
     match step {
         ScriptCall::Call(Kind::Load(address, _)) => Kind::Load(address, memory[address]),
@@ -46,7 +46,7 @@ fn call_of(step: ScriptCall, reply: u32, memory: &[u32]) -> Kind
 
 /// The last of these words, 0 where there is none.
 fn last_of(words: &[u32]) -> u32
-    ensures { result ≡ last_or 0 words.now }
+    ensures { result ≡ machine_last_or 0 words.now }
 {
     match words.last() {
         Some(word) => *word,
@@ -56,7 +56,7 @@ fn last_of(words: &[u32]) -> u32
 
 /// Puts the reply of a load at the end.
 fn keep_reply(replies: &mut Vec<u32>, kind: Kind) -> Result<(), AllocError>
-    ensures { OnOk result (replies.new.items ≡ replies.old.items ++ replies_in (kind ∷ [])) }
+    ensures { OnOk result (replies.new.items ≡ replies.old.items ++ outcome_replies_in (kind ∷ [])) }
 {
     if let Kind::Load(_, word) = kind {
         replies.push(word)?;
@@ -76,7 +76,7 @@ fn write(memory: &mut [u32], kind: Kind)
 
 /// No replies, of so many processors.
 fn no_replies(alloc: Global, processors: usize) -> Result<Vec<Vec<u32>>, AllocError>
-    ensures { IfOk result (λ v. items_of v.items ≡ replicate processors []) }
+    ensures { IfOk result (λ v. machine_rows v.items ≡ replicate processors []) }
 {
     let mut all = Vec::new(alloc);
     for _ in 0..processors {
@@ -101,7 +101,7 @@ impl FlatState {
 
     /// Another one in the same state. The only error is running out of memory.
     pub fn copy(&self) -> Result<FlatState, AllocError>
-        ensures { IfOk result (SameState self.now) }
+        ensures { IfOk result (SameMachineState self.now) }
     {
         Ok(FlatState {
             done: self.done,
@@ -114,7 +114,7 @@ impl FlatState {
     /// What the processor's last load answered, 0 where there is none.
     fn reply_before(&self, processor: usize) -> u32
         requires { processor < length self.now.replies.items }
-        ensures { (s : Plan) (g : List AnEvent) → Knows s g self.now → result ≡ last_reply (followed_calls g processor) }
+        ensures { (s : Plan) (g : List AnEvent) → Knows s g self.now → result ≡ last_reply_of_calls (followed_calls g processor) }
     {
         last_of(&self.replies[processor])
     }
@@ -122,8 +122,8 @@ impl FlatState {
     /// What the processor may do next. Its steps are one of these rows.
     pub fn next(&self, steps: &[Vec<ScriptCall>], processor: usize) -> Option<Kind>
         requires processor { processor < length steps.now }
-        requires running { IsRunning self.now steps.now }
-        ensures { (s : Plan) (g : List AnEvent) → AreLawfulSteps s steps.now → Knows s g self.now
+        requires running { IsMachineRunning self.now steps.now }
+        ensures { (s : Plan) (g : List AnEvent) → AreLawfulMachineSteps s steps.now → Knows s g self.now
             → (k : AKind) → (result ≡ Some k) ↔ IsFlatBeginning s (did g processor k) }
     {
         let row = &steps[processor];
@@ -142,7 +142,7 @@ impl FlatState {
     /// Does what the processor may do next. The only error is running out of memory, after which the machine may be of
     /// no use.
     pub fn step(&mut self, processor: usize, kind: Kind) -> Result<(), AllocError>
-        requires { IsStepOf self.old processor kind }
+        requires { IsMachineStep self.old processor kind }
         ensures { OnOk result ((s : Plan) (g : List AnEvent) → Knows s g self.old
             → IsFlatBeginning s (did g processor kind) → processor < 16
             → Knows s (did g processor kind) self.new) }
@@ -156,8 +156,8 @@ impl FlatState {
 
     /// Whether each processor has made all its calls.
     pub fn is_whole(&self, steps: &[Vec<ScriptCall>]) -> bool
-        requires { IsRunning self.now steps.now }
-        ensures { (s : Plan) (g : List AnEvent) → AreLawfulSteps s steps.now → Knows s g self.now
+        requires { IsMachineRunning self.now steps.now }
+        ensures { (s : Plan) (g : List AnEvent) → AreLawfulMachineSteps s steps.now → Knows s g self.now
             → IsTrue result ↔ Follows s g }
     {
         for processor in 0..steps.len() {
@@ -170,7 +170,7 @@ impl FlatState {
 
     /// What the loads of each processor have answered.
     pub fn replies(&self) -> Result<Vec<Vec<u32>>, AllocError>
-        ensures { IfOk result (λ v. items_of v.items ≡ items_of self.now.replies.items) }
+        ensures { IfOk result (λ v. machine_rows v.items ≡ machine_rows self.now.replies.items) }
     {
         self.replies.clone()
     }
@@ -180,7 +180,7 @@ impl FlatState {
         requires { processors ≤ 16 }
         ensures long { IfOk result (λ v. length v.items ≡ processors) }
         ensures waits { IfOk result (λ v. (s : Plan) (g : List AnEvent) → s.processors ≡ processors
-            → Knows s g self.now → AreAwaited g v.items) }
+            → Knows s g self.now → AllWaitingTold g v.items) }
     {
         let mut waits = Vec::new(alloc);
         for processor in 0..processors {

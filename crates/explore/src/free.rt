@@ -3,13 +3,13 @@ ghost use Rattle.std.specs.Prelude.{◌≡◌, ℕ, ◌<◌, IsTrue, List, None,
 ghost use Rattle.std.specs.Global.{Vec as AVec};
 ghost use Rattle.journal.specs.declared.event.Kind.{Kind as AKind};
 ghost use Rattle.explore.specs.declared.prefixes.script_call.ScriptCall.{ScriptCall as AStep};
-ghost use Rattle.explore.specs.Free.{IsAmongNexts, IsChoice, IsFreeOf};
+ghost use Rattle.explore.specs.Free.{IsFreeAmongNexts, IsChoice, IsFreeOf};
 ghost use Rattle.explore.specs.Guarded.{AreGuarded};
 
 use journal::Kind;
 
 /// Whether the word is said to be guarded.
-fn is_said(guarded: &[bool], address: usize) -> bool
+fn is_free_word_said(guarded: &[bool], address: usize) -> bool
     ensures { IsTrue result → IsTrue (slice_index_or guarded.now address false) }
 {
     address < guarded.len() && guarded[address]
@@ -22,7 +22,7 @@ fn is_free(guarded: &[bool], kind: Kind) -> bool
 {
     match kind {
         Kind::Ask(_) => false,
-        Kind::Load(address, _) | Kind::Store(address, _) => is_said(guarded, address),
+        Kind::Load(address, _) | Kind::Store(address, _) => is_free_word_said(guarded, address),
         _ => true,
     }
 }
@@ -43,7 +43,7 @@ fn alone(processor: usize, kind: Kind) -> [Option<Kind>; 16]
 /// states, so a search that follows no others there misses no race, no hang and no outcome.
 pub fn to_follow(nexts: &[Option<Kind>; 16], guarded: &[bool]) -> [Option<Kind>; 16]
     ensures choice { (rows : List (AVec AStep)) → AreGuarded rows guarded.now → IsChoice rows nexts.now result }
-    ensures among { IsAmongNexts nexts.now result }
+    ensures among { IsFreeAmongNexts nexts.now result }
     ensures long { length result ≡ 16 }
 {
     for processor in 0..16 {

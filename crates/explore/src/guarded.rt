@@ -11,10 +11,10 @@ ghost use Rattle.lrc_script.specs.Lawful.{plan_addresses};
 ghost use Rattle.lrc_script.specs.Prelude.{plan_of};
 ghost use Rattle.explore.specs.declared.guarded.Users.{Users as TheUsers};
 ghost use Rattle.explore.specs.declared.guarded.WordUse.{WordUse as AWordUse};
-ghost use Rattle.explore.specs.Guarded.{AreGuarded, GuardedTextLaw, departs, is_held_after_step, step_address, step_stores};
-ghost use Rattle.explore.specs.Machines.{AreLawfulSteps};
-ghost use Rattle.explore.specs.Users.{AreNoted, AreRowsNoted, AreRowsWithin, AreSoundUses, AreStepsWithin, HasNoted, IsCleanUse, IsUser};
-ghost use Rattle.explore.specs.Users.{AreRowsFew, IsUsed, IsUsedAt, IsStepWithin, KeepUses};
+ghost use Rattle.explore.specs.Guarded.{AreGuarded, GuardedTextLaw, guard_step_departs, guard_held_after_step, guarded_step_address, guarded_step_stores};
+ghost use Rattle.explore.specs.Machines.{AreLawfulMachineSteps};
+ghost use Rattle.explore.specs.Users.{AreStepUsersNoted, AreUserRowsNoted, AreUserRowsWithin, AllUsersSound, AreUserStepsWithin, HasUsersNoted, AreCleanUsers, IsUser};
+ghost use Rattle.explore.specs.Users.{AreUserRowsFew, HasUser, HasUserAt, IsUserStepWithin, KeepUsers};
 
 use crate::prefixes::ScriptCall;
 use journal::Kind;
@@ -44,7 +44,7 @@ pub struct WordUse {
 }
 
 /// The locks that are in both sets.
-fn common(first: &[bool; 32], second: &[bool; 32]) -> [bool; 32]
+fn common_guards(first: &[bool; 32], second: &[bool; 32]) -> [bool; 32]
     ensures { (l : ℕ) → IsTrue (slice_index_or result l false)
         → IsTrue (slice_index_or first.now l false) × IsTrue (slice_index_or second.now l false) }
 {
@@ -56,7 +56,7 @@ fn common(first: &[bool; 32], second: &[bool; 32]) -> [bool; 32]
 }
 
 /// Whether there is a lock in the set.
-fn has_any(locks: &[bool; 32]) -> bool
+fn has_any_guard(locks: &[bool; 32]) -> bool
     ensures { IsTrue result → (l : ℕ) × IsTrue (slice_index_or locks.now l false) }
 {
     for lock in 0..32 {
@@ -77,15 +77,15 @@ impl Users {
             processor: self.processor,
             are_several: self.are_several | other.are_several | (self.processor != other.processor),
             stores: self.stores | other.stores,
-            locks: common(&self.locks, &other.locks),
+            locks: common_guards(&self.locks, &other.locks),
         }
     }
 
     /// Whether it is one user alone, or nobody stores, or a lock is common to all.
     fn are_clean(&self) -> bool
-        ensures { IsTrue result → IsCleanUse self.now }
+        ensures { IsTrue result → AreCleanUsers self.now }
     {
-        !self.are_several || !self.stores || has_any(&self.locks)
+        !self.are_several || !self.stores || has_any_guard(&self.locks)
     }
 }
 
@@ -115,7 +115,7 @@ impl WordUse {
 
     /// Takes note of users in this phase. The only error is running out of memory, after which this may be of no use.
     fn note(&mut self, phase: usize, user: Users) -> Result<(), AllocError>
-        ensures { OnOk result (HasNoted self.old self.new phase user) }
+        ensures { OnOk result (HasUsersNoted self.old self.new phase user) }
     {
         let users = self.joined(phase, user);
         self.is_guarded &= users.are_clean();
@@ -125,8 +125,8 @@ impl WordUse {
 }
 
 /// The address that a step accesses.
-fn address_of(step: ScriptCall) -> Option<usize>
-    ensures { result ≡ step_address step }
+fn guarded_address_of(step: ScriptCall) -> Option<usize>
+    ensures { result ≡ guarded_step_address step }
 {
     match step {
         ScriptCall::Call(Kind::Load(address, _) | Kind::Store(address, _)) => Some(address),
@@ -137,7 +137,7 @@ fn address_of(step: ScriptCall) -> Option<usize>
 
 /// Whether it stores.
 fn stores(step: ScriptCall) -> bool
-    ensures { result ≡ step_stores step }
+    ensures { result ≡ guarded_step_stores step }
 {
     matches!(
         step,
@@ -146,17 +146,17 @@ fn stores(step: ScriptCall) -> bool
 }
 
 /// Whether it departs from the barrier.
-fn departs(step: ScriptCall) -> bool
-    ensures { result ≡ departs step }
+fn guard_step_departs(step: ScriptCall) -> bool
+    ensures { result ≡ guard_step_departs step }
 {
     matches!(step, ScriptCall::Call(Kind::Depart))
 }
 
 /// Takes note of the lock that the step takes or gives up.
 fn hold(held: &mut [bool; 32], step: ScriptCall)
-    requires { (size : ℕ) × IsStepWithin size step }
+    requires { (size : ℕ) × IsUserStepWithin size step }
     ensures held { (l : ℕ) → slice_index_or held.new l false
-        ≡ is_held_after_step l (slice_index_or held.old l false) step }
+        ≡ guard_held_after_step l (slice_index_or held.old l false) step }
     ensures long { length held.new ≡ length held.old }
 {
     match step {
@@ -169,9 +169,13 @@ fn hold(held: &mut [bool; 32], step: ScriptCall)
 /// The phase after the step.
 fn phase_after(phase: usize, step: ScriptCall) -> usize
     requires { phase < 2 ^ 20 }
-    ensures { result ≡ phase + cond (departs step) 1 0 }
+    ensures { result ≡ phase + cond (guard_step_departs step) 1 0 }
 {
-    if departs(step) { phase + 1 } else { phase }
+    if guard_step_departs(step) {
+        phase + 1
+    } else {
+        phase
+    }
 }
 
 /// Takes note of what the processor's step accesses in this phase, with these locks held. The only error is running out of
@@ -183,12 +187,12 @@ fn note_step(
     locks: &[bool; 32],
     step: ScriptCall,
 ) -> Result<(), AllocError>
-    requires { IsStepWithin (vec_len words.old) step }
-    ensures keeps { OnOk result (KeepUses words.old.items words.new.items) }
+    requires { IsUserStepWithin (vec_len words.old) step }
+    ensures keeps { OnOk result (KeepUsers words.old.items words.new.items) }
     ensures noted { OnOk result ((held : ℕ → Bool) → ((l : ℕ) → slice_index_or locks.now l false ≡ held l) → (w : ℕ)
-        → step_address step ≡ Some w → IsUsedAt words.new.items w phase processor (step_stores step) held) }
+        → guarded_step_address step ≡ Some w → HasUserAt words.new.items w phase processor (guarded_step_stores step) held) }
 {
-    if let Some(address) = address_of(step) {
+    if let Some(address) = guarded_address_of(step) {
         let user = Users {
             processor,
             are_several: false,
@@ -206,10 +210,10 @@ fn note_row(
     processor: usize,
     row: &[ScriptCall],
 ) -> Result<(), AllocError>
-    requires within { AreStepsWithin (vec_len words.old) row.now }
+    requires within { AreUserStepsWithin (vec_len words.old) row.now }
     requires few { length row.now < 2 ^ 20 }
-    ensures keeps { OnOk result (KeepUses words.old.items words.new.items) }
-    ensures noted { OnOk result (AreNoted words.new.items processor row.now (length row.now)) }
+    ensures keeps { OnOk result (KeepUsers words.old.items words.new.items) }
+    ensures noted { OnOk result (AreStepUsersNoted words.new.items processor row.now (length row.now)) }
 {
     let mut phase = 0;
     let mut held = [false; 32];
@@ -222,9 +226,9 @@ fn note_row(
 }
 
 /// So many words that nobody uses. The only error is running out of memory.
-fn unused(alloc: Global, size: usize) -> Result<Vec<WordUse>, AllocError>
+fn unused_guarded_words(alloc: Global, size: usize) -> Result<Vec<WordUse>, AllocError>
     ensures long { IfOk result (λ v. vec_len v ≡ size) }
-    ensures sound { IfOk result (λ v. AreSoundUses v.items) }
+    ensures sound { IfOk result (λ v. AllUsersSound v.items) }
 {
     let mut words = Vec::new(alloc);
     for _ in 0..size {
@@ -235,13 +239,13 @@ fn unused(alloc: Global, size: usize) -> Result<Vec<WordUse>, AllocError>
 
 /// Who uses each of the words. The only error is running out of memory.
 fn uses(alloc: Global, size: usize, steps: &[Vec<ScriptCall>]) -> Result<Vec<WordUse>, AllocError>
-    requires within { AreRowsWithin size steps.now }
-    requires few { AreRowsFew steps.now }
+    requires within { AreUserRowsWithin size steps.now }
+    requires few { AreUserRowsFew steps.now }
     ensures long { IfOk result (λ v. vec_len v ≡ size) }
-    ensures noted { IfOk result (λ v. AreRowsNoted v.items steps.now (length steps.now)) }
-    ensures sound { IfOk result (λ v. AreSoundUses v.items) }
+    ensures noted { IfOk result (λ v. AreUserRowsNoted v.items steps.now (length steps.now)) }
+    ensures sound { IfOk result (λ v. AllUsersSound v.items) }
 {
-    let mut words = unused(alloc, size)?;
+    let mut words = unused_guarded_words(alloc, size)?;
     for processor in 0..steps.len() {
         note_row(&mut words, processor, &steps[processor])?;
     }
@@ -265,7 +269,7 @@ pub fn guarded_words(
     script: &Script,
     steps: &[Vec<ScriptCall>],
 ) -> Result<Vec<bool>, AllocError>
-    requires { AreLawfulSteps (plan_of script.now) steps.now }
+    requires { AreLawfulMachineSteps (plan_of script.now) steps.now }
     ensures long { IfOk result (λ v. vec_len v ≡ plan_addresses (plan_of script.now)) }
     ensures guarded { IfOk result (λ v. AreGuarded steps.now v.items) }
 {

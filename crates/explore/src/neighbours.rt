@@ -3,7 +3,7 @@ ghost use Rattle.std.specs.Prelude.{◌≡◌, ◌≢◌, ◌↔◌, ℕ, ◌<�
 ghost use Rattle.journal.specs.declared.event.Kind.{Kind as AKind};
 ghost use Rattle.journal.specs.Prelude.{Conflict, event};
 ghost use Rattle.lrc_script.specs.Prelude.{Plan};
-ghost use Rattle.explore.specs.Machines.{AreLawfulSteps, IsRunning};
+ghost use Rattle.explore.specs.Machines.{AreLawfulMachineSteps, IsMachineRunning};
 ghost use Rattle.explore.specs.Nexts.{AreNexts, AreNextInConflict};
 
 use crate::flat_state::FlatState;
@@ -20,8 +20,8 @@ pub struct Neighbours {
 
 /// What each processor may do next.
 pub fn nexts_of(state: &FlatState, steps: &[Vec<ScriptCall>]) -> [Option<Kind>; 16]
-    requires { IsRunning state.now steps.now }
-    ensures nexts { (s : Plan) → AreLawfulSteps s steps.now → AreNexts s state.now result }
+    requires { IsMachineRunning state.now steps.now }
+    ensures nexts { (s : Plan) → AreLawfulMachineSteps s steps.now → AreNexts s state.now result }
     ensures long { length result ≡ 16 }
 {
     let mut nexts = [None; 16];

@@ -3,7 +3,7 @@ ghost use Rattle.std.specs.Prelude.{◌≡◌, ℕ, IfOk};
 ghost use Rattle.journal.specs.Prelude.{Race};
 ghost use Rattle.lrc_script.specs.Prelude.{IsLawful, Plan, plan_of};
 ghost use Rattle.explore.specs.Prefixes.Prelude.{IsFlatBeginning};
-ghost use Rattle.explore.specs.Explored.{IsRacy};
+ghost use Rattle.explore.specs.Explored.{IsExploredRacy};
 ghost use Rattle.explore.specs.Racing.{AreRacing, IsRacingBeginning};
 
 use crate::explored::RacyEvents;
@@ -47,7 +47,7 @@ fn racing_events(
 fn up_to_race(alloc: Global, script: &Script, events: Vec<Event>) -> Result<RacyEvents, AllocError>
     requires lawful { IsLawful (plan_of script.now) }
     requires racing { IsRacingBeginning (plan_of script.now) events.items }
-    ensures { IfOk result (IsRacy (plan_of script.now)) }
+    ensures { IfOk result (IsExploredRacy (plan_of script.now)) }
 {
     let mut events = events;
     let addresses = script.pages * script.words;
@@ -60,7 +60,7 @@ fn up_to_race(alloc: Global, script: &Script, events: Vec<Event>) -> Result<Racy
 }
 
 /// A history in which the two events that conflict race, up to its first race. The only error is running out of memory.
-pub fn racy_events(
+pub fn racing_history(
     alloc: Global,
     script: &Script,
     steps: &[Vec<ScriptCall>],
@@ -68,7 +68,7 @@ pub fn racy_events(
     neighbours: Neighbours,
 ) -> Result<RacyEvents, AllocError>
     requires { AreRacing (plan_of script.now) found.now steps.now neighbours }
-    ensures { IfOk result (IsRacy (plan_of script.now)) }
+    ensures { IfOk result (IsExploredRacy (plan_of script.now)) }
 {
     let events = racing_events(alloc, steps, found, neighbours)?;
     up_to_race(alloc, script, events)

@@ -4,15 +4,15 @@ ghost use Rattle.std.specs.Global.{Vec as AVec};
 ghost use Rattle.lrc_script.specs.Prelude.{IsLawful, Plan, plan_of};
 ghost use Rattle.lrc_script.specs.Lawful.{plan_addresses};
 ghost use Rattle.explore.specs.declared.prefixes.script_call.ScriptCall.{ScriptCall as AStep};
-ghost use Rattle.explore.specs.Prefixes.Prelude.{IsFlatRaceFree};
+ghost use Rattle.explore.specs.Prefixes.Prelude.{IsRaceFreeBeginning};
 ghost use Rattle.explore.specs.Guarded.{AreGuarded};
-ghost use Rattle.explore.specs.Explored.{IsExplored, IsHangOf, IsHangingOn, IsVerdictOn, outcome_replies};
-ghost use Rattle.explore.specs.Found.{AreFound, states_of};
-ghost use Rattle.explore.specs.Machines.{AreLawfulSteps};
+ghost use Rattle.explore.specs.Explored.{IsExplored, IsExploredHang, IsExploredHanging, IsExploredVerdict, explored_outcome};
+ghost use Rattle.explore.specs.Found.{AreFound, states_found};
+ghost use Rattle.explore.specs.Machines.{AreLawfulMachineSteps};
 ghost use Rattle.explore.specs.Racing.{AreRacing};
-ghost use Rattle.explore.specs.Room.{states_to_look_at};
-ghost use Rattle.explore.specs.Searched.{Hangs, IsAmong, IsLookedAt, IsLookedThrough, OutcomesNoted, VisitedUpTo, HasUnvisited};
-ghost use Rattle.explore.specs.Searched.{IsOpenHanging, IsOpenVerdict, IsSearched, MayNote};
+ghost use Rattle.explore.specs.Room.{states_with_room};
+ghost use Rattle.explore.specs.Searched.{HangsSearched, IsAmongSearched, IsSearchedAt, IsSearchedThrough, SearchOutcomesNoted, SearchedUpTo, HasMoreToSearch};
+ghost use Rattle.explore.specs.Searched.{IsSearchHangingOpen, IsSearchVerdictOpen, IsSearched, SearchMayNote};
 
 use crate::explored::{Explored, Hang, Hanging, ScriptOutcome, Verdict};
 use crate::flat_state::FlatState;
@@ -21,7 +21,7 @@ use crate::guarded::{are_all, guarded_words};
 use crate::neighbours::{Neighbours, is_over, neighbours_in, nexts_of};
 use crate::prefixes::{ScriptCall, steps_of_script};
 use crate::progress::Progress;
-use crate::racing::racy_events;
+use crate::racing::racing_history;
 use crate::room::states_to_look_at;
 use crate::states::States;
 use indexmap::IndexSet;
@@ -44,8 +44,8 @@ fn add_outcome(
     outcomes: &mut IndexSet<ScriptOutcome>,
     outcome: ScriptOutcome,
 ) -> Result<(), AllocError>
-    ensures { OnOk result (IsAmong (map outcome_replies outcomes.old.keys) (map outcome_replies outcomes.new.keys)
-        (outcome_replies outcome)) }
+    ensures { OnOk result (IsAmongSearched (map explored_outcome outcomes.old.keys) (map explored_outcome outcomes.new.keys)
+        (explored_outcome outcome)) }
 {
     outcomes.insert(outcome)?;
     Ok(())
@@ -69,7 +69,7 @@ fn is_through(neighbours: Option<Neighbours>, states: usize, most: usize) -> boo
 }
 
 /// The outcomes as a list. The only error is running out of memory.
-fn listed(
+fn search_outcomes_listed(
     alloc: Global,
     outcomes: IndexSet<ScriptOutcome>,
 ) -> Result<Vec<ScriptOutcome>, AllocError>
@@ -82,8 +82,8 @@ impl Search {
     /// The first state alone. The only error is running out of memory.
     fn new(alloc: Global, script: &Script) -> Result<Search, AllocError>
         requires { IsLawful (plan_of script.now) }
-        ensures searched { IfOk result (λ x. (rows : List (AVec AStep)) → VisitedUpTo (plan_of script.now) x rows 0) }
-        ensures few { IfOk result (λ x. length (states_of x.found) ≤ 1) }
+        ensures searched { IfOk result (λ x. (rows : List (AVec AStep)) → SearchedUpTo (plan_of script.now) x rows 0) }
+        ensures few { IfOk result (λ x. length (states_found x.found) ≤ 1) }
     {
         Ok(Search {
             found: States::new(alloc, FlatState::new(alloc, script)?)?,
@@ -94,9 +94,9 @@ impl Search {
 
     /// Takes note of a state after which nothing may come next: it is whole, or it hangs.
     fn note_end(&mut self, steps: &[Vec<ScriptCall>], place: usize) -> Result<(), AllocError>
-        requires { (s : Plan) × MayNote s self.old steps.now place }
+        requires { (s : Plan) × SearchMayNote s self.old steps.now place }
         ensures found { OnOk result (self.new.found ≡ self.old.found) }
-        ensures noted { OnOk result ((s : Plan) → MayNote s self.old steps.now place → OutcomesNoted s self.new (place + 1)) }
+        ensures noted { OnOk result ((s : Plan) → SearchMayNote s self.old steps.now place → SearchOutcomesNoted s self.new (place + 1)) }
     {
         let state = self.found.at(place);
         if state.is_whole(steps) {
@@ -116,11 +116,11 @@ impl Search {
         place: usize,
     ) -> Result<Option<Neighbours>, AllocError>
         requires guarded { AreGuarded steps.now guarded.now }
-        requires unvisited { (s : Plan) × HasUnvisited s self.old steps.now place }
-        ensures looked { IfOk result (λ o. (s : Plan) → HasUnvisited s self.old steps.now place
-            → IsLookedAt s self.new steps.now place o) }
-        ensures few { IfOk result (λ _. (s : Plan) → HasUnvisited s self.old steps.now place
-            → length (states_of self.new.found) ≤ length (states_of self.old.found) + 16) }
+        requires unvisited { (s : Plan) × HasMoreToSearch s self.old steps.now place }
+        ensures looked { IfOk result (λ o. (s : Plan) → HasMoreToSearch s self.old steps.now place
+            → IsSearchedAt s self.new steps.now place o) }
+        ensures few { IfOk result (λ _. (s : Plan) → HasMoreToSearch s self.old steps.now place
+            → length (states_found self.new.found) ≤ length (states_found self.old.found) + 16) }
     {
         let nexts = nexts_of(self.found.at(place), steps);
         if let Some((first, second)) = neighbours_in(&nexts) {
@@ -146,11 +146,11 @@ impl Search {
         progress: &mut P,
     ) -> Result<Option<Neighbours>, AllocError>
         requires guarded { AreGuarded steps.now guarded.now }
-        requires searched { (s : Plan) × AreLawfulSteps s steps.now × VisitedUpTo s self.old steps.now 0 }
-        ensures looked { IfOk result (λ o. (s : Plan) → AreLawfulSteps s steps.now → VisitedUpTo s self.old steps.now 0
-            → IsLookedThrough s self.new steps.now most o) }
-        ensures few { IfOk result (λ _. (s : Plan) → AreLawfulSteps s steps.now → VisitedUpTo s self.old steps.now 0
-            → length (states_of self.old.found) ≤ 1 → length (states_of self.new.found) ≤ most + 16) }
+        requires searched { (s : Plan) × AreLawfulMachineSteps s steps.now × SearchedUpTo s self.old steps.now 0 }
+        ensures looked { IfOk result (λ o. (s : Plan) → AreLawfulMachineSteps s steps.now → SearchedUpTo s self.old steps.now 0
+            → IsSearchedThrough s self.new steps.now most o) }
+        ensures few { IfOk result (λ _. (s : Plan) → AreLawfulMachineSteps s steps.now → SearchedUpTo s self.old steps.now 0
+            → length (states_found self.old.found) ≤ 1 → length (states_found self.new.found) ≤ most + 16) }
     {
         for place in 0..most {
             let states = self.found.len();
@@ -171,9 +171,9 @@ impl Search {
     /// The state at this place, as a hang. The only error is running out of memory.
     fn hang_at(&self, alloc: Global, processors: usize, place: usize) -> Result<Hang, AllocError>
         requires few { processors ≤ 16 }
-        requires hangs { (s : Plan) × AreFound s self.now.found × Hangs s (states_of self.now.found) place }
+        requires hangs { (s : Plan) × AreFound s self.now.found × HangsSearched s (states_found self.now.found) place }
         ensures { IfOk result (λ h. (s : Plan) → s.processors ≡ processors → AreFound s self.now.found
-            → Hangs s (states_of self.now.found) place → IsHangOf s h) }
+            → HangsSearched s (states_found self.now.found) place → IsExploredHang s h) }
     {
         Ok(Hang {
             events: self.found.events_to(alloc, place)?,
@@ -184,10 +184,10 @@ impl Search {
     /// Whether a state hangs, where all states have been looked at or not. The only error is running out of memory.
     fn hanging(&self, alloc: Global, script: &Script, through: bool) -> Result<Hanging, AllocError>
         requires lawful { IsLawful (plan_of script.now) }
-        requires searched { (rows : List (AVec AStep)) × AreLawfulSteps (plan_of script.now) rows
+        requires searched { (rows : List (AVec AStep)) × AreLawfulMachineSteps (plan_of script.now) rows
             × IsSearched (plan_of script.now) self.now rows through }
-        ensures hanging { IfOk result (IsHangingOn (plan_of script.now)) }
-        ensures opens { IfOk result (IsOpenHanging through) }
+        ensures hanging { IfOk result (IsExploredHanging (plan_of script.now)) }
+        ensures opens { IfOk result (IsSearchHangingOpen through) }
     {
         match self.hang {
             Some(place) => Ok(Hanging::Hangs(self.hang_at(alloc, script.processors, place)?)),
@@ -207,14 +207,14 @@ impl Search {
         race_free: bool,
     ) -> Result<Verdict, AllocError>
         requires lawful { IsLawful (plan_of script.now) }
-        requires free { IsTrue race_free → IsFlatRaceFree (plan_of script.now) }
+        requires free { IsTrue race_free → IsRaceFreeBeginning (plan_of script.now) }
         requires racing { MatchOption neighbours ⊤ (AreRacing (plan_of script.now) self.now.found steps.now) }
-        ensures verdict { IfOk result (IsVerdictOn (plan_of script.now)) }
-        ensures opens { IfOk result (IsOpenVerdict neighbours race_free) }
+        ensures verdict { IfOk result (IsExploredVerdict (plan_of script.now)) }
+        ensures opens { IfOk result (IsSearchVerdictOpen neighbours race_free) }
     {
         match neighbours {
             Some(neighbours) => {
-                let racy = racy_events(alloc, script, steps, &self.found, neighbours)?;
+                let racy = racing_history(alloc, script, steps, &self.found, neighbours)?;
                 Ok(Verdict::Racy(racy))
             }
             None if race_free => Ok(Verdict::RaceFree),
@@ -232,11 +232,11 @@ impl Search {
         most: usize,
         progress: &mut P,
     ) -> Result<Explored, AllocError>
-        requires steps { AreLawfulSteps (plan_of script.now) steps.now }
+        requires steps { AreLawfulMachineSteps (plan_of script.now) steps.now }
         requires long { length guarded.now ≡ plan_addresses (plan_of script.now) }
         requires guarded { AreGuarded steps.now guarded.now }
-        requires searched { VisitedUpTo (plan_of script.now) self.old steps.now 0 }
-        requires few { length (states_of self.old.found) ≤ 1 }
+        requires searched { SearchedUpTo (plan_of script.now) self.old steps.now 0 }
+        requires few { length (states_found self.old.found) ≤ 1 }
         ensures { IfOk result (IsExplored (plan_of script.now) most) }
     {
         let most = states_to_look_at(script, most);
@@ -247,7 +247,7 @@ impl Search {
         let verdict = self.verdict(alloc, script, steps, neighbours, race_free)?;
         let hanging = self.hanging(alloc, script, through)?;
         let outcomes = mem::replace(&mut self.outcomes, IndexSet::new(alloc));
-        let outcomes = listed(alloc, outcomes)?;
+        let outcomes = search_outcomes_listed(alloc, outcomes)?;
         Ok(Explored {
             states,
             verdict,
@@ -259,14 +259,14 @@ impl Search {
 }
 
 /// Looks at all states of the script as `explore` does, by its steps.
-fn explore_steps<P: Progress>(
+fn search_steps<P: Progress>(
     alloc: Global,
     script: &Script,
     steps: &[Vec<ScriptCall>],
     most: usize,
     progress: &mut P,
 ) -> Result<Explored, AllocError>
-    requires { AreLawfulSteps (plan_of script.now) steps.now }
+    requires { AreLawfulMachineSteps (plan_of script.now) steps.now }
     ensures { IfOk result (IsExplored (plan_of script.now) most) }
 {
     let guarded = guarded_words(alloc, script, steps)?;
@@ -297,5 +297,5 @@ pub fn explore<P: Progress>(
     ensures { IfOk result (IsExplored (plan_of script.now) most) }
 {
     let steps = steps_of_script(alloc, script)?;
-    explore_steps(alloc, script, &steps, most, progress)
+    search_steps(alloc, script, &steps, most, progress)
 }

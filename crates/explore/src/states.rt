@@ -3,10 +3,10 @@ ghost use Rattle.std.specs.Prelude.{◌≡◌, ℕ, ◌<◌, ◌≤◌, [], List
 ghost use Rattle.journal.specs.declared.event.Event.{Event as AnEvent};
 ghost use Rattle.lrc_script.specs.Prelude.{Plan};
 ghost use Rattle.explore.specs.declared.flat_state.FlatState.{FlatState as AMachine};
-ghost use Rattle.explore.specs.Found.{AreFound, StaysPossible, StateAdded, IsStateFollowed, states_of};
+ghost use Rattle.explore.specs.Found.{AreFound, FoundStaysPossible, FoundStateAdded, IsFoundStateFollowed, states_found};
 ghost use Rattle.explore.specs.Followed.{AreFollowed, MayFollowAll};
 ghost use Rattle.explore.specs.States.{HasStates};
-ghost use Rattle.explore.specs.Machines.{SameState, IsStepOf, Knows};
+ghost use Rattle.explore.specs.Machines.{SameMachineState, IsMachineStep, Knows};
 
 use crate::flat_state::FlatState;
 use indexmap::IndexSet;
@@ -33,7 +33,7 @@ impl States {
     /// The first state alone. The only error is running out of memory.
     pub fn new(alloc: Global, first: FlatState) -> Result<States, AllocError>
         ensures found { IfOk result (λ x. (s : Plan) → Knows s [] first → AreFound s x) }
-        ensures few { IfOk result (λ x. length (states_of x) ≤ 1) }
+        ensures few { IfOk result (λ x. length (states_found x) ≤ 1) }
     {
         let mut found = States {
             states: IndexSet::new(alloc),
@@ -45,7 +45,7 @@ impl States {
 
     /// How many states there are. A script has as many at least.
     pub fn len(&self) -> usize
-        ensures count { result ≡ length (states_of self.now) }
+        ensures count { result ≡ length (states_found self.now) }
         ensures states { (s : Plan) → AreFound s self.now → HasStates s result }
     {
         self.states.len()
@@ -53,15 +53,15 @@ impl States {
 
     /// The state at this place.
     pub fn at(&self, place: usize) -> &FlatState
-        requires { place < length (states_of self.now) }
-        ensures { slice_get (states_of self.now) place ≡ Some result.now }
+        requires { place < length (states_found self.now) }
+        ensures { slice_get (states_found self.now) place ≡ Some result.now }
     {
         &self.states[place]
     }
 
     /// Adds a state, if it is a new one. The only error is running out of memory, after which this may be of no use.
     fn add(&mut self, state: FlatState, origin: Option<Origin>) -> Result<(), AllocError>
-        ensures { OnOk result (StateAdded self.old self.new state origin) }
+        ensures { OnOk result (FoundStateAdded self.old self.new state origin) }
     {
         let (_, is_new) = self.states.insert_full(state)?;
         if is_new {
@@ -73,11 +73,11 @@ impl States {
     /// Adds what the state at this place comes to by the processor's event. The only error is running out of memory,
     /// after which this may be of no use.
     pub fn follow(&mut self, place: usize, processor: usize, kind: Kind) -> Result<(), AllocError>
-        requires place { place < length (states_of self.old) }
-        requires step { (m : AMachine) → slice_get (states_of self.old) place ≡ Some m → IsStepOf m processor kind }
+        requires place { place < length (states_found self.old) }
+        requires step { (m : AMachine) → slice_get (states_found self.old) place ≡ Some m → IsMachineStep m processor kind }
         ensures { OnOk result ((s : Plan) → AreFound s self.old → processor < 16
-            → ((m : AMachine) → slice_get (states_of self.old) place ≡ Some m → StaysPossible s m processor kind)
-            → IsStateFollowed s self.old self.new place processor kind) }
+            → ((m : AMachine) → slice_get (states_found self.old) place ≡ Some m → FoundStaysPossible s m processor kind)
+            → IsFoundStateFollowed s self.old self.new place processor kind) }
     {
         let mut state = self.at(place).copy()?;
         state.step(processor, kind)?;
@@ -102,10 +102,10 @@ impl States {
 
     /// The events after which the state at this place was found. The only error is running out of memory.
     pub fn events_to(&self, alloc: Global, place: usize) -> Result<Vec<Event>, AllocError>
-        requires place { place < length (states_of self.now) }
+        requires place { place < length (states_found self.now) }
         requires found { (s : Plan) × AreFound s self.now }
         ensures { IfOk result (λ v. (s : Plan) → AreFound s self.now → (m : AMachine)
-            → slice_get (states_of self.now) place ≡ Some m → Knows s v.items m) }
+            → slice_get (states_found self.now) place ≡ Some m → Knows s v.items m) }
     {
         let mut events = Vec::new(alloc);
         let mut place = place;

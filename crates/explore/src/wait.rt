@@ -3,8 +3,8 @@ ghost use Rattle.std.specs.Prelude.{◌≡◌, ◌<◌, Some};
 ghost use Rattle.journal.specs.Sizes.{Sizes as TheSizes};
 ghost use Rattle.journal.specs.WellFormed.{KindInRange};
 ghost use Rattle.journal.specs.Prelude.{awaited};
-ghost use Rattle.judge.specs.Prelude.{AreSmall};
-ghost use Rattle.explore.specs.Waits.{end_of, ending, seated};
+ghost use Rattle.judge.specs.Prelude.{AreSizesSmall};
+ghost use Rattle.explore.specs.Waits.{wait_code_end_of, wait_code_ending, wait_code_seated};
 
 use journal::Kind;
 
@@ -22,7 +22,7 @@ pub enum WaitCode {
 impl WaitCode {
     /// The event that ends the wait.
     fn end(self) -> Kind
-        ensures { result ≡ end_of self }
+        ensures { result ≡ wait_code_end_of self }
     {
         match self {
             WaitCode::Lock(lock) => Kind::Acquire(lock as usize),
@@ -33,8 +33,8 @@ impl WaitCode {
 
     /// What the processor of an event of this kind waits for after it, if it waits.
     pub fn after(kind: Kind) -> Option<WaitCode>
-        requires { (s : TheSizes) × AreSmall s × KindInRange s kind }
-        ensures { ending result ≡ awaited kind }
+        requires { (s : TheSizes) × AreSizesSmall s × KindInRange s kind }
+        ensures { wait_code_ending result ≡ awaited kind }
     {
         match kind {
             Kind::Ask(lock) => Some(WaitCode::Lock(lock as u8)),
@@ -47,7 +47,7 @@ impl WaitCode {
 
 /// The event that ends the wait, if there is one.
 pub fn end_of(wait: Option<WaitCode>) -> Option<Kind>
-    ensures { result ≡ ending wait }
+    ensures { result ≡ wait_code_ending wait }
 {
     match wait {
         Some(wait) => Some(wait.end()),
@@ -63,14 +63,14 @@ impl Seat {
     /// The seat of this processor.
     pub fn of(processor: usize) -> Seat
         requires { processor < 16 }
-        ensures { seated (Some result) ≡ Some processor }
+        ensures { wait_code_seated (Some result) ≡ Some processor }
     {
         Seat(processor as u8)
     }
 
     /// The processor whose seat this is.
     pub fn processor(self) -> usize
-        ensures { seated (Some self) ≡ Some result }
+        ensures { wait_code_seated (Some self) ≡ Some result }
     {
         self.0 as usize
     }

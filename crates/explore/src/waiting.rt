@@ -8,9 +8,9 @@ ghost use Rattle.journal.specs.declared.event.Kind.TheVariants.{Ask, Depart};
 ghost use Rattle.journal.specs.Sizes.{Sizes as TheSizes};
 ghost use Rattle.journal.specs.WellFormed.{Allowed, KindInRange, LastIs, MayBeGranted, MayFollow};
 ghost use Rattle.journal.specs.Prelude.{Holds, count_of, did, event, is_arrive, is_depart, is_taking};
-ghost use Rattle.judge.specs.Prelude.{AreSmall, WaitsFor, holder_after, is_set_after};
-ghost use Rattle.explore.specs.Waiting.{AreAskedAfter, AwaitsLock, IsEnabled, IsFirstOf, IsLikeWaiting, IsPossible, TellsWaiting, unqueued};
-ghost use Rattle.explore.specs.Waits.{seated};
+ghost use Rattle.judge.specs.Prelude.{AreSizesSmall, WhyWaitsFor, tells_holder_after, tells_flag_set_after};
+ghost use Rattle.explore.specs.Waiting.{WaitingAskedAfter, IsWaitingForLock, IsEnabledByWaiting, IsFirstWaiting, IsLikeWaiting, IsWaitingPossible, TellsWaiting, waiting_unqueued};
+ghost use Rattle.explore.specs.Waits.{wait_code_seated};
 
 use crate::wait::{Seat, WaitCode, end_of};
 use journal::Kind;
@@ -66,9 +66,9 @@ fn count(arrivals: &mut [u32; 16], processor: usize, kind: Kind)
 /// Takes note of who acquires or releases a lock.
 fn hold(holders: &mut [Option<Seat>; 32], processor: usize, kind: Kind)
     requires processor { processor < 16 }
-    requires in_range { (s : TheSizes) × AreSmall s × KindInRange s kind }
-    ensures holders { (l : ℕ) → seated (slice_index_or holders.new l None)
-        ≡ holder_after (seated (slice_index_or holders.old l None)) l processor kind }
+    requires in_range { (s : TheSizes) × AreSizesSmall s × KindInRange s kind }
+    ensures holders { (l : ℕ) → wait_code_seated (slice_index_or holders.new l None)
+        ≡ tells_holder_after (wait_code_seated (slice_index_or holders.old l None)) l processor kind }
     ensures long { length holders.new ≡ length holders.old }
 {
     match kind {
@@ -80,9 +80,9 @@ fn hold(holders: &mut [Option<Seat>; 32], processor: usize, kind: Kind)
 
 /// Takes note of a flag that is set.
 fn set(flags: &mut [bool; 32], kind: Kind)
-    requires { (s : TheSizes) × AreSmall s × KindInRange s kind }
+    requires { (s : TheSizes) × AreSizesSmall s × KindInRange s kind }
     ensures flags { (f : ℕ) → slice_index_or flags.new f false
-        ≡ is_set_after (slice_index_or flags.old f false) f kind }
+        ≡ tells_flag_set_after (slice_index_or flags.old f false) f kind }
     ensures long { length flags.new ≡ length flags.old }
 {
     if let Kind::Set(flag) = kind {
@@ -92,14 +92,14 @@ fn set(flags: &mut [bool; 32], kind: Kind)
 
 /// Takes the processor out.
 fn leave(asked: &mut Vec<usize>, processor: usize)
-    ensures { asked.new.items ≡ unqueued asked.old.items processor }
+    ensures { asked.new.items ≡ waiting_unqueued asked.old.items processor }
 {
     asked.retain(|other| *other != processor);
 }
 
 /// Puts who asks for a lock at the end, and takes out who acquires one.
 fn queue(asked: &mut Vec<usize>, processor: usize, kind: Kind) -> Result<(), AllocError>
-    ensures { OnOk result (AreAskedAfter asked.old.items asked.new.items processor kind) }
+    ensures { OnOk result (WaitingAskedAfter asked.old.items asked.new.items processor kind) }
 {
     match kind {
         Kind::Ask(_) => asked.push(processor)?,
@@ -113,8 +113,8 @@ fn queue(asked: &mut Vec<usize>, processor: usize, kind: Kind) -> Result<(), All
 fn first_of(asked: &[usize], waits: &[Option<WaitCode>; 16], lock: usize) -> Option<usize>
     requires small { All (λ q. q < 16) asked.now }
     requires lock { lock < 32 }
-    ensures { MatchOption result ((q : ℕ) → Has asked.now q → ¬ AwaitsLock waits.now q lock)
-        (IsFirstOf asked.now waits.now lock) }
+    ensures { MatchOption result ((q : ℕ) → Has asked.now q → ¬ IsWaitingForLock waits.now q lock)
+        (IsFirstWaiting asked.now waits.now lock) }
 {
     for processor in asked {
         if waits[*processor] == Some(WaitCode::Lock(lock as u8)) {
@@ -155,7 +155,7 @@ impl Waiting {
     pub fn of(&self, processor: usize) -> Option<Kind>
         requires { processor < 16 }
         ensures { (j : List AnEvent) → TellsWaiting j self.now
-            → (k : AKind) → (result ≡ Some k) ↔ WaitsFor j processor k }
+            → (k : AKind) → (result ≡ Some k) ↔ WhyWaitsFor j processor k }
     {
         end_of(self.waits[processor])
     }
@@ -180,7 +180,7 @@ impl Waiting {
     fn may_depart(&self, processors: usize, processor: usize) -> bool
         requires processors { processors ≤ 16 }
         requires processor { processor < 16 }
-        ensures { (j : List AnEvent) → TellsWaiting j self.now → WaitsFor j processor Depart
+        ensures { (j : List AnEvent) → TellsWaiting j self.now → WhyWaitsFor j processor Depart
             → IsTrue result ↔ ((q : ℕ) → q < processors
             → count_of is_depart j processor + 1 ≤ count_of is_arrive j q) }
     {
@@ -206,9 +206,9 @@ impl Waiting {
 
     /// Whether this, for which the processor waits, has come.
     fn has_come(&self, processors: usize, processor: usize, kind: Kind) -> bool
-        requires { IsPossible self.now processors processor kind }
+        requires { IsWaitingPossible self.now processors processor kind }
         ensures { (s : TheSizes) (j : List AnEvent) → s.processors ≡ processors
-            → TellsWaiting j self.now → WaitsFor j processor kind
+            → TellsWaiting j self.now → WhyWaitsFor j processor kind
             → IsTrue result ↔ Allowed s j processor kind }
     {
         match kind {
@@ -221,9 +221,9 @@ impl Waiting {
 
     /// Whether the processor, which waits for nothing, may do this.
     fn may_begin(&self, processor: usize, kind: Kind) -> bool
-        requires { (s : TheSizes) × AreSmall s × KindInRange s kind }
+        requires { (s : TheSizes) × AreSizesSmall s × KindInRange s kind }
         ensures { (s : TheSizes) (j : List AnEvent) → TellsWaiting j self.now
-            → ((k : AKind) → ¬ WaitsFor j processor k)
+            → ((k : AKind) → ¬ WhyWaitsFor j processor k)
             → IsTrue result ↔ Allowed s j processor kind }
     {
         if takes(kind) {
@@ -238,7 +238,7 @@ impl Waiting {
 
     /// Whether the processor's next event may be this.
     pub fn may_follow(&self, processors: usize, processor: usize, kind: Kind) -> bool
-        requires { IsPossible self.now processors processor kind }
+        requires { IsWaitingPossible self.now processors processor kind }
         ensures { (s : TheSizes) (j : List AnEvent) → s.processors ≡ processors
             → KindInRange s kind → TellsWaiting j self.now
             → IsTrue result ↔ MayFollow s j (event processor kind) }
@@ -252,7 +252,7 @@ impl Waiting {
     /// Takes note of the processor's next event. The only error is running out of memory, after which this may tell
     /// no events.
     pub fn note(&mut self, processor: usize, kind: Kind) -> Result<(), AllocError>
-        requires { IsEnabled self.old processor kind }
+        requires { IsEnabledByWaiting self.old processor kind }
         ensures { OnOk result ((s : TheSizes) (j : List AnEvent) → TellsWaiting j self.old
             → MayFollow s j (event processor kind) → processor < 16
             → TellsWaiting (did j processor kind) self.new) }

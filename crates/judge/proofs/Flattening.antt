@@ -14,26 +14,26 @@ use Rattle.journal.specs.DidEvent.{did, event}
 use Rattle.journal.specs.WellFormed.{Does}
 use Rattle.journal.specs.FlatMemory.{flat_write, memory_after}
 use Rattle.journal.proofs.Order.CountedAndNumbered.{numbered_at_last, numbered_at_longer, numbered_at_within}
-use Rattle.judge.specs.FlatMemory.{IsLastStoreTo, IsMemoryAfter, LastStoreTo}
+use Rattle.judge.specs.FlatMemory.{IsLastFlatStoreTo, IsMemoryAfter, LastFlatStoreTo}
 
 -- the memory after one more event
-pub memory_next : (start : List ℕ) (j : List Event) (e : Event)
+pub flattened_memory_next : (start : List ℕ) (j : List Event) (e : Event)
     → memory_after start (j ++ e ∷ []) ≡ wrote (memory_after start j) (flat_write e.kind)
-memory_next start j e = written-append (λ (x : Event). flat_write x.kind) start j (e ∷ [])
+flattened_memory_next start j e = written-append (λ (x : Event). flat_write x.kind) start j (e ∷ [])
 
 -- what is no store writes nothing
-pub no_write : (k : Kind) → ((a v : ℕ) → k ≢ Store a v) → flat_write k ≡ None
-no_write (Store a v) isnt = absurd (isnt a v refl)
-no_write _ isnt = refl
+pub flattened_no_write : (k : Kind) → ((a v : ℕ) → k ≢ Store a v) → flat_write k ≡ None
+flattened_no_write (Store a v) isnt = absurd (isnt a v refl)
+flattened_no_write _ isnt = refl
 
 -- an event that is no store to a leaves the last one
-pub last_store_other : (j : List Event) (e : Event) (a : ℕ) (o : Option ℕ) → ((v : ℕ) → e.kind ≢ Store a v)
-    → IsLastStoreTo j a o → IsLastStoreTo (j ++ e ∷ []) a o
-last_store_other j e a None away none = λ m q w does. elim (slice_push_cases j e m (event q (Store a w)) does) [
+pub flattened_last_store_others : (j : List Event) (e : Event) (a : ℕ) (o : Option ℕ) → ((v : ℕ) → e.kind ≢ Store a v)
+    → IsLastFlatStoreTo j a o → IsLastFlatStoreTo (j ++ e ∷ []) a o
+flattened_last_store_others j e a None away none = λ m q w does. elim (slice_push_cases j e m (event q (Store a w)) does) [
   | inl old ↦ none m q w old.1
   | inr new ↦ away w (ap (λ (x : Event). x.kind) new.1)
 ]
-last_store_other j e a (Some i) away last = record {
+flattened_last_store_others j e a (Some i) away last = record {
   by = last.by;
   value = last.value;
   stores = numbered_at_longer j (e ∷ []) i (event last.by (Store a last.value)) last.stores;
@@ -44,8 +44,8 @@ last_store_other j e a (Some i) away last = record {
 }
 
 -- a store to a is the last one
-pub last_store_next : (j : List Event) (p a v : ℕ) → LastStoreTo (did j p (Store a v)) a (length j)
-last_store_next j p a v = record {
+pub flattened_last_store_next : (j : List Event) (p a v : ℕ) → LastFlatStoreTo (did j p (Store a v)) a (length j)
+flattened_last_store_next j p a v = record {
   by = p;
   value = v;
   stores = numbered_at_last j (event p (Store a v));
@@ -55,20 +55,20 @@ last_store_next j p a v = record {
       omega arith);
 }
 
-store_address : (a b v w : ℕ) → Store a v ≡ Store b w → a ≡ b
-store_address a b v w is = cc
+flattened_store_address : (a b v w : ℕ) → Store a v ≡ Store b w → a ≡ b
+flattened_store_address a b v w is = cc
 
 -- of each address, after a store to a
-pub last_stores_next : (j : List Event) (p a v : ℕ) (rows : List (Option ℕ))
-    → ((b : ℕ) (o : Option ℕ) → slice_get rows b ≡ Some o → IsLastStoreTo j b o)
+pub flattened_last_stores_next : (j : List Event) (p a v : ℕ) (rows : List (Option ℕ))
+    → ((b : ℕ) (o : Option ℕ) → slice_get rows b ≡ Some o → IsLastFlatStoreTo j b o)
     → (b : ℕ) (o : Option ℕ) → slice_get (slice_set rows a (Some (length j))) b ≡ Some o
-    → IsLastStoreTo (did j p (Store a v)) b o
-last_stores_next j p a v rows are b o at = elim (cases_eq b a) [
+    → IsLastFlatStoreTo (did j p (Store a v)) b o
+flattened_last_stores_next j p a v rows are b o at = elim (cases_eq b a) [
   | inl same ↦
       (let is : Some (length j) ≡ o = slice_get-set_found rows a (Some (length j)) o
       (ap (slice_get (slice_set rows a (Some (length j)))) (sym same) ∙ at) in
-      subst (IsLastStoreTo (did j p (Store a v)) b) is
-      (subst (λ n. LastStoreTo (did j p (Store a v)) n (length j)) (sym same) (last_store_next j p a v)))
-  | inr isnt ↦ last_store_other j (event p (Store a v)) b o (λ w is. isnt (sym (store_address a b v w is)))
+      subst (IsLastFlatStoreTo (did j p (Store a v)) b) is
+      (subst (λ n. LastFlatStoreTo (did j p (Store a v)) n (length j)) (sym same) (flattened_last_store_next j p a v)))
+  | inr isnt ↦ flattened_last_store_others j (event p (Store a v)) b o (λ w is. isnt (sym (flattened_store_address a b v w is)))
       (are b o (sym (slice_get-set_other rows a b (Some (length j)) isnt) ∙ at))
 ]

@@ -23,12 +23,12 @@ use Rattle.journal.proofs.Times.PushesCovered.{covered}
 use Rattle.journal.proofs.CopyOfPage.Stores.{store_same, stores_to}
 use Rattle.journal.proofs.CopyOfPage.Brought.{brought_longer, brought_past, brought_push, brought_gap_is}
 use Rattle.journal.proofs.Missing.GapsTaken.{gaps_apart, gap_not_mine}
-use Rattle.judge.specs.Gaps.{StoresAt, StoresInPage, StoresWord, FetchedUpTo}
-use Rattle.judge.proofs.Rows.{IsMore}
+use Rattle.judge.specs.Gaps.{GapStoresAt, GapStoresInPage, GapStoresWord, GapFetchedUpTo}
+use Rattle.judge.proofs.GapTallyRows.{IsGapTallyMore}
 
 -- a store stays in its interval as the history goes on
-pub stores_on : (j : List Event) (e : Event) (a q k : ℕ) → StoresAt j a q k → StoresAt (j ++ e ∷ []) a q k
-stores_on j e a q k x =
+pub stores_longer_in_gap : (j : List Event) (e : Event) (a q k : ℕ) → GapStoresAt j a q k → GapStoresAt (j ++ e ∷ []) a q k
+stores_longer_in_gap j e a q k x =
     let within = le_of_lt (numbered_at_within j x.0 (event q (Store a x.1)) x.2) in (
       x.0,
       x.1,
@@ -38,9 +38,9 @@ stores_on j e a q k x =
     )
 
 -- after one more event a store is an old one, or the event itself, in its processor's open interval
-pub stores_push : (j : List Event) (e : Event) (a q k : ℕ) → StoresAt (j ++ e ∷ []) a q k
-    → StoresAt j a q k ⊎ ((v : ℕ) × (e ≡ event q (Store a v)) × (k ≡ count_of is_closing j q))
-stores_push j e a q k x = elim (slice_push_cases j e x.0 (event q (Store a x.1)) x.2) [
+pub stores_push_in_gap : (j : List Event) (e : Event) (a q k : ℕ) → GapStoresAt (j ++ e ∷ []) a q k
+    → GapStoresAt j a q k ⊎ ((v : ℕ) × (e ≡ event q (Store a v)) × (k ≡ count_of is_closing j q))
+stores_push_in_gap j e a q k x = elim (slice_push_cases j e x.0 (event q (Store a x.1)) x.2) [
   | inl old ↦
       inl (x.0, x.1, old.1, sym (count_of-front is_closing j (e ∷ []) x.0 q (le_of_lt old.0)) ∙ x.3)
   | inr new ↦
@@ -53,59 +53,59 @@ stores_push j e a q k x = elim (slice_push_cases j e x.0 (event q (Store a x.1))
 ]
 
 -- no interval is past the open one
-pub stores_bound : (j : List Event) (a q k : ℕ) → StoresAt j a q k → k ≤ count_of is_closing j q
-stores_bound j a q k x = let le = count_of-take-le is_closing j x.0 q in let is = x.3 in omega arith
+pub stores_bound_in_gap : (j : List Event) (a q k : ℕ) → GapStoresAt j a q k → k ≤ count_of is_closing j q
+stores_bound_in_gap j a q k x = let le = count_of-take-le is_closing j x.0 q in let is = x.3 in omega arith
 
 -- an event that is no store
-pub stores_other : (j : List Event) (e : Event) → ((q a v : ℕ) → e ≢ event q (Store a v)) → (a q k : ℕ)
-    → StoresAt j a q k ↔ StoresAt (j ++ e ∷ []) a q k
-stores_other j e none a q k = (
-  stores_on j e a q k,
-  λ x. elim (stores_push j e a q k x) [ inl old ↦ old | inr new ↦ absurd (none q a new.0 new.1) ],
+pub stores_others_in_gap : (j : List Event) (e : Event) → ((q a v : ℕ) → e ≢ event q (Store a v)) → (a q k : ℕ)
+    → GapStoresAt j a q k ↔ GapStoresAt (j ++ e ∷ []) a q k
+stores_others_in_gap j e none a q k = (
+  stores_longer_in_gap j e a q k,
+  λ x. elim (stores_push_in_gap j e a q k x) [ inl old ↦ old | inr new ↦ absurd (none q a new.0 new.1) ],
 )
 
-pub words_other : (s : Sizes) (j : List Event) (e : Event) → ((q a v : ℕ) → e ≢ event q (Store a v)) → (n q : ℕ)
-    → (x : ℕ × ℕ) → StoresWord s j n q x ↔ StoresWord s (j ++ e ∷ []) n q x
-words_other s j e none n q x =
-    let same = stores_other j e none x.1 q x.0 in (λ h. (same.0 h.0, h.1), λ h. (same.1 h.0, h.1))
+pub words_others_in_gap : (s : Sizes) (j : List Event) (e : Event) → ((q a v : ℕ) → e ≢ event q (Store a v)) → (n q : ℕ)
+    → (x : ℕ × ℕ) → GapStoresWord s j n q x ↔ GapStoresWord s (j ++ e ∷ []) n q x
+words_others_in_gap s j e none n q x =
+    let same = stores_others_in_gap j e none x.1 q x.0 in (λ h. (same.0 h.0, h.1), λ h. (same.1 h.0, h.1))
 
-pub pages_other : (s : Sizes) (j : List Event) (e : Event) → ((q a v : ℕ) → e ≢ event q (Store a v)) → (n q k : ℕ)
-    → StoresInPage s j n q k ↔ StoresInPage s (j ++ e ∷ []) n q k
-pages_other s j e none n q k = (
-  λ h. (h.0, (words_other s j e none n q (k, h.0)).0 h.1),
-  λ h. (h.0, (words_other s j e none n q (k, h.0)).1 h.1),
+pub pages_others_in_gap : (s : Sizes) (j : List Event) (e : Event) → ((q a v : ℕ) → e ≢ event q (Store a v)) → (n q k : ℕ)
+    → GapStoresInPage s j n q k ↔ GapStoresInPage s (j ++ e ∷ []) n q k
+pages_others_in_gap s j e none n q k = (
+  λ h. (h.0, (words_others_in_gap s j e none n q (k, h.0)).0 h.1),
+  λ h. (h.0, (words_others_in_gap s j e none n q (k, h.0)).1 h.1),
 )
 
-same_store : (q a v r b w : ℕ) → event q (Store a v) ≡ event r (Store b w) → (r ≡ q) × (b ≡ a)
-same_store q a v r b w is =
+same_store_in_gap : (q a v r b w : ℕ) → event q (Store a v) ≡ event r (Store b w) → (r ≡ q) × (b ≡ a)
+same_store_in_gap q a v r b w is =
     let kind = ap (λ (e : Event). e.kind) is in
     let kinds : Store a v ≡ Store b w = kind in
     (sym (ap (λ (e : Event). e.processor) is), cc)
 
 -- a store is one more, of its address
-pub stores_next : (j : List Event) (q a v : ℕ)
-    → IsMore (StoresAt j) (StoresAt (did j q (Store a v))) a q (count_of is_closing j q)
-stores_next j q a v = record {
-  same = λ b r k. stores_on j (event q (Store a v)) b r k;
+pub stores_next_in_gap : (j : List Event) (q a v : ℕ)
+    → IsGapTallyMore (GapStoresAt j) (GapStoresAt (did j q (Store a v))) a q (count_of is_closing j q)
+stores_next_in_gap j q a v = record {
+  same = λ b r k. stores_longer_in_gap j (event q (Store a v)) b r k;
   now = (
     length j,
     v,
     numbered_at_last j (event q (Store a v)),
     ap (λ (xs : List Event). count_of is_closing xs q) (take-append_seam j (event q (Store a v) ∷ [])),
   );
-  others = λ b r k x. elim (stores_push j (event q (Store a v)) b r k x) [
+  others = λ b r k x. elim (stores_push_in_gap j (event q (Store a v)) b r k x) [
     | inl old ↦ inl old
     | inr new ↦
-        (let same = same_store q a v r b new.0 new.1 in
+        (let same = same_store_in_gap q a v r b new.0 new.1 in
         inr (same.1, same.0, new.2 ∙ ap (count_of is_closing j) same.0))
   ];
 }
 
 -- of its word
-pub words_next : (s : Sizes) (j : List Event) (q a v : ℕ)
-    → IsMore (StoresWord s j) (StoresWord s (did j q (Store a v))) (a / s.words) q (count_of is_closing j q, a)
-words_next s j q a v =
-    let next = stores_next j q a v in
+pub words_next_in_gap : (s : Sizes) (j : List Event) (q a v : ℕ)
+    → IsGapTallyMore (GapStoresWord s j) (GapStoresWord s (did j q (Store a v))) (a / s.words) q (count_of is_closing j q, a)
+words_next_in_gap s j q a v =
+    let next = stores_next_in_gap j q a v in
     record {
       same = λ n r x h. (next.same x.1 r x.0 h.0, h.1);
       now = (next.now, refl);
@@ -120,10 +120,10 @@ words_next s j q a v =
     pairs x first second = ap₂ (λ (k b : ℕ). (k, b)) first second
 
 -- of its page
-pub pages_next : (s : Sizes) (j : List Event) (q a v : ℕ)
-    → IsMore (StoresInPage s j) (StoresInPage s (did j q (Store a v))) (a / s.words) q (count_of is_closing j q)
-pages_next s j q a v =
-    let next = words_next s j q a v in
+pub pages_next_in_gap : (s : Sizes) (j : List Event) (q a v : ℕ)
+    → IsGapTallyMore (GapStoresInPage s j) (GapStoresInPage s (did j q (Store a v))) (a / s.words) q (count_of is_closing j q)
+pages_next_in_gap s j q a v =
+    let next = words_next_in_gap s j q a v in
     record {
       same = λ n r k h. (h.0, next.same n r (k, h.0) h.1);
       now = (a, next.now);
@@ -134,9 +134,9 @@ pages_next s j q a v =
     }
 
 -- what fetches of the page by p have brought stays under any other event
-pub fetched_other : (s : Sizes) (j : List Event) (e : Event) (p n : ℕ) (m : ℕ → ℕ)
-    → ((w r d : ℕ) → e ≢ event p (Fetch w n r d)) → FetchedUpTo s j p n m → FetchedUpTo s (j ++ e ∷ []) p n m
-fetched_other s j e p n m none is = record { brought = brought; within = within }
+pub fetched_others_in_gap : (s : Sizes) (j : List Event) (e : Event) (p n : ℕ) (m : ℕ → ℕ)
+    → ((w r d : ℕ) → e ≢ event p (Fetch w n r d)) → GapFetchedUpTo s j p n m → GapFetchedUpTo s (j ++ e ∷ []) p n m
+fetched_others_in_gap s j e p n m none is = record { brought = brought; within = within }
   where
     within : (q : ℕ) → m q ≤ count_of is_closing (j ++ e ∷ []) q
     within q = let old = is.within q in let sum = count_of-append is_closing j (e ∷ []) q in omega arith
@@ -167,9 +167,9 @@ fetched_other s j e p n m none is = record { brought = brought; within = within 
     ]
 
 -- a fetch brings what p's past has
-pub fetched_now : (s : Sizes) (j : List Event) (p n w r d : ℕ) (t : ℕ → ℕ) → IsTimeOf j p t
-    → FetchedUpTo s (did j p (Fetch w n r d)) p n t
-fetched_now s j p n w r d t time = record { brought = brought; within = within }
+pub fetched_now_in_gap : (s : Sizes) (j : List Event) (p n w r d : ℕ) (t : ℕ → ℕ) → IsTimeOf j p t
+    → GapFetchedUpTo s (did j p (Fetch w n r d)) p n t
+fetched_now_in_gap s j p n w r d t time = record { brought = brought; within = within }
   where
     e : Event
     e = event p (Fetch w n r d)
@@ -200,18 +200,18 @@ fetched_now s j p n w r d t time = record { brought = brought; within = within }
     ]
 
 -- before the first event nothing is brought
-pub fetched_none : (s : Sizes) (p n : ℕ) (m : ℕ → ℕ) → ((q : ℕ) → m q ≡ 0) → FetchedUpTo s [] p n m
-fetched_none s p n m none = record {
+pub fetched_none_in_gap : (s : Sizes) (p n : ℕ) (m : ℕ → ℕ) → ((q : ℕ) → m q ≡ 0) → GapFetchedUpTo s [] p n m
+fetched_none_in_gap s p n m none = record {
   brought = λ q i a v apart does page. absurd (none-some (event q (Store a v)) does);
   within = λ q. (let zero_here = none q in omega arith);
 }
 
 -- what is in the gap, by intervals: what p's timestamp counts and its last fetch of the page didn't bring
-pub stored_is : (s : Sizes) (j : List Event) (p n q k a : ℕ) (m t : ℕ → ℕ) → FetchedUpTo s j p n m → IsTimeOf j p t
-    → q ≢ p → StoredInGapOfImage s j p n (q, k, a) ↔ (StoresWord s j n q (k, a) × (m q ≤ k) × (k < t q))
-stored_is s j p n q k a m t fetched time apart = (there, back)
+pub stored_is_in_gap : (s : Sizes) (j : List Event) (p n q k a : ℕ) (m t : ℕ → ℕ) → GapFetchedUpTo s j p n m → IsTimeOf j p t
+    → q ≢ p → StoredInGapOfImage s j p n (q, k, a) ↔ (GapStoresWord s j n q (k, a) × (m q ≤ k) × (k < t q))
+stored_is_in_gap s j p n q k a m t fetched time apart = (there, back)
   where
-    there : StoredInGapOfImage s j p n (q, k, a) → StoresWord s j n q (k, a) × (m q ≤ k) × (k < t q)
+    there : StoredInGapOfImage s j p n (q, k, a) → GapStoresWord s j n q (k, a) × (m q ≤ k) × (k < t q)
     there g =
         let x = g.3.store in
         let address = (store_same j g.0 q x.by a x.address g.1 x.value g.2 x.does).1 in
@@ -226,7 +226,7 @@ stored_is s j p n q k a m t fetched time apart = (there, back)
           omega arith,
         )
 
-    back : StoresWord s j n q (k, a) × (m q ≤ k) × (k < t q) → StoredInGapOfImage s j p n (q, k, a)
+    back : GapStoresWord s j n q (k, a) × (m q ≤ k) × (k < t q) → StoredInGapOfImage s j p n (q, k, a)
     back h =
         let x = h.0.0 in
         let page = h.0.1 in
@@ -245,5 +245,5 @@ stored_is s j p n q k a m t fetched time apart = (there, back)
         )
 
 -- one's own stores are in no gap of one's
-pub own_none : (s : Sizes) (j : List Event) (p n k a : ℕ) → ¬ StoredInGapOfImage s j p n (p, k, a)
-own_none s j p n k a g = gaps_apart s j p n p g.0 a g.1 g.3 g.2 refl
+pub own_none_in_gap : (s : Sizes) (j : List Event) (p n k a : ℕ) → ¬ StoredInGapOfImage s j p n (p, k, a)
+own_none_in_gap s j p n k a g = gaps_apart s j p n p g.0 a g.1 g.3 g.2 refl

@@ -8,27 +8,27 @@ use Rattle.journal.specs.Sizes.{Sizes}
 use Rattle.journal.specs.ClockEntry.{entry}
 use Rattle.judge.specs.declared.gaps.Gaps.{Gaps}
 use Rattle.judge.specs.Sizes.{sizes_of}
-use Rattle.judge.specs.Gaps.{AreGapsOf, FetchedUpTo, StoresAt, StoresInPage, StoresWord}
-use Rattle.judge.specs.Tallies.{IsTallyOf, row_index}
-use Rattle.judge.proofs.Rows.{tally_same}
-use Rattle.judge.proofs.InGaps.{pages_other, stores_other, words_other}
+use Rattle.judge.specs.Gaps.{AreGapsOf, GapFetchedUpTo, GapStoresAt, GapStoresInPage, GapStoresWord}
+use Rattle.judge.specs.GapTally.{IsGapTallyOfValues, gap_tally_row_index}
+use Rattle.judge.proofs.GapTallyRows.{tally_same}
+use Rattle.judge.proofs.InGaps.{pages_others_in_gap, stores_others_in_gap, words_others_in_gap}
 
 -- under an event that is no store the tallies stay
-pub gaps_kept : (j : List Event) (e : Event) (g : Gaps) (fetched : Vec (List ℕ))
+pub keeping_gaps : (j : List Event) (e : Event) (g : Gaps) (fetched : Vec (List ℕ))
     → ((q a v : ℕ) → e ≢ event q (Store a v))
-    → ((n p : ℕ) → p < 16 → FetchedUpTo (sizes_of g.sizes) (j ++ e ∷ []) p n (entry fetched.items (row_index n p)))
+    → ((n p : ℕ) → p < 16 → GapFetchedUpTo (sizes_of g.sizes) (j ++ e ∷ []) p n (entry fetched.items (gap_tally_row_index n p)))
     → AreGapsOf j g → AreGapsOf (j ++ e ∷ []) (record g { fetched = fetched })
-gaps_kept j e g fetched none fetches are = record {
+keeping_gaps j e g fetched none fetches are = record {
   fetched = fetches;
   intervals =
-      subst (λ x. IsTallyOf (StoresInPage s (j ++ e ∷ [])) (λ z. z) (StoresInPage s (j ++ e ∷ [])) x g.intervals) long
-      (tally_same (StoresInPage s j) (StoresInPage s (j ++ e ∷ [])) (λ z. z) (StoresInPage s j)
-      (StoresInPage s (j ++ e ∷ [])) (length j) g.intervals (pages_other s j e none) (pages_other s j e none)
+      subst (λ x. IsGapTallyOfValues (GapStoresInPage s (j ++ e ∷ [])) (λ z. z) (GapStoresInPage s (j ++ e ∷ [])) x g.intervals) long
+      (tally_same (GapStoresInPage s j) (GapStoresInPage s (j ++ e ∷ [])) (λ z. z) (GapStoresInPage s j)
+      (GapStoresInPage s (j ++ e ∷ [])) (length j) g.intervals (pages_others_in_gap s j e none) (pages_others_in_gap s j e none)
       are.intervals);
   words =
-      subst (λ x. IsTallyOf (StoresWord s (j ++ e ∷ [])) (λ z. z.0) (StoresAt (j ++ e ∷ [])) x g.words) long
-      (tally_same (StoresWord s j) (StoresWord s (j ++ e ∷ [])) (λ z. z.0) (StoresAt j) (StoresAt (j ++ e ∷ []))
-      (length j) g.words (words_other s j e none) (stores_other j e none) are.words);
+      subst (λ x. IsGapTallyOfValues (GapStoresWord s (j ++ e ∷ [])) (λ z. z.0) (GapStoresAt (j ++ e ∷ [])) x g.words) long
+      (tally_same (GapStoresWord s j) (GapStoresWord s (j ++ e ∷ [])) (λ z. z.0) (GapStoresAt j) (GapStoresAt (j ++ e ∷ []))
+      (length j) g.words (words_others_in_gap s j e none) (stores_others_in_gap j e none) are.words);
 }
   where
     s : Sizes

@@ -12,13 +12,13 @@ use Rattle.journal.proofs.Order.CountedAndNumbered.{numbered_at_longer, numbered
 use Rattle.journal.proofs.Order.HappensBefore.{before_longer, before_shorter}
 use Rattle.judge.specs.declared.models.MemoryModel.{MemoryModel}
 use Rattle.judge.specs.declared.models.MemoryModel.TheVariants as model
-use Rattle.judge.specs.Models.{IsOwed, OwedStaysLaw, UnorderedStore}
+use Rattle.judge.specs.Models.{IsOwed, OwedByModelStaysLaw, ModelUnorderedStore}
 use Rattle.judge.proofs.sources.Answering.{stays_law}
 
 -- an unordered store stays one
-unordered_longer : (j es : List Event) (k a v : ℕ) → k < length j → UnorderedStore j k a v
-    → UnorderedStore (j ++ es) k a v
-unordered_longer j es k a v lt x = record {
+owed_unordered_longer : (j es : List Event) (k a v : ℕ) → k < length j → ModelUnorderedStore j k a v
+    → ModelUnorderedStore (j ++ es) k a v
+owed_unordered_longer j es k a v lt x = record {
   place = x.place;
   by = x.by;
   stores = numbered_at_longer j es x.place (event x.by (Store a v)) x.stores;
@@ -26,9 +26,9 @@ unordered_longer j es k a v lt x = record {
   unordered = λ h. x.unordered (before_shorter j es lt h);
 }
 
-unordered_shorter : (j es : List Event) (k a v : ℕ) → k < length j → UnorderedStore (j ++ es) k a v
-    → UnorderedStore j k a v
-unordered_shorter j es k a v lt x = record {
+owed_unordered_shorter : (j es : List Event) (k a v : ℕ) → k < length j → ModelUnorderedStore (j ++ es) k a v
+    → ModelUnorderedStore j k a v
+owed_unordered_shorter j es k a v lt x = record {
   place = x.place;
   by = x.by;
   stores =
@@ -37,7 +37,7 @@ unordered_shorter j es k a v lt x = record {
   unordered = λ h. x.unordered (before_longer j es h);
 }
 
-pub owed_stays_law : OwedStaysLaw
+pub owed_stays_law : OwedByModelStaysLaw
 owed_stays_law model.RaceFree s j es k a v lt =
     let le : suc k ≤ length j = omega arith in
     let front = take-append-le (suc k) j es le in
@@ -47,8 +47,8 @@ owed_stays_law model.RaceFree s j es k a v lt =
     )
 owed_stays_law model.HappensBefore s j es k a v lt =
     let stays = stays_law j es k a v lt in (
-      λ owed. elim owed [ inl x ↦ inl (stays.0 x) | inr x ↦ inr (unordered_shorter j es k a v lt x) ],
-      λ owed. elim owed [ inl x ↦ inl (stays.1 x) | inr x ↦ inr (unordered_longer j es k a v lt x) ],
+      λ owed. elim owed [ inl x ↦ inl (stays.0 x) | inr x ↦ inr (owed_unordered_shorter j es k a v lt x) ],
+      λ owed. elim owed [ inl x ↦ inl (stays.1 x) | inr x ↦ inr (owed_unordered_longer j es k a v lt x) ],
     )
 owed_stays_law model.LazyRelease s j es k a v lt = stays_law j es k a v lt
 owed_stays_law model.Sequential s j es k a v lt =

@@ -12,37 +12,37 @@ use Rattle.journal.specs.BroughtCopy.{Brought}
 use Rattle.journal.specs.PageImages.{HasImageCount, StoredInGapOfImage}
 use Rattle.judge.specs.declared.gaps.CountedGap.{CountedGap}
 use Rattle.judge.specs.declared.gaps.Gaps.{Gaps}
-use Rattle.judge.specs.Sizes.{AreSmall, sizes_of}
-use Rattle.judge.specs.Tallies.{IsTallyOf, row_index}
+use Rattle.judge.specs.Sizes.{AreSizesSmall, sizes_of}
+use Rattle.judge.specs.GapTally.{IsGapTallyOfValues, gap_tally_row_index}
 
 -- q stores at address a in its interval k
-abbrev pub StoresAt : List Event → ℕ → ℕ → ℕ → Type 0
-StoresAt j a q k = (i : ℕ) × (v : ℕ) × Does j i q (Store a v) × (interval_at j q i ≡ k)
+abbrev pub GapStoresAt : List Event → ℕ → ℕ → ℕ → Type 0
+GapStoresAt j a q k = (i : ℕ) × (v : ℕ) × Does j i q (Store a v) × (interval_at j q i ≡ k)
 
 -- q stores in page n in its interval x.0, at address x.1
-abbrev pub StoresWord : Sizes → List Event → ℕ → ℕ → ℕ × ℕ → Type 0
-StoresWord s j n q x = StoresAt j x.1 q x.0 × (x.1 / s.words ≡ n)
+abbrev pub GapStoresWord : Sizes → List Event → ℕ → ℕ → ℕ × ℕ → Type 0
+GapStoresWord s j n q x = GapStoresAt j x.1 q x.0 × (x.1 / s.words ≡ n)
 
 -- q stores in page n in its interval k
-abbrev pub StoresInPage : Sizes → List Event → ℕ → ℕ → ℕ → Type 0
-StoresInPage s j n q k = (a : ℕ) × StoresWord s j n q (k, a)
+abbrev pub GapStoresInPage : Sizes → List Event → ℕ → ℕ → ℕ → Type 0
+GapStoresInPage s j n q k = (a : ℕ) × GapStoresWord s j n q (k, a)
 
 -- of each other processor's stores to page n, p's fetches of it have brought those of the first m q intervals
-pub record FetchedUpTo (s : Sizes) (j : List Event) (p n : ℕ) (m : ℕ → ℕ) : Type 0 where
+pub record GapFetchedUpTo (s : Sizes) (j : List Event) (p n : ℕ) (m : ℕ → ℕ) : Type 0 where
   pub brought : (q i a v : ℕ) → q ≢ p → Does j i q (Store a v) → a / s.words ≡ n
       → Brought j p n i ↔ (interval_at j q i < m q)
   pub within : (q : ℕ) → m q ≤ count_of is_closing j q
 
 -- what is kept is the history's
 pub record AreGapsOf (j : List Event) (g : Gaps) : Type 0 where
-  pub fetched : (n p : ℕ) → p < 16 → FetchedUpTo (sizes_of g.sizes) j p n (entry g.fetched.items (row_index n p))
-  pub intervals : IsTallyOf (StoresInPage (sizes_of g.sizes) j) (λ k. k) (StoresInPage (sizes_of g.sizes) j) (length j)
+  pub fetched : (n p : ℕ) → p < 16 → GapFetchedUpTo (sizes_of g.sizes) j p n (entry g.fetched.items (gap_tally_row_index n p))
+  pub intervals : IsGapTallyOfValues (GapStoresInPage (sizes_of g.sizes) j) (λ k. k) (GapStoresInPage (sizes_of g.sizes) j) (length j)
       g.intervals
-  pub words : IsTallyOf (StoresWord (sizes_of g.sizes) j) (λ x. x.0) (StoresAt j) (length j) g.words
+  pub words : IsGapTallyOfValues (GapStoresWord (sizes_of g.sizes) j) (λ x. x.0) (GapStoresAt j) (length j) g.words
 
 -- there is a row for each page and processor, and a mark of words for each address and processor
-pub record AreLong (g : Gaps) : Type 0 where
-  pub sizes : AreSmall (sizes_of g.sizes)
+pub record AreGapsLong (g : Gaps) : Type 0 where
+  pub sizes : AreSizesSmall (sizes_of g.sizes)
   pub fetched : vec_len g.fetched ≡ g.sizes.pages * 16
   pub intervals : vec_len g.intervals.rows ≡ g.sizes.pages * 16
   pub marks : vec_len g.intervals.marks ≡ g.sizes.pages * 16
@@ -50,7 +50,7 @@ pub record AreLong (g : Gaps) : Type 0 where
   pub words_marks : vec_len g.words.marks ≡ (g.sizes.pages * g.sizes.words) * 16
 
 -- no more than that many processors can have
-pub record AreFew (parts : ℕ) (c : CountedGap) : Type 0 where
+pub record AreGapCountsFew (parts : ℕ) (c : CountedGap) : Type 0 where
   pub writers : c.writers ≤ parts
   pub records : c.records ≤ parts * 2 ^ 22
   pub words : c.words ≤ parts * 2 ^ 22
@@ -60,11 +60,11 @@ pub record TellsGaps (j : List Event) (g : Gaps) : Type 0 where
   pub clocks : AreClocks j g.clocks
   pub present : g.clocks.present ≡ g.sizes.processors
   pub processors : ProcessorsInRange g.sizes.processors j
-  pub long : AreLong g
+  pub long : AreGapsLong g
   pub are : AreGapsOf j g
 
 -- what a fetch of the page says of those of the gap's stores whose processor is among these
-pub record CountsAmong (s : Sizes) (j : List Event) (p n : ℕ) (among : ℕ → Type 0) (writers records words : ℕ) : Type 0
+pub record GapCountsAmong (s : Sizes) (j : List Event) (p n : ℕ) (among : ℕ → Type 0) (writers records words : ℕ) : Type 0
   where
     pub writers_are : HasImageCount (λ (q : ℕ). among q × ((k : ℕ) × (a : ℕ) × StoredInGapOfImage s j p n (q, k, a))) writers
     pub records_are : HasImageCount (λ (x : ℕ × ℕ). among x.0 × ((a : ℕ) × StoredInGapOfImage s j p n (x.0, x.1, a))) records

@@ -8,30 +8,30 @@ use Rattle.journal.specs.Events.{At}
 use Rattle.journal.specs.WellFormed.{Allowed, AnswersCall, Holds, KindInRange, LastIs, MayFollow, WellFormed}
 
 -- what has to hold for p to do this next: of an acquire, that its ask is open, and that nobody holds the lock
-abbrev pub AllowedLax : Sizes → List Event → ℕ → Kind → Type 0
-AllowedLax s j p (Acquire l) = ((i : ℕ) × LastIs j p i (Ask l)) × ((q : ℕ) → ¬ Holds j q l)
-AllowedLax s j p k = Allowed s j p k
+abbrev pub LaxAllowed : Sizes → List Event → ℕ → Kind → Type 0
+LaxAllowed s j p (Acquire l) = ((i : ℕ) × LastIs j p i (Ask l)) × ((q : ℕ) → ¬ Holds j q l)
+LaxAllowed s j p k = Allowed s j p k
 
 -- the event may come next after j
-pub record MayFollowLax (s : Sizes) (j : List Event) (e : Event) : Type 0 where
+pub record LaxMayFollow (s : Sizes) (j : List Event) (e : Event) : Type 0 where
   pub processor : e.processor < s.processors
   pub in_range : KindInRange s e.kind
   pub answers : (i : ℕ) (k : Kind) → LastIs j e.processor i k → AnswersCall k e.kind
-  pub allowed : AllowedLax s j e.processor e.kind
+  pub allowed : LaxAllowed s j e.processor e.kind
 
 -- each event may follow what stands before it
-abbrev pub WellFormedLax : Sizes → List Event → Type 0
-WellFormedLax s j = (k : ℕ) (e : Event) → At j k e → MayFollowLax s (take k j) e
+abbrev pub LaxWellFormed : Sizes → List Event → Type 0
+LaxWellFormed s j = (k : ℕ) (e : Event) → At j k e → LaxMayFollow s (take k j) e
 
 -- the same, lax or not
-abbrev pub MayFollowIn : Bool → Sizes → List Event → Event → Type 0
-MayFollowIn true = MayFollowLax
-MayFollowIn false = MayFollow
+abbrev pub MayFollowOrLax : Bool → Sizes → List Event → Event → Type 0
+MayFollowOrLax true = LaxMayFollow
+MayFollowOrLax false = MayFollow
 
-abbrev pub WellFormedIn : Bool → Sizes → List Event → Type 0
-WellFormedIn true = WellFormedLax
-WellFormedIn false = WellFormed
+abbrev pub WellFormedOrLax : Bool → Sizes → List Event → Type 0
+WellFormedOrLax true = LaxWellFormed
+WellFormedOrLax false = WellFormed
 
 -- a well formed history is well formed in the lax sense
 abbrev pub LaxLaw : Type 0
-LaxLaw = (s : Sizes) (j : List Event) → WellFormed s j → WellFormedLax s j
+LaxLaw = (s : Sizes) (j : List Event) → WellFormed s j → LaxWellFormed s j

@@ -1,9 +1,9 @@
 pub mod Sizes
 pub mod Lax
 pub mod Why
-pub mod Tells
+pub mod FrontTells
 pub mod Ranges
-pub mod Tallies
+pub mod GapTally
 pub mod Gaps
 pub mod Miscounted
 pub mod Prelude

@@ -12,7 +12,7 @@ use Rattle.judge.specs.declared.models.MemoryModel.{MemoryModel}
 use Rattle.judge.specs.declared.models.MemoryModel.TheVariants as model
 
 -- v was stored at a before place k, by a store that doesn't happen before it
-pub record UnorderedStore (j : List Event) (k a v : ℕ) : Type 0 where
+pub record ModelUnorderedStore (j : List Event) (k a v : ℕ) : Type 0 where
   pub place : ℕ
   pub by : ℕ
   pub stores : Does j place by (Store a v)
@@ -20,21 +20,21 @@ pub record UnorderedStore (j : List Event) (k a v : ℕ) : Type 0 where
   pub unordered : ¬ HappensBefore j place k
 
 -- v is a's word after the events before place k are done to one memory of zeros, in their order
-abbrev pub IsFlatWord : Sizes → List Event → ℕ → ℕ → ℕ → Type 0
-IsFlatWord s j k a v = slice_get (memory_after (replicate (addresses s) 0) (take k j)) a ≡ Some v
+abbrev pub IsFlatModelWord : Sizes → List Event → ℕ → ℕ → ℕ → Type 0
+IsFlatModelWord s j k a v = slice_get (memory_after (replicate (addresses s) 0) (take k j)) a ≡ Some v
 
 -- v is what a load of a at place k may answer under the model
 abbrev pub IsOwed : MemoryModel → Sizes → List Event → ℕ → ℕ → ℕ → Type 0
 IsOwed model.RaceFree s j k a v = RaceFree (take (suc k) j) → IsAnswer j k a v
-IsOwed model.HappensBefore s j k a v = IsAnswer j k a v ⊎ UnorderedStore j k a v
+IsOwed model.HappensBefore s j k a v = IsAnswer j k a v ⊎ ModelUnorderedStore j k a v
 IsOwed model.LazyRelease s j k a v = IsAnswer j k a v
-IsOwed model.Sequential s j k a v = IsFlatWord s j k a v
+IsOwed model.Sequential s j k a v = IsFlatModelWord s j k a v
 
 -- each load answers what it may under the model
-abbrev pub ExplainedUnder : MemoryModel → Sizes → List Event → Type 0
-ExplainedUnder m s j = (k p a v : ℕ) → Does j k p (Load a v) → IsOwed m s j k a v
+abbrev pub ExplainedUnderModel : MemoryModel → Sizes → List Event → Type 0
+ExplainedUnderModel m s j = (k p a v : ℕ) → Does j k p (Load a v) → IsOwed m s j k a v
 
 -- what a load may answer stays as the history goes on
-abbrev pub OwedStaysLaw : Type 0
-OwedStaysLaw = (m : MemoryModel) (s : Sizes) (j es : List Event) (k a v : ℕ) → k < length j
+abbrev pub OwedByModelStaysLaw : Type 0
+OwedByModelStaysLaw = (m : MemoryModel) (s : Sizes) (j es : List Event) (k a v : ℕ) → k < length j
     → IsOwed m s (j ++ es) k a v ↔ IsOwed m s j k a v

@@ -10,7 +10,7 @@ use Rattle.journal.specs.Clocks.{AreClocks}
 use Rattle.journal.specs.Races.{Race}
 use Rattle.judge.specs.declared.races.Access.{Access}
 use Rattle.judge.specs.declared.races.Races.{Races}
-use Rattle.judge.specs.Sources.Tells.{row_of}
+use Rattle.judge.specs.Sources.Tells.{source_row_of}
 
 -- the pair with the least second place, and among these the greatest first one
 pub record IsNearestRace (j : List Event) (i k : ℕ) : Type 0 where
@@ -24,18 +24,18 @@ IsNearestTo j e o = MatchOption o ((i : ℕ) → ¬ Race (j ++ e ∷ []) i (leng
     (λ i. Race (j ++ e ∷ []) i (length j) × ((m : ℕ) → Race (j ++ e ∷ []) m (length j) → m ≤ i))
 
 -- a store to a
-abbrev pub stores_to : ℕ → Kind → Bool
-stores_to a (Store b v) = b == a
-stores_to a _ = false
+abbrev pub races_with_store_to : ℕ → Kind → Bool
+races_with_store_to a (Store b v) = b == a
+races_with_store_to a _ = false
 
 -- a load or a store of a
-abbrev pub accesses_to : ℕ → Kind → Bool
-accesses_to a (Load b v) = b == a
-accesses_to a (Store b v) = b == a
-accesses_to a _ = false
+abbrev pub races_with_access_to : ℕ → Kind → Bool
+races_with_access_to a (Load b v) = b == a
+races_with_access_to a (Store b v) = b == a
+races_with_access_to a _ = false
 
 -- q's last event of these kinds
-pub record IsLastAccess (j : List Event) (is : Kind → Bool) (q : ℕ) (x : Access) : Type 0 where
+pub record IsLastRacingAccess (j : List Event) (is : Kind → Bool) (q : ℕ) (x : Access) : Type 0 where
   pub kind : Kind
   pub does : Does j x.place q kind
   pub counts : IsTrue (is kind)
@@ -43,17 +43,17 @@ pub record IsLastAccess (j : List Event) (is : Kind → Bool) (q : ℕ) (x : Acc
   pub last : (i : ℕ) (k : Kind) → Does j i q k → IsTrue (is k) → i ≤ x.place
 
 -- that event, if there is one
-abbrev pub IsLastAccessOf : List Event → (Kind → Bool) → ℕ → Option Access → Type 0
-IsLastAccessOf j is q o =
-    MatchOption o ((i : ℕ) (k : Kind) → Does j i q k → ¬ IsTrue (is k)) (IsLastAccess j is q)
+abbrev pub IsLastRacingAccessOf : List Event → (Kind → Bool) → ℕ → Option Access → Type 0
+IsLastRacingAccessOf j is q o =
+    MatchOption o ((i : ℕ) (k : Kind) → Does j i q k → ¬ IsTrue (is k)) (IsLastRacingAccess j is q)
 
 -- the rows have these last events, by address and processor
-abbrev pub AreLastAccesses : List Event → (ℕ → Kind → Bool) → List (Option Access) → Type 0
-AreLastAccesses j of rows =
-    (a q : ℕ) (o : Option Access) → q < 16 → slice_get rows (row_of a q) ≡ Some o → IsLastAccessOf j (of a) q o
+abbrev pub AreLastRacingAccesses : List Event → (ℕ → Kind → Bool) → List (Option Access) → Type 0
+AreLastRacingAccesses j of rows =
+    (a q : ℕ) (o : Option Access) → q < 16 → slice_get rows (source_row_of a q) ≡ Some o → IsLastRacingAccessOf j (of a) q o
 
 -- q's access in the row that begins at `row` is at place i, and p's timestamp t doesn't count its interval
-pub record IsUncounted (rows : List (Option Access)) (row : ℕ) (t : ℕ → ℕ) (p q i : ℕ) : Type 0 where
+pub record IsUncountedByRaces (rows : List (Option Access)) (row : ℕ) (t : ℕ → ℕ) (p q i : ℕ) : Type 0 where
   pub access : Access
   pub apart : q ≢ p
   pub at : slice_get rows (row + q) ≡ Some (Some access)
@@ -61,20 +61,20 @@ pub record IsUncounted (rows : List (Option Access)) (row : ℕ) (t : ℕ → �
   pub place : access.place ≡ i
 
 -- some processor below n has one there
-pub record SomeUncounted (rows : List (Option Access)) (row : ℕ) (t : ℕ → ℕ) (p n i : ℕ) : Type 0 where
+pub record SomeUncountedByRaces (rows : List (Option Access)) (row : ℕ) (t : ℕ → ℕ) (p n i : ℕ) : Type 0 where
   pub by : ℕ
   pub below : by < n
-  pub is : IsUncounted rows row t p by i
+  pub is : IsUncountedByRaces rows row t p by i
 
 -- the last of those that the first n processors have
-abbrev pub IsLastUncounted : List (Option Access) → ℕ → (ℕ → ℕ) → ℕ → ℕ → Option ℕ → Type 0
-IsLastUncounted rows row t p n o = MatchOption o ((i : ℕ) → ¬ SomeUncounted rows row t p n i)
-    (λ i. SomeUncounted rows row t p n i × ((m : ℕ) → SomeUncounted rows row t p n m → m ≤ i))
+abbrev pub IsLastUncountedByRaces : List (Option Access) → ℕ → (ℕ → ℕ) → ℕ → ℕ → Option ℕ → Type 0
+IsLastUncountedByRaces rows row t p n o = MatchOption o ((i : ℕ) → ¬ SomeUncountedByRaces rows row t p n i)
+    (λ i. SomeUncountedByRaces rows row t p n i × ((m : ℕ) → SomeUncountedByRaces rows row t p n m → m ≤ i))
 
 -- what is kept of the accesses is the history's
-pub record AccessesAreKept (j : List Event) (x : Races) : Type 0 where
-  pub stores : AreLastAccesses j stores_to x.stores.items
-  pub accesses : AreLastAccesses j accesses_to x.accesses.items
+pub record RaceAccessesAreKept (j : List Event) (x : Races) : Type 0 where
+  pub stores : AreLastRacingAccesses j races_with_store_to x.stores.items
+  pub accesses : AreLastRacingAccesses j races_with_access_to x.accesses.items
   pub stores_long : vec_len x.stores ≡ x.addresses * 16
   pub accesses_long : vec_len x.accesses ≡ x.addresses * 16
 
@@ -83,4 +83,4 @@ pub record AreRacesOf (j : List Event) (x : Races) : Type 0 where
   pub clocks : AreClocks j x.clocks
   pub present : x.clocks.present ≡ x.processors
   pub processors : ProcessorsInRange x.processors j
-  pub kept : AccessesAreKept j x
+  pub kept : RaceAccessesAreKept j x

@@ -1,13 +1,13 @@
 -- The words that contracts name, passed on from one place. Declares nothing.
-pub use Rattle.judge.specs.Sizes.{AreSmall, sizes_of}
-pub use Rattle.judge.specs.Lax.{LaxLaw, MayFollowLax, WellFormedIn}
-pub use Rattle.judge.specs.Why.{IsFirstIllFormed, IsInTurn, IsVerdict, WaitsFor, WhyLaw}
-pub use Rattle.judge.specs.Tells.{IsFirstAsk, NobodyAsks, IsFrontOf, holder_after, is_set_after}
+pub use Rattle.judge.specs.Sizes.{AreSizesSmall, sizes_of}
+pub use Rattle.judge.specs.Lax.{LaxLaw, LaxMayFollow, WellFormedOrLax}
+pub use Rattle.judge.specs.Why.{IsFirstIllFormed, IsInTurnWhy, IsWhyVerdict, WhyWaitsFor, WhyLaw}
+pub use Rattle.judge.specs.FrontTells.{TellsFirstAsk, TellsNobodyAsks, FrontTellsHistory, tells_holder_after, tells_flag_set_after}
 pub use Rattle.judge.specs.Ranges.{RangeLaw}
-pub use Rattle.judge.specs.Tallies.{Adds, is_between, tally_mark, numbers, row_index}
-pub use Rattle.judge.specs.Gaps.{AreFew, AreGapsOf, AreLong, CountsAmong, FetchedUpTo, StoresInPage, TellsGaps}
-pub use Rattle.judge.specs.Miscounted.{CountsGap, IsFirstMiscounted, IsWithin, Miscounts}
-pub use Rattle.judge.specs.Models.{ExplainedUnder, IsFlatWord, IsOwed, OwedStaysLaw, UnorderedStore}
-pub use Rattle.judge.specs.NearestRaces.{AccessesAreKept, AreRacesOf, IsLastUncounted, IsNearestRace, IsNearestTo, IsUncounted}
-pub use Rattle.judge.specs.FlatMemory.{IsLastStoreTo, IsMemoryAfter}
-pub use Rattle.judge.specs.Owed.{AreOwedBy, ArePermitted, IsRacyWith}
+pub use Rattle.judge.specs.GapTally.{AddsToGapTally, is_gap_tally_between, tally_mark, gap_tally_numbers, gap_tally_row_index}
+pub use Rattle.judge.specs.Gaps.{AreGapCountsFew, AreGapsOf, AreGapsLong, GapCountsAmong, GapFetchedUpTo, GapStoresInPage, TellsGaps}
+pub use Rattle.judge.specs.Miscounted.{MiscountsNoGap, IsFirstMiscounted, IsMiscountWithin, Miscounts}
+pub use Rattle.judge.specs.Models.{ExplainedUnderModel, IsFlatModelWord, IsOwed, OwedByModelStaysLaw, ModelUnorderedStore}
+pub use Rattle.judge.specs.NearestRaces.{RaceAccessesAreKept, AreRacesOf, IsLastUncountedByRaces, IsNearestRace, IsNearestTo, IsUncountedByRaces}
+pub use Rattle.judge.specs.FlatMemory.{IsLastFlatStoreTo, IsMemoryAfter}
+pub use Rattle.judge.specs.Owed.{AreOwedBy, ArePermitted, IsOwedRacyWith}

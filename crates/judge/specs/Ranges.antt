@@ -3,7 +3,7 @@ use Rattle.std.specs.Prelude.{Bool, List}
 use Rattle.journal.specs.declared.event.Event.{Event}
 use Rattle.journal.specs.Sizes.{Sizes, addresses}
 use Rattle.journal.specs.InRange.{AddressesInRange, ProcessorsInRange}
-use Rattle.judge.specs.Lax.{WellFormedIn}
+use Rattle.judge.specs.Lax.{WellFormedOrLax}
 
 -- its processors and addresses are those of the cluster
 pub record AreInRange (s : Sizes) (j : List Event) : Type 0 where
@@ -12,4 +12,4 @@ pub record AreInRange (s : Sizes) (j : List Event) : Type 0 where
 
 -- where it is well formed, lax or not
 abbrev pub RangeLaw : Type 0
-RangeLaw = (lax : Bool) (s : Sizes) (j : List Event) → WellFormedIn lax s j → AreInRange s j
+RangeLaw = (lax : Bool) (s : Sizes) (j : List Event) → WellFormedOrLax lax s j → AreInRange s j

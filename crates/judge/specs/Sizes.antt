@@ -9,7 +9,7 @@ abbrev pub sizes_of : Given → Sizes
 sizes_of s = record { processors = s.processors; pages = s.pages; words = s.words; locks = s.locks; flags = s.flags }
 
 -- sizes within the product's: up to 16 processors, 64 pages of 64 words, 32 locks and 32 flags
-pub record AreSmall (s : Sizes) : Type 0 where
+pub record AreSizesSmall (s : Sizes) : Type 0 where
   pub processors : s.processors ≤ most_processors
   pub pages : s.pages ≤ 64
   pub words : s.words ≤ 64

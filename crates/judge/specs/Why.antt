@@ -11,17 +11,17 @@ use Rattle.judge.specs.declared.why.Why.{Why}
 use Rattle.judge.specs.declared.why.Why.TheVariants.{NoSuchProcessor, OutOfRange, Waits, AsksWhatItHolds, NotAsked}
 use Rattle.judge.specs.declared.why.Why.TheVariants.{HeldBy, AskedEarlier, NotHeld, NotArrived, NotSet}
 use Rattle.judge.specs.declared.judge.IllFormed.{IllFormed}
-use Rattle.judge.specs.Lax.{MayFollowIn, WellFormedIn}
+use Rattle.judge.specs.Lax.{MayFollowOrLax, WellFormedOrLax}
 
 -- p's last event is one after which it waits, for this
-pub record WaitsFor (j : List Event) (p : ℕ) (k : Kind) : Type 0 where
+pub record WhyWaitsFor (j : List Event) (p : ℕ) (k : Kind) : Type 0 where
   pub place : ℕ
   pub kind : Kind
   pub last : LastIs j p place kind
   pub awaits : awaited kind ≡ Some k
 
 -- p's ask of l is open, and q's at the earlier place i is too
-pub record IsBehind (j : List Event) (p l q i : ℕ) : Type 0 where
+pub record IsBehindWhy (j : List Event) (p l q i : ℕ) : Type 0 where
   pub place : ℕ
   pub asked : LastIs j p place (Ask l)
   pub earlier : LastIs j q i (Ask l)
@@ -31,28 +31,28 @@ pub record IsBehind (j : List Event) (p l q i : ℕ) : Type 0 where
 abbrev pub IsWhy : Bool → Sizes → List Event → Event → Why → Type 0
 IsWhy lax s j e NoSuchProcessor = s.processors ≤ e.processor
 IsWhy lax s j e OutOfRange = ¬ KindInRange s e.kind
-IsWhy lax s j e (Waits k) = WaitsFor j e.processor k × (e.kind ≢ k)
+IsWhy lax s j e (Waits k) = WhyWaitsFor j e.processor k × (e.kind ≢ k)
 IsWhy lax s j e AsksWhatItHolds = (l : ℕ) × (e.kind ≡ Ask l) × Holds j e.processor l
-IsWhy lax s j e NotAsked = IsTrue (is_taking e.kind) × (¬ WaitsFor j e.processor e.kind)
+IsWhy lax s j e NotAsked = IsTrue (is_taking e.kind) × (¬ WhyWaitsFor j e.processor e.kind)
 IsWhy lax s j e (HeldBy q) = (l : ℕ) × (e.kind ≡ Acquire l) × Holds j q l
-IsWhy lax s j e (AskedEarlier q i) = (l : ℕ) × (e.kind ≡ Acquire l) × IsBehind j e.processor l q i × (lax ≡ false)
+IsWhy lax s j e (AskedEarlier q i) = (l : ℕ) × (e.kind ≡ Acquire l) × IsBehindWhy j e.processor l q i × (lax ≡ false)
 IsWhy lax s j e NotHeld = (l : ℕ) × (e.kind ≡ Release l) × (¬ Holds j e.processor l)
 IsWhy lax s j e (NotArrived q) =
     (e.kind ≡ Depart) × (q < s.processors) × (count_of is_arrive j q ≤ count_of is_depart j e.processor)
 IsWhy lax s j e NotSet = (f : ℕ) × (e.kind ≡ Await f) × ((k q : ℕ) → ¬ Does j k q (Set f))
 
 -- the order of the reasons
-abbrev pub rank : Why → ℕ
-rank NoSuchProcessor = 0
-rank OutOfRange = 1
-rank (Waits k) = 2
-rank AsksWhatItHolds = 3
-rank NotAsked = 4
-rank (HeldBy q) = 5
-rank (AskedEarlier q i) = 6
-rank NotHeld = 7
-rank (NotArrived q) = 8
-rank NotSet = 9
+abbrev pub why_rank : Why → ℕ
+why_rank NoSuchProcessor = 0
+why_rank OutOfRange = 1
+why_rank (Waits k) = 2
+why_rank AsksWhatItHolds = 3
+why_rank NotAsked = 4
+why_rank (HeldBy q) = 5
+why_rank (AskedEarlier q i) = 6
+why_rank NotHeld = 7
+why_rank (NotArrived q) = 8
+why_rank NotSet = 9
 
 -- among open asks the first place comes first, among those who have not arrived the least processor
 abbrev pub number : Why → ℕ
@@ -61,33 +61,33 @@ number (NotArrived q) = q
 number _ = 0
 
 -- the reason v doesn't come before w
-abbrev pub IsUpTo : Why → Why → Type 0
-IsUpTo w v = (rank w ≤ rank v) × (rank w ≡ rank v → number w ≤ number v)
+abbrev pub IsWhyUpTo : Why → Why → Type 0
+IsWhyUpTo w v = (why_rank w ≤ why_rank v) × (why_rank w ≡ why_rank v → number w ≤ number v)
 
 -- of the reasons that are true, w is the first
-pub record IsFirstWhy (lax : Bool) (s : Sizes) (j : List Event) (e : Event) (w : Why) : Type 0 where
+pub record IsFirstTrueWhy (lax : Bool) (s : Sizes) (j : List Event) (e : Event) (w : Why) : Type 0 where
   pub is_true : IsWhy lax s j e w
-  pub first : (v : Why) → IsWhy lax s j e v → IsUpTo w v
+  pub first : (v : Why) → IsWhy lax s j e v → IsWhyUpTo w v
 
 -- None where the event may come next, else the first reason why not
-abbrev pub IsVerdict : Bool → Sizes → List Event → Event → Option Why → Type 0
-IsVerdict lax s j e o = MatchOption o (MayFollowIn lax s j e) (IsFirstWhy lax s j e)
+abbrev pub IsWhyVerdict : Bool → Sizes → List Event → Event → Option Why → Type 0
+IsWhyVerdict lax s j e o = MatchOption o (MayFollowOrLax lax s j e) (IsFirstTrueWhy lax s j e)
 
 -- its processor and its numbers are within the sizes, and it is what its processor waits for, where that waits
-pub record IsInTurn (s : Sizes) (j : List Event) (e : Event) : Type 0 where
+pub record IsInTurnWhy (s : Sizes) (j : List Event) (e : Event) : Type 0 where
   pub processor : e.processor < s.processors
   pub in_range : KindInRange s e.kind
-  pub answers : (k : Kind) → WaitsFor j e.processor k → e.kind ≡ k
+  pub answers : (k : Kind) → WhyWaitsFor j e.processor k → e.kind ≡ k
 
 -- the event at this place may not follow what stands before it, which is well formed, and this is the first reason
 pub record IsFirstIllFormed (lax : Bool) (s : Sizes) (j : List Event) (x : IllFormed) : Type 0 where
   pub event : Event
   pub at : At j x.place event
-  pub before : WellFormedIn lax s (take x.place j)
-  pub refused : ¬ MayFollowIn lax s (take x.place j) event
-  pub why : IsFirstWhy lax s (take x.place j) event x.why
+  pub before : WellFormedOrLax lax s (take x.place j)
+  pub refused : ¬ MayFollowOrLax lax s (take x.place j) event
+  pub why : IsFirstTrueWhy lax s (take x.place j) event x.why
 
 -- where a reason is true of an event, it may not come next
 abbrev pub WhyLaw : Type 0
 WhyLaw = (lax : Bool) (s : Sizes) (j : List Event) (e : Event) (w : Why)
-    → IsWhy lax s j e w → ¬ MayFollowIn lax s j e
+    → IsWhy lax s j e w → ¬ MayFollowOrLax lax s j e

@@ -2,7 +2,7 @@
 ghost use Rattle.std.specs.Prelude.{◌≡◌, ◌↔◌, ℕ, ◌<◌, ◌≤◌, [], ◌∷◌, ◌++◌, IfOk, IsTrue, List, Some, length, replicate, slice_get};
 ghost use Rattle.journal.specs.declared.event.Event.{Event};
 ghost use Rattle.journal.specs.Prelude.{AddressInRange, memory_after};
-ghost use Rattle.judge.specs.Prelude.{IsLastStoreTo, IsMemoryAfter};
+ghost use Rattle.judge.specs.Prelude.{IsLastFlatStoreTo, IsMemoryAfter};
 
 use journal::{Event, Kind};
 use std::alloc::{AllocError, Global};
@@ -38,7 +38,7 @@ impl FlatMemory {
     /// The place of the last store to the address.
     pub fn last_store(&self, address: usize) -> Option<usize>
         requires { (j : List Event) × (n : ℕ) × IsMemoryAfter j n self.now × (address < n) }
-        ensures { (j : List Event) (n : ℕ) → IsMemoryAfter j n self.now → address < n → IsLastStoreTo j address result }
+        ensures { (j : List Event) (n : ℕ) → IsMemoryAfter j n self.now → address < n → IsLastFlatStoreTo j address result }
     {
         self.stores[address]
     }

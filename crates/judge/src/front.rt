@@ -8,8 +8,8 @@ ghost use Rattle.journal.specs.declared.event.Kind.TheVariants.{Acquire, Ask, Aw
 ghost use Rattle.journal.specs.Sizes.{Sizes as TheSizes};
 ghost use Rattle.journal.specs.WellFormed.{KindInRange};
 ghost use Rattle.journal.specs.Prelude.{Holds, event, is_arrive, is_depart};
-ghost use Rattle.judge.specs.Prelude.{AreSmall, IsFirstAsk, IsInTurn, IsVerdict, MayFollowLax, NobodyAsks, IsFrontOf};
-ghost use Rattle.judge.specs.Prelude.{WaitsFor, holder_after, is_set_after, sizes_of};
+ghost use Rattle.judge.specs.Prelude.{AreSizesSmall, TellsFirstAsk, IsInTurnWhy, IsWhyVerdict, LaxMayFollow, TellsNobodyAsks, FrontTellsHistory};
+ghost use Rattle.judge.specs.Prelude.{WhyWaitsFor, tells_holder_after, tells_flag_set_after, sizes_of};
 
 use crate::kinds::{awaited_after, is_same};
 use crate::sizes::Sizes;
@@ -72,9 +72,9 @@ fn count(arrivals: &mut [u32; 16], departures: &mut [u32; 16], event: Event)
 
 /// Takes note of who acquires or releases a lock.
 fn hold(holders: &mut [Option<usize>; 32], event: Event)
-    requires { (s : TheSizes) × AreSmall s × KindInRange s event.kind }
+    requires { (s : TheSizes) × AreSizesSmall s × KindInRange s event.kind }
     ensures { (l : ℕ) → slice_index_or holders.new l None
-        ≡ holder_after (slice_index_or holders.old l None) l event.processor event.kind }
+        ≡ tells_holder_after (slice_index_or holders.old l None) l event.processor event.kind }
 {
     match event.kind {
         Kind::Acquire(lock) => holders[lock] = Some(event.processor),
@@ -85,9 +85,9 @@ fn hold(holders: &mut [Option<usize>; 32], event: Event)
 
 /// Takes note of a flag that is set.
 fn set(flags: &mut [bool; 32], kind: Kind)
-    requires { (s : TheSizes) × AreSmall s × KindInRange s kind }
+    requires { (s : TheSizes) × AreSizesSmall s × KindInRange s kind }
     ensures { (f : ℕ) → slice_index_or flags.new f false
-        ≡ is_set_after (slice_index_or flags.old f false) f kind }
+        ≡ tells_flag_set_after (slice_index_or flags.old f false) f kind }
 {
     if let Kind::Set(flag) = kind {
         flags[flag] = true;
@@ -97,8 +97,8 @@ fn set(flags: &mut [bool; 32], kind: Kind)
 impl Frontier {
     /// Before the first event.
     pub fn new(sizes: Sizes) -> Frontier
-        requires { AreSmall (sizes_of sizes) }
-        ensures tells { IsFrontOf [] result }
+        requires { AreSizesSmall (sizes_of sizes) }
+        ensures tells { FrontTellsHistory [] result }
         ensures sizes { result.sizes ≡ sizes }
     {
         Frontier {
@@ -115,8 +115,8 @@ impl Frontier {
     /// What the processor waits for.
     fn awaited(&self, processor: usize) -> Option<Kind>
         requires { processor < 16 }
-        ensures { (j : List Event) → IsFrontOf j self.now → (k : AKind)
-            → (result ≡ Some k) ↔ WaitsFor j processor k }
+        ensures { (j : List Event) → FrontTellsHistory j self.now → (k : AKind)
+            → (result ≡ Some k) ↔ WhyWaitsFor j processor k }
     {
         let last = self.last[processor]?;
         awaited_after(last.kind)
@@ -124,8 +124,8 @@ impl Frontier {
 
     /// Of the open asks of the lock, whose is the first one, and its place.
     fn first_ask(&self, lock: usize) -> Option<(usize, usize)>
-        ensures { (j : List Event) → IsFrontOf j self.now
-            → MatchOption result (NobodyAsks j lock) (λ x. IsFirstAsk j lock x.0 x.1) }
+        ensures { (j : List Event) → FrontTellsHistory j self.now
+            → MatchOption result (TellsNobodyAsks j lock) (λ x. TellsFirstAsk j lock x.0 x.1) }
     {
         let mut first = None;
         let mut limit = self.place;
@@ -143,10 +143,10 @@ impl Frontier {
     /// Why the lock is not granted to the processor, whose ask of it is open.
     fn not_granted(&self, processor: usize, lock: usize, lax: bool) -> Option<Why>
         requires { lock < 32 }
-        ensures { (j : List Event) → IsFrontOf j self.now
-            → IsInTurn (sizes_of self.now.sizes) j (event processor (Acquire lock))
-            → WaitsFor j processor (Acquire lock)
-            → IsVerdict lax (sizes_of self.now.sizes) j (event processor (Acquire lock)) result }
+        ensures { (j : List Event) → FrontTellsHistory j self.now
+            → IsInTurnWhy (sizes_of self.now.sizes) j (event processor (Acquire lock))
+            → WhyWaitsFor j processor (Acquire lock)
+            → IsWhyVerdict lax (sizes_of self.now.sizes) j (event processor (Acquire lock)) result }
     {
         if let Some(holder) = self.holders[lock] {
             return Some(Why::HeldBy(holder));
@@ -166,10 +166,10 @@ impl Frontier {
     fn not_departed(&self, processor: usize) -> Option<Why>
         requires processor { processor < 16 }
         requires processors { self.now.sizes.processors ≤ 16 }
-        ensures { (j : List Event) → IsFrontOf j self.now
-            → IsInTurn (sizes_of self.now.sizes) j (event processor Depart)
-            → WaitsFor j processor Depart → (lax : Bool)
-            → IsVerdict lax (sizes_of self.now.sizes) j (event processor Depart) result }
+        ensures { (j : List Event) → FrontTellsHistory j self.now
+            → IsInTurnWhy (sizes_of self.now.sizes) j (event processor Depart)
+            → WhyWaitsFor j processor Depart → (lax : Bool)
+            → IsWhyVerdict lax (sizes_of self.now.sizes) j (event processor Depart) result }
     {
         let departures = self.departures[processor];
         for other in 0..self.sizes.processors {
@@ -182,10 +182,10 @@ impl Frontier {
 
     /// Why the event, which its processor waits for, may not come next.
     fn not_let_on(&self, event: Event, lax: bool) -> Option<Why>
-        requires { (j : List Event) × IsFrontOf j self.now × IsInTurn (sizes_of self.now.sizes) j event }
-        ensures { (j : List Event) → IsFrontOf j self.now → IsInTurn (sizes_of self.now.sizes) j event
-            → WaitsFor j event.processor event.kind
-            → IsVerdict lax (sizes_of self.now.sizes) j event result }
+        requires { (j : List Event) × FrontTellsHistory j self.now × IsInTurnWhy (sizes_of self.now.sizes) j event }
+        ensures { (j : List Event) → FrontTellsHistory j self.now → IsInTurnWhy (sizes_of self.now.sizes) j event
+            → WhyWaitsFor j event.processor event.kind
+            → IsWhyVerdict lax (sizes_of self.now.sizes) j event result }
     {
         match event.kind {
             Kind::Acquire(lock) => self.not_granted(event.processor, lock, lax),
@@ -203,10 +203,10 @@ impl Frontier {
 
     /// Why the event may not come next, whose processor waits for nothing.
     fn not_free(&self, event: Event) -> Option<Why>
-        requires { (j : List Event) × IsFrontOf j self.now × IsInTurn (sizes_of self.now.sizes) j event }
-        ensures { (j : List Event) → IsFrontOf j self.now → IsInTurn (sizes_of self.now.sizes) j event
-            → ¬ WaitsFor j event.processor event.kind → (lax : Bool)
-            → IsVerdict lax (sizes_of self.now.sizes) j event result }
+        requires { (j : List Event) × FrontTellsHistory j self.now × IsInTurnWhy (sizes_of self.now.sizes) j event }
+        ensures { (j : List Event) → FrontTellsHistory j self.now → IsInTurnWhy (sizes_of self.now.sizes) j event
+            → ¬ WhyWaitsFor j event.processor event.kind → (lax : Bool)
+            → IsWhyVerdict lax (sizes_of self.now.sizes) j event result }
     {
         match event.kind {
             Kind::Acquire(_) | Kind::Depart | Kind::Await(_) => Some(Why::NotAsked),
@@ -231,7 +231,7 @@ impl Frontier {
     /// Whether the processor holds the lock.
     fn holds(&self, processor: usize, lock: usize) -> bool
         requires { lock < 32 }
-        ensures { (j : List Event) → IsFrontOf j self.now → IsTrue result ↔ Holds j processor lock }
+        ensures { (j : List Event) → FrontTellsHistory j self.now → IsTrue result ↔ Holds j processor lock }
     {
         match self.holders[lock] {
             Some(holder) => holder == processor,
@@ -242,9 +242,9 @@ impl Frontier {
     /// Why the event may not come next; None where it may. `lax` leaves out that a lock's asks are granted in their
     /// order.
     pub fn may_follow(&self, event: Event, lax: bool) -> Option<Why>
-        requires { (j : List Event) × IsFrontOf j self.now }
-        ensures { (j : List Event) → IsFrontOf j self.now
-            → IsVerdict lax (sizes_of self.now.sizes) j event result }
+        requires { (j : List Event) × FrontTellsHistory j self.now }
+        ensures { (j : List Event) → FrontTellsHistory j self.now
+            → IsWhyVerdict lax (sizes_of self.now.sizes) j event result }
     {
         if event.processor >= self.sizes.processors {
             return Some(Why::NoSuchProcessor);
@@ -267,10 +267,10 @@ impl Frontier {
     /// Takes note of the event, which may come next.
     pub fn note(&mut self, event: Event)
         requires few { self.old.place < most_held }
-        requires may_follow { (j : List Event) × IsFrontOf j self.old
-            × MayFollowLax (sizes_of self.old.sizes) j event }
-        ensures tells { (j : List Event) → IsFrontOf j self.old
-            → MayFollowLax (sizes_of self.old.sizes) j event → IsFrontOf (j ++ event ∷ []) self.new }
+        requires may_follow { (j : List Event) × FrontTellsHistory j self.old
+            × LaxMayFollow (sizes_of self.old.sizes) j event }
+        ensures tells { (j : List Event) → FrontTellsHistory j self.old
+            → LaxMayFollow (sizes_of self.old.sizes) j event → FrontTellsHistory (j ++ event ∷ []) self.new }
         ensures sizes { self.new.sizes ≡ self.old.sizes }
     {
         let place = self.place;

@@ -6,8 +6,8 @@ ghost use Rattle.journal.specs.declared.event.Event.{Event};
 ghost use Rattle.journal.specs.PageImages.{GapCounts};
 ghost use Rattle.journal.specs.declared.event.Kind.TheVariants.{Fetch, Store};
 ghost use Rattle.journal.specs.Prelude.{HasImageCount, IsTimeOf, did};
-ghost use Rattle.judge.specs.Prelude.{AreFew, AreGapsOf, AreLong, AreSmall, CountsAmong, IsWithin, TellsGaps, sizes_of};
-ghost use Rattle.judge.specs.Prelude.{FetchedUpTo, StoresInPage, row_index};
+ghost use Rattle.judge.specs.Prelude.{AreGapCountsFew, AreGapsOf, AreGapsLong, AreSizesSmall, GapCountsAmong, IsMiscountWithin, TellsGaps, sizes_of};
+ghost use Rattle.judge.specs.Prelude.{GapFetchedUpTo, GapStoresInPage, gap_tally_row_index};
 
 use crate::sizes::Sizes;
 use crate::tally::Tally;
@@ -54,9 +54,9 @@ impl CountedGap {
     /// With those of one more processor, after that many.
     fn and(self, other: CountedGap, parts: usize) -> CountedGap
         requires parts { parts < 16 }
-        requires few { AreFew parts self }
-        requires other_few { AreFew 1 other }
-        ensures few { AreFew (parts + 1) result }
+        requires few { AreGapCountsFew parts self }
+        requires other_few { AreGapCountsFew 1 other }
+        ensures few { AreGapCountsFew (parts + 1) result }
         ensures sum { result ≡ record {
           writers = self.writers + other.writers;
           records = self.records + other.records;
@@ -75,7 +75,7 @@ impl CountedGap {
 fn row_at(number: usize, processor: usize) -> usize
     requires processor { processor < 16 }
     requires number { number ≤ 2 ^ 12 }
-    ensures { result ≡ row_index number processor }
+    ensures { result ≡ gap_tally_row_index number processor }
 {
     number * 16 + processor
 }
@@ -90,7 +90,7 @@ fn writers_of(records: usize) -> usize
 impl Gaps {
     /// Before the first event. The only error is running out of memory.
     pub fn new(alloc: Global, sizes: Sizes) -> Result<Gaps, AllocError>
-        requires { AreSmall (sizes_of sizes) }
+        requires { AreSizesSmall (sizes_of sizes) }
         ensures tells { IfOk result (TellsGaps []) }
         ensures sizes { IfOk result (λ g. g.sizes ≡ sizes) }
     {
@@ -128,7 +128,7 @@ impl Gaps {
         requires processor { processor < 16 }
         requires page { page < self.now.sizes.pages }
         ensures { (j : List Event) → TellsGaps j self.now
-            → FetchedUpTo (sizes_of self.now.sizes) j processor page (slice_index result.now) }
+            → GapFetchedUpTo (sizes_of self.now.sizes) j processor page (slice_index result.now) }
     {
         &self.fetched[row_at(page, processor)]
     }
@@ -140,7 +140,7 @@ impl Gaps {
         requires page { page < self.now.sizes.pages }
         requires by { by < 16 }
         ensures { (j : List Event) → TellsGaps j self.now
-            → HasImageCount (λ k. StoresInPage (sizes_of self.now.sizes) j page by k × (from ≤ k) × (k < to)) result }
+            → HasImageCount (λ k. GapStoresInPage (sizes_of self.now.sizes) j page by k × (from ≤ k) × (k < to)) result }
     {
         self.intervals.count(row_at(page, by), from, to)
     }
@@ -151,9 +151,9 @@ impl Gaps {
         requires processor { processor < 16 }
         requires page { page < self.now.sizes.pages }
         requires by { by < 16 }
-        ensures few { AreFew 1 result }
+        ensures few { AreGapCountsFew 1 result }
         ensures counts { (j : List Event) → TellsGaps j self.now
-            → CountsAmong (sizes_of self.now.sizes) j processor page (λ q. q ≡ by)
+            → GapCountsAmong (sizes_of self.now.sizes) j processor page (λ q. q ≡ by)
             result.writers result.records result.words }
     {
         if by == processor {
@@ -193,7 +193,7 @@ impl Gaps {
         requires address { address < self.old.sizes.pages * self.old.sizes.words }
         ensures sizes { self.new.sizes ≡ self.old.sizes }
         ensures clocks { self.new.clocks ≡ self.old.clocks }
-        ensures long { AreLong self.new }
+        ensures long { AreGapsLong self.new }
         ensures kept { OnOk result ((j : List Event) → TellsGaps j self.old → (v : ℕ)
             → AreGapsOf (did j processor (Store address v)) self.new) }
     {
@@ -210,7 +210,7 @@ impl Gaps {
         requires page { page < self.old.sizes.pages }
         ensures sizes { self.new.sizes ≡ self.old.sizes }
         ensures clocks { self.new.clocks ≡ self.old.clocks }
-        ensures long { AreLong self.new }
+        ensures long { AreGapsLong self.new }
         ensures kept { (j : List Event) → TellsGaps j self.old → (writers records words : ℕ)
             → AreGapsOf (did j processor (Fetch writers page records words)) self.new }
     {
@@ -220,10 +220,10 @@ impl Gaps {
     /// Keeps what the event changes, which comes next, but for the timestamps so far.
     fn keep(&mut self, event: Event) -> Result<(), AllocError>
         requires tells { (j : List Event) × TellsGaps j self.old × (length j < 2 ^ 22) }
-        requires within { IsWithin (sizes_of self.old.sizes) event }
+        requires within { IsMiscountWithin (sizes_of self.old.sizes) event }
         ensures sizes { self.new.sizes ≡ self.old.sizes }
         ensures clocks { self.new.clocks ≡ self.old.clocks }
-        ensures long { AreLong self.new }
+        ensures long { AreGapsLong self.new }
         ensures kept { OnOk result ((j : List Event) → TellsGaps j self.old → AreGapsOf (j ++ event ∷ []) self.new) }
     {
         match event.kind {
@@ -242,7 +242,7 @@ impl Gaps {
         requires place { place < length events.now }
         requires few { length events.now ≤ most_held }
         requires within { (k : ℕ) (e : Event) → slice_get events.now k ≡ Some e
-            → IsWithin (sizes_of self.old.sizes) e }
+            → IsMiscountWithin (sizes_of self.old.sizes) e }
         requires so_far { TellsGaps (take place events.now) self.old }
         ensures sizes { self.new.sizes ≡ self.old.sizes }
         ensures tells { OnOk result (TellsGaps (take (place + 1) events.now) self.new) }

@@ -1,7 +1,7 @@
 //! The first event of a history that no cluster could make.
 ghost use Rattle.std.specs.Prelude.{◌≤◌, MatchOption, length};
 ghost use Rattle.base.specs.Prelude.{most_held};
-ghost use Rattle.judge.specs.Prelude.{AreSmall, IsFirstIllFormed, WellFormedIn, sizes_of};
+ghost use Rattle.judge.specs.Prelude.{AreSizesSmall, IsFirstIllFormed, WellFormedOrLax, sizes_of};
 
 use crate::front::Frontier;
 use crate::sizes::Sizes;
@@ -23,9 +23,9 @@ pub struct IllFormed {
 /// Nothing is asked of the events' own numbers, which may be out of range. It takes no memory, and time in the order
 /// of the events times the processors.
 pub fn first_ill_formed(sizes: Sizes, events: &[Event], lax: bool) -> Option<IllFormed>
-    requires sizes { AreSmall (sizes_of sizes) }
+    requires sizes { AreSizesSmall (sizes_of sizes) }
     requires few { length events.now ≤ most_held }
-    ensures { MatchOption result (WellFormedIn lax (sizes_of sizes) events.now)
+    ensures { MatchOption result (WellFormedOrLax lax (sizes_of sizes) events.now)
         (IsFirstIllFormed lax (sizes_of sizes) events.now) }
 {
     let mut front = Frontier::new(sizes);

@@ -1,5 +1,5 @@
 //! Laws of what may come next, as contracts of functions that do nothing: the check proves each by its name.
-ghost use Rattle.judge.specs.Prelude.{LaxLaw, OwedStaysLaw, RangeLaw, WhyLaw};
+ghost use Rattle.judge.specs.Prelude.{LaxLaw, OwedByModelStaysLaw, RangeLaw, WhyLaw};
 
 /// A well formed history is well formed whatever the order in which a lock's asks are granted.
 pub fn lax_law()
@@ -20,5 +20,5 @@ pub fn range_law()
 /// What a load may answer under a model stays as the history goes on: so the first lie of a history is known as soon as it
 /// was read.
 pub fn owed_stays_law()
-    ensures { OwedStaysLaw }
+    ensures { OwedByModelStaysLaw }
 {}

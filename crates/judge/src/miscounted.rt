@@ -3,8 +3,8 @@ ghost use Rattle.std.specs.Prelude.{◌≡◌, ◌↔◌, ◌<◌, ◌≤◌, �
 ghost use Rattle.base.specs.Prelude.{most_held};
 ghost use Rattle.journal.specs.declared.event.Event.{Event};
 ghost use Rattle.journal.specs.Counted.{AreCounted};
-ghost use Rattle.judge.specs.Prelude.{AreSmall, CountsGap, IsFirstMiscounted, IsWithin, Miscounts};
-ghost use Rattle.judge.specs.Prelude.{TellsGaps, WellFormedIn, sizes_of};
+ghost use Rattle.judge.specs.Prelude.{AreSizesSmall, MiscountsNoGap, IsFirstMiscounted, IsMiscountWithin, Miscounts};
+ghost use Rattle.judge.specs.Prelude.{TellsGaps, WellFormedOrLax, sizes_of};
 
 use crate::gaps::{CountedGap, Gaps};
 use crate::sizes::Sizes;
@@ -36,10 +36,10 @@ fn is_count(due: CountedGap, writers: u32, records: u32, words: u32) -> bool
 /// What is due at this place instead, where the event there is a fetch that counts something else.
 pub fn miscount(gaps: &Gaps, event: Event, place: usize) -> Option<Miscounted>
     requires tells { (j : List Event) × TellsGaps j gaps.now × (length j < 2 ^ 22) }
-    requires within { IsWithin (sizes_of gaps.now.sizes) event }
+    requires within { IsMiscountWithin (sizes_of gaps.now.sizes) event }
     ensures place { IfSome result (λ m. m.place ≡ place) }
     ensures verdict { (j : List Event) → TellsGaps j gaps.now
-        → MatchOption result (CountsGap (sizes_of gaps.now.sizes) j event)
+        → MatchOption result (MiscountsNoGap (sizes_of gaps.now.sizes) j event)
         (Miscounts (sizes_of gaps.now.sizes) j event) }
 {
     match event.kind {
@@ -75,9 +75,9 @@ pub fn first_miscounted(
     sizes: Sizes,
     events: &[Event],
 ) -> Result<Option<Miscounted>, AllocError>
-    requires sizes { AreSmall (sizes_of sizes) }
+    requires sizes { AreSizesSmall (sizes_of sizes) }
     requires few { length events.now ≤ most_held }
-    requires well { WellFormedIn true (sizes_of sizes) events.now }
+    requires well { WellFormedOrLax true (sizes_of sizes) events.now }
     ensures { IfOk result (λ o. MatchOption o (AreCounted (sizes_of sizes) events.now)
         (IsFirstMiscounted (sizes_of sizes) events.now)) }
 {

@@ -6,7 +6,7 @@ ghost use Rattle.journal.specs.declared.event.Kind.TheVariants.{Load};
 ghost use Rattle.journal.specs.Sizes.{Sizes as TheSizes, addresses};
 ghost use Rattle.journal.specs.Prelude.{did, event as an_event};
 ghost use Rattle.judge.specs.declared.models.MemoryModel.{MemoryModel as AModel};
-ghost use Rattle.judge.specs.Prelude.{AreOwedBy, ArePermitted, AreSmall, IsOwed, IsRacyWith, IsWithin, sizes_of};
+ghost use Rattle.judge.specs.Prelude.{AreOwedBy, ArePermitted, AreSizesSmall, IsOwed, IsOwedRacyWith, IsMiscountWithin, sizes_of};
 
 use crate::flat_memory::FlatMemory;
 use crate::models::MemoryModel;
@@ -32,7 +32,7 @@ pub enum Owed {
 impl Owed {
     /// Before the first event of a history of these sizes. The only error is running out of memory.
     pub fn new(alloc: Global, model: MemoryModel, sizes: Sizes) -> Result<Owed, AllocError>
-        requires { AreSmall (sizes_of sizes) }
+        requires { AreSizesSmall (sizes_of sizes) }
         ensures { IfOk result (AreOwedBy model (sizes_of sizes) []) }
     {
         let addresses = sizes.pages * sizes.words;
@@ -70,7 +70,7 @@ impl Owed {
             × (processor < s.processors) × (address < addresses s) }
         ensures { (m : AModel) (s : TheSizes) → AreOwedBy m s events.now self.now
             → processor < s.processors → address < addresses s
-            → IsRacyWith events.now (an_event processor (Load address value)) is_racy
+            → IsOwedRacyWith events.now (an_event processor (Load address value)) is_racy
             → IsTrue result ↔ IsOwed m s (did events.now processor (Load address value)) (length events.now) address value }
     {
         match self {
@@ -89,9 +89,9 @@ impl Owed {
     /// Whether the event, which comes next after these, answers what it owes, if it is a load. `is_racy` says whether there
     /// is a race with it.
     pub fn is_paid(&self, events: &[Event], event: Event, is_racy: bool) -> bool
-        requires { (m : AModel) × (s : TheSizes) × AreOwedBy m s events.now self.now × IsWithin s event }
-        ensures { (m : AModel) (s : TheSizes) → AreOwedBy m s events.now self.now → IsWithin s event
-            → IsRacyWith events.now event is_racy
+        requires { (m : AModel) × (s : TheSizes) × AreOwedBy m s events.now self.now × IsMiscountWithin s event }
+        ensures { (m : AModel) (s : TheSizes) → AreOwedBy m s events.now self.now → IsMiscountWithin s event
+            → IsOwedRacyWith events.now event is_racy
             → IsTrue result ↔ ((a v : ℕ) → event.kind ≡ Load a v
             → IsOwed m s (events.now ++ event ∷ []) (length events.now) a v) }
     {
@@ -140,9 +140,9 @@ impl Owed {
         requires place { place < length events.now }
         requires few { length events.now ≤ most_held + most_processors }
         requires so_far { (m : AModel) × (s : TheSizes) × AreOwedBy m s (take place events.now) self.old
-            × ((k : ℕ) (e : Event) → slice_get events.now k ≡ Some e → IsWithin s e) }
+            × ((k : ℕ) (e : Event) → slice_get events.now k ≡ Some e → IsMiscountWithin s e) }
         ensures { OnOk result ((m : AModel) (s : TheSizes) → AreOwedBy m s (take place events.now) self.old
-            → ((k : ℕ) (e : Event) → slice_get events.now k ≡ Some e → IsWithin s e)
+            → ((k : ℕ) (e : Event) → slice_get events.now k ≡ Some e → IsMiscountWithin s e)
             → AreOwedBy m s (take (place + 1) events.now) self.new) }
     {
         match self {

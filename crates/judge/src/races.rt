@@ -5,7 +5,7 @@ ghost use Rattle.base.specs.Prelude.{most_held, most_processors};
 ghost use Rattle.journal.specs.declared.event.Event.{Event};
 ghost use Rattle.journal.specs.Prelude.{AddressInRange, AddressesInRange, ProcessorsInRange};
 ghost use Rattle.judge.specs.declared.races.Access.{Access};
-ghost use Rattle.judge.specs.Prelude.{AccessesAreKept, AreRacesOf, IsLastUncounted, IsNearestTo, IsUncounted};
+ghost use Rattle.judge.specs.Prelude.{RaceAccessesAreKept, AreRacesOf, IsLastUncountedByRaces, IsNearestTo, IsUncountedByRaces};
 
 use journal::{Clock, Clocks, Event, Kind};
 use std::alloc::{AllocError, Global};
@@ -44,7 +44,7 @@ fn uncounted(
 ) -> Option<usize>
     requires within { row + by < length rows.now }
     requires by { by < 16 }
-    ensures { (i : ℕ) → (result ≡ Some i) ↔ IsUncounted rows.now row (slice_index time.now) processor by i }
+    ensures { (i : ℕ) → (result ≡ Some i) ↔ IsUncountedByRaces rows.now row (slice_index time.now) processor by i }
 {
     let access = rows[row + by]?;
     if by == processor || access.interval < time[by] {
@@ -77,7 +77,7 @@ fn last_uncounted(
 ) -> Option<usize>
     requires within { row + count ≤ length rows.now }
     requires count { count ≤ 16 }
-    ensures { IsLastUncounted rows.now row (slice_index time.now) processor count result }
+    ensures { IsLastUncountedByRaces rows.now row (slice_index time.now) processor count result }
 {
     let mut nearest = None;
     for by in 0..count {
@@ -152,7 +152,7 @@ impl Races {
         ensures processors { self.new.processors ≡ self.old.processors }
         ensures addresses { self.new.addresses ≡ self.old.addresses }
         ensures kept { (j : List Event) → AreRacesOf j self.old → length j ≡ place
-            → AccessesAreKept (j ++ event ∷ []) self.new }
+            → RaceAccessesAreKept (j ++ event ∷ []) self.new }
     {
         let processor = event.processor;
         let access = Some(Access {

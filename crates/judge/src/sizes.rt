@@ -1,7 +1,7 @@
 //! The sizes of a cluster.
 ghost use Rattle.std.specs.Prelude.{◌↔◌, IsTrue};
 ghost use Rattle.journal.specs.WellFormed.{KindInRange};
-ghost use Rattle.judge.specs.Prelude.{AreSmall, IsWithin, sizes_of};
+ghost use Rattle.judge.specs.Prelude.{AreSizesSmall, IsMiscountWithin, sizes_of};
 
 use journal::{Event, Kind, MOST_PROCESSORS};
 
@@ -24,7 +24,7 @@ pub struct Sizes {
 impl Sizes {
     /// Whether a history of these sizes can be judged: whether they are as small as that.
     pub fn are_small(&self) -> bool
-        ensures { IsTrue result ↔ AreSmall (sizes_of self.now) }
+        ensures { IsTrue result ↔ AreSizesSmall (sizes_of self.now) }
     {
         self.processors <= MOST_PROCESSORS
             && self.pages <= 64
@@ -35,7 +35,7 @@ impl Sizes {
 
     /// Whether the numbers that the event names are within the sizes.
     pub(crate) fn have(&self, kind: Kind) -> bool
-        requires { AreSmall (sizes_of self.now) }
+        requires { AreSizesSmall (sizes_of self.now) }
         ensures { IsTrue result ↔ KindInRange (sizes_of self.now) kind }
     {
         match kind {
@@ -48,8 +48,8 @@ impl Sizes {
     }
     /// Whether the event's processor and the numbers that it names are within the sizes.
     pub fn have_event(&self, event: Event) -> bool
-        requires { AreSmall (sizes_of self.now) }
-        ensures { IsTrue result ↔ IsWithin (sizes_of self.now) event }
+        requires { AreSizesSmall (sizes_of self.now) }
+        ensures { IsTrue result ↔ IsMiscountWithin (sizes_of self.now) event }
     {
         event.processor < self.processors && self.have(event.kind)
     }

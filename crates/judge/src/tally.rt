@@ -1,7 +1,7 @@
 //! Tallies of what was stored, by intervals.
 ghost use Rattle.std.specs.Prelude.{◌≡◌, ℕ, ◌<◌, ◌≤◌, ◌^◌, [], count_by, IfOk, OnOk, nat_lt, vec_len};
 ghost use Rattle.base.specs.InOrderOnce.{InOrder};
-ghost use Rattle.judge.specs.Prelude.{Adds, is_between, tally_mark, numbers};
+ghost use Rattle.judge.specs.Prelude.{AddsToGapTally, is_gap_tally_between, tally_mark, gap_tally_numbers};
 
 use std::alloc::{AllocError, Global};
 
@@ -17,7 +17,7 @@ pub(crate) struct Tally {
 /// So many rows without a number. The only error is running out of memory.
 fn no_numbers(alloc: Global, count: usize) -> Result<Vec<Vec<u32>>, AllocError>
     ensures long { IfOk result (λ v. vec_len v ≡ count) }
-    ensures empty { IfOk result (λ v. (r : ℕ) → numbers v.items r ≡ []) }
+    ensures empty { IfOk result (λ v. (r : ℕ) → gap_tally_numbers v.items r ≡ []) }
 {
     let mut rows = Vec::with_capacity(alloc, count)?;
     for _ in 0..count {
@@ -55,7 +55,7 @@ impl Tally {
     pub(crate) fn new(alloc: Global, rows: usize, marks: usize) -> Result<Tally, AllocError>
         ensures rows { IfOk result (λ t. vec_len t.rows ≡ rows) }
         ensures marks { IfOk result (λ t. vec_len t.marks ≡ marks) }
-        ensures empty { IfOk result (λ t. (r : ℕ) → numbers t.rows.items r ≡ []) }
+        ensures empty { IfOk result (λ t. (r : ℕ) → gap_tally_numbers t.rows.items r ≡ []) }
         ensures unmarked { IfOk result (λ t. (m : ℕ) → tally_mark t m ≡ 0) }
     {
         Ok(Tally {
@@ -71,7 +71,7 @@ impl Tally {
         requires room { number < 2 ^ 22 }
         ensures rows { vec_len self.new.rows ≡ vec_len self.old.rows }
         ensures marks { vec_len self.new.marks ≡ vec_len self.old.marks }
-        ensures adds { OnOk result (Adds self.old self.new row mark number) }
+        ensures adds { OnOk result (AddsToGapTally self.old self.new row mark number) }
     {
         if self.marks[mark] <= number {
             self.rows[row].push(number)?;
@@ -83,8 +83,8 @@ impl Tally {
     /// How many of the row's numbers, which do not fall, are from `from` on and below `to`. They are found by halving.
     pub(crate) fn count(&self, row: usize, from: u32, to: u32) -> usize
         requires row { row < vec_len self.now.rows }
-        requires rising { InOrder (λ k m. k ≤ m) (numbers self.now.rows.items row) }
-        ensures { result ≡ count_by (is_between from to) (numbers self.now.rows.items row) }
+        requires rising { InOrder (λ k m. k ≤ m) (gap_tally_numbers self.now.rows.items row) }
+        ensures { result ≡ count_by (is_gap_tally_between from to) (gap_tally_numbers self.now.rows.items row) }
     {
         let row = &self.rows[row];
         below(row, to) - below(row, from.min(to))

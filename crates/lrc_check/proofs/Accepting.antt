@@ -16,49 +16,49 @@ use Rattle.journal.proofs.Order.CountedAndNumbered.{numbered_at_last, numbered_a
 use Rattle.judge.specs.declared.miscounted.Miscounted.{Miscounted}
 use Rattle.judge.specs.declared.models.MemoryModel.{MemoryModel}
 use Rattle.judge.specs.declared.models.MemoryModel.TheVariants.{LazyRelease}
-use Rattle.judge.specs.Lax.{MayFollowIn, WellFormedIn}
-use Rattle.judge.specs.Miscounted.{CountsGap, IsFirstMiscounted, Miscounts}
-use Rattle.judge.specs.Models.{ExplainedUnder, IsOwed}
+use Rattle.judge.specs.Lax.{MayFollowOrLax, WellFormedOrLax}
+use Rattle.judge.specs.Miscounted.{MiscountsNoGap, IsFirstMiscounted, Miscounts}
+use Rattle.judge.specs.Models.{ExplainedUnderModel, IsOwed}
 use Rattle.judge.proofs.OwedStays.{owed_stays_law}
-use Rattle.lrc_check.specs.Faithful.{IsAccepted, IsFirstUnfaithful}
+use Rattle.lrc_check.specs.Faithful.{IsFaithfulAndCounted, IsFirstNotFaithful}
 
 -- ---- each event may follow what stands before it, lax or not
 
-pub each_accepted : (lax : Bool) (s : Sizes) (j : List Event) → WellFormedIn lax s j
-    → (k : ℕ) (e : Event) → At j k e → MayFollowIn lax s (take k j) e
+pub each_accepted : (lax : Bool) (s : Sizes) (j : List Event) → WellFormedOrLax lax s j
+    → (k : ℕ) (e : Event) → At j k e → MayFollowOrLax lax s (take k j) e
 each_accepted true s j well = well
 each_accepted false s j well = well
 
-well_of_each : (lax : Bool) (s : Sizes) (j : List Event)
-    → ((k : ℕ) (e : Event) → At j k e → MayFollowIn lax s (take k j) e) → WellFormedIn lax s j
-well_of_each true s j each = each
-well_of_each false s j each = each
+accepting_well_of_each : (lax : Bool) (s : Sizes) (j : List Event)
+    → ((k : ℕ) (e : Event) → At j k e → MayFollowOrLax lax s (take k j) e) → WellFormedOrLax lax s j
+accepting_well_of_each true s j each = each
+accepting_well_of_each false s j each = each
 
-well_next : (lax : Bool) (s : Sizes) (j : List Event) (e : Event) → WellFormedIn lax s j → MayFollowIn lax s j e
-    → WellFormedIn lax s (j ++ e ∷ [])
-well_next lax s j e well may = well_of_each lax s (j ++ e ∷ []) each
+accepting_well_next : (lax : Bool) (s : Sizes) (j : List Event) (e : Event) → WellFormedOrLax lax s j → MayFollowOrLax lax s j e
+    → WellFormedOrLax lax s (j ++ e ∷ [])
+accepting_well_next lax s j e well may = accepting_well_of_each lax s (j ++ e ∷ []) each
   where
-    each : (k : ℕ) (f : Event) → At (j ++ e ∷ []) k f → MayFollowIn lax s (take k (j ++ e ∷ [])) f
+    each : (k : ℕ) (f : Event) → At (j ++ e ∷ []) k f → MayFollowOrLax lax s (take k (j ++ e ∷ [])) f
     each k f at = elim (slice_push_cases j e k f at) [
       | inl old ↦
           (let le : k ≤ length j = omega (arith, old.0) in
-          subst (λ xs. MayFollowIn lax s xs f) (sym (take-append-le k j (e ∷ []) le))
+          subst (λ xs. MayFollowOrLax lax s xs f) (sym (take-append-le k j (e ∷ []) le))
           (each_accepted lax s j well k f old.1))
       | inr new ↦
           (let front : take k (j ++ e ∷ []) ≡ j = ap (λ n. take n (j ++ e ∷ [])) new.0 ∙ take-append_seam j (e ∷ []) in
-          subst (λ xs. MayFollowIn lax s xs f) (sym front) (subst (MayFollowIn lax s j) new.1 may))
+          subst (λ xs. MayFollowOrLax lax s xs f) (sym front) (subst (MayFollowOrLax lax s j) new.1 may))
     ]
 
-explained_next : (m : MemoryModel) (s : Sizes) (j : List Event) (e : Event) → ExplainedUnder m s j
+accepting_explained_next : (m : MemoryModel) (s : Sizes) (j : List Event) (e : Event) → ExplainedUnderModel m s j
     → ((a v : ℕ) → e.kind ≡ Load a v → IsOwed m s (j ++ e ∷ []) (length j) a v)
-    → ExplainedUnder m s (j ++ e ∷ [])
-explained_next m s j e all now k p a v does = elim (slice_push_cases j e k (event p (Load a v)) does) [
+    → ExplainedUnderModel m s (j ++ e ∷ [])
+accepting_explained_next m s j e all now k p a v does = elim (slice_push_cases j e k (event p (Load a v)) does) [
   | inl old ↦ (owed_stays_law m s j (e ∷ []) k a v old.0).1 (all k p a v old.1)
   | inr new ↦ subst (λ n. IsOwed m s (j ++ e ∷ []) n a v) (sym new.0) (now a v (ap (λ (x : Event). x.kind) new.1))
 ]
 
-counted_next : (s : Sizes) (j : List Event) (e : Event) → AreCounted s j → CountsGap s j e → AreCounted s (j ++ e ∷ [])
-counted_next s j e all now k p n w r d does = elim (slice_push_cases j e k (event p (Fetch w n r d)) does) [
+accepting_counted_next : (s : Sizes) (j : List Event) (e : Event) → AreCounted s j → MiscountsNoGap s j e → AreCounted s (j ++ e ∷ [])
+accepting_counted_next s j e all now k p n w r d does = elim (slice_push_cases j e k (event p (Fetch w n r d)) does) [
   | inl old ↦
       (let le : k ≤ length j = omega (arith, old.0) in
       subst (λ xs. GapCounts s xs p n w r d) (sym (take-append-le k j (e ∷ []) le)) (all k p n w r d old.1))
@@ -70,19 +70,19 @@ counted_next s j e all now k p n w r d does = elim (slice_push_cases j e k (even
 ]
 
 -- the history with the event is faithful
-pub accepted_next : (m : MemoryModel) (lax : Bool) (s : Sizes) (j : List Event) (e : Event) → IsAccepted m lax s j
-    → MayFollowIn lax s j e → ((a v : ℕ) → e.kind ≡ Load a v → IsOwed m s (j ++ e ∷ []) (length j) a v)
-    → (m ≡ LazyRelease → lax ≡ false → CountsGap s j e) → IsAccepted m lax s (j ++ e ∷ [])
+pub accepted_next : (m : MemoryModel) (lax : Bool) (s : Sizes) (j : List Event) (e : Event) → IsFaithfulAndCounted m lax s j
+    → MayFollowOrLax lax s j e → ((a v : ℕ) → e.kind ≡ Load a v → IsOwed m s (j ++ e ∷ []) (length j) a v)
+    → (m ≡ LazyRelease → lax ≡ false → MiscountsNoGap s j e) → IsFaithfulAndCounted m lax s (j ++ e ∷ [])
 accepted_next m lax s j e accepted may owed counts = record {
-  well_formed = well_next lax s j e accepted.well_formed may;
-  explained = explained_next m s j e accepted.explained owed;
-  counted = λ lazy strict. counted_next s j e (accepted.counted lazy strict) (counts lazy strict);
+  well_formed = accepting_well_next lax s j e accepted.well_formed may;
+  explained = accepting_explained_next m s j e accepted.explained owed;
+  counted = λ lazy strict. accepting_counted_next s j e (accepted.counted lazy strict) (counts lazy strict);
 }
 
 -- the empty one is
-pub accepted_empty : (m : MemoryModel) (lax : Bool) (s : Sizes) → IsAccepted m lax s []
+pub accepted_empty : (m : MemoryModel) (lax : Bool) (s : Sizes) → IsFaithfulAndCounted m lax s []
 accepted_empty m lax s = record {
-  well_formed = well_of_each lax s [] (λ k e at. absurd cc);
+  well_formed = accepting_well_of_each lax s [] (λ k e at. absurd cc);
   explained = λ k p a v does. absurd cc;
   counted = λ lazy strict k p n w r d does. absurd cc;
 }
@@ -90,69 +90,69 @@ accepted_empty m lax s = record {
 -- ---- the event is a lie, however the history goes on
 
 -- what stands before it, and the event at its place
-front_of_more : (j es : List Event) (e : Event) → take (length j) ((j ++ e ∷ []) ++ es) ≡ j
-front_of_more j es e =
+accepting_front_of_more : (j es : List Event) (e : Event) → take (length j) ((j ++ e ∷ []) ++ es) ≡ j
+accepting_front_of_more j es e =
     let long = length-append j (e ∷ []) in
     let le : length j ≤ length (j ++ e ∷ []) = omega arith in
     take-append-le (length j) (j ++ e ∷ []) es le ∙ take-append_seam j (e ∷ [])
 
-at_more : (j es : List Event) (e : Event) → At ((j ++ e ∷ []) ++ es) (length j) e
-at_more j es e = numbered_at_longer (j ++ e ∷ []) es (length j) e (numbered_at_last j e)
+accepting_at_more : (j es : List Event) (e : Event) → At ((j ++ e ∷ []) ++ es) (length j) e
+accepting_at_more j es e = numbered_at_longer (j ++ e ∷ []) es (length j) e (numbered_at_last j e)
 
 -- an event that is never faithful behind a faithful history is the first that isn't
-first_lie : (m : MemoryModel) (lax : Bool) (s : Sizes) (j : List Event) (e : Event) → IsAccepted m lax s j
-    → ((es : List Event) → ¬ IsAccepted m lax s ((j ++ e ∷ []) ++ es))
-    → IsFirstUnfaithful m lax s (j ++ e ∷ []) (length j)
-first_lie m lax s j e accepted never =
+accepting_first_lie : (m : MemoryModel) (lax : Bool) (s : Sizes) (j : List Event) (e : Event) → IsFaithfulAndCounted m lax s j
+    → ((es : List Event) → ¬ IsFaithfulAndCounted m lax s ((j ++ e ∷ []) ++ es))
+    → IsFirstNotFaithful m lax s (j ++ e ∷ []) (length j)
+accepting_first_lie m lax s j e accepted never =
     let long = length-append j (e ∷ []) in
     let le : length (j ++ e ∷ []) ≤ suc (length j) = omega arith in
     let whole : take (suc (length j)) (j ++ e ∷ []) ≡ j ++ e ∷ [] = take_all (suc (length j)) (j ++ e ∷ []) le in
     record {
       within = omega arith;
-      before = subst (IsAccepted m lax s) (sym (take-append_seam j (e ∷ []))) accepted;
-      never = λ es faithful. never es (subst (λ xs. IsAccepted m lax s (xs ++ es)) whole faithful);
+      before = subst (IsFaithfulAndCounted m lax s) (sym (take-append_seam j (e ∷ []))) accepted;
+      never = λ es faithful. never es (subst (λ xs. IsFaithfulAndCounted m lax s (xs ++ es)) whole faithful);
     }
 
 -- it may not follow
-pub first_ill_formed_lie : (m : MemoryModel) (lax : Bool) (s : Sizes) (j : List Event) (e : Event)
-    → IsAccepted m lax s j → ¬ MayFollowIn lax s j e → IsFirstUnfaithful m lax s (j ++ e ∷ []) (length j)
-first_ill_formed_lie m lax s j e accepted refused =
-    first_lie m lax s j e accepted
-    (λ es faithful. refused (subst (λ xs. MayFollowIn lax s xs e) (front_of_more j es e)
-    (each_accepted lax s ((j ++ e ∷ []) ++ es) faithful.well_formed (length j) e (at_more j es e))))
+pub accepting_ill_formed_lie : (m : MemoryModel) (lax : Bool) (s : Sizes) (j : List Event) (e : Event)
+    → IsFaithfulAndCounted m lax s j → ¬ MayFollowOrLax lax s j e → IsFirstNotFaithful m lax s (j ++ e ∷ []) (length j)
+accepting_ill_formed_lie m lax s j e accepted refused =
+    accepting_first_lie m lax s j e accepted
+    (λ es faithful. refused (subst (λ xs. MayFollowOrLax lax s xs e) (accepting_front_of_more j es e)
+    (each_accepted lax s ((j ++ e ∷ []) ++ es) faithful.well_formed (length j) e (accepting_at_more j es e))))
 
 -- it is a load of what it may not answer
-pub first_unexplained_lie : (m : MemoryModel) (lax : Bool) (s : Sizes) (j : List Event) (e : Event) (a v : ℕ)
-    → IsAccepted m lax s j → e.kind ≡ Load a v → ¬ IsOwed m s (j ++ e ∷ []) (length j) a v
-    → IsFirstUnfaithful m lax s (j ++ e ∷ []) (length j)
-first_unexplained_lie m lax s j e a v accepted is wrong =
+pub accepting_unexplained_lie : (m : MemoryModel) (lax : Bool) (s : Sizes) (j : List Event) (e : Event) (a v : ℕ)
+    → IsFaithfulAndCounted m lax s j → e.kind ≡ Load a v → ¬ IsOwed m s (j ++ e ∷ []) (length j) a v
+    → IsFirstNotFaithful m lax s (j ++ e ∷ []) (length j)
+accepting_unexplained_lie m lax s j e a v accepted is wrong =
     let long = length-append j (e ∷ []) in
-    first_lie m lax s j e accepted
+    accepting_first_lie m lax s j e accepted
     (λ es faithful. wrong ((owed_stays_law m s (j ++ e ∷ []) es (length j) a v (omega arith)).0
     (faithful.explained (length j) e.processor a v
-    (subst (λ k. At ((j ++ e ∷ []) ++ es) (length j) (event e.processor k)) is (at_more j es e)))))
+    (subst (λ k. At ((j ++ e ∷ []) ++ es) (length j) (event e.processor k)) is (accepting_at_more j es e)))))
 
 -- it is a fetch that miscounts
-pub first_miscounted_lie : (m : MemoryModel) (lax : Bool) (s : Sizes) (j : List Event) (e : Event) (x : Miscounted)
-    → IsAccepted m lax s j → m ≡ LazyRelease → lax ≡ false → Miscounts s j e x
-    → IsFirstUnfaithful m lax s (j ++ e ∷ []) (length j)
-first_miscounted_lie m lax s j e x accepted lazy strict w =
-    first_lie m lax s j e accepted
+pub accepting_miscounted_lie : (m : MemoryModel) (lax : Bool) (s : Sizes) (j : List Event) (e : Event) (x : Miscounted)
+    → IsFaithfulAndCounted m lax s j → m ≡ LazyRelease → lax ≡ false → Miscounts s j e x
+    → IsFirstNotFaithful m lax s (j ++ e ∷ []) (length j)
+accepting_miscounted_lie m lax s j e x accepted lazy strict w =
+    accepting_first_lie m lax s j e accepted
     (λ es faithful. w.wrong (subst (λ xs. GapCounts s xs e.processor w.page w.writers w.records w.words)
-    (front_of_more j es e) (faithful.counted lazy strict (length j) e.processor w.page w.writers w.records w.words
-    (subst (λ k. At ((j ++ e ∷ []) ++ es) (length j) (event e.processor k)) w.fetch (at_more j es e)))))
+    (accepting_front_of_more j es e) (faithful.counted lazy strict (length j) e.processor w.page w.writers w.records w.words
+    (subst (λ k. At ((j ++ e ∷ []) ++ es) (length j) (event e.processor k)) w.fetch (accepting_at_more j es e)))))
 
 -- and the first such
-pub first_miscounted_here : (s : Sizes) (j : List Event) (e : Event) (x : Miscounted) → AreCounted s j
+pub accepting_miscounted_here : (s : Sizes) (j : List Event) (e : Event) (x : Miscounted) → AreCounted s j
     → x.place ≡ length j → Miscounts s j e x → IsFirstMiscounted s (j ++ e ∷ []) x
-first_miscounted_here s j e x all place w = record {
+accepting_miscounted_here s j e x all place w = record {
   event = e;
   at = subst (λ n. At (j ++ e ∷ []) n e) (sym place) (numbered_at_last j e);
   wrong = subst (λ xs. Miscounts s xs e x) (sym front) w;
   first = λ k f lt at. elim (slice_push_cases j e k f at) [
     | inl old ↦
         (let le : k ≤ length j = omega (arith, old.0) in
-        subst (λ xs. CountsGap s xs f) (sym (take-append-le k j (e ∷ []) le))
+        subst (λ xs. MiscountsNoGap s xs f) (sym (take-append-le k j (e ∷ []) le))
         (λ n ws rs ds is. all k f.processor n ws rs ds (subst (λ z. At j k (event f.processor z)) is old.1)))
     | inr new ↦ absurd (omega (arith, new.0))
   ];

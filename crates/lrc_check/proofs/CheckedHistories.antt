@@ -18,38 +18,38 @@ use Rattle.lrc_check.specs.declared.checked.Rules.{Rules}
 use Rattle.lrc_check.specs.declared.checked.TraceVerdict.{TraceVerdict}
 use Rattle.lrc_check.specs.declared.checked.TraceVerdict.TheVariants as verdict
 use Rattle.lrc_check.specs.declared.judging.TraceJudge.{TraceJudge}
-use Rattle.lrc_check.specs.Checked.{IsChecked, IsLie, IsRaceFound, IsRaceOf, IsVerdictOf, IsJudgedWhole, place_of, raced}
-use Rattle.lrc_check.specs.Faithful.{IsAccepted}
-use Rattle.lrc_check.specs.Judged.{IsFaithfulVerdict, IsJudged}
-use Rattle.lrc_check.proofs.Judged.{race_last}
+use Rattle.lrc_check.specs.Checked.{IsChecked, IsLie, IsRaceFoundByCheck, IsRaceOf, IsCheckVerdictOf, IsCheckedWhole, checked_lie_place, checked_for_race}
+use Rattle.lrc_check.specs.Faithful.{IsFaithfulAndCounted}
+use Rattle.lrc_check.specs.Judged.{IsJudgedFaithful, IsJudged}
+use Rattle.lrc_check.proofs.Judged.{judged_race_last}
 
 -- a faithful history, judged to its end
 pub checked_faithful : (r : Rules) (s : Sizes) (j : List Event) (race : Option (ℕ × ℕ)) (x : Checked)
-    → x.count ≡ length j → x.race ≡ race → IsFaithfulVerdict r.model race j x.verdict
-    → IsAccepted r.model r.lax s j → IsRaceOf j race → IsChecked r s j x
+    → x.count ≡ length j → x.race ≡ race → IsJudgedFaithful r.model race j x.verdict
+    → IsFaithfulAndCounted r.model r.lax s j → IsRaceOf j race → IsChecked r s j x
 checked_faithful r s j race x count same told accepted is = record {
   within = omega arith;
-  verdict = subst (λ xs. IsVerdictOf r.model r.lax s xs x.race x.verdict) (sym whole)
-      (subst (λ o. IsVerdictOf r.model r.lax s j o x.verdict) (sym same) (verdict_is x.verdict told));
+  verdict = subst (λ xs. IsCheckVerdictOf r.model r.lax s xs x.race x.verdict) (sym whole)
+      (subst (λ o. IsCheckVerdictOf r.model r.lax s j o x.verdict) (sym same) (verdict_is x.verdict told));
   whole = whole_is x.verdict;
 }
   where
     whole : take x.count j ≡ j
     whole = (let le : length j ≤ x.count = omega arith in take_all x.count j le)
 
-    verdict_is : (v : TraceVerdict) → IsFaithfulVerdict r.model race j v → IsVerdictOf r.model r.lax s j race v
+    verdict_is : (v : TraceVerdict) → IsJudgedFaithful r.model race j v → IsCheckVerdictOf r.model r.lax s j race v
     verdict_is (verdict.Faithful traffic unjudged) t = (accepted, is, t.0, t.1)
     verdict_is (verdict.Lie y) t = absurd t
     verdict_is verdict.Racy t = absurd t
 
-    whole_is : (v : TraceVerdict) → IsJudgedWhole j x.count v
+    whole_is : (v : TraceVerdict) → IsCheckedWhole j x.count v
     whole_is (verdict.Faithful traffic unjudged) = count
     whole_is (verdict.Lie y) = tt
     whole_is verdict.Racy = tt
 
 -- a lie
 pub checked_lie : (r : Rules) (s : Sizes) (j : List Event) (place : ℕ) (race : Option (ℕ × ℕ)) (x : Lie)
-    → place < length j → IsLie r.model r.lax s (take (place + 1) j) x → IsRaceOf (raced x (take (place + 1) j)) race
+    → place < length j → IsLie r.model r.lax s (take (place + 1) j) x → IsRaceOf (checked_for_race x (take (place + 1) j)) race
     → IsChecked r s j (record { count = place + 1; race = race; verdict = verdict.Lie x })
 checked_lie r s j place race x lt told is = record {
   within = omega arith;
@@ -60,7 +60,7 @@ checked_lie r s j place race x lt told is = record {
 -- the second event of the first race, which ends the judging
 pub checked_racy : (r : Rules) (s : Sizes) (j : List Event) (place : ℕ) (race : ℕ × ℕ) (e : Event)
     → place < length j → take (place + 1) j ≡ take place j ++ e ∷ []
-    → IsAccepted r.model r.lax s (take place j) → RaceFree (take place j)
+    → IsFaithfulAndCounted r.model r.lax s (take place j) → RaceFree (take place j)
     → IsNearestRace (take (place + 1) j) race.0 race.1
     → IsChecked r s j (record { count = place + 1; race = Some race; verdict = verdict.Racy })
 checked_racy r s j place race e lt next accepted free nearest = record {
@@ -71,7 +71,7 @@ checked_racy r s j place race e lt next accepted free nearest = record {
     found = refl;
     nearest = nearest;
     last = (let long = length-take-le (place + 1) j (omega arith) in omega (arith, second));
-    before = subst (IsAccepted r.model r.lax s) (sym front) accepted;
+    before = subst (IsFaithfulAndCounted r.model r.lax s) (sym front) accepted;
   };
   whole = tt;
 }
@@ -80,17 +80,17 @@ checked_racy r s j place race e lt next accepted free nearest = record {
     short = length-take-le place j (omega arith)
 
     second : race.1 ≡ place
-    second = race_last (take place j) e race.0 race.1 free (subst (λ xs. IsNearestRace xs race.0 race.1) next nearest) ∙ short
+    second = judged_race_last (take place j) e race.0 race.1 free (subst (λ xs. IsNearestRace xs race.0 race.1) next nearest) ∙ short
 
     front : take race.1 (take (place + 1) j) ≡ take place j
     front = ap (λ n. take n (take (place + 1) j)) second
         ∙ (let le : place ≤ place + 1 = omega arith in take-take place (place + 1) j le)
 
 -- what may not follow ends no race: so a race that is told with a lie, where there was none before, ends with the lie
-pub nearest_read : (m : MemoryModel) (lax : Bool) (s : Sizes) (j : List Event) (place : ℕ) (x : Lie) (race : ℕ × ℕ)
+pub checked_nearest_read : (m : MemoryModel) (lax : Bool) (s : Sizes) (j : List Event) (place : ℕ) (x : Lie) (race : ℕ × ℕ)
     → place < length j → RaceFree (take place j) → IsLie m lax s (take (place + 1) j) x
-    → IsRaceOf (raced x (take (place + 1) j)) (Some race) → IsNearestRace (take (place + 1) j) race.0 race.1
-nearest_read m lax s j place (lie.IllFormed x) race lt free told is = absurd (free race.0 race.1 (subst (λ xs.
+    → IsRaceOf (checked_for_race x (take (place + 1) j)) (Some race) → IsNearestRace (take (place + 1) j) race.0 race.1
+checked_nearest_read m lax s j place (lie.IllFormed x) race lt free told is = absurd (free race.0 race.1 (subst (λ xs.
     IsNearestRace xs race.0 race.1) front is).race)
   where
     at : x.place ≡ place
@@ -99,36 +99,36 @@ nearest_read m lax s j place (lie.IllFormed x) race lt free told is = absurd (fr
     front : take x.place (take (place + 1) j) ≡ take place j
     front = ap (λ n. take n (take (place + 1) j)) at
         ∙ (let le : place ≤ place + 1 = omega arith in take-take place (place + 1) j le)
-nearest_read m lax s j place (lie.Unexplained x) race lt free told is = is
-nearest_read m lax s j place (lie.Miscounted x) race lt free told is = is
+checked_nearest_read m lax s j place (lie.Unexplained x) race lt free told is = is
+checked_nearest_read m lax s j place (lie.Miscounted x) race lt free told is = is
 
 -- the race that a judge tells after an event, where it told none before
-pub race_read : (m : MemoryModel) (lax : Bool) (s : Sizes) (j : List Event) (place : ℕ) (x : TraceJudge)
+pub checked_race_read : (m : MemoryModel) (lax : Bool) (s : Sizes) (j : List Event) (place : ℕ) (x : TraceJudge)
     (o : Option Lie) (race : ℕ × ℕ) → place < length j → RaceFree (take place j)
     → MatchOption o (IsJudged (take (place + 1) j) x)
-    (λ y. IsLie m lax s (take (place + 1) j) y × IsRaceOf (raced y (take (place + 1) j)) x.race)
+    (λ y. IsLie m lax s (take (place + 1) j) y × IsRaceOf (checked_for_race y (take (place + 1) j)) x.race)
     → x.race ≡ Some race → IsNearestRace (take (place + 1) j) race.0 race.1
-race_read m lax s j place x None race lt free judged same =
+checked_race_read m lax s j place x None race lt free judged same =
     subst (IsRaceOf (take (place + 1) j)) same judged.race
-race_read m lax s j place x (Some y) race lt free told same =
-    nearest_read m lax s j place y race lt free told.0 (subst (IsRaceOf (raced y (take (place + 1) j))) same told.1)
+checked_race_read m lax s j place x (Some y) race lt free told same =
+    checked_nearest_read m lax s j place y race lt free told.0 (subst (IsRaceOf (checked_for_race y (take (place + 1) j))) same told.1)
 
 -- what is faithful by the judge is so by the rules that it was made for
-pub accepted_by : (r : Rules) (t : JudgedSizes) (j : List Event) (x : TraceJudge) → x.model ≡ r.model → x.lax ≡ r.lax
-    → x.sizes ≡ t → IsJudged j x → IsAccepted r.model r.lax (sizes_of t) j
-accepted_by r t j x model lax sizes judged =
-    subst (λ m. IsAccepted m r.lax (sizes_of t) j) model
-    (subst (λ l. IsAccepted x.model l (sizes_of t) j) lax
-    (subst (λ y. IsAccepted x.model x.lax (sizes_of y) j) sizes judged.faithful))
+pub checked_accepted_by : (r : Rules) (t : JudgedSizes) (j : List Event) (x : TraceJudge) → x.model ≡ r.model → x.lax ≡ r.lax
+    → x.sizes ≡ t → IsJudged j x → IsFaithfulAndCounted r.model r.lax (sizes_of t) j
+checked_accepted_by r t j x model lax sizes judged =
+    subst (λ m. IsFaithfulAndCounted m r.lax (sizes_of t) j) model
+    (subst (λ l. IsFaithfulAndCounted x.model l (sizes_of t) j) lax
+    (subst (λ y. IsFaithfulAndCounted x.model x.lax (sizes_of y) j) sizes judged.faithful))
 
-pub lie_by : (r : Rules) (t : JudgedSizes) (j : List Event) (x : TraceJudge) (y : Lie) → x.model ≡ r.model
+pub checked_lie_by : (r : Rules) (t : JudgedSizes) (j : List Event) (x : TraceJudge) (y : Lie) → x.model ≡ r.model
     → x.lax ≡ r.lax → x.sizes ≡ t → IsLie x.model x.lax (sizes_of x.sizes) j y
     → IsLie r.model r.lax (sizes_of t) j y
-lie_by r t j x y model lax sizes told =
+checked_lie_by r t j x y model lax sizes told =
     subst (λ m. IsLie m r.lax (sizes_of t) j y) model
     (subst (λ l. IsLie x.model l (sizes_of t) j y) lax
     (subst (λ z. IsLie x.model x.lax (sizes_of z) j y) sizes told))
 
 -- without a race so far there is none
-pub unraced_free : (j : List Event) (x : TraceJudge) → x.race ≡ None → IsJudged j x → RaceFree j
-unraced_free j x none judged = subst (IsRaceOf j) none judged.race
+pub checked_unraced_free : (j : List Event) (x : TraceJudge) → x.race ≡ None → IsJudged j x → RaceFree j
+checked_unraced_free j x none judged = subst (IsRaceOf j) none judged.race

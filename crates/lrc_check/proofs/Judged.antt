@@ -8,43 +8,43 @@ use Rattle.journal.specs.Races.{Race, RaceFree}
 use Rattle.judge.specs.declared.gaps.Gaps.{Gaps}
 use Rattle.judge.specs.declared.models.MemoryModel.{MemoryModel}
 use Rattle.judge.specs.NearestRaces.{IsNearestRace, IsNearestTo}
-use Rattle.judge.specs.Owed.{IsRacyWith}
-use Rattle.judge.proofs.Racing.{nearest_longer, nearest_new, race_cases, race_free_next}
+use Rattle.judge.specs.Owed.{IsOwedRacyWith}
+use Rattle.judge.proofs.NearestRaces.{nearest_race_longer, nearest_race_new, race_cases, race_free_next}
 use Rattle.lrc_check.specs.Checked.{IsRaceOf}
 
 -- there is no race before the first event
-pub no_race : IsRaceOf [] None
-no_race i k r = none-some r.first r.first_at
+pub judged_no_race : IsRaceOf [] None
+judged_no_race i k r = none-some r.first r.first_at
 
 -- a race stays the first
-pub race_stays : (j : List Event) (e : Event) (o : Option (ℕ × ℕ)) → is_some o ≡ true → IsRaceOf j o
+pub judged_race_stays : (j : List Event) (e : Event) (o : Option (ℕ × ℕ)) → is_some o ≡ true → IsRaceOf j o
     → IsRaceOf (j ++ e ∷ []) o
-race_stays j e None some x = absurd cc
-race_stays j e (Some r) some x = nearest_longer j e r.0 r.1 x
+judged_race_stays j e None some x = absurd cc
+judged_race_stays j e (Some r) some x = nearest_race_longer j e r.0 r.1 x
 
 -- where there is none
-pub race_missing : (j : List Event) (o : Option (ℕ × ℕ)) → is_some o ≡ false → IsRaceOf j o → IsRaceOf j None
-race_missing j None none x = x
-race_missing j (Some r) none x = absurd cc
+pub judged_race_missing : (j : List Event) (o : Option (ℕ × ℕ)) → is_some o ≡ false → IsRaceOf j o → IsRaceOf j None
+judged_race_missing j None none x = x
+judged_race_missing j (Some r) none x = absurd cc
 
 -- without one so far, the event ends the first, or none
-pub race_comes : (j : List Event) (e : Event) (i n : ℕ) → n ≡ length j → IsRaceOf j None → IsNearestTo j e (Some i)
+pub judged_race_comes : (j : List Event) (e : Event) (i n : ℕ) → n ≡ length j → IsRaceOf j None → IsNearestTo j e (Some i)
     → IsRaceOf (j ++ e ∷ []) (Some (i, n))
-race_comes j e i n is free x =
-    subst (IsNearestRace (j ++ e ∷ []) i) (sym is) (nearest_new j e i free x)
+judged_race_comes j e i n is free x =
+    subst (IsNearestRace (j ++ e ∷ []) i) (sym is) (nearest_race_new j e i free x)
 
-pub race_none : (j : List Event) (e : Event) → IsRaceOf j None → IsNearestTo j e None → IsRaceOf (j ++ e ∷ []) None
-race_none j e free x = race_free_next j e free x
+pub judged_race_none : (j : List Event) (e : Event) → IsRaceOf j None → IsNearestTo j e None → IsRaceOf (j ++ e ∷ []) None
+judged_race_none j e free x = race_free_next j e free x
 
 -- whether there is one
-pub racy_with : (j : List Event) (e : Event) (race : Option (ℕ × ℕ)) (b : Bool) → b ≡ is_some race
-    → IsRaceOf (j ++ e ∷ []) race → IsRacyWith j e b
-racy_with j e None b is x = subst (IsRacyWith j e) (sym is) x
-racy_with j e (Some r) b is x = subst (IsRacyWith j e) (sym is) (λ free. free r.0 r.1 x.race)
+pub judged_racy_with : (j : List Event) (e : Event) (race : Option (ℕ × ℕ)) (b : Bool) → b ≡ is_some race
+    → IsRaceOf (j ++ e ∷ []) race → IsOwedRacyWith j e b
+judged_racy_with j e None b is x = subst (IsOwedRacyWith j e) (sym is) x
+judged_racy_with j e (Some r) b is x = subst (IsOwedRacyWith j e) (sym is) (λ free. free r.0 r.1 x.race)
 
 -- the first race of a history and not of what stands before its last event has that event
-pub race_last : (j : List Event) (e : Event) (i k : ℕ) → RaceFree j → IsNearestRace (j ++ e ∷ []) i k → k ≡ length j
-race_last j e i k free x = elim (race_cases j e i k x.race) [
+pub judged_race_last : (j : List Event) (e : Event) (i k : ℕ) → RaceFree j → IsNearestRace (j ++ e ∷ []) i k → k ≡ length j
+judged_race_last j e i k free x = elim (race_cases j e i k x.race) [
   | inl old ↦ absurd (free i k old)
   | inr is ↦ is
 ]

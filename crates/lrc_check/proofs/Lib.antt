@@ -1,4 +1,4 @@
 pub mod Accepting
-pub mod Lying
+pub mod LyingTraces
 pub mod Judged
 pub mod CheckedHistories

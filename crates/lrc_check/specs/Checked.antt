@@ -22,10 +22,10 @@ use Rattle.lrc_check.specs.declared.checked.Lie.TheVariants as lie
 use Rattle.lrc_check.specs.declared.checked.TraceVerdict.{TraceVerdict}
 use Rattle.lrc_check.specs.declared.checked.TraceVerdict.TheVariants as verdict
 use Rattle.lrc_check.specs.declared.checked.Checked.{Checked}
-use Rattle.lrc_check.specs.Faithful.{IsAccepted, IsFirstUnfaithful}
+use Rattle.lrc_check.specs.Faithful.{IsFaithfulAndCounted, IsFirstNotFaithful}
 
 -- what the events cost, by what they say themselves
-pub record IsTrafficOf (j : List Event) (t : Traffic) : Type 0 where
+pub record IsCheckedTraffic (j : List Event) (t : Traffic) : Type 0 where
   pub messages : t.messages ≡ messages j
   pub records : t.records ≡ records j
   pub words : t.words ≡ words j
@@ -34,17 +34,17 @@ pub record IsTrafficOf (j : List Event) (t : Traffic) : Type 0 where
 abbrev pub IsRaceOf : List Event → Option (ℕ × ℕ) → Type 0
 IsRaceOf j race = MatchOption race (RaceFree j) (λ r. IsNearestRace j r.0 r.1)
 
-abbrev pub is_load : Kind → Bool
-is_load (Load a v) = true
-is_load _ = false
+abbrev pub is_checked_load : Kind → Bool
+is_checked_load (Load a v) = true
+is_checked_load _ = false
 
 -- how many loads aren't judged
-abbrev pub unjudged_loads : MemoryModel → Option (ℕ × ℕ) → List Event → ℕ
-unjudged_loads model.RaceFree (Some r) j = count_by (λ (e : Event). is_load e.kind) (drop r.1 j)
-unjudged_loads _ _ j = 0
+abbrev pub loads_not_checked : MemoryModel → Option (ℕ × ℕ) → List Event → ℕ
+loads_not_checked model.RaceFree (Some r) j = count_by (λ (e : Event). is_checked_load e.kind) (drop r.1 j)
+loads_not_checked _ _ j = 0
 
 -- the load at its place answers what it may not under the model, and what it may
-pub record IsUnexplained (m : MemoryModel) (s : Sizes) (j : List Event) (x : Unexplained) : Type 0 where
+pub record IsUnexplainedByCheck (m : MemoryModel) (s : Sizes) (j : List Event) (x : Unexplained) : Type 0 where
   pub by : ℕ
   pub address : ℕ
   pub value : ℕ
@@ -52,51 +52,51 @@ pub record IsUnexplained (m : MemoryModel) (s : Sizes) (j : List Event) (x : Une
   pub wrong : ¬ IsOwed m s j x.place address value
   pub permitted : ArePermitted m j x.place address x.permitted
 
-abbrev pub place_of : Lie → ℕ
-place_of (lie.IllFormed x) = x.place
-place_of (lie.Unexplained x) = x.place
-place_of (lie.Miscounted x) = x.place
+abbrev pub checked_lie_place : Lie → ℕ
+checked_lie_place (lie.IllFormed x) = x.place
+checked_lie_place (lie.Unexplained x) = x.place
+checked_lie_place (lie.Miscounted x) = x.place
 
 -- what is said of the lie is true
-abbrev pub IsReason : MemoryModel → Bool → Sizes → List Event → Lie → Type 0
-IsReason m lax s j (lie.IllFormed x) = IsFirstIllFormed lax s j x
-IsReason m lax s j (lie.Unexplained x) = IsUnexplained m s j x
-IsReason m lax s j (lie.Miscounted x) = (m ≡ model.LazyRelease) × (lax ≡ false) × IsFirstMiscounted s j x
+abbrev pub IsCheckedReason : MemoryModel → Bool → Sizes → List Event → Lie → Type 0
+IsCheckedReason m lax s j (lie.IllFormed x) = IsFirstIllFormed lax s j x
+IsCheckedReason m lax s j (lie.Unexplained x) = IsUnexplainedByCheck m s j x
+IsCheckedReason m lax s j (lie.Miscounted x) = (m ≡ model.LazyRelease) × (lax ≡ false) × IsFirstMiscounted s j x
 
 -- the last of these events is the first that no memory of the model makes, and why
 pub record IsLie (m : MemoryModel) (lax : Bool) (s : Sizes) (j : List Event) (x : Lie) : Type 0 where
-  pub last : suc (place_of x) ≡ length j
-  pub first : IsFirstUnfaithful m lax s j (place_of x)
-  pub reason : IsReason m lax s j x
+  pub last : suc (checked_lie_place x) ≡ length j
+  pub first : IsFirstNotFaithful m lax s j (checked_lie_place x)
+  pub reason : IsCheckedReason m lax s j x
 
 -- the events that are looked at for a race: all but one that may not follow
-abbrev pub raced : Lie → List Event → List Event
-raced (lie.IllFormed x) j = take x.place j
-raced _ j = j
+abbrev pub checked_for_race : Lie → List Event → List Event
+checked_for_race (lie.IllFormed x) j = take x.place j
+checked_for_race _ j = j
 
 -- the last of these events is the second one of their first race, and those before it are faithful
-pub record IsRaceFound (m : MemoryModel) (lax : Bool) (s : Sizes) (j : List Event) (race : Option (ℕ × ℕ)) : Type 0 where
+pub record IsRaceFoundByCheck (m : MemoryModel) (lax : Bool) (s : Sizes) (j : List Event) (race : Option (ℕ × ℕ)) : Type 0 where
   pub first : ℕ
   pub second : ℕ
   pub found : race ≡ Some (first, second)
   pub nearest : IsNearestRace j first second
   pub last : suc second ≡ length j
-  pub before : IsAccepted m lax s (take second j)
+  pub before : IsFaithfulAndCounted m lax s (take second j)
 
 -- what is said of these events is true
-abbrev pub IsVerdictOf : MemoryModel → Bool → Sizes → List Event → Option (ℕ × ℕ) → TraceVerdict → Type 0
-IsVerdictOf m lax s j race (verdict.Faithful traffic unjudged) =
-    IsAccepted m lax s j × IsRaceOf j race × IsTrafficOf j traffic × (unjudged ≡ unjudged_loads m race j)
-IsVerdictOf m lax s j race (verdict.Lie x) = IsLie m lax s j x × IsRaceOf (raced x j) race
-IsVerdictOf m lax s j race verdict.Racy = IsRaceFound m lax s j race
+abbrev pub IsCheckVerdictOf : MemoryModel → Bool → Sizes → List Event → Option (ℕ × ℕ) → TraceVerdict → Type 0
+IsCheckVerdictOf m lax s j race (verdict.Faithful traffic unjudged) =
+    IsFaithfulAndCounted m lax s j × IsRaceOf j race × IsCheckedTraffic j traffic × (unjudged ≡ loads_not_checked m race j)
+IsCheckVerdictOf m lax s j race (verdict.Lie x) = IsLie m lax s j x × IsRaceOf (checked_for_race x j) race
+IsCheckVerdictOf m lax s j race verdict.Racy = IsRaceFoundByCheck m lax s j race
 
 -- a faithful history is judged to its end
-abbrev pub IsJudgedWhole : List Event → ℕ → TraceVerdict → Type 0
-IsJudgedWhole j count (verdict.Faithful traffic unjudged) = count ≡ length j
-IsJudgedWhole j count _ = Unit {0}
+abbrev pub IsCheckedWhole : List Event → ℕ → TraceVerdict → Type 0
+IsCheckedWhole j count (verdict.Faithful traffic unjudged) = count ≡ length j
+IsCheckedWhole j count _ = Unit {0}
 
 -- what is said of a history is true: all is judged, unless the first events are no such memory's
 pub record IsChecked (r : Rules) (s : Sizes) (j : List Event) (x : Checked) : Type 0 where
   pub within : x.count ≤ length j
-  pub verdict : IsVerdictOf r.model r.lax s (take x.count j) x.race x.verdict
-  pub whole : IsJudgedWhole j x.count x.verdict
+  pub verdict : IsCheckVerdictOf r.model r.lax s (take x.count j) x.race x.verdict
+  pub whole : IsCheckedWhole j x.count x.verdict

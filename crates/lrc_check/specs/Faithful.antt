@@ -5,19 +5,19 @@ use Rattle.journal.specs.Sizes.{Sizes}
 use Rattle.journal.specs.Counted.{AreCounted}
 use Rattle.judge.specs.declared.models.MemoryModel.{MemoryModel}
 use Rattle.judge.specs.declared.models.MemoryModel.TheVariants.{LazyRelease}
-use Rattle.judge.specs.Lax.{WellFormedIn}
-use Rattle.judge.specs.Models.{ExplainedUnder}
+use Rattle.judge.specs.Lax.{WellFormedOrLax}
+use Rattle.judge.specs.Models.{ExplainedUnderModel}
 
 -- each event may follow what stands before it, lax or not, each load answers what it may under the model, and under lazy
 -- release, unless lax, each fetch counts its gap
-pub record IsAccepted (m : MemoryModel) (lax : Bool) (s : Sizes) (j : List Event) : Type 0 where
-  pub well_formed : WellFormedIn lax s j
-  pub explained : ExplainedUnder m s j
+pub record IsFaithfulAndCounted (m : MemoryModel) (lax : Bool) (s : Sizes) (j : List Event) : Type 0 where
+  pub well_formed : WellFormedOrLax lax s j
+  pub explained : ExplainedUnderModel m s j
   pub counted : m ≡ LazyRelease → lax ≡ false → AreCounted s j
 
 -- the event at place k is the first that no such memory makes: what stands before it is faithful, and with it nothing
 -- is, however it goes on
-pub record IsFirstUnfaithful (m : MemoryModel) (lax : Bool) (s : Sizes) (j : List Event) (k : ℕ) : Type 0 where
+pub record IsFirstNotFaithful (m : MemoryModel) (lax : Bool) (s : Sizes) (j : List Event) (k : ℕ) : Type 0 where
   pub within : k < length j
-  pub before : IsAccepted m lax s (take k j)
-  pub never : (es : List Event) → ¬ IsAccepted m lax s (take (suc k) j ++ es)
+  pub before : IsFaithfulAndCounted m lax s (take k j)
+  pub never : (es : List Event) → ¬ IsFaithfulAndCounted m lax s (take (suc k) j ++ es)

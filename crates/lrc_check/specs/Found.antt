@@ -19,11 +19,11 @@ pub record IsFoundOf (r : Rules) (bytes : List ℕ) (found : Checked) : Type 0 w
   pub checked : IsChecked r sizes events found
 
 -- the fault is the trace's
-abbrev pub IsTraces : CheckFault → Type 0
-IsTraces (Trace line fault) = ⊤
-IsTraces _ = ⊥
+abbrev pub IsFoundInTrace : CheckFault → Type 0
+IsFoundInTrace (Trace line fault) = ⊤
+IsFoundInTrace _ = ⊥
 
 -- the fault came before anything was written
-abbrev pub IsBeforeOutput : CheckFault → Type 0
-IsBeforeOutput Output = ⊥
-IsBeforeOutput _ = ⊤
+abbrev pub IsFoundBeforeOutput : CheckFault → Type 0
+IsFoundBeforeOutput Output = ⊥
+IsFoundBeforeOutput _ = ⊤

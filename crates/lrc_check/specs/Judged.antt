@@ -10,32 +10,32 @@ use Rattle.judge.specs.Gaps.{TellsGaps}
 use Rattle.judge.specs.NearestRaces.{AreRacesOf}
 use Rattle.judge.specs.Owed.{AreOwedBy}
 use Rattle.judge.specs.Sizes.{sizes_of}
-use Rattle.judge.specs.Tells.{IsFrontOf}
+use Rattle.judge.specs.FrontTells.{FrontTellsHistory}
 use Rattle.lrc_check.specs.declared.judging.TraceJudge.{TraceJudge}
 use Rattle.lrc_check.specs.declared.checked.TraceVerdict.{TraceVerdict}
 use Rattle.lrc_check.specs.declared.checked.TraceVerdict.TheVariants as verdict
-use Rattle.lrc_check.specs.Checked.{IsRaceOf, IsTrafficOf, unjudged_loads}
-use Rattle.lrc_check.specs.Faithful.{IsAccepted}
+use Rattle.lrc_check.specs.Checked.{IsRaceOf, IsCheckedTraffic, loads_not_checked}
+use Rattle.lrc_check.specs.Faithful.{IsFaithfulAndCounted}
 
 -- the gaps are there exactly if counts are judged, and tell the history
-abbrev pub AreGapsFor : MemoryModel → Bool → Sizes → List Event → Option Gaps → Type 0
-AreGapsFor m lax s j gaps = MatchOption gaps (m ≡ LazyRelease → ¬ (lax ≡ false))
+abbrev pub AreGapsJudged : MemoryModel → Bool → Sizes → List Event → Option Gaps → Type 0
+AreGapsJudged m lax s j gaps = MatchOption gaps (m ≡ LazyRelease → ¬ (lax ≡ false))
     (λ g. (m ≡ LazyRelease) × (lax ≡ false) × (g.sizes ≡ s) × TellsGaps j g)
 
 -- these events are faithful, and the judge was told them
 pub record IsJudged (j : List Event) (x : TraceJudge) : Type 0 where
-  pub faithful : IsAccepted x.model x.lax (sizes_of x.sizes) j
+  pub faithful : IsFaithfulAndCounted x.model x.lax (sizes_of x.sizes) j
   pub race : IsRaceOf j x.race
-  pub front : IsFrontOf j x.front
+  pub front : FrontTellsHistory j x.front
   pub front_sizes : x.front.sizes ≡ x.sizes
   pub races : AreRacesOf j x.races
   pub processors : x.races.processors ≡ x.sizes.processors
   pub addresses : x.races.addresses ≡ addresses (sizes_of x.sizes)
   pub owed : AreOwedBy x.model (sizes_of x.sizes) j x.owed
-  pub gaps : AreGapsFor x.model x.lax x.sizes j x.gaps
+  pub gaps : AreGapsJudged x.model x.lax x.sizes j x.gaps
 
 -- that is what is told of a faithful history
-abbrev pub IsFaithfulVerdict : MemoryModel → Option (ℕ × ℕ) → List Event → TraceVerdict → Type 0
-IsFaithfulVerdict m race j (verdict.Faithful traffic unjudged) =
-    IsTrafficOf j traffic × (unjudged ≡ unjudged_loads m race j)
-IsFaithfulVerdict m race j _ = ⊥
+abbrev pub IsJudgedFaithful : MemoryModel → Option (ℕ × ℕ) → List Event → TraceVerdict → Type 0
+IsJudgedFaithful m race j (verdict.Faithful traffic unjudged) =
+    IsCheckedTraffic j traffic × (unjudged ≡ loads_not_checked m race j)
+IsJudgedFaithful m race j _ = ⊥

@@ -1,5 +1,5 @@
 -- The words that contracts name, passed on from one place. Declares nothing.
-pub use Rattle.lrc_check.specs.Faithful.{IsAccepted, IsFirstUnfaithful}
-pub use Rattle.lrc_check.specs.Checked.{IsChecked, IsLie, IsRaceOf, IsTrafficOf, is_load, raced, unjudged_loads}
-pub use Rattle.lrc_check.specs.Found.{IsBeforeOutput, IsFoundOf, IsTraces}
-pub use Rattle.lrc_check.specs.Judged.{AreGapsFor, IsFaithfulVerdict, IsJudged}
+pub use Rattle.lrc_check.specs.Faithful.{IsFaithfulAndCounted, IsFirstNotFaithful}
+pub use Rattle.lrc_check.specs.Checked.{IsChecked, IsLie, IsRaceOf, IsCheckedTraffic, is_checked_load, checked_for_race, loads_not_checked}
+pub use Rattle.lrc_check.specs.Found.{IsFoundBeforeOutput, IsFoundOf, IsFoundInTrace}
+pub use Rattle.lrc_check.specs.Judged.{AreGapsJudged, IsJudgedFaithful, IsJudged}

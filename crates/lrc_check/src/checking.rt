@@ -2,11 +2,11 @@
 ghost use Rattle.std.specs.Prelude.{◌≡◌, IfErr, IfOk, OnOk};
 ghost use Rattle.std.specs.Io.KnownBytes.{Appends, Keeps};
 ghost use Rattle.lrc_check.specs.Traces.Prelude.{IsNoTrace};
-ghost use Rattle.judge.specs.Prelude.{AreSmall};
+ghost use Rattle.judge.specs.Prelude.{AreSizesSmall};
 ghost use Rattle.judge.specs.Prelude.{sizes_of as judged_sizes};
-ghost use Rattle.lrc_check.specs.Traces.Prelude.{IsTrace, head, sizes_of};
+ghost use Rattle.lrc_check.specs.Traces.Prelude.{IsTrace, trace_sizes_head, sizes_of};
 ghost use Rattle.lrc_script.specs.Prelude.{AreLawfulSizes};
-ghost use Rattle.lrc_check.specs.Prelude.{IsBeforeOutput, IsChecked, IsFoundOf, IsTraces};
+ghost use Rattle.lrc_check.specs.Prelude.{IsFoundBeforeOutput, IsChecked, IsFoundOf, IsFoundInTrace};
 
 use crate::checked::{Checked, Rules};
 use crate::fault::CheckFault;
@@ -19,9 +19,9 @@ use std::io::Write;
 
 /// The trace's sizes, as they are judged by.
 fn sizes_for(sizes: crate::traces::trace::Sizes) -> judge::Sizes
-    requires { AreLawfulSizes (head (sizes_of sizes)) }
+    requires { AreLawfulSizes (trace_sizes_head (sizes_of sizes)) }
     ensures same { judged_sizes result ≡ sizes_of sizes }
-    ensures small { AreSmall (judged_sizes result) }
+    ensures small { AreSizesSmall (judged_sizes result) }
 {
     judge::Sizes {
         processors: sizes.processors,
@@ -58,9 +58,9 @@ pub fn check_trace<W: Write>(
 ) -> Result<Checked, CheckFault>
     requires { IsTrace (sizes_of trace.now.sizes) trace.now.events.items }
     ensures found { IfOk result (IsChecked rules (sizes_of trace.now.sizes) trace.now.events.items) }
-    ensures refused { IfErr result (λ fault. IsTraces fault → ⊥) }
+    ensures refused { IfErr result (λ fault. IsFoundInTrace fault → ⊥) }
     ensures early { IfErr result
-        (λ fault. IsBeforeOutput fault → Keeps (W.contents out.old) (W.contents out.new)) }
+        (λ fault. IsFoundBeforeOutput fault → Keeps (W.contents out.old) (W.contents out.new)) }
 {
     let found = judge_history(alloc, sizes_for(trace.sizes), &trace.events, rules)?;
     let text = text_of(alloc, &trace.events, &found, rules)?;
@@ -83,9 +83,9 @@ pub fn check<W: Write>(
     // What is found is true of the one trace that has these bytes.
     ensures found { IfOk result (IsFoundOf rules bytes.now) }
     // What is refused as a trace is none.
-    ensures refused { IfErr result (λ fault. IsTraces fault → IsNoTrace bytes.now) }
+    ensures refused { IfErr result (λ fault. IsFoundInTrace fault → IsNoTrace bytes.now) }
     ensures early { IfErr result
-        (λ fault. IsBeforeOutput fault → Keeps (W.contents out.old) (W.contents out.new)) }
+        (λ fault. IsFoundBeforeOutput fault → Keeps (W.contents out.old) (W.contents out.new)) }
 {
     let trace = read(alloc, bytes)?;
     check_trace(alloc, &trace, rules, out)

@@ -6,12 +6,12 @@ ghost use Rattle.journal.specs.Sizes.{addresses};
 ghost use Rattle.journal.specs.declared.event.Event.{Event};
 ghost use Rattle.journal.specs.declared.event.Kind.TheVariants.{Load};
 ghost use Rattle.journal.specs.Prelude.{did};
-ghost use Rattle.judge.specs.Lax.{MayFollowIn};
+ghost use Rattle.judge.specs.Lax.{MayFollowOrLax};
 ghost use Rattle.judge.specs.declared.models.MemoryModel.TheVariants.{LazyRelease};
-ghost use Rattle.judge.specs.Prelude.{AreSmall, ArePermitted, CountsGap, IsRacyWith, IsWithin, Miscounts, sizes_of};
+ghost use Rattle.judge.specs.Prelude.{AreSizesSmall, ArePermitted, MiscountsNoGap, IsOwedRacyWith, IsMiscountWithin, Miscounts, sizes_of};
 ghost use Rattle.lrc_check.specs.declared.checked.TraceVerdict.TheVariants as verdict;
-ghost use Rattle.lrc_check.specs.Prelude.{AreGapsFor, IsAccepted, IsChecked, IsFaithfulVerdict, IsJudged, IsLie, IsRaceOf};
-ghost use Rattle.lrc_check.specs.Prelude.{is_load as is_a_load, raced, unjudged_loads};
+ghost use Rattle.lrc_check.specs.Prelude.{AreGapsJudged, IsFaithfulAndCounted, IsChecked, IsJudgedFaithful, IsJudged, IsLie, IsRaceOf};
+ghost use Rattle.lrc_check.specs.Prelude.{is_checked_load as is_a_load, checked_for_race, loads_not_checked};
 
 use crate::checked::{Checked, Lie, Rules, TraceVerdict, Unexplained};
 use journal::{Event, Kind, traffic_of};
@@ -57,8 +57,8 @@ fn gaps_for(
     model: MemoryModel,
     lax: bool,
 ) -> Result<Option<Gaps>, AllocError>
-    requires { AreSmall (sizes_of sizes) }
-    ensures { IfOk result (AreGapsFor model lax sizes []) }
+    requires { AreSizesSmall (sizes_of sizes) }
+    ensures { IfOk result (AreGapsJudged model lax sizes []) }
 {
     if are_counts_judged(model, lax) {
         let gaps = Gaps::new(alloc, sizes)?;
@@ -76,7 +76,7 @@ impl TraceJudge {
         model: MemoryModel,
         lax: bool,
     ) -> Result<TraceJudge, AllocError>
-        requires { AreSmall (sizes_of sizes) }
+        requires { AreSizesSmall (sizes_of sizes) }
         ensures judged { IfOk result (IsJudged []) }
         ensures model { IfOk result (λ x. x.model ≡ model) }
         ensures lax { IfOk result (λ x. x.lax ≡ lax) }
@@ -99,7 +99,7 @@ impl TraceJudge {
     /// The first race with the event, which comes next, at this place.
     fn race_with(&self, event: Event, place: usize) -> Option<(usize, usize)>
         requires judged { (j : List Event) × IsJudged j self.now }
-        requires within { IsWithin (sizes_of self.now.sizes) event }
+        requires within { IsMiscountWithin (sizes_of self.now.sizes) event }
         ensures { (j : List Event) → IsJudged j self.now → length j ≡ place
             → IsRaceOf (j ++ event ∷ []) result }
     {
@@ -120,7 +120,7 @@ impl TraceJudge {
         place: usize,
     ) -> Result<Unexplained, AllocError>
         requires judged { (j : List Event) × IsJudged j self.now }
-        requires within { IsWithin (sizes_of self.now.sizes) event }
+        requires within { IsMiscountWithin (sizes_of self.now.sizes) event }
         ensures place { IfOk result (λ x. x.place ≡ place) }
         ensures permitted { IfOk result (λ x. (j : List Event) → IsJudged j self.now → (a v : ℕ)
             → event.kind ≡ Load a v
@@ -141,10 +141,10 @@ impl TraceJudge {
     /// What the event, which comes next, at this place, has to count instead, if it is a fetch that counts something else.
     fn miscounted(&self, event: Event, place: usize) -> Option<Miscounted>
         requires judged { (j : List Event) × IsJudged j self.now × (length j < 2 ^ 22) }
-        requires within { IsWithin (sizes_of self.now.sizes) event }
+        requires within { IsMiscountWithin (sizes_of self.now.sizes) event }
         ensures { (j : List Event) → IsJudged j self.now
             → MatchOption result
-            (self.now.model ≡ LazyRelease → self.now.lax ≡ false → CountsGap (sizes_of self.now.sizes) j event)
+            (self.now.model ≡ LazyRelease → self.now.lax ≡ false → MiscountsNoGap (sizes_of self.now.sizes) j event)
             (λ x. (self.now.model ≡ LazyRelease) × (self.now.lax ≡ false) × (x.place ≡ place)
             × Miscounts (sizes_of self.now.sizes) j event x) }
     {
@@ -165,12 +165,12 @@ impl TraceJudge {
     ) -> Result<Option<Lie>, AllocError>
         requires few { length front.now < most_held }
         requires judged { IsJudged front.now self.now }
-        requires follows { MayFollowIn self.now.lax (sizes_of self.now.sizes) front.now event }
-        requires racy { IsRacyWith front.now event is_racy }
+        requires follows { MayFollowOrLax self.now.lax (sizes_of self.now.sizes) front.now event }
+        requires racy { IsOwedRacyWith front.now event is_racy }
         ensures { IfOk result (λ o. MatchOption o
-            (IsAccepted self.now.model self.now.lax (sizes_of self.now.sizes) (front.now ++ event ∷ []))
+            (IsFaithfulAndCounted self.now.model self.now.lax (sizes_of self.now.sizes) (front.now ++ event ∷ []))
             (λ x. IsLie self.now.model self.now.lax (sizes_of self.now.sizes) (front.now ++ event ∷ []) x
-            × (raced x (front.now ++ event ∷ []) ≡ front.now ++ event ∷ []))) }
+            × (checked_for_race x (front.now ++ event ∷ []) ≡ front.now ++ event ∷ []))) }
     {
         let place = front.len();
         if !self.owed.is_paid(front, event, is_racy) {
@@ -194,7 +194,7 @@ impl TraceJudge {
         requires last { length events.now ≡ place + 1 }
         requires few { length events.now ≤ most_held }
         requires judged { IsJudged (take place events.now) self.old }
-        requires accepted { IsAccepted self.old.model self.old.lax (sizes_of self.old.sizes) events.now }
+        requires accepted { IsFaithfulAndCounted self.old.model self.old.lax (sizes_of self.old.sizes) events.now }
         requires race { IsRaceOf events.now race }
         ensures judged { OnOk result (IsJudged events.now self.new) }
         ensures race { self.new.race ≡ race }
@@ -227,7 +227,7 @@ impl TraceJudge {
         requires judged { IsJudged (take place events.now) self.old }
         ensures judged { IfOk result (λ o. MatchOption o (IsJudged (take (place + 1) events.now) self.new)
             (λ x. IsLie self.old.model self.old.lax (sizes_of self.old.sizes) (take (place + 1) events.now) x
-            × IsRaceOf (raced x (take (place + 1) events.now)) self.new.race)) }
+            × IsRaceOf (checked_for_race x (take (place + 1) events.now)) self.new.race)) }
         ensures model { self.new.model ≡ self.old.model }
         ensures lax { self.new.lax ≡ self.old.lax }
         ensures sizes { self.new.sizes ≡ self.old.sizes }
@@ -271,7 +271,7 @@ fn is_load(kind: Kind) -> bool
 /// How many loads of the events weren't judged, whose race is this.
 fn unjudged(model: MemoryModel, race: Option<(usize, usize)>, events: &[Event]) -> usize
     requires { IfSome race (λ r. r.1 ≤ length events.now) }
-    ensures { result ≡ unjudged_loads model race events.now }
+    ensures { result ≡ loads_not_checked model race events.now }
 {
     match (model, race) {
         (MemoryModel::RaceFree, Some((_, second))) => events[second..]
@@ -288,7 +288,7 @@ fn faithful(model: MemoryModel, race: Option<(usize, usize)>, events: &[Event]) 
     requires race { IfSome race (λ r. r.1 ≤ length events.now) }
     ensures count { result.count ≡ length events.now }
     ensures race { result.race ≡ race }
-    ensures verdict { IsFaithfulVerdict model race events.now result.verdict }
+    ensures verdict { IsJudgedFaithful model race events.now result.verdict }
 {
     Checked {
         count: events.len(),
@@ -322,7 +322,7 @@ pub fn judge_history(
     events: &[Event],
     rules: Rules,
 ) -> Result<Checked, AllocError>
-    requires sizes { AreSmall (sizes_of sizes) }
+    requires sizes { AreSizesSmall (sizes_of sizes) }
     requires few { length events.now ≤ most_held }
     ensures { IfOk result (IsChecked rules (sizes_of sizes) events.now) }
 {

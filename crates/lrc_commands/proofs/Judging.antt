@@ -7,13 +7,13 @@ use Rattle.journal.specs.declared.event.Event.{Event}
 use Rattle.journal.specs.Sizes.{Sizes}
 use Rattle.journal.specs.Races.{Race}
 use Rattle.judge.specs.declared.models.MemoryModel.{MemoryModel}
-use Rattle.judge.proofs.Racing.{race_longer}
+use Rattle.judge.proofs.NearestRaces.{race_longer}
 use Rattle.lrc_check.specs.declared.checked.Lie.{Lie}
 use Rattle.lrc_check.specs.declared.checked.Rules.{Rules}
 use Rattle.lrc_check.specs.declared.checked.TraceVerdict.{TraceVerdict}
 use Rattle.lrc_check.specs.declared.checked.TraceVerdict.TheVariants as verdict
-use Rattle.lrc_check.specs.Faithful.{IsAccepted}
-use Rattle.lrc_check.specs.Checked.{IsLie, IsVerdictOf, IsJudgedWhole, place_of}
+use Rattle.lrc_check.specs.Faithful.{IsFaithfulAndCounted}
+use Rattle.lrc_check.specs.Checked.{IsLie, IsCheckVerdictOf, IsCheckedWhole, checked_lie_place}
 use Rattle.lrc_check.specs.declared.traces.fault.TraceFault.{TraceFault}
 use Rattle.lrc_check.specs.declared.traces.fault.TraceFault.TheVariants.{NoMemory}
 use Rattle.lrc_check.specs.Traces.Faults.{BeginsTraceText}
@@ -59,13 +59,13 @@ judged_fed_on (Some xs) (Some ys) (Some zs) fed piece (Err e) same none had more
 
 -- a history that begins with a lie isn't faithful
 none_judged_faithful : (m : MemoryModel) (lax : Bool) (s : Sizes) (j : List Event) (n : ℕ) (x : Lie)
-    → IsLie m lax s (take n j) x → ¬ IsAccepted m lax s j
+    → IsLie m lax s (take n j) x → ¬ IsFaithfulAndCounted m lax s j
 none_judged_faithful m lax s j n x lie faithful =
     let last = lie.last in
-    let le : length (take n j) ≤ suc (place_of x) = omega arith in
-    let whole = take_all (suc (place_of x)) (take n j) le in
+    let le : length (take n j) ≤ suc (checked_lie_place x) = omega arith in
+    let whole = take_all (suc (checked_lie_place x)) (take n j) le in
     let split = ap (λ (xs : List Event). xs ++ drop n j) whole ∙ take-append-drop n j in
-    lie.first.never (drop n j) (subst (IsAccepted m lax s) (sym split) faithful)
+    lie.first.never (drop n j) (subst (IsFaithfulAndCounted m lax s) (sym split) faithful)
 
 -- a race of a front is one of the history
 race_whole : (j : List Event) (n i k : ℕ) → Race (take n j) i k → Race j i k
@@ -75,7 +75,7 @@ race_whole j n i k r =
 -- what was found of the trace that the source had is said of the source
 pub judged_as : (r : Rules) (source : Option (List ℕ)) (s : Sizes) (es : List Event) (n : ℕ)
     (race : Option (ℕ × ℕ)) (v : TraceVerdict) → IsTrace s es → HasTraceText source s es
-    → IsVerdictOf r.model r.lax s (take n es) race v → IsJudgedWhole es n v
+    → IsCheckVerdictOf r.model r.lax s (take n es) race v → IsCheckedWhole es n v
     → IsJudgedAs r.model r.lax source (judgement_in v)
 judged_as r source s es n race (verdict.Faithful traffic unjudged) trace text is whole = record {
   sizes = s;
@@ -84,7 +84,7 @@ judged_as r source s es n race (verdict.Faithful traffic unjudged) trace text is
   text_is = text;
   faithful =
       (let le : length es ≤ n = omega arith in
-      subst (IsAccepted r.model r.lax s) (take_all n es le) is.0);
+      subst (IsFaithfulAndCounted r.model r.lax s) (take_all n es le) is.0);
 }
 judged_as r source s es n race (verdict.Lie x) trace text is whole = record {
   sizes = s;

@@ -12,7 +12,7 @@ use Rattle.judge.specs.declared.models.MemoryModel.{MemoryModel}
 use Rattle.judge.specs.declared.models.MemoryModel.TheVariants as model
 use Rattle.lrc_check.specs.declared.checked.TraceVerdict.{TraceVerdict}
 use Rattle.lrc_check.specs.declared.checked.TraceVerdict.TheVariants as verdict
-use Rattle.lrc_check.specs.Faithful.{IsAccepted}
+use Rattle.lrc_check.specs.Faithful.{IsFaithfulAndCounted}
 use Rattle.lrc_options.specs.declared.options.TraceModel.{TraceModel}
 use Rattle.lrc_options.specs.declared.options.TraceModel.TheVariants as asked
 use Rattle.lrc_commands.specs.declared.checking.Judgement.{Judgement}
@@ -41,7 +41,7 @@ pub record IsFaithfulTrace (m : MemoryModel) (lax : Bool) (source : Option (List
   pub events : List Event
   pub trace : IsTrace sizes events
   pub text_is : HasTraceText source sizes events
-  pub faithful : IsAccepted m lax sizes events
+  pub faithful : IsFaithfulAndCounted m lax sizes events
 
 -- the source had the text of a trace, whose history isn't
 pub record IsUnfaithfulTrace (m : MemoryModel) (lax : Bool) (source : Option (List ℕ)) : Type 0 where
@@ -49,7 +49,7 @@ pub record IsUnfaithfulTrace (m : MemoryModel) (lax : Bool) (source : Option (Li
   pub events : List Event
   pub trace : IsTrace sizes events
   pub text_is : HasTraceText source sizes events
-  pub unfaithful : ¬ IsAccepted m lax sizes events
+  pub unfaithful : ¬ IsFaithfulAndCounted m lax sizes events
 
 -- the source had the text of a trace that races
 pub record IsRacyTrace (source : Option (List ℕ)) : Type 0 where

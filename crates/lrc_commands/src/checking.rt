@@ -2,7 +2,7 @@
 ghost use Rattle.std.specs.Prelude.{◌≡◌, ◌≢◌, ◌⊎◌, ℕ, ◌<◌, ◌≤◌, List, Option, IfErr, IfOk, length, take};
 ghost use Rattle.std.specs.Io.KnownBytes.{Consumes, IsAtEnd, Keeps};
 ghost use Rattle.lrc_check.specs.Traces.Prelude.{IsTrace, sizes_of};
-ghost use Rattle.lrc_check.specs.Prelude.{IsTraces};
+ghost use Rattle.lrc_check.specs.Prelude.{IsFoundInTrace};
 ghost use Rattle.lrc_commands.specs.Prelude.{HasTraceText, IsStatusBeforeAnswer, IsFaithfulTrace, IsInputsStatus, IsJudgedAs, IsNoTraceOf};
 ghost use Rattle.lrc_commands.specs.Prelude.{IsRacyTrace, IsTraceReadSoFar, IsUnfaithfulTrace, judged_model, judgement_in};
 
@@ -76,7 +76,7 @@ fn finish(reading: Reading) -> Result<Trace, CheckFault>
     ensures trace { IfOk result (λ t. IsTrace (sizes_of t.sizes) t.events.items) }
     ensures text { IfOk result (λ t. (source left : Option (List ℕ)) → IsTraceReadSoFar source left reading
         → IsAtEnd left → HasTraceText source (sizes_of t.sizes) t.events.items) }
-    ensures refused { IfErr result (λ fault. IsTraces fault → (source left : Option (List ℕ))
+    ensures refused { IfErr result (λ fault. IsFoundInTrace fault → (source left : Option (List ℕ))
         → IsTraceReadSoFar source left reading → IsAtEnd left → IsNoTraceOf source) }
 {
     let trace = reading?.finish()?;

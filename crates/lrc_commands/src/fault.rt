@@ -1,7 +1,7 @@
 //! Why a command that studies a script or a trace ends without an answer.
 ghost use Rattle.std.specs.Prelude.{◌≡◌, ◌≢◌};
-ghost use Rattle.lrc_check.specs.Prelude.{IsTraces};
-ghost use Rattle.lrc_check.specs.Prelude.{IsBeforeOutput as IsBeforeText};
+ghost use Rattle.lrc_check.specs.Prelude.{IsFoundInTrace};
+ghost use Rattle.lrc_check.specs.Prelude.{IsFoundBeforeOutput as IsBeforeText};
 ghost use Rattle.lrc_explain.specs.declared.fault.ExplainFault.TheVariants as explain;
 ghost use Rattle.lrc_explore.specs.declared.fault.ExploreFault.TheVariants as explore;
 ghost use Rattle.lrc_picture.specs.declared.picture.PictureFault.TheVariants as picture;
@@ -176,7 +176,7 @@ impl From<PictureFault> for StudyFault {
 }
 
 impl From<CheckFault> for StudyFault {
-    ghost from_gives = { λ given fault. (IsInputsStatus fault → IsTraces given)
+    ghost from_gives = { λ given fault. (IsInputsStatus fault → IsFoundInTrace given)
         × (IsStatusBeforeAnswer fault → IsBeforeText given) };
 
     fn from(fault: CheckFault) -> StudyFault {

@@ -3,7 +3,7 @@ ghost use Rattle.std.specs.Prelude.{◌≡◌, ◌≤◌, ◌<◌, [], List, len
 ghost use Rattle.base.specs.Prelude.{most_held, most_processors};
 ghost use Rattle.journal.specs.declared.event.Event.{Event};
 ghost use Rattle.journal.specs.Prelude.{AddressInRange, AddressesInRange, ProcessorsInRange};
-ghost use Rattle.judge.specs.Sources.Prelude.{AreStoresOf};
+ghost use Rattle.judge.specs.Sources.Prelude.{AreSourceStoresOf};
 
 use journal::{Event, Kind};
 use judge::sources::Sources;
@@ -20,7 +20,7 @@ pub struct Earlier {
 
 /// The last store to the address of the event, where it is an access that comes next.
 fn earlier_at(sources: &Sources, last: &[Option<usize>], event: Event) -> Option<Earlier>
-    requires tells { (j : List Event) × AreStoresOf j sources.now }
+    requires tells { (j : List Event) × AreSourceStoresOf j sources.now }
     requires processor { event.processor < sources.now.processors }
     requires address { AddressInRange sources.now.addresses event.kind }
 {
@@ -56,7 +56,7 @@ fn find_stores(
 ) -> Result<(), AllocError>
     requires few { length events.now ≤ most_held }
     requires places { length found.old ≡ length events.now }
-    requires tells { AreStoresOf [] sources.old }
+    requires tells { AreSourceStoresOf [] sources.old }
     requires addresses { AddressesInRange sources.old.addresses events.now }
     requires processors { ProcessorsInRange sources.old.processors events.now }
 {

@@ -1,6 +1,6 @@
 //! How what a load answers came to its processor: the ways from stores to loads.
 ghost use Rattle.std.specs.Prelude.{◌<◌, length};
-ghost use Rattle.causes.specs.Prelude.{AreWays};
+ghost use Rattle.causes.specs.Prelude.{ArePathWays};
 
 use crate::history::EventNumbers;
 use crate::text::Text;
@@ -19,7 +19,7 @@ fn way_to(
     source: Option<Source>,
     place: usize,
 ) -> Result<Option<Vec<usize>>, AllocError>
-    requires tells { AreWays events.now ways.now }
+    requires tells { ArePathWays events.now ways.now }
     requires place { place < length events.now }
 {
     let Some(Source::StoreAt(from)) = source else {
@@ -41,7 +41,7 @@ pub fn ways_to_loads(
     events: &[Event],
     loads: &[Option<Source>],
 ) -> Result<Vec<Option<Vec<usize>>>, AllocError>
-    requires { AreWays events.now ways.now }
+    requires { ArePathWays events.now ways.now }
 {
     let mut found = Vec::with_capacity(alloc, events.len())?;
     for place in 0..events.len() {

@@ -1,6 +1,6 @@
 //! The rivals of the store that a load answers: the other latest stores of its past, and how they came into the copy.
 ghost use Rattle.std.specs.Prelude.{◌≡◌, length};
-ghost use Rattle.causes.specs.Prelude.{AreWays};
+ghost use Rattle.causes.specs.Prelude.{ArePathWays};
 
 use causes::{Source, Ways};
 use journal::{Event, Kind};
@@ -57,7 +57,7 @@ fn first_from(places: &[usize], from: usize) -> Option<usize> {
 impl Rivalry<'_> {
     /// Where the processor fetched the store to the address, which is another one's.
     fn fetch_of(&self, store: usize, address: usize, processor: usize) -> Option<usize>
-        requires { AreWays self.now.events.now self.now.ways.now }
+        requires { ArePathWays self.now.events.now self.now.ways.now }
     {
         let words = self.words?;
         if words == 0 || store >= self.events.len() || processor >= 16 {
@@ -81,7 +81,7 @@ impl Rivalry<'_> {
         address: usize,
         processor: usize,
     ) -> Result<Vec<Rival>, AllocError>
-        requires { AreWays self.now.events.now self.now.ways.now }
+        requires { ArePathWays self.now.events.now self.now.ways.now }
     {
         let mut rivals = Vec::new(alloc);
         for store in latest {
@@ -112,7 +112,7 @@ impl Rivalry<'_> {
         source: Option<Source>,
         event: Event,
     ) -> Result<Vec<Rival>, AllocError>
-        requires { AreWays self.now.events.now self.now.ways.now }
+        requires { ArePathWays self.now.events.now self.now.ways.now }
     {
         match event.kind {
             Kind::Load(address, _) => {
@@ -134,7 +134,7 @@ pub fn rivals_of(
     latest: &[Vec<usize>],
     sources: &[Option<Source>],
 ) -> Result<Vec<Vec<Rival>>, AllocError>
-    requires ways { AreWays events.now ways.now }
+    requires ways { ArePathWays events.now ways.now }
     requires latest { length latest.now ≡ length events.now }
     requires sources { length sources.now ≡ length events.now }
 {

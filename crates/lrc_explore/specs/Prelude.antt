@@ -1,3 +1,3 @@
 -- The words that contracts name, passed on from one place. Declares nothing.
-pub use Rattle.lrc_explore.specs.Texts.{IsExploreText, IsHangEvents, IsHangText, IsMetText, IsQuietText, IsRacyText}
-pub use Rattle.lrc_explore.specs.Texts.{ExploreUnwritten, ExploreWritten, line_at, outcomes_end, outcomes_line, racy_lines, states_line}
+pub use Rattle.lrc_explore.specs.Texts.{IsExploreText, IsHangEventsText, IsHangText, IsMetText, IsQuietText, IsRacyText}
+pub use Rattle.lrc_explore.specs.Texts.{ExploreUnwritten, ExploreWritten, explore_text_line_at, explore_text_outcomes_end, explore_text_outcomes_line, explore_text_racy_lines, explore_text_states_line}

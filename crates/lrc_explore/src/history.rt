@@ -1,7 +1,7 @@
 //! The events of a schedule, a line each, as `lrc_report` prints a journal's.
 ghost use Rattle.std.specs.Prelude.{◌≡◌, ◌++◌, OnOk};
 ghost use Rattle.lrc_report.specs.Prelude.{event_line, event_lines};
-ghost use Rattle.lrc_explore.specs.Prelude.{line_at};
+ghost use Rattle.lrc_explore.specs.Prelude.{explore_text_line_at};
 
 use journal::Event;
 use lrc_report::Line;
@@ -29,7 +29,7 @@ pub fn put_events(text: &mut Vec<u8>, events: &[Event]) -> Result<(), AllocError
 
 /// Adds the line of the event at this place, if there is one.
 pub fn put_event_at(text: &mut Vec<u8>, events: &[Event], place: usize) -> Result<(), AllocError>
-    ensures { OnOk result (text.new.items ≡ text.old.items ++ line_at events.now place) }
+    ensures { OnOk result (text.new.items ≡ text.old.items ++ explore_text_line_at events.now place) }
 {
     match events.get(place) {
         Some(event) => put_line(text, place, event),

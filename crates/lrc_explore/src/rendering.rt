@@ -3,8 +3,8 @@ ghost use Rattle.std.specs.Prelude.{◌≡◌, ◌++◌, IfErr, IfOk, OnOk, code
 ghost use Rattle.std.specs.Io.KnownBytes.{Appends};
 ghost use Rattle.lrc_explore.specs.declared.fault.ExploreFault.TheVariants.{Output};
 ghost use Rattle.lrc_report.specs.Prelude.{event_lines};
-ghost use Rattle.lrc_explore.specs.Prelude.{IsExploreText, IsHangEvents, IsHangText, IsMetText, IsQuietText, IsRacyText};
-ghost use Rattle.lrc_explore.specs.Prelude.{ExploreUnwritten, ExploreWritten, outcomes_end, outcomes_line, racy_lines, states_line};
+ghost use Rattle.lrc_explore.specs.Prelude.{IsExploreText, IsHangEventsText, IsHangText, IsMetText, IsQuietText, IsRacyText};
+ghost use Rattle.lrc_explore.specs.Prelude.{ExploreUnwritten, ExploreWritten, explore_text_outcomes_end, explore_text_outcomes_line, explore_text_racy_lines, explore_text_states_line};
 
 use crate::fault::ExploreFault;
 use crate::hanging::waits_text;
@@ -19,7 +19,7 @@ use std::io::Write;
 
 /// Adds how many states were found.
 fn put_states(text: &mut Vec<u8>, states: usize) -> Result<(), AllocError>
-    ensures { OnOk result (text.new.items ≡ text.old.items ++ states_line states) }
+    ensures { OnOk result (text.new.items ≡ text.old.items ++ explore_text_states_line states) }
 {
     put_number(text, b"states ", states as u64)?;
     text.extend_from_slice(b"\n")
@@ -37,7 +37,7 @@ fn put_hang(text: &mut Vec<u8>, hang: &Hang, waits: &[u8]) -> Result<(), AllocEr
 
 /// A schedule that hangs: its events, and who waits for what.
 fn hanging_text(alloc: Global, hang: &Hang) -> Result<Vec<u8>, AllocError>
-    ensures { IfOk result (λ t. IsHangEvents hang.now t.items) }
+    ensures { IfOk result (λ t. IsHangEventsText hang.now t.items) }
 {
     let waits = waits_text(alloc, hang)?;
     let mut text = Vec::new(alloc);
@@ -68,14 +68,14 @@ fn met_text(alloc: Global, hanging: &Hanging) -> Result<Vec<u8>, AllocError>
 
 /// The end of the line on outcomes: whether there are no others.
 fn count_end(are_all: bool) -> &'static [u8]
-    ensures { result.now ≡ outcomes_end are_all }
+    ensures { result.now ≡ explore_text_outcomes_end are_all }
 {
     if are_all { b"\n" } else { b" so far\n" }
 }
 
 /// Adds how many outcomes were found, and whether there are no others.
 fn put_count(text: &mut Vec<u8>, outcomes: usize, are_all: bool) -> Result<(), AllocError>
-    ensures { OnOk result (text.new.items ≡ text.old.items ++ outcomes_line outcomes are_all) }
+    ensures { OnOk result (text.new.items ≡ text.old.items ++ explore_text_outcomes_line outcomes are_all) }
 {
     put_number(text, b"outcomes ", outcomes as u64)?;
     text.extend_from_slice(count_end(are_all))
@@ -83,7 +83,7 @@ fn put_count(text: &mut Vec<u8>, outcomes: usize, are_all: bool) -> Result<(), A
 
 /// Adds the events of a schedule that races, and the lines of the two that race: the one at this place and the last one.
 fn put_race(text: &mut Vec<u8>, events: &[Event], first: usize) -> Result<(), AllocError>
-    ensures { OnOk result (text.new.items ≡ text.old.items ++ racy_lines events.now first) }
+    ensures { OnOk result (text.new.items ≡ text.old.items ++ explore_text_racy_lines events.now first) }
 {
     let last = events.len().saturating_sub(1);
     put_events(text, events)?;
@@ -100,7 +100,7 @@ fn put_racy(
     states: usize,
 ) -> Result<(), AllocError>
     ensures { OnOk result (text.new.items ≡ text.old.items ++ (codes "verdict racy\n"
-        ++ racy_lines racy.now.events.items racy.now.first ++ hang.now ++ states_line states)) }
+        ++ explore_text_racy_lines racy.now.events.items racy.now.first ++ hang.now ++ explore_text_states_line states)) }
 {
     text.extend_from_slice(b"verdict racy\n")?;
     put_race(text, &racy.events, racy.first)?;
@@ -119,8 +119,8 @@ fn put_quiet(
     hangs: &[u8],
 ) -> Result<(), AllocError>
     ensures { OnOk result (text.new.items ≡ text.old.items ++ (verdict.now
-        ++ outcomes_line (vec_len explored.now.outcomes) explored.now.are_all ++ outcomes.now ++ hangs.now
-        ++ states_line explored.now.states)) }
+        ++ explore_text_outcomes_line (vec_len explored.now.outcomes) explored.now.are_all ++ outcomes.now ++ hangs.now
+        ++ explore_text_states_line explored.now.states)) }
 {
     text.extend_from_slice(verdict)?;
     put_count(text, explored.outcomes.len(), explored.are_all)?;

@@ -3,10 +3,10 @@ ghost use Rattle.std.specs.Prelude.{◌≡◌, IfOk, false, true};
 ghost use Rattle.clap.specs.Words.{App, app_of, rule_of, with_rule, with_subcommand};
 ghost use Rattle.clap.specs.declared.builder.command.Command.TheViews.{out-Command};
 ghost use Rattle.clap.specs.declared.builder.value_parser.ValueParser.TheVariants as vp;
-ghost use Rattle.lrc_options.specs.CommandLine.{flag_rule, lock_rule, model_rule, most_rule, number_rule, schedule_rule, seed_rule, seeds_rule};
-ghost use Rattle.lrc_options.specs.CommandLine.{IsCommand, bare_rules, check_rules, explain_rules, explore_rules, file_rules};
-ghost use Rattle.lrc_options.specs.CommandLine.{flagged_rules, lrc_rules, run_rules, sample_rules, script_rules, step_rules};
-ghost use Rattle.lrc_options.specs.CommandLine.{tries_rule};
+ghost use Rattle.lrc_options.specs.OptionRules.{flag_rule, lock_rule, model_rule, most_rule, number_rule, schedule_rule, seed_rule, seeds_rule};
+ghost use Rattle.lrc_options.specs.OptionRules.{IsCommand, bare_rules, check_rules, explain_rules, explore_rules, file_rules};
+ghost use Rattle.lrc_options.specs.OptionRules.{flagged_rules, lrc_rules, run_rules, sample_rules, script_rules, step_rules};
+ghost use Rattle.lrc_options.specs.OptionRules.{tries_rule};
 
 use crate::help::{
     ABOUT, AFTER, AFTER_RUN_AND_STEP, EXPLAIN, EXPLORE, JOURNAL, LAX, MODEL, MOST, RACE_IS_ERROR,

@@ -3,10 +3,10 @@ ghost use Rattle.std.specs.Prelude.{◌≡◌, IfOk, IfErr, OnOk, false, is_some
 ghost use Rattle.std.specs.Option.{option_map_or};
 ghost use Rattle.std.specs.Str.{bytes_eq};
 ghost use Rattle.clap.specs.Words.{first_of, one_of, rows_of, found_of};
-ghost use Rattle.lrc_options.specs.CommandLine.{IsOptionNumberRead, IsNumberOption, IsSeedOption, IsFlagOption, AreAskedOptionsOf, AreOptionsOf};
-ghost use Rattle.lrc_options.specs.CommandLine.{AreExplainOptionsOf, AreExploreOptionsOf, AreSampleOptionsOf};
-ghost use Rattle.lrc_options.specs.CommandLine.{AreTraceOptionsOf, default_most, has_both, model_given, named_model, ticket_option};
-ghost use Rattle.lrc_options.specs.CommandLine.{AreGivenOptions, IsRefusedCommandLine, IsUnanswered, most_tries, most_seed, default_tries, default_seeds};
+ghost use Rattle.lrc_options.specs.OptionRules.{IsOptionNumberRead, IsNumberOption, IsSeedOption, IsFlagOption, AreAskedOptionsOf, AreOptionsOf};
+ghost use Rattle.lrc_options.specs.OptionRules.{AreExplainOptionsOf, AreExploreOptionsOf, AreSampleOptionsOf};
+ghost use Rattle.lrc_options.specs.OptionRules.{AreTraceOptionsOf, default_most_option, has_both_options, option_model_given, option_named_model, ticket_option};
+ghost use Rattle.lrc_options.specs.OptionRules.{AreGivenOptions, IsRefusedCommandLine, IsOptionUnanswered, most_tries_option, most_seed_option, default_tries_option, default_seeds_option};
 
 use crate::command::{LOCKS, MODELS, MOST_SEED, MOST_TRIES, lrc_command};
 use crate::options::{
@@ -26,7 +26,7 @@ fn number_of(matches: &ArgMatches<'_>, id: &str) -> Option<u64>
 
 /// The number given for `--tries`, or the default.
 fn tries_of(matches: &ArgMatches<'_>) -> u64
-    ensures { IsNumberOption 1 most_tries default_tries
+    ensures { IsNumberOption 1 most_tries_option default_tries_option
         (one_of (codes "tries") (rows_of (found_of matches.now))) result }
 {
     match number_of(matches, "tries") {
@@ -47,7 +47,7 @@ fn seed_of(matches: &ArgMatches<'_>) -> Option<u64>
 
 /// The number given for `--seeds`, or the default.
 fn seeds_of(matches: &ArgMatches<'_>) -> u32
-    ensures { IsNumberOption 1 most_seed default_seeds
+    ensures { IsNumberOption 1 most_seed_option default_seeds_option
         (one_of (codes "seeds") (rows_of (found_of matches.now))) result }
 {
     match number_of(matches, "seeds") {
@@ -58,7 +58,7 @@ fn seeds_of(matches: &ArgMatches<'_>) -> u32
 
 /// The number given for `--most`, or the default.
 fn most_of(matches: &ArgMatches<'_>) -> u32
-    ensures { IsNumberOption 0 most_seed default_most
+    ensures { IsNumberOption 0 most_seed_option default_most_option
         (one_of (codes "most") (rows_of (found_of matches.now))) result }
 {
     match number_of(matches, "most") {
@@ -107,7 +107,7 @@ fn ends_at_race(matches: &ArgMatches<'_>) -> bool
 
 /// The model of this name; the first one, if none has it.
 fn model_named(name: &str) -> TraceModel
-    ensures { result ≡ named_model name.now }
+    ensures { result ≡ option_named_model name.now }
 {
     if name == "happens-before" {
         TraceModel::HappensBefore
@@ -122,7 +122,7 @@ fn model_named(name: &str) -> TraceModel
 
 /// The model that is asked for.
 fn model_of(matches: &ArgMatches<'_>) -> TraceModel
-    ensures { result ≡ model_given (rows_of (found_of matches.now)) }
+    ensures { result ≡ option_model_given (rows_of (found_of matches.now)) }
 {
     match matches.get_str("model") {
         Some(name) => model_named(name),
@@ -150,7 +150,7 @@ fn is_given(matches: &ArgMatches<'_>, id: &str) -> bool
 
 /// Whether a seed and a schedule are given.
 fn has_both(matches: &ArgMatches<'_>) -> bool
-    ensures { result ≡ has_both (rows_of (found_of matches.now)) }
+    ensures { result ≡ has_both_options (rows_of (found_of matches.now)) }
 {
     is_given(matches, "seed") && is_given(matches, "schedule")
 }
@@ -242,9 +242,9 @@ fn asked_of(alloc: Global, name: &str, matches: &ArgMatches<'_>) -> Result<Asked
 
 /// The same, or that a seed and a schedule are given.
 fn answer_of(alloc: Global, name: &str, matches: &ArgMatches<'_>) -> Result<Asked, Error>
-    ensures one { OnOk result (has_both (rows_of (found_of matches.now)) ≡ false) }
+    ensures one { OnOk result (has_both_options (rows_of (found_of matches.now)) ≡ false) }
     ensures asked { IfOk result (AreAskedOptionsOf name.now (rows_of (found_of matches.now))) }
-    ensures unanswered { IfErr result (IsUnanswered (rows_of (found_of matches.now))) }
+    ensures unanswered { IfErr result (IsOptionUnanswered (rows_of (found_of matches.now))) }
 {
     if has_both(matches) {
         return Err(both_given(alloc, name)?);

@@ -1,8 +1,8 @@
 pub mod Lines
-pub mod Ordering
+pub mod OrderingTally
 pub mod Replies
 pub mod Same
 pub mod Samples
 pub mod Swaps
-pub mod Tallies
-pub mod Telling
+pub mod TallyLines
+pub mod TellingLaws

@@ -8,25 +8,25 @@ use Rattle.base.proofs.Joined.{in_order-append, joined_in_order_single}
 use Rattle.conformance.specs.declared.schedule.Schedule.{Schedule}
 use Rattle.lrc_sample.specs.declared.outcome.SampleOutcome.{SampleOutcome}
 use Rattle.lrc_sample.specs.declared.tally.TallyLine.{TallyLine}
-use Rattle.lrc_sample.specs.Tally.{IsLineOf, run_of}
+use Rattle.lrc_sample.specs.Tally.{IsTallyLineOf, tally_run_of}
 
 -- the line counts one run more
 abbrev pub counted : TallyLine → TallyLine
 counted l = record { outcome = l.outcome; times = l.times + 1; seed = l.seed; schedule = l.schedule }
 
 -- an item stays where it is
-pub stays : {A : Type 0} (xs : List A) (y : A) (i : ℕ) (x : A) → slice_get xs i ≡ Some x
+pub sample_line_stays : {A : Type 0} (xs : List A) (y : A) (i : ℕ) (x : A) → slice_get xs i ≡ Some x
     → slice_get (xs ++ y ∷ []) i ≡ Some x
-stays xs y i x at = slice_get-append_left xs (y ∷ []) i (slice_get_within xs i x at) ∙ at
+sample_line_stays xs y i x at = slice_get-append_left xs (y ∷ []) i (slice_get_within xs i x at) ∙ at
 
 -- a run that came to something else
-pub line_other : (os : List SampleOutcome) (o : SampleOutcome) (line : TallyLine) → line.outcome ≢ o → IsLineOf os line
-    → IsLineOf (os ++ o ∷ []) line
+pub line_other : (os : List SampleOutcome) (o : SampleOutcome) (line : TallyLine) → line.outcome ≢ o → IsTallyLineOf os line
+    → IsTallyLineOf (os ++ o ∷ []) line
 line_other os o line isnt is = record {
   runs = is.runs;
   rising = is.rising;
   exactly = λ i. (
-    λ has. stays os o i line.outcome ((is.exactly i).0 has),
+    λ has. sample_line_stays os o i line.outcome ((is.exactly i).0 has),
     λ at. elim (slice_push_cases os o i line.outcome at)
         [ inl old ↦ (is.exactly i).1 old.1 | inr new ↦ absurd (isnt (sym new.1)) ],
   );
@@ -35,30 +35,30 @@ line_other os o line isnt is = record {
 }
 
 -- the runs of a line came before
-pub run_before : (os : List SampleOutcome) (line : TallyLine) (i : ℕ) → (is : IsLineOf os line) → Has is.runs i → i < length os
-run_before os line i is has = slice_get_within os i line.outcome ((is.exactly i).0 has)
+pub run_before_line : (os : List SampleOutcome) (line : TallyLine) (i : ℕ) → (is : IsTallyLineOf os line) → Has is.runs i → i < length os
+run_before_line os line i is has = slice_get_within os i line.outcome ((is.exactly i).0 has)
 
 -- a run that came to the same
-pub line_again : (os : List SampleOutcome) (o : SampleOutcome) (line : TallyLine) → line.outcome ≡ o → IsLineOf os line
-    → IsLineOf (os ++ o ∷ []) (counted line)
+pub line_again : (os : List SampleOutcome) (o : SampleOutcome) (line : TallyLine) → line.outcome ≡ o → IsTallyLineOf os line
+    → IsTallyLineOf (os ++ o ∷ []) (counted line)
 line_again os o line same is = record {
   runs = is.runs ++ length os ∷ [];
   rising = in_order-append (λ (i k : ℕ). i < k) is.runs (length os ∷ []) is.rising
       (joined_in_order_single (λ (i k : ℕ). i < k) (length os)) before;
   exactly = λ i. (has_at i, at_has i);
   times_are = omega (arith, is.times_are, length-append is.runs (length os ∷ []));
-  first = stays is.runs (length os) 0 (run_of line.seed) is.first;
+  first = sample_line_stays is.runs (length os) 0 (tally_run_of line.seed) is.first;
 }
   where
     before : (a b : ℕ) → Has is.runs a → Has (length os ∷ []) b → a < b
     before a b has (zero, at) =
         let last : length os ≡ b = same_Some (length os) b at in
-        omega (arith, last, run_before os line a is has)
+        omega (arith, last, run_before_line os line a is has)
     before a b has (suc k, at) = absurd (none-some b at)
 
     has_at : (i : ℕ) → Has (is.runs ++ length os ∷ []) i → slice_get (os ++ o ∷ []) i ≡ Some line.outcome
     has_at i (k, at) = elim (slice_push_cases is.runs (length os) k i at) [
-      | inl old ↦ stays os o i line.outcome ((is.exactly i).0 (k, old.1))
+      | inl old ↦ sample_line_stays os o i line.outcome ((is.exactly i).0 (k, old.1))
       | inr new ↦
           ap (slice_get (os ++ o ∷ [])) (sym new.1) ∙ slice_get-last os o ∙ ap Some (sym same)
     ]
@@ -66,13 +66,13 @@ line_again os o line same is = record {
     at_has : (i : ℕ) → slice_get (os ++ o ∷ []) i ≡ Some line.outcome → Has (is.runs ++ length os ∷ []) i
     at_has i at = elim (slice_push_cases os o i line.outcome at) [
       | inl old ↦
-          (let r = (is.exactly i).1 old.1 in (r.0, stays is.runs (length os) r.0 i r.1))
+          (let r = (is.exactly i).1 old.1 in (r.0, sample_line_stays is.runs (length os) r.0 i r.1))
       | inr new ↦ (length is.runs, slice_get-last is.runs (length os) ∙ ap Some (sym new.0))
     ]
 
 -- a first run
 pub line_new : (os : List SampleOutcome) (o : SampleOutcome) (seed : Option ℕ) (schedule : Schedule) → ¬ Has os o
-    → run_of seed ≡ length os → IsLineOf (os ++ o ∷ []) record { outcome = o; times = 1; seed = seed; schedule = schedule }
+    → tally_run_of seed ≡ length os → IsTallyLineOf (os ++ o ∷ []) record { outcome = o; times = 1; seed = seed; schedule = schedule }
 line_new os o seed schedule none place = record {
   runs = length os ∷ [];
   rising = joined_in_order_single (λ (i k : ℕ). i < k) (length os);

@@ -7,18 +7,18 @@ use Rattle.lrc_sample.specs.declared.outcome.Reply.{Reply}
 use Rattle.lrc_sample.specs.Replies.{replies_by, own_replies}
 
 -- what is left where the last are taken off again
-without_last : (old xs new : List Reply) (before after n shown : ℕ) → before ≡ length old → after ≡ length new
+sample_replies_without_last : (old xs new : List Reply) (before after n shown : ℕ) → before ≡ length old → after ≡ length new
     → new ≡ old ++ xs → n ≡ after - before - shown → take (before + n) new ≡ old ++ take (length xs - shown) xs
-without_last old xs new before after n shown b a is num =
+sample_replies_without_last old xs new before after n shown b a is num =
     let count : n ≡ length xs - shown = omega (arith, a, b, num, ap length is, length-append old xs) in
     ap (take (before + n)) is ∙ ap (λ m. take (m + n) (old ++ xs)) b ∙ take-append-add old xs n
     ∙ ap (λ m. old ++ take m xs) count
 
 -- processor 0's own are those
-pub own_added : (old new : List Reply) (before after n shown p : ℕ) (h : List Event) → p ≡ 0 → before ≡ length old
+pub sample_replies_own_added : (old new : List Reply) (before after n shown p : ℕ) (h : List Event) → p ≡ 0 → before ≡ length old
     → after ≡ length new → new ≡ old ++ replies_by p h → n ≡ after - before - shown
     → take (before + n) new ≡ old ++ own_replies shown p h
-own_added old new before after n shown p h zeroth b a is num =
-    without_last old (replies_by p h) new before after n shown b a is num
+sample_replies_own_added old new before after n shown p h zeroth b a is num =
+    sample_replies_without_last old (replies_by p h) new before after n shown b a is num
     ∙ ap (λ q. old ++ cond (q == 0) (take (length (replies_by p h) - shown) (replies_by p h)) (replies_by p h))
     (sym zeroth)

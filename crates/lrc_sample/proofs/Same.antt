@@ -13,13 +13,13 @@ same_pair a b =
     (Decides-and _ _ (Decides-eqb a.0 b.0) (Decides-eqb a.1 b.1))
 
 -- a reply
-reply : ℕ → ℕ → Reply
-reply p v = record { processor = p; word = v }
+same_reply_of : ℕ → ℕ → Reply
+same_reply_of p v = record { processor = p; word = v }
 
 -- two replies
 pub same_reply : (a b : Reply) → Decides ((a.processor == b.processor) && (a.word == b.word)) (a ≡ b)
-unfolding reply
+unfolding same_reply_of
 same_reply a b =
-    Decides-like _ (λ e. ap (λ (x : ℕ). reply x a.word) e.0 ∙ ap (λ (y : ℕ). reply b.processor y) e.1)
+    Decides-like _ (λ e. ap (λ (x : ℕ). same_reply_of x a.word) e.0 ∙ ap (λ (y : ℕ). same_reply_of b.processor y) e.1)
     (λ is. (ap (λ (x : Reply). x.processor) is, ap (λ (x : Reply). x.word) is))
     (Decides-and _ _ (Decides-eqb a.processor b.processor) (Decides-eqb a.word b.word))

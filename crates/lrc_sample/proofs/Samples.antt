@@ -8,13 +8,13 @@ use Rattle.lrc_script.specs.Plan.{Plan}
 use Rattle.lrc_sample.specs.declared.outcome.SampleOutcome.{SampleOutcome}
 use Rattle.lrc_sample.specs.declared.tally.TallyLine.{TallyLine}
 use Rattle.lrc_sample.specs.declared.sampling.Sampled.{Sampled}
-use Rattle.lrc_sample.specs.Order.{AreFrequentFirst, AreSeenInOrder, TallyStarted}
-use Rattle.lrc_sample.specs.Samples.{IsMade, IsSampleOf, Shows}
-use Rattle.lrc_sample.specs.Tally.{AreLinesShown, CountsRuns, times_of}
+use Rattle.lrc_sample.specs.Order.{AreFrequentFirst, AreSeenInOrder, TallyOrderStarted}
+use Rattle.lrc_sample.specs.Samples.{IsSampleMade, IsSampleOf, SampleShows}
+use Rattle.lrc_sample.specs.Tally.{AreLinesShown, TallyCountsRuns, tally_times_of}
 
 -- before the first run
-pub made_none : (s : Plan) → IsMade s 0 []
-made_none s = record {
+pub sample_made_none : (s : Plan) → IsSampleMade s 0 []
+sample_made_none s = record {
   outcomes = [];
   are = record { many = refl; each = λ run o at. absurd (none-some o at) };
   noted = record {
@@ -30,9 +30,9 @@ made_none s = record {
 }
 
 -- one run more
-pub made_next : (s : Plan) (n : ℕ) (o : SampleOutcome) (turns : List ℕ) (old new : List TallyLine) (is : IsMade s n old)
-    → Shows s turns o → TallyStarted (is.outcomes ++ o ∷ []) new → AreLinesShown (Shows s) new → IsMade s (n + 1) new
-made_next s n o turns old new is one noted shown = record {
+pub sample_made_next : (s : Plan) (n : ℕ) (o : SampleOutcome) (turns : List ℕ) (old new : List TallyLine) (is : IsSampleMade s n old)
+    → SampleShows s turns o → TallyOrderStarted (is.outcomes ++ o ∷ []) new → AreLinesShown (SampleShows s) new → IsSampleMade s (n + 1) new
+sample_made_next s n o turns old new is one noted shown = record {
   outcomes = is.outcomes ++ o ∷ [];
   are = record { many = omega (arith, length-append is.outcomes (o ∷ []), is.are.many); each = each };
   noted = noted;
@@ -40,19 +40,19 @@ made_next s n o turns old new is one noted shown = record {
 }
   where
     each : (run : ℕ) (x : SampleOutcome) → slice_get (is.outcomes ++ o ∷ []) run ≡ Some x
-        → (by : List ℕ) × Shows s by x
+        → (by : List ℕ) × SampleShows s by x
     each run x at = elim (slice_push_cases is.outcomes o run x at)
-        [ inl old ↦ is.are.each run x old.1 | inr new ↦ (turns, subst (Shows s turns) new.1 one) ]
+        [ inl old ↦ is.are.each run x old.1 | inr new ↦ (turns, subst (SampleShows s turns) new.1 one) ]
 
 -- the counts fit
-pub made_few : (s : Plan) (n : ℕ) (lines : List TallyLine) → n ≤ 2 ^ 32 → IsMade s n lines
-    → sum_by times_of lines < 2 ^ 64
-made_few s n lines few is = omega (arith, few, is.noted.tally.sum, is.are.many)
+pub sample_made_few : (s : Plan) (n : ℕ) (lines : List TallyLine) → n ≤ 2 ^ 32 → IsSampleMade s n lines
+    → sum_by tally_times_of lines < 2 ^ 64
+sample_made_few s n lines few is = omega (arith, few, is.noted.tally.sum, is.are.many)
 
 -- in order
-pub sample_of : (s : Plan) (n : ℕ) (old : List TallyLine) (sampled : Sampled) (is : IsMade s n old)
-    → ((os : List SampleOutcome) → CountsRuns os old → CountsRuns os sampled.lines.items)
-    → ((p : Plan) → AreLinesShown (Shows p) old → AreLinesShown (Shows p) sampled.lines.items)
+pub sample_of : (s : Plan) (n : ℕ) (old : List TallyLine) (sampled : Sampled) (is : IsSampleMade s n old)
+    → ((os : List SampleOutcome) → TallyCountsRuns os old → TallyCountsRuns os sampled.lines.items)
+    → ((p : Plan) → AreLinesShown (SampleShows p) old → AreLinesShown (SampleShows p) sampled.lines.items)
     → (AreSeenInOrder old → AreFrequentFirst sampled.lines.items) → IsSampleOf s n sampled
 sample_of s n old sampled is tally shown order = record {
   outcomes = is.outcomes;

@@ -7,38 +7,38 @@ use Rattle.std.proofs.lemmas.Option.{slice_get-get_or}
 use Rattle.base.proofs.SliceSets.{slice_get-set_other, slice_get-set_same}
 
 -- where the item at k stood
-abbrev pub moved : ℕ → ℕ → ℕ → ℕ
-moved i j k = cond (k == j) i (cond (k == i) j k)
+abbrev pub swap_moved : ℕ → ℕ → ℕ → ℕ
+swap_moved i j k = cond (k == j) i (cond (k == i) j k)
 
-moved_second : (i j k : ℕ) → k ≡ j → moved i j k ≡ i
-moved_second i j k is = ap (λ b. cond b i (cond (k == i) j k)) (eq-eqb k j is)
+swap_moved_second : (i j k : ℕ) → k ≡ j → swap_moved i j k ≡ i
+swap_moved_second i j k is = ap (λ b. cond b i (cond (k == i) j k)) (eq-eqb k j is)
 
-moved_first : (i j k : ℕ) → k ≢ j → k ≡ i → moved i j k ≡ j
-moved_first i j k isnt is =
+swap_moved_first : (i j k : ℕ) → k ≢ j → k ≡ i → swap_moved i j k ≡ j
+swap_moved_first i j k isnt is =
     ap (λ b. cond b i (cond (k == i) j k)) (ne_eqb k j isnt) ∙ ap (λ b. cond b j k) (eq-eqb k i is)
 
-moved_other : (i j k : ℕ) → k ≢ j → k ≢ i → moved i j k ≡ k
-moved_other i j k isnt not =
+swap_moved_others : (i j k : ℕ) → k ≢ j → k ≢ i → swap_moved i j k ≡ k
+swap_moved_others i j k isnt not =
     ap (λ b. cond b i (cond (k == i) j k)) (ne_eqb k j isnt) ∙ ap (λ b. cond b j k) (ne_eqb k i not)
 
 -- twice is not at all
-pub moved_back : (i j k : ℕ) → moved i j (moved i j k) ≡ k
-moved_back i j k = elim (cases_eq k j) [
+pub swap_moved_back : (i j k : ℕ) → swap_moved i j (swap_moved i j k) ≡ k
+swap_moved_back i j k = elim (cases_eq k j) [
   | inl is ↦
-      ap (moved i j) (moved_second i j k is)
+      ap (swap_moved i j) (swap_moved_second i j k is)
       ∙ elim (cases_eq i j)
-      [ inl same ↦ moved_second i j i same ∙ same ∙ sym is | inr other ↦ moved_first i j i other refl ∙ sym is ]
+      [ inl same ↦ swap_moved_second i j i same ∙ same ∙ sym is | inr other ↦ swap_moved_first i j i other refl ∙ sym is ]
   | inr isnt ↦
       elim (cases_eq k i) [
-        | inl is ↦ ap (moved i j) (moved_first i j k isnt is) ∙ moved_second i j j refl ∙ sym is
-        | inr not ↦ ap (moved i j) (moved_other i j k isnt not) ∙ moved_other i j k isnt not
+        | inl is ↦ ap (swap_moved i j) (swap_moved_first i j k isnt is) ∙ swap_moved_second i j j refl ∙ sym is
+        | inr not ↦ ap (swap_moved i j) (swap_moved_others i j k isnt not) ∙ swap_moved_others i j k isnt not
       ]
 ]
 
 -- what stands at k after the two writes that this is
 written : {A : Type 0} (xs : List A) (i j k : ℕ) (d : A) → i < length xs → j < length xs
     → slice_get (slice_set (slice_set xs i (slice_index_or xs j d)) j (slice_index_or xs i d)) k
-    ≡ slice_get xs (moved i j k)
+    ≡ slice_get xs (swap_moved i j k)
 written xs i j k d first second =
     let there = slice_index_or xs j d in
     let here = slice_index_or xs i d in
@@ -47,19 +47,19 @@ written xs i j k d first second =
     elim (cases_eq k j) [
       | inl is ↦
           ap (slice_get (slice_set one j here)) is ∙ slice_get-set_same one j here within
-          ∙ sym (slice_get-get_or xs i d first) ∙ ap (slice_get xs) (sym (moved_second i j k is))
+          ∙ sym (slice_get-get_or xs i d first) ∙ ap (slice_get xs) (sym (swap_moved_second i j k is))
       | inr isnt ↦
           slice_get-set_other one j k here isnt ∙ elim (cases_eq k i) [
             | inl is ↦
                 ap (slice_get one) is ∙ slice_get-set_same xs i there first ∙ sym (slice_get-get_or xs j d second)
-                ∙ ap (slice_get xs) (sym (moved_first i j k isnt is))
+                ∙ ap (slice_get xs) (sym (swap_moved_first i j k isnt is))
             | inr not ↦
-                slice_get-set_other xs i k there not ∙ ap (slice_get xs) (sym (moved_other i j k isnt not))
+                slice_get-set_other xs i k there not ∙ ap (slice_get xs) (sym (swap_moved_others i j k isnt not))
           ]
     ]
 
 -- what stands at k
-pub swapped : {A : Type 0} (xs : List A) (i j k : ℕ) → i < length xs → j < length xs
-    → slice_get (swap xs i j) k ≡ slice_get xs (moved i j k)
-swapped [] i j k first second = absurd (omega arith)
-swapped (d ∷ ys) i j k first second = written (d ∷ ys) i j k d first second
+pub swap_items : {A : Type 0} (xs : List A) (i j k : ℕ) → i < length xs → j < length xs
+    → slice_get (swap xs i j) k ≡ slice_get xs (swap_moved i j k)
+swap_items [] i j k first second = absurd (omega arith)
+swap_items (d ∷ ys) i j k first second = written (d ∷ ys) i j k d first second

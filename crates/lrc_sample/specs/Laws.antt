@@ -8,19 +8,19 @@ use Rattle.lrc_sample.specs.declared.outcome.SampleOutcome.TheVariants.{Ended}
 use Rattle.lrc_sample.specs.declared.tally.TallyLine.{TallyLine}
 use Rattle.lrc_sample.specs.Answered.{Answered}
 use Rattle.lrc_sample.specs.Outcomes.{IsSampleOutcomeOf}
-use Rattle.lrc_sample.specs.Tally.{CountsRuns, run_of}
+use Rattle.lrc_sample.specs.Tally.{TallyCountsRuns, tally_run_of}
 
 -- some run came to the line's outcome, and the run of its seed was the first
-pub record TellsFirst (outcomes : List SampleOutcome) (line : TallyLine) : Type 0 where
+pub record TellsFirstByLaw (outcomes : List SampleOutcome) (line : TallyLine) : Type 0 where
   pub some : 0 < line.times
-  pub within : run_of line.seed < length outcomes
-  pub came : slice_get outcomes (run_of line.seed) ≡ Some line.outcome
-  pub first : (i : ℕ) → i < run_of line.seed → slice_get outcomes i ≢ Some line.outcome
+  pub within : tally_run_of line.seed < length outcomes
+  pub came : slice_get outcomes (tally_run_of line.seed) ≡ Some line.outcome
+  pub first : (i : ℕ) → i < tally_run_of line.seed → slice_get outcomes i ≢ Some line.outcome
 
 -- so does each line of a tally
 abbrev pub FirstLaw : Type 0
-FirstLaw = (outcomes : List SampleOutcome) (lines : List TallyLine) (line : TallyLine) → CountsRuns outcomes lines → Has lines line
-    → TellsFirst outcomes line
+FirstLaw = (outcomes : List SampleOutcome) (lines : List TallyLine) (line : TallyLine) → TallyCountsRuns outcomes lines → Has lines line
+    → TellsFirstByLaw outcomes line
 
 -- a script that never races on one flat memory has no outcome with a race
 abbrev pub RaceFreeOutcomeLaw : Type 0

@@ -9,8 +9,8 @@ use Rattle.lrc_sample.specs.Answered.{Answered}
 use Rattle.lrc_sample.specs.Replies.{replies_of}
 
 -- the shown words of a report, the replies of so many processors that its journal has, and its verdict
-abbrev pub answered : ℕ → Report → Answered
-answered processors r = record {
+abbrev pub answered_outcome : ℕ → Report → Answered
+answered_outcome processors r = record {
   words = r.shown.items;
   replies = replies_of (length r.shown.items) processors r.journal.events;
   racy = r.racy;
@@ -19,5 +19,5 @@ answered processors r = record {
 -- the answers are those of a report of the script's run by turns in these orders; or that run gets into a deadlock, of
 -- which this is the least processor
 abbrev pub IsSampleOutcomeOf : Plan → (ℕ → List ℕ) → SampleOutcome → Type 0
-IsSampleOutcomeOf s orders (Ended answers) = (r : Report) × (IsReportByTurns s orders r × (answers ≡ answered s.processors r))
+IsSampleOutcomeOf s orders (Ended answers) = (r : Report) × (IsReportByTurns s orders r × (answers ≡ answered_outcome s.processors r))
 IsSampleOutcomeOf s orders (Stuck processor) = IsStuckByTurns s orders processor

@@ -7,17 +7,17 @@ use Rattle.journal.specs.declared.event.Kind.TheVariants.{Load}
 use Rattle.lrc_sample.specs.declared.outcome.Reply.{Reply}
 
 -- what an event of p answered, if it is a load
-abbrev pub reply_in : ℕ → Kind → List Reply
-reply_in p (Load address word) = record { processor = p; word = word } ∷ []
-reply_in p _ = []
+abbrev pub replies_in_kind : ℕ → Kind → List Reply
+replies_in_kind p (Load address word) = record { processor = p; word = word } ∷ []
+replies_in_kind p _ = []
 
 -- the same of an event of anyone
-abbrev pub reply_by : ℕ → Event → List Reply
-reply_by p e = cond (e.processor == p) (reply_in p e.kind) []
+abbrev pub replies_in_event : ℕ → Event → List Reply
+replies_in_event p e = cond (e.processor == p) (replies_in_kind p e.kind) []
 
 -- what the loads of p answered, in order
 abbrev pub replies_by : ℕ → List Event → List Reply
-replies_by p h = flat_map (reply_by p) h
+replies_by p h = flat_map (replies_in_event p) h
 
 -- the same without those that show the last words, which processor 0 makes at the end
 abbrev pub own_replies : ℕ → ℕ → List Event → List Reply

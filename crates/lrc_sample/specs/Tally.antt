@@ -6,28 +6,28 @@ use Rattle.lrc_sample.specs.declared.outcome.SampleOutcome.{SampleOutcome}
 use Rattle.lrc_sample.specs.declared.tally.TallyLine.{TallyLine}
 
 -- the run without a seed is the first, and those with the seeds from 0 on follow
-abbrev pub run_of : Option ℕ → ℕ
-run_of None = 0
-run_of (Some seed) = seed + 1
+abbrev pub tally_run_of : Option ℕ → ℕ
+tally_run_of None = 0
+tally_run_of (Some seed) = seed + 1
 
-abbrev pub times_of : TallyLine → ℕ
-times_of line = line.times
+abbrev pub tally_times_of : TallyLine → ℕ
+tally_times_of line = line.times
 
 -- the line tells how many of the runs came to its outcome, and which did first
-pub record IsLineOf (outcomes : List SampleOutcome) (line : TallyLine) : Type 0 where
+pub record IsTallyLineOf (outcomes : List SampleOutcome) (line : TallyLine) : Type 0 where
   pub runs : List ℕ
   pub rising : InOrder (λ (i k : ℕ). i < k) runs
   pub exactly : (i : ℕ) → Has runs i ↔ (slice_get outcomes i ≡ Some line.outcome)
   pub times_are : line.times ≡ length runs
-  pub first : slice_get runs 0 ≡ Some (run_of line.seed)
+  pub first : slice_get runs 0 ≡ Some (tally_run_of line.seed)
 
 -- each outcome that came has one line, and the lines count every run
-pub record CountsRuns (outcomes : List SampleOutcome) (lines : List TallyLine) : Type 0 where
-  pub each : (line : TallyLine) → Has lines line → IsLineOf outcomes line
+pub record TallyCountsRuns (outcomes : List SampleOutcome) (lines : List TallyLine) : Type 0 where
+  pub each : (line : TallyLine) → Has lines line → IsTallyLineOf outcomes line
   pub once : (i k : ℕ) (a b : TallyLine) → slice_get lines i ≡ Some a → slice_get lines k ≡ Some b
       → a.outcome ≡ b.outcome → i ≡ k
   pub all : (o : SampleOutcome) → Has outcomes o → (line : TallyLine) × (Has lines line × (line.outcome ≡ o))
-  pub sum : sum_by times_of lines ≡ length outcomes
+  pub sum : sum_by tally_times_of lines ≡ length outcomes
 
 -- each line's schedule shows its outcome
 abbrev pub AreLinesShown : (List ℕ → SampleOutcome → Type 0) → List TallyLine → Type 0

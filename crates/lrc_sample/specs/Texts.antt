@@ -9,7 +9,7 @@ use Rattle.lrc_sample.specs.declared.sampling.Sampled.{Sampled}
 use Rattle.lrc_sample.specs.declared.tally.TallyLine.{TallyLine}
 use Rattle.conformance.specs.Schedules.{schedule_text}
 use Rattle.lrc_sample.specs.Answered.{Answered}
-use Rattle.lrc_sample.specs.Tally.{times_of}
+use Rattle.lrc_sample.specs.Tally.{tally_times_of}
 
 -- a shown address with its last word
 abbrev pub word_text : ℕ × ℕ → List ℕ
@@ -49,9 +49,9 @@ tally_line_text l =
     ++ (outcome_text l.outcome ++ (codes " schedule " ++ (schedule_text l.schedule.turns.items ++ codes "\n")))
 
 -- how many runs the lines count, as far as 64 bits hold
-abbrev pub runs_in : List TallyLine → ℕ
-runs_in lines = min (sum_by times_of lines) (2 ^ 64 - 1)
+abbrev pub runs_in_text : List TallyLine → ℕ
+runs_in_text lines = min (sum_by tally_times_of lines) (2 ^ 64 - 1)
 
 -- how many runs there were, and each outcome in a line of its own
 abbrev pub sample_text : Sampled → List ℕ
-sample_text s = (codes "runs " ++ (decimal (runs_in s.lines.items) ++ codes "\n")) ++ flat_map tally_line_text s.lines.items
+sample_text s = (codes "runs " ++ (decimal (runs_in_text s.lines.items) ++ codes "\n")) ++ flat_map tally_line_text s.lines.items

@@ -1,6 +1,6 @@
 //! What a run came to.
 ghost use Rattle.std.specs.Prelude.{ℕ, ◌≡◌, ◌↔◌, ◌++◌, IsTrue, IfOk, OnOk};
-ghost use Rattle.lrc_sample.specs.Prelude.{answered, own_replies, reply_by, replies_by, replies_of};
+ghost use Rattle.lrc_sample.specs.Prelude.{answered_outcome, own_replies, replies_in_event, replies_by, replies_of};
 
 use journal::{Event, Kind};
 use lrc_report::Report;
@@ -41,7 +41,7 @@ pub enum SampleOutcome {
 
 /// Adds what the event answered, if it is a load of this processor.
 fn add_reply(replies: &mut Vec<Reply>, processor: usize, event: Event) -> Result<(), AllocError>
-    ensures { OnOk result (replies.new.items ≡ replies.old.items ++ reply_by processor event) }
+    ensures { OnOk result (replies.new.items ≡ replies.old.items ++ replies_in_event processor event) }
 {
     match event.kind {
         Kind::Load(_, word) if event.processor == processor => {
@@ -119,7 +119,7 @@ fn are_same_replies(replies: &[Reply], others: &[Reply]) -> bool
 impl Answers {
     /// The answers of a report of so many processors. The only error is running out of memory.
     pub fn of(alloc: Global, processors: usize, report: Report) -> Result<Answers, AllocError>
-        ensures { IfOk result (λ a. a ≡ answered processors report) }
+        ensures { IfOk result (λ a. a ≡ answered_outcome processors report) }
     {
         let shown = report.shown.len();
         let replies = replies_to(alloc, processors, shown, report.journal.events())?;

@@ -2,7 +2,7 @@
 ghost use Rattle.std.specs.Prelude.{ℕ, ◌≤◌, ◌+◌, ◌^◌, IfOk, List, OnOk};
 ghost use Rattle.lrc_script.specs.Prelude.{IsLawful, plan_of};
 ghost use Rattle.conformance.specs.Prelude.{IsEndByTurns, scheduled};
-ghost use Rattle.lrc_sample.specs.Prelude.{IsMade, IsSampleOutcomeOf, IsSampleOf, run_of};
+ghost use Rattle.lrc_sample.specs.Prelude.{IsSampleMade, IsSampleOutcomeOf, IsSampleOf, tally_run_of};
 
 use crate::outcome::{Answers, SampleOutcome};
 use crate::tally::{TallyLine, note, sort};
@@ -77,9 +77,9 @@ fn run_once<T: Runs, R: Wait>(
     lines: &mut Vec<TallyLine>,
 ) -> Result<(), RunFault>
     requires lawful { IsLawful (plan_of script.now) }
-    requires few { run_of seed ≤ 2 ^ 32 }
-    requires made { IsMade (plan_of script.now) (run_of seed) lines.old.items }
-    ensures { OnOk result (IsMade (plan_of script.now) (run_of seed + 1) lines.new.items) }
+    requires few { tally_run_of seed ≤ 2 ^ 32 }
+    requires made { IsSampleMade (plan_of script.now) (tally_run_of seed) lines.old.items }
+    ensures { OnOk result (IsSampleMade (plan_of script.now) (tally_run_of seed + 1) lines.new.items) }
 {
     let DrawnRun { schedule, ended } = run_of(runs, rt, alloc, script, lock, seed)?;
     let outcome = outcome_of(alloc, script, ended)?;

@@ -3,8 +3,8 @@ ghost use Rattle.std.specs.Prelude.{ℕ, ◌≡◌, ◌≢◌, ◌<◌, ◌-◌,
 ghost use Rattle.std.specs.List.{sum_by};
 ghost use Rattle.lrc_sample.specs.declared.outcome.SampleOutcome.{SampleOutcome};
 ghost use Rattle.lrc_sample.specs.declared.tally.TallyLine.{TallyLine};
-ghost use Rattle.lrc_sample.specs.Prelude.{AreFrequentFirst, AreSeenInOrder, AreLinesShown, Shows, TallyStarted};
-ghost use Rattle.lrc_sample.specs.Prelude.{CountsRuns, run_of, times_of};
+ghost use Rattle.lrc_sample.specs.Prelude.{AreFrequentFirst, AreSeenInOrder, AreLinesShown, SampleShows, TallyOrderStarted};
+ghost use Rattle.lrc_sample.specs.Prelude.{TallyCountsRuns, tally_run_of, tally_times_of};
 ghost use Rattle.lrc_script.specs.Prelude.{Plan};
 
 use crate::outcome::SampleOutcome;
@@ -41,11 +41,11 @@ pub fn note(
     seed: Option<u64>,
     schedule: Schedule,
 ) -> Result<(), AllocError>
-    requires { sum_by times_of lines.old.items < 2 ^ 64 - 1 }
-    ensures shown { OnOk result ((s : Plan) → AreLinesShown (Shows s) lines.old.items
-        → Shows s schedule.turns.items outcome → AreLinesShown (Shows s) lines.new.items) }
-    ensures tally { OnOk result ((outcomes : List SampleOutcome) → TallyStarted outcomes lines.old.items
-        → run_of seed ≡ length outcomes → TallyStarted (outcomes ++ outcome ∷ []) lines.new.items) }
+    requires { sum_by tally_times_of lines.old.items < 2 ^ 64 - 1 }
+    ensures shown { OnOk result ((s : Plan) → AreLinesShown (SampleShows s) lines.old.items
+        → SampleShows s schedule.turns.items outcome → AreLinesShown (SampleShows s) lines.new.items) }
+    ensures tally { OnOk result ((outcomes : List SampleOutcome) → TallyOrderStarted outcomes lines.old.items
+        → tally_run_of seed ≡ length outcomes → TallyOrderStarted (outcomes ++ outcome ∷ []) lines.new.items) }
 {
     match find(lines, &outcome) {
         Some(place) => lines[place].times += 1,
@@ -61,10 +61,10 @@ pub fn note(
 
 /// Puts the most frequent first. Those that came as often stay in their order.
 pub fn sort(lines: &mut Vec<TallyLine>) -> Result<(), AllocError>
-    requires { sum_by times_of lines.old.items < 2 ^ 64 }
-    ensures tally { (outcomes : List SampleOutcome) → CountsRuns outcomes lines.old.items
-        → CountsRuns outcomes lines.new.items }
-    ensures shown { (s : Plan) → AreLinesShown (Shows s) lines.old.items → AreLinesShown (Shows s) lines.new.items }
+    requires { sum_by tally_times_of lines.old.items < 2 ^ 64 }
+    ensures tally { (outcomes : List SampleOutcome) → TallyCountsRuns outcomes lines.old.items
+        → TallyCountsRuns outcomes lines.new.items }
+    ensures shown { (s : Plan) → AreLinesShown (SampleShows s) lines.old.items → AreLinesShown (SampleShows s) lines.new.items }
     ensures order { OnOk result (AreSeenInOrder lines.old.items → AreFrequentFirst lines.new.items) }
 {
     lines.sort_by_key(|line| u64::MAX - line.times)

@@ -4,7 +4,7 @@ ghost use Rattle.std.specs.Fmt.{decimal};
 ghost use Rattle.std.specs.Io.KnownBytes.{Appends};
 ghost use Rattle.std.specs.List.{flat_map};
 ghost use Rattle.lrc_sample.specs.declared.text.TextFault.TheVariants.{NoMemory, Output};
-ghost use Rattle.lrc_sample.specs.Prelude.{all_replies_text, answers_text, tally_line_text, outcome_text, owner_text, replies_text, runs_in};
+ghost use Rattle.lrc_sample.specs.Prelude.{all_replies_text, answers_text, tally_line_text, outcome_text, owner_text, replies_text, runs_in_text};
 ghost use Rattle.lrc_sample.specs.Prelude.{sample_text, word_text};
 
 use crate::outcome::{Answers, Reply, SampleOutcome};
@@ -141,7 +141,7 @@ fn put_lines(text: &mut String, lines: &[TallyLine]) -> Result<(), AllocError>
 
 /// How many runs the lines count.
 fn runs_of(lines: &[TallyLine]) -> u64
-    ensures { result ≡ runs_in lines.now }
+    ensures { result ≡ runs_in_text lines.now }
 {
     let mut runs: u64 = 0;
     for line in lines {

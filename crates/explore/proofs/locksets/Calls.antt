@@ -19,62 +19,62 @@ use Rattle.conformance.proofs.Calls.{followed_calls-own, followed_calls-others}
 use Rattle.explore.specs.declared.prefixes.script_call.ScriptCall.{ScriptCall}
 use Rattle.explore.specs.declared.prefixes.script_call.ScriptCall.TheVariants.{Call, Adds}
 use Rattle.explore.specs.Prefixes.Beginnings.{IsFlatBeginning}
-use Rattle.explore.specs.Prefixes.Calling.{IsStep, replyless, reply_after}
-use Rattle.explore.specs.Prefixes.Laws.{MayComeNext}
-use Rattle.explore.specs.Guarded.{departs, is_held_after, is_held_after_step, phase_at, held_at, step_address, step_stores}
-use Rattle.explore.proofs.prefixes.Beginnings.{empty_begins, next_begins}
+use Rattle.explore.specs.Prefixes.Calling.{IsCallOfStep, replyless_call, reply_after_call}
+use Rattle.explore.specs.Prefixes.Laws.{MayComeNextByLaw}
+use Rattle.explore.specs.Guarded.{guard_step_departs, guard_held_after, guard_held_after_step, guard_phase_at, guard_held_at, guarded_step_address, guarded_step_stores}
+use Rattle.explore.proofs.prefixes.Beginnings.{beginning_empty, beginning_next}
 use Rattle.explore.proofs.prefixes.Calling.{AreFirstCalls}
 
 -- what holds of no events, and of one more, holds of each beginning
-pub beginning_induction : (s : Plan) (P : List Event → Type 0) → P []
-    → ((g : List Event) (p : ℕ) (k : Kind) → IsFlatBeginning s g → MayComeNext s g p k → P g → P (did g p k))
+pub lockset_calls_induction : (s : Plan) (P : List Event → Type 0) → P []
+    → ((g : List Event) (p : ℕ) (k : Kind) → IsFlatBeginning s g → MayComeNextByLaw s g p k → P g → P (did g p k))
     → (g : List Event) → IsFlatBeginning s g → P g
-beginning_induction s P start step =
+lockset_calls_induction s P start step =
     slice_push_induction (λ g. IsFlatBeginning s g → P g) (λ h. start)
     (λ g e ih h.
-    let both = (next_begins s g e.processor e.kind).0 h in
+    let both = (beginning_next s g e.processor e.kind).0 h in
     step g e.processor e.kind both.0 both.1 (ih both.0))
 
 -- the departures among some calls
-abbrev pub departures : List Kind → ℕ
-departures kinds = count_by is_depart kinds
+abbrev pub lockset_calls_departures : List Kind → ℕ
+lockset_calls_departures kinds = count_by is_depart kinds
 
 -- whether a lock is held after them
-abbrev pub held_by : ℕ → List Kind → Bool
-held_by l kinds = fold (is_held_after l) false kinds
+abbrev pub lockset_calls_hold : ℕ → List Kind → Bool
+lockset_calls_hold l kinds = fold (guard_held_after l) false kinds
 
-one_departure : (k : Kind) (p : ℕ) → count_of is_depart (event p k ∷ []) p ≡ departures (k ∷ [])
-one_departure k p = let own = eq-eqb p p refl in rw own refl
+lockset_calls_one_departure : (k : Kind) (p : ℕ) → count_of is_depart (event p k ∷ []) p ≡ lockset_calls_departures (k ∷ [])
+lockset_calls_one_departure k p = let own = eq-eqb p p refl in rw own refl
 
-pub departed : (s : Plan) (g : List Event) → IsFlatBeginning s g → (p : ℕ)
-    → count_of is_depart g p ≡ departures (followed_calls g p)
-departed s = beginning_induction s (λ g. (p : ℕ) → count_of is_depart g p ≡ departures (followed_calls g p)) (λ p. refl)
+pub lockset_calls_departed : (s : Plan) (g : List Event) → IsFlatBeginning s g → (p : ℕ)
+    → count_of is_depart g p ≡ lockset_calls_departures (followed_calls g p)
+lockset_calls_departed s = lockset_calls_induction s (λ g. (p : ℕ) → count_of is_depart g p ≡ lockset_calls_departures (followed_calls g p)) (λ p. refl)
     (λ g q k begins next ih p. elim (cases_eq q p) [
-      | inl is ↦ subst (λ r. count_of is_depart (did g q k) r ≡ departures (followed_calls (did g q k) r)) is (own g q k next.calls.call (ih q))
+      | inl is ↦ subst (λ r. count_of is_depart (did g q k) r ≡ lockset_calls_departures (followed_calls (did g q k) r)) is (own g q k next.calls.call (ih q))
       | inr isnt ↦ other g q k p isnt (ih p)
     ])
   where
-    own : (g : List Event) (q : ℕ) (k : Kind) → is_followed_fetch k ≡ false → count_of is_depart g q ≡ departures (followed_calls g q)
-        → count_of is_depart (did g q k) q ≡ departures (followed_calls (did g q k) q)
+    own : (g : List Event) (q : ℕ) (k : Kind) → is_followed_fetch k ≡ false → count_of is_depart g q ≡ lockset_calls_departures (followed_calls g q)
+        → count_of is_depart (did g q k) q ≡ lockset_calls_departures (followed_calls (did g q k) q)
     own g q k call ih =
         count_of-append is_depart g (event q k ∷ []) q
-        ∙ ap₂ (λ (m n : ℕ). m + n) ih (one_departure k q)
+        ∙ ap₂ (λ (m n : ℕ). m + n) ih (lockset_calls_one_departure k q)
         ∙ sym (count_by-append is_depart (followed_calls g q) (k ∷ []))
-        ∙ ap departures (sym (followed_calls-own g q k call))
+        ∙ ap lockset_calls_departures (sym (followed_calls-own g q k call))
 
-    other : (g : List Event) (q : ℕ) (k : Kind) (p : ℕ) → q ≢ p → count_of is_depart g p ≡ departures (followed_calls g p)
-        → count_of is_depart (did g q k) p ≡ departures (followed_calls (did g q k) p)
+    other : (g : List Event) (q : ℕ) (k : Kind) (p : ℕ) → q ≢ p → count_of is_depart g p ≡ lockset_calls_departures (followed_calls g p)
+        → count_of is_depart (did g q k) p ≡ lockset_calls_departures (followed_calls (did g q k) p)
     other g q k p isnt ih =
         let sum = count_of-append is_depart g (event q k ∷ []) p in
         let none : count_of is_depart (event q k ∷ []) p ≡ 0 =
         elim (count_of-one_time is_depart (event q k) p) [ inl zero_more ↦ zero_more | inr one ↦ absurd (isnt one.0) ] in
         let same : count_of is_depart (did g q k) p ≡ count_of is_depart g p = omega arith in
-        same ∙ ih ∙ ap departures (sym (followed_calls-others g q p k isnt))
+        same ∙ ih ∙ ap lockset_calls_departures (sym (followed_calls-others g q p k isnt))
 
 -- a call that takes or gives up no lock
-own_held : (g : List Event) (q l : ℕ) (k : Kind) (held : Bool) → Holds g q l ↔ IsTrue held
-    → Holds (did g q k) q l ↔ IsTrue (is_held_after l held k)
-own_held g q l (kind.Acquire m) held ih = elim (cases_eq m l) [
+lockset_calls_own_held : (g : List Event) (q l : ℕ) (k : Kind) (held : Bool) → Holds g q l ↔ IsTrue held
+    → Holds (did g q k) q l ↔ IsTrue (guard_held_after l held k)
+lockset_calls_own_held g q l (kind.Acquire m) held ih = elim (cases_eq m l) [
   | inl is ↦ (
     λ h. cond-true (m == l) true held (eq-eqb m l is),
     λ h. subst (λ n. Holds (did g q (kind.Acquire n)) q l) (sym is) (well_formed_holds_now g q l),
@@ -88,7 +88,7 @@ own_held g q l (kind.Acquire m) held ih = elim (cases_eq m l) [
         (ih.1 (sym (cond-false (m == l) true held (ne_eqb m l isnt)) ∙ h)),
   )
 ]
-own_held g q l (kind.Release m) held ih = elim (cases_eq m l) [
+lockset_calls_own_held g q l (kind.Release m) held ih = elim (cases_eq m l) [
   | inl is ↦ (
     λ h. elim (well_formed_holds_cases g (event q (kind.Release m)) q l h) [
       | inl old ↦ absurd (old.1 (ap (λ n. event q (kind.Release n)) is))
@@ -105,33 +105,33 @@ own_held g q l (kind.Release m) held ih = elim (cases_eq m l) [
         (ih.1 (sym (cond-false (m == l) false held (ne_eqb m l isnt)) ∙ h)),
   )
 ]
-own_held g q l k held ih = (
+lockset_calls_own_held g q l k held ih = (
   λ h. elim (well_formed_holds_cases g (event q k) q l h) [ inl old ↦ ih.0 old.0 | inr now ↦ (let kinds = ap (λ (e : Event). e.kind) now in absurd cc) ],
   λ h. well_formed_holds_longer g (event q k) q l (λ is. let kinds = ap (λ (e : Event). e.kind) is in absurd cc) (ih.1 h),
 )
 
-pub holding : (s : Plan) (g : List Event) → IsFlatBeginning s g → (p l : ℕ) → Holds g p l ↔ IsTrue (held_by l (followed_calls g p))
-holding s = beginning_induction s (λ g. (p l : ℕ) → Holds g p l ↔ IsTrue (held_by l (followed_calls g p)))
+pub lockset_calls_holding : (s : Plan) (g : List Event) → IsFlatBeginning s g → (p l : ℕ) → Holds g p l ↔ IsTrue (lockset_calls_hold l (followed_calls g p))
+lockset_calls_holding s = lockset_calls_induction s (λ g. (p l : ℕ) → Holds g p l ↔ IsTrue (lockset_calls_hold l (followed_calls g p)))
     (λ p l. ((λ h. absurd (none h)), (λ h. absurd (false≢true h))))
     (λ g q k begins next ih p l. elim (cases_eq q p) [
-      | inl is ↦ subst (λ r. Holds (did g q k) r l ↔ IsTrue (held_by l (followed_calls (did g q k) r))) is (own g q k l next.calls.call (ih q l))
+      | inl is ↦ subst (λ r. Holds (did g q k) r l ↔ IsTrue (lockset_calls_hold l (followed_calls (did g q k) r))) is (own g q k l next.calls.call (ih q l))
       | inr isnt ↦ other g q k p l isnt (ih p l)
     ])
   where
     none : {p l : ℕ} → Holds [] p l → ⊥
     none h = let at = h.acquires in absurd cc
 
-    own : (g : List Event) (q : ℕ) (k : Kind) (l : ℕ) → is_followed_fetch k ≡ false → Holds g q l ↔ IsTrue (held_by l (followed_calls g q))
-        → Holds (did g q k) q l ↔ IsTrue (held_by l (followed_calls (did g q k) q))
+    own : (g : List Event) (q : ℕ) (k : Kind) (l : ℕ) → is_followed_fetch k ≡ false → Holds g q l ↔ IsTrue (lockset_calls_hold l (followed_calls g q))
+        → Holds (did g q k) q l ↔ IsTrue (lockset_calls_hold l (followed_calls (did g q k) q))
     own g q k l call ih =
         subst (λ b. Holds (did g q k) q l ↔ IsTrue b)
-        (sym (ap (held_by l) (followed_calls-own g q k call) ∙ fold-append (is_held_after l) false (followed_calls g q) (k ∷ [])))
-        (own_held g q l k (held_by l (followed_calls g q)) ih)
+        (sym (ap (lockset_calls_hold l) (followed_calls-own g q k call) ∙ fold-append (guard_held_after l) false (followed_calls g q) (k ∷ [])))
+        (lockset_calls_own_held g q l k (lockset_calls_hold l (followed_calls g q)) ih)
 
-    other : (g : List Event) (q : ℕ) (k : Kind) (p l : ℕ) → q ≢ p → Holds g p l ↔ IsTrue (held_by l (followed_calls g p))
-        → Holds (did g q k) p l ↔ IsTrue (held_by l (followed_calls (did g q k) p))
+    other : (g : List Event) (q : ℕ) (k : Kind) (p l : ℕ) → q ≢ p → Holds g p l ↔ IsTrue (lockset_calls_hold l (followed_calls g p))
+        → Holds (did g q k) p l ↔ IsTrue (lockset_calls_hold l (followed_calls (did g q k) p))
     other g q k p l isnt ih =
-        subst (λ ks. Holds (did g q k) p l ↔ IsTrue (held_by l ks)) (sym (followed_calls-others g q p k isnt)) (
+        subst (λ ks. Holds (did g q k) p l ↔ IsTrue (lockset_calls_hold l ks)) (sym (followed_calls-others g q p k isnt)) (
           λ h. elim (well_formed_holds_cases g (event q k) p l h) [
             | inl old ↦ ih.0 old.0
             | inr now ↦ absurd (isnt (ap (λ (e : Event). e.processor) now))
@@ -140,56 +140,56 @@ holding s = beginning_induction s (λ g. (p l : ℕ) → Holds g p l ↔ IsTrue 
         )
 
 -- what a call without its reply does
-replyless_depart : (k : Kind) → is_depart (replyless k) ≡ is_depart k
-replyless_depart (kind.Load a v) = refl
-replyless_depart _ = refl
+lockset_calls_replyless_depart : (k : Kind) → is_depart (replyless_call k) ≡ is_depart k
+lockset_calls_replyless_depart (kind.Load a v) = refl
+lockset_calls_replyless_depart _ = refl
 
-replyless_held : (l : ℕ) (held : Bool) (k : Kind) → is_held_after l held (replyless k) ≡ is_held_after l held k
-replyless_held l held (kind.Load a v) = refl
-replyless_held l held _ = refl
+lockset_calls_replyless_held : (l : ℕ) (held : Bool) (k : Kind) → guard_held_after l held (replyless_call k) ≡ guard_held_after l held k
+lockset_calls_replyless_held l held (kind.Load a v) = refl
+lockset_calls_replyless_held l held _ = refl
 
-replyless_address : (k : Kind) → address_of (replyless k) ≡ address_of k
-replyless_address (kind.Load a v) = refl
-replyless_address _ = refl
+lockset_calls_address : (k : Kind) → address_of (replyless_call k) ≡ address_of k
+lockset_calls_address (kind.Load a v) = refl
+lockset_calls_address _ = refl
 
-replyless_store : (k : Kind) → is_store (replyless k) ≡ is_store k
-replyless_store (kind.Load a v) = refl
-replyless_store _ = refl
+lockset_calls_store : (k : Kind) → is_store (replyless_call k) ≡ is_store k
+lockset_calls_store (kind.Load a v) = refl
+lockset_calls_store _ = refl
 
 -- a call does what its step says
-step_departs : (reply : ℕ) (step : ScriptCall) (k : Kind) → IsStep reply step k → is_depart k ≡ departs step
-step_departs reply (Call c) k is = sym (replyless_depart k) ∙ ap is_depart is ∙ replyless_depart c
-step_departs reply (Adds a v) k is = ap is_depart is
+lockset_call_step_departs : (reply : ℕ) (step : ScriptCall) (k : Kind) → IsCallOfStep reply step k → is_depart k ≡ guard_step_departs step
+lockset_call_step_departs reply (Call c) k is = sym (lockset_calls_replyless_depart k) ∙ ap is_depart is ∙ lockset_calls_replyless_depart c
+lockset_call_step_departs reply (Adds a v) k is = ap is_depart is
 
-step_held : (l reply : ℕ) (held : Bool) (step : ScriptCall) (k : Kind) → IsStep reply step k
-    → is_held_after l held k ≡ is_held_after_step l held step
-step_held l reply held (Call c) k is = sym (replyless_held l held k) ∙ ap (is_held_after l held) is ∙ replyless_held l held c
-step_held l reply held (Adds a v) k is = ap (is_held_after l held) is
+lockset_call_step_held : (l reply : ℕ) (held : Bool) (step : ScriptCall) (k : Kind) → IsCallOfStep reply step k
+    → guard_held_after l held k ≡ guard_held_after_step l held step
+lockset_call_step_held l reply held (Call c) k is = sym (lockset_calls_replyless_held l held k) ∙ ap (guard_held_after l held) is ∙ lockset_calls_replyless_held l held c
+lockset_call_step_held l reply held (Adds a v) k is = ap (guard_held_after l held) is
 
-pub called_address : (reply : ℕ) (step : ScriptCall) (k : Kind) → IsStep reply step k → step_address step ≡ address_of k
-called_address reply (Call c) k is = sym (replyless_address c) ∙ ap address_of (sym is) ∙ replyless_address k
+pub called_address : (reply : ℕ) (step : ScriptCall) (k : Kind) → IsCallOfStep reply step k → guarded_step_address step ≡ address_of k
+called_address reply (Call c) k is = sym (lockset_calls_address c) ∙ ap address_of (sym is) ∙ lockset_calls_address k
 called_address reply (Adds a v) k is = ap address_of (sym is)
 
-pub called_store : (reply : ℕ) (step : ScriptCall) (k : Kind) → IsStep reply step k → step_stores step ≡ is_store k
-called_store reply (Call c) k is = sym (replyless_store c) ∙ ap is_store (sym is) ∙ replyless_store k
+pub called_store : (reply : ℕ) (step : ScriptCall) (k : Kind) → IsCallOfStep reply step k → guarded_step_stores step ≡ is_store k
+called_store reply (Call c) k is = sym (lockset_calls_store c) ∙ ap is_store (sym is) ∙ lockset_calls_store k
 called_store reply (Adds a v) k is = ap is_store (sym is)
 
 -- so the first calls depart as often as the first steps, and hold the same locks
-pub first_departures : (reply : ℕ) (steps : List ScriptCall) (kinds : List Kind) → AreFirstCalls reply steps kinds
-    → departures kinds ≡ phase_at steps (length kinds)
-first_departures reply steps [] h = refl
-first_departures reply [] (k ∷ kinds) h = absurd h
-first_departures reply (s ∷ steps) (k ∷ kinds) h =
-    let one = step_departs reply s k h.0 in
-    let more = first_departures (reply_after reply k) steps kinds h.1 in
+pub lockset_first_calls_depart : (reply : ℕ) (steps : List ScriptCall) (kinds : List Kind) → AreFirstCalls reply steps kinds
+    → lockset_calls_departures kinds ≡ guard_phase_at steps (length kinds)
+lockset_first_calls_depart reply steps [] h = refl
+lockset_first_calls_depart reply [] (k ∷ kinds) h = absurd h
+lockset_first_calls_depart reply (s ∷ steps) (k ∷ kinds) h =
+    let one = lockset_call_step_departs reply s k h.0 in
+    let more = lockset_first_calls_depart (reply_after_call reply k) steps kinds h.1 in
     count_by-append is_depart (k ∷ []) kinds
     ∙ ap₂ (λ (m n : ℕ). m + n) (ap (λ b. 0 + cond b 1 0) one) more
-    ∙ sym (count_by-append departs (s ∷ []) (take (length kinds) steps))
+    ∙ sym (count_by-append guard_step_departs (s ∷ []) (take (length kinds) steps))
 
-pub first_held : (l reply : ℕ) (held : Bool) (steps : List ScriptCall) (kinds : List Kind) → AreFirstCalls reply steps kinds
-    → fold (is_held_after l) held kinds ≡ fold (is_held_after_step l) held (take (length kinds) steps)
-first_held l reply held steps [] h = refl
-first_held l reply held [] (k ∷ kinds) h = absurd h
-first_held l reply held (s ∷ steps) (k ∷ kinds) h =
-    ap (λ b. fold (is_held_after l) b kinds) (step_held l reply held s k h.0)
-    ∙ first_held l (reply_after reply k) (is_held_after_step l held s) steps kinds h.1
+pub lockset_first_calls_held : (l reply : ℕ) (held : Bool) (steps : List ScriptCall) (kinds : List Kind) → AreFirstCalls reply steps kinds
+    → fold (guard_held_after l) held kinds ≡ fold (guard_held_after_step l) held (take (length kinds) steps)
+lockset_first_calls_held l reply held steps [] h = refl
+lockset_first_calls_held l reply held [] (k ∷ kinds) h = absurd h
+lockset_first_calls_held l reply held (s ∷ steps) (k ∷ kinds) h =
+    ap (λ b. fold (guard_held_after l) b kinds) (lockset_call_step_held l reply held s k h.0)
+    ∙ lockset_first_calls_held l (reply_after_call reply k) (guard_held_after_step l held s) steps kinds h.1

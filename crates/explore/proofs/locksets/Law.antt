@@ -20,29 +20,29 @@ use Rattle.lrc_script.specs.declared.script.Instruction.{Instruction}
 use Rattle.lrc_script.specs.Plan.{Plan}
 use Rattle.conformance.specs.Follows.{followed_calls, followed_plan_sizes}
 use Rattle.explore.specs.declared.prefixes.script_call.ScriptCall.{ScriptCall}
-use Rattle.explore.specs.Guarded.{GuardedTextLaw, HaveCommonLock, IsAccessAt, IsGuarded, departs, is_held_after_step, held_at, phase_at, step_address, step_stores}
-use Rattle.explore.specs.Machines.{AreLawfulSteps}
+use Rattle.explore.specs.Guarded.{GuardedTextLaw, HaveCommonGuard, IsGuardedAccessAt, IsGuarded, guard_step_departs, guard_held_after_step, guard_held_at, guard_phase_at, guarded_step_address, guarded_step_stores}
+use Rattle.explore.specs.Machines.{AreLawfulMachineSteps}
 use Rattle.explore.specs.Prefixes.Beginnings.{IsFlatBeginning}
-use Rattle.explore.specs.Prefixes.Calling.{last_reply, section_steps, shown_by}
-use Rattle.explore.specs.Prefixes.Laws.{MayComeNext}
-use Rattle.explore.proofs.Machines.{some_at}
-use Rattle.explore.proofs.prefixes.Beginnings.{next_begins}
+use Rattle.explore.specs.Prefixes.Calling.{last_reply_of_calls, prefix_calling_section_steps, prefix_calling_shown_by}
+use Rattle.explore.specs.Prefixes.Laws.{MayComeNextByLaw}
+use Rattle.explore.proofs.Machines.{machine_some_at}
+use Rattle.explore.proofs.prefixes.Beginnings.{beginning_next}
 use Rattle.explore.proofs.prefixes.Calling.{AreFirstCalls, begins_calls}
 use Rattle.explore.proofs.prefixes.Neighbours.Law.{neighbours}
-use Rattle.explore.proofs.locksets.Calls.{beginning_induction, called_address, called_store, departed, departures, first_departures, first_held, held_by, holding}
+use Rattle.explore.proofs.locksets.Calls.{lockset_calls_induction, called_address, called_store, lockset_calls_departed, lockset_calls_departures, lockset_first_calls_depart, lockset_first_calls_held, lockset_calls_hold, lockset_calls_holding}
 
-departure : (k : Kind) → IsTrue (is_depart k) → k ≡ kind.Depart
-departure kind.Depart h = refl
-departure _ h = absurd cc
+lockset_departure : (k : Kind) → IsTrue (is_depart k) → k ≡ kind.Depart
+lockset_departure kind.Depart h = refl
+lockset_departure _ h = absurd cc
 
 -- each processor has arrived as often as any has departed
-all_arrived : (s : Plan) (g : List Event) → IsFlatBeginning s g → (q p : ℕ) → p < s.processors
+lockset_all_arrived : (s : Plan) (g : List Event) → IsFlatBeginning s g → (q p : ℕ) → p < s.processors
     → count_of is_depart g q ≤ count_of is_arrive g p
-all_arrived s =
-    beginning_induction s (λ g. (q p : ℕ) → p < s.processors → count_of is_depart g q ≤ count_of is_arrive g p)
+lockset_all_arrived s =
+    lockset_calls_induction s (λ g. (q p : ℕ) → p < s.processors → count_of is_depart g q ≤ count_of is_arrive g p)
     (λ q p within. omega arith) step
   where
-    step : (g : List Event) (r : ℕ) (k : Kind) → IsFlatBeginning s g → MayComeNext s g r k
+    step : (g : List Event) (r : ℕ) (k : Kind) → IsFlatBeginning s g → MayComeNextByLaw s g r k
         → ((q p : ℕ) → p < s.processors → count_of is_depart g q ≤ count_of is_arrive g p)
         → (q p : ℕ) → p < s.processors → count_of is_depart (did g r k) q ≤ count_of is_arrive (did g r k) p
     step g r k begins next ih q p within =
@@ -52,7 +52,7 @@ all_arrived s =
         elim (count_of-one_time is_depart (event r k) q) [
           | inl none ↦ omega arith
           | inr one ↦
-              (let allowed = subst (Allowed (followed_plan_sizes s) g r) (departure k one.1) next.may_follow.allowed in
+              (let allowed = subst (Allowed (followed_plan_sizes s) g r) (lockset_departure k one.1) next.may_follow.allowed in
               let enough = allowed.2 p within in
               let same = ap (λ n. count_of is_depart g n) one.0 in
               let counts = one.2 in
@@ -60,81 +60,81 @@ all_arrived s =
         ]
 
 -- after these no access comes at once
-not_waiting : (c a : Kind) (w : ℕ) → address_of a ≡ Some w → AnswersCall c a → c ≢ kind.Arrive
-not_waiting kind.Arrive a w at answers is = absurd (none-some w (sym (ap address_of answers) ∙ at))
-not_waiting _ a w at answers is = absurd cc
+lockset_not_waiting : (c a : Kind) (w : ℕ) → address_of a ≡ Some w → AnswersCall c a → c ≢ kind.Arrive
+lockset_not_waiting kind.Arrive a w at answers is = absurd (none-some w (sym (ap address_of answers) ∙ at))
+lockset_not_waiting _ a w at answers is = absurd cc
 
 -- what the text says of an access of p that may come next
-record IsAccessNext (s : Plan) (rows : List (Vec ScriptCall)) (g : List Event) (p w : ℕ) (a : Kind) : Type 0 where
+record IsLocksetAccessNext (s : Plan) (rows : List (Vec ScriptCall)) (g : List Event) (p w : ℕ) (a : Kind) : Type 0 where
   step : ScriptCall
-  access : IsAccessAt rows p (length (followed_calls g p)) w step
-  stores : step_stores step ≡ is_store a
+  access : IsGuardedAccessAt rows p (length (followed_calls g p)) w step
+  stores : guarded_step_stores step ≡ is_store a
   within : p < s.processors
-  arrived : phase_at access.row.items (length (followed_calls g p)) ≡ count_of is_arrive g p
-  departed : phase_at access.row.items (length (followed_calls g p)) ≡ count_of is_depart g p
-  holds : (l : ℕ) → IsTrue (held_at access.row.items (length (followed_calls g p)) l) → Holds g p l
+  arrived : guard_phase_at access.row.items (length (followed_calls g p)) ≡ count_of is_arrive g p
+  departed : guard_phase_at access.row.items (length (followed_calls g p)) ≡ count_of is_depart g p
+  holds : (l : ℕ) → IsTrue (guard_held_at access.row.items (length (followed_calls g p)) l) → Holds g p l
 
-module _ (s : Plan) (rows : List (Vec ScriptCall)) (steps : AreLawfulSteps s rows) (g : List Event) (p w : ℕ) (a : Kind)
-    (begins : IsFlatBeginning s g) (next : MayComeNext s g p a) (at : address_of a ≡ Some w) where
-  inside : p < s.processors
-  inside = next.may_follow.processor
+module _ (s : Plan) (rows : List (Vec ScriptCall)) (steps : AreLawfulMachineSteps s rows) (g : List Event) (p w : ℕ) (a : Kind)
+    (begins : IsFlatBeginning s g) (next : MayComeNextByLaw s g p a) (at : address_of a ≡ Some w) where
+  lockset_inside : p < s.processors
+  lockset_inside = next.may_follow.processor
 
-  section : (x : List Instruction) × (slice_get s.sections p ≡ Some x)
-  section = let one = steps.lawful.but_uneven.one_each in some_at s.sections p (omega arith)
+  lockset_section : (x : List Instruction) × (slice_get s.sections p ≡ Some x)
+  lockset_section = let one = steps.lawful.but_uneven.one_each in machine_some_at s.sections p (omega arith)
 
   row : (x : Vec ScriptCall) × (slice_get rows p ≡ Some x)
-  row = let one = steps.lawful.but_uneven.one_each in let long = steps.are.long in some_at rows p (omega arith)
+  row = let one = steps.lawful.but_uneven.one_each in let long = steps.are.long in machine_some_at rows p (omega arith)
 
-  says : row.0.items ≡ section_steps section.0 (shown_by s p)
-  says = steps.are.each p section.0 row.0 section.1 row.1
+  lockset_row_says : row.0.items ≡ prefix_calling_section_steps lockset_section.0 (prefix_calling_shown_by s p)
+  lockset_row_says = steps.are.each p lockset_section.0 row.0 lockset_section.1 row.1
 
   first : AreFirstCalls 0 row.0.items (followed_calls g p)
-  first = subst (λ x. AreFirstCalls 0 x (followed_calls g p)) (sym says)
-      ((begins_calls section.0 (shown_by s p) (followed_calls g p)).0 (begins.begins p section.0 section.1))
+  first = subst (λ x. AreFirstCalls 0 x (followed_calls g p)) (sym lockset_row_says)
+      ((begins_calls lockset_section.0 (prefix_calling_shown_by s p) (followed_calls g p)).0 (begins.begins p lockset_section.0 lockset_section.1))
 
-  departs_often : phase_at row.0.items (length (followed_calls g p)) ≡ count_of is_depart g p
-  departs_often = sym (first_departures 0 row.0.items (followed_calls g p) first) ∙ sym (departed s g begins p)
+  lockset_departs_often : guard_phase_at row.0.items (length (followed_calls g p)) ≡ count_of is_depart g p
+  lockset_departs_often = sym (lockset_first_calls_depart 0 row.0.items (followed_calls g p) first) ∙ sym (lockset_calls_departed s g begins p)
 
-  balance : count_of is_arrive g p ≡ count_of is_depart g p
-  balance = (balanced (followed_plan_sizes s) g p begins.well_formed).going
-      (λ i last. not_waiting kind.Arrive a w at (next.may_follow.answers i kind.Arrive last) refl)
+  lockset_arrivals_balance : count_of is_arrive g p ≡ count_of is_depart g p
+  lockset_arrivals_balance = (balanced (followed_plan_sizes s) g p begins.well_formed).going
+      (λ i last. lockset_not_waiting kind.Arrive a w at (next.may_follow.answers i kind.Arrive last) refl)
 
-  access_next : IsAccessNext s rows g p w a
-  access_next =
-      let called = next.calls.next section.0 section.1 in
+  lockset_access_next : IsLocksetAccessNext s rows g p w a
+  lockset_access_next =
+      let called = next.calls.next lockset_section.0 lockset_section.1 in
       record {
         step = called.step;
         access = record {
           row = row.0;
           row_at = row.1;
-          at = subst (λ x. slice_get x (length (followed_calls g p)) ≡ Some called.step) (sym says) called.at;
-          address = called_address (last_reply (followed_calls g p)) called.step a called.is ∙ at;
+          at = subst (λ x. slice_get x (length (followed_calls g p)) ≡ Some called.step) (sym lockset_row_says) called.at;
+          address = called_address (last_reply_of_calls (followed_calls g p)) called.step a called.is ∙ at;
         };
-        stores = called_store (last_reply (followed_calls g p)) called.step a called.is;
-        within = inside;
-        arrived = departs_often ∙ sym balance;
-        departed = departs_often;
-        holds = λ l held. (holding s g begins p l).1 (first_held l 0 false row.0.items (followed_calls g p) first ∙ held);
+        stores = called_store (last_reply_of_calls (followed_calls g p)) called.step a called.is;
+        within = lockset_inside;
+        arrived = lockset_departs_often ∙ sym lockset_arrivals_balance;
+        departed = lockset_departs_often;
+        holds = λ l held. (lockset_calls_holding s g begins p l).1 (lockset_first_calls_held l 0 false row.0.items (followed_calls g p) first ∙ held);
       }
 
 -- no two processors may access a guarded word next, one of them storing
-pub guarded_quiet : (s : Plan) (rows : List (Vec ScriptCall)) → AreLawfulSteps s rows → (g : List Event) (p q : ℕ)
+pub lockset_guarded_quiet : (s : Plan) (rows : List (Vec ScriptCall)) → AreLawfulMachineSteps s rows → (g : List Event) (p q : ℕ)
     (a b : Kind) → IsFlatBeginning s (did g p a) → IsFlatBeginning s (did g q b) → p ≢ q
     → (c : Conflict (event p a) (event q b)) → ¬ IsGuarded rows c.address
-guarded_quiet s rows steps g p q a b one other apart c guarded =
-    let first = (next_begins s g p a).0 one in
-    let second = (next_begins s g q b).0 other in
-    let x = access_next s rows steps g p c.address a first.0 first.1 c.first in
-    let y = access_next s rows steps g q c.address b second.0 second.1 c.second in
-    let up = all_arrived s g first.0 q p x.within in
-    let down = all_arrived s g first.0 p q y.within in
+lockset_guarded_quiet s rows steps g p q a b one other apart c guarded =
+    let first = (beginning_next s g p a).0 one in
+    let second = (beginning_next s g q b).0 other in
+    let x = lockset_access_next s rows steps g p c.address a first.0 first.1 c.first in
+    let y = lockset_access_next s rows steps g q c.address b second.0 second.1 c.second in
+    let up = lockset_all_arrived s g first.0 q p x.within in
+    let down = lockset_all_arrived s g first.0 p q y.within in
     let here = x.arrived in
     let there = y.arrived in
     let gone = x.departed in
     let left = y.departed in
-    let same : phase_at x.access.row.items (length (followed_calls g p)) ≡ phase_at y.access.row.items (length (followed_calls g q))
+    let same : guard_phase_at x.access.row.items (length (followed_calls g p)) ≡ guard_phase_at y.access.row.items (length (followed_calls g q))
     = omega arith in
-    let stores : IsTrue (step_stores x.step) ⊎ IsTrue (step_stores y.step) = elim c.stores [
+    let stores : IsTrue (guarded_step_stores x.step) ⊎ IsTrue (guarded_step_stores y.step) = elim c.stores [
       | inl is ↦ inl (x.stores ∙ is)
       | inr is ↦ inr (y.stores ∙ is)
     ] in
@@ -144,4 +144,4 @@ guarded_quiet s rows steps g p q a b one other apart c guarded =
 
 pub guarded_law : GuardedTextLaw
 guarded_law s rows steps all =
-    neighbours s (λ g p q a b one other apart c. guarded_quiet s rows steps g p q a b one other apart c (all c.address))
+    neighbours s (λ g p q a b one other apart c. lockset_guarded_quiet s rows steps g p q a b one other apart c (all c.address))

@@ -8,64 +8,64 @@ use Rattle.lrc_script.specs.declared.script.Instruction.{Instruction}
 use Rattle.lrc_script.specs.Plan.{Plan, plan_sections}
 use Rattle.explore.specs.declared.prefixes.script_call.ScriptCall.{ScriptCall}
 use Rattle.explore.specs.declared.prefixes.script_call.ScriptCall.TheVariants.{Call}
-use Rattle.explore.specs.Prefixes.Calling.{steps_of, steps_of_all, load_steps, section_steps, shown_by}
+use Rattle.explore.specs.Prefixes.Calling.{prefix_calling_steps, prefix_calling_all_steps, prefix_calling_load_steps, prefix_calling_section_steps, prefix_calling_shown_by}
 
-steps_of_all-push : (is : List Instruction) (i : Instruction)
-    → steps_of_all (is ++ i ∷ []) ≡ steps_of_all is ++ steps_of i
-steps_of_all-push [] i = append-nil (steps_of i)
-steps_of_all-push (h ∷ is) i =
-    ap (λ rest. steps_of h ++ rest) (steps_of_all-push is i)
-    ∙ sym (append_assoc (steps_of h) (steps_of_all is) (steps_of i))
+prefix_calling_all_steps-push : (is : List Instruction) (i : Instruction)
+    → prefix_calling_all_steps (is ++ i ∷ []) ≡ prefix_calling_all_steps is ++ prefix_calling_steps i
+prefix_calling_all_steps-push [] i = append-nil (prefix_calling_steps i)
+prefix_calling_all_steps-push (h ∷ is) i =
+    ap (λ rest. prefix_calling_steps h ++ rest) (prefix_calling_all_steps-push is i)
+    ∙ sym (append_assoc (prefix_calling_steps h) (prefix_calling_all_steps is) (prefix_calling_steps i))
 
-load_steps-push : (shown : List ℕ) (a : ℕ) → load_steps (shown ++ a ∷ []) ≡ load_steps shown ++ Call (kind.Load a 0) ∷ []
-load_steps-push [] a = refl
-load_steps-push (b ∷ shown) a = ap (λ rest. Call (kind.Load b 0) ∷ rest) (load_steps-push shown a)
+prefix_calling_load_steps-push : (shown : List ℕ) (a : ℕ) → prefix_calling_load_steps (shown ++ a ∷ []) ≡ prefix_calling_load_steps shown ++ Call (kind.Load a 0) ∷ []
+prefix_calling_load_steps-push [] a = refl
+prefix_calling_load_steps-push (b ∷ shown) a = ap (λ rest. Call (kind.Load b 0) ∷ rest) (prefix_calling_load_steps-push shown a)
 
 -- the steps of one instruction more
-pub own_more : (is : List Instruction) (n : ℕ) (i : Instruction) → slice_get is n ≡ Some i
-    → steps_of_all (take (n + 1) is) ≡ steps_of_all (take n is) ++ steps_of i
-own_more is n i at = rw (add-one, take-suc_at is n i at) (steps_of_all-push (take n is) i)
+pub prefix_steps_own_more : (is : List Instruction) (n : ℕ) (i : Instruction) → slice_get is n ≡ Some i
+    → prefix_calling_all_steps (take (n + 1) is) ≡ prefix_calling_all_steps (take n is) ++ prefix_calling_steps i
+prefix_steps_own_more is n i at = rw (add-one, take-suc_at is n i at) (prefix_calling_all_steps-push (take n is) i)
 
 -- one load more, after other steps
-pub loads_more : (steps : List ScriptCall) (shown : List ℕ) (n a : ℕ) → slice_get shown n ≡ Some a
-    → steps ++ load_steps (take (n + 1) shown) ≡ (steps ++ load_steps (take n shown)) ++ Call (kind.Load a 0) ∷ []
-loads_more steps shown n a at =
-    rw (add-one, take-suc_at shown n a at) (ap (λ rest. steps ++ rest) (load_steps-push (take n shown) a)
-    ∙ sym (append_assoc steps (load_steps (take n shown)) (Call (kind.Load a 0) ∷ [])))
+pub prefix_steps_loads_more : (steps : List ScriptCall) (shown : List ℕ) (n a : ℕ) → slice_get shown n ≡ Some a
+    → steps ++ prefix_calling_load_steps (take (n + 1) shown) ≡ (steps ++ prefix_calling_load_steps (take n shown)) ++ Call (kind.Load a 0) ∷ []
+prefix_steps_loads_more steps shown n a at =
+    rw (add-one, take-suc_at shown n a at) (ap (λ rest. steps ++ rest) (prefix_calling_load_steps-push (take n shown) a)
+    ∙ sym (append_assoc steps (prefix_calling_load_steps (take n shown)) (Call (kind.Load a 0) ∷ [])))
 
 -- the same, of what was collected
-pub own_next : (old new : List ScriptCall) (is : List Instruction) (n : ℕ) (i : Instruction) → slice_get is n ≡ Some i
-    → old ≡ steps_of_all (take n is) → new ≡ old ++ steps_of i → new ≡ steps_of_all (take (n + 1) is)
-own_next old new is n i at was now = now ∙ ap (λ steps. steps ++ steps_of i) was ∙ sym (own_more is n i at)
+pub prefix_steps_own_next : (old new : List ScriptCall) (is : List Instruction) (n : ℕ) (i : Instruction) → slice_get is n ≡ Some i
+    → old ≡ prefix_calling_all_steps (take n is) → new ≡ old ++ prefix_calling_steps i → new ≡ prefix_calling_all_steps (take (n + 1) is)
+prefix_steps_own_next old new is n i at was now = now ∙ ap (λ steps. steps ++ prefix_calling_steps i) was ∙ sym (prefix_steps_own_more is n i at)
 
-pub loads_next : (steps old new : List ScriptCall) (shown : List ℕ) (n a : ℕ) → slice_get shown n ≡ Some a
-    → old ≡ steps ++ load_steps (take n shown) → new ≡ old ++ Call (kind.Load a 0) ∷ []
-    → new ≡ steps ++ load_steps (take (n + 1) shown)
-loads_next steps old new shown n a at was now =
-    now ∙ ap (λ xs. xs ++ Call (kind.Load a 0) ∷ []) was ∙ sym (loads_more steps shown n a at)
+pub prefix_steps_loads_next : (steps old new : List ScriptCall) (shown : List ℕ) (n a : ℕ) → slice_get shown n ≡ Some a
+    → old ≡ steps ++ prefix_calling_load_steps (take n shown) → new ≡ old ++ Call (kind.Load a 0) ∷ []
+    → new ≡ steps ++ prefix_calling_load_steps (take (n + 1) shown)
+prefix_steps_loads_next steps old new shown n a at was now =
+    now ∙ ap (λ xs. xs ++ Call (kind.Load a 0) ∷ []) was ∙ sym (prefix_steps_loads_more steps shown n a at)
 
 -- each of these rows has the steps of its section
-abbrev pub AreRowsOf : Plan → List (Vec ScriptCall) → Type 0
-AreRowsOf s rows = (p : ℕ) (section : List Instruction) (row : Vec ScriptCall) → slice_get s.sections p ≡ Some section
-    → slice_get rows p ≡ Some row → row.items ≡ section_steps section (shown_by s p)
+abbrev pub AreRowsOfSteps : Plan → List (Vec ScriptCall) → Type 0
+AreRowsOfSteps s rows = (p : ℕ) (section : List Instruction) (row : Vec ScriptCall) → slice_get s.sections p ≡ Some section
+    → slice_get rows p ≡ Some row → row.items ≡ prefix_calling_section_steps section (prefix_calling_shown_by s p)
 
 -- and one row more
-pub rows_next : (s : Plan) (rows : List (Vec ScriptCall)) (row : Vec ScriptCall) (section : List Instruction)
+pub prefix_steps_rows_next : (s : Plan) (rows : List (Vec ScriptCall)) (row : Vec ScriptCall) (section : List Instruction)
     → slice_get s.sections (length rows) ≡ Some section
-    → row.items ≡ section_steps section (shown_by s (length rows)) → AreRowsOf s rows → AreRowsOf s (rows ++ row ∷ [])
-rows_next s rows row section at is old p other found there here = elim (slice_push_cases rows row p found here) [
+    → row.items ≡ prefix_calling_section_steps section (prefix_calling_shown_by s (length rows)) → AreRowsOfSteps s rows → AreRowsOfSteps s (rows ++ row ∷ [])
+prefix_steps_rows_next s rows row section at is old p other found there here = elim (slice_push_cases rows row p found here) [
   | inl before ↦ old p other found there before.1
   | inr now ↦
       (let there_now = subst (λ q. slice_get s.sections q ≡ Some other) now.0 there in
       let same = same_Some section other (sym at ∙ there_now) in
-      subst (λ (v : Vec ScriptCall). v.items ≡ section_steps other (shown_by s p)) now.1
-      (subst (λ q. row.items ≡ section_steps other (shown_by s q)) (sym now.0)
-      (subst (λ x. row.items ≡ section_steps x (shown_by s (length rows))) same is)))
+      subst (λ (v : Vec ScriptCall). v.items ≡ prefix_calling_section_steps other (prefix_calling_shown_by s p)) now.1
+      (subst (λ q. row.items ≡ prefix_calling_section_steps other (prefix_calling_shown_by s q)) (sym now.0)
+      (subst (λ x. row.items ≡ prefix_calling_section_steps x (prefix_calling_shown_by s (length rows))) same is)))
 ]
 
 -- a section of the plan is one in memory
-pub section_at : (sections : List (Vec Instruction)) (n : ℕ) (section : Vec Instruction)
+pub prefix_steps_section_at : (sections : List (Vec Instruction)) (n : ℕ) (section : Vec Instruction)
     → slice_get sections n ≡ Some section → slice_get (plan_sections sections) n ≡ Some section.items
-section_at [] n section at = absurd (none-some section at)
-section_at (first ∷ sections) zero section at = ap (λ (v : Vec Instruction). Some v.items) (same_Some first section at)
-section_at (first ∷ sections) (suc n) section at = section_at sections n section at
+prefix_steps_section_at [] n section at = absurd (none-some section at)
+prefix_steps_section_at (first ∷ sections) zero section at = ap (λ (v : Vec Instruction). Some v.items) (same_Some first section at)
+prefix_steps_section_at (first ∷ sections) (suc n) section at = prefix_steps_section_at sections n section at

@@ -10,68 +10,68 @@ use Rattle.lrc_script.specs.Plan.{Plan}
 use Rattle.conformance.specs.Follows.{followed_calls, Follows, FollowsSection}
 use Rattle.explore.specs.declared.prefixes.script_call.ScriptCall.{ScriptCall}
 use Rattle.explore.specs.Free.{IsFree}
-use Rattle.explore.specs.Machines.{AreLawfulSteps}
-use Rattle.explore.specs.Outcomes.{AreReplies, replies_in}
-use Rattle.explore.specs.Prefixes.Beginnings.{IsFlatBeginning, IsHang}
-use Rattle.explore.specs.Prefixes.Calling.{section_steps, shown_by}
-use Rattle.explore.proofs.locksets.Law.{guarded_quiet}
-use Rattle.explore.proofs.Machines.{next_within, some_at}
-use Rattle.explore.proofs.prefixes.Beginnings.{next_begins, whole_done}
-use Rattle.explore.proofs.reduced.Same.{IsSame, other_way, same_calls, same_next}
-use Rattle.explore.proofs.reduced.Swapping.{next_after}
-use Rattle.explore.proofs.reduced.Reaching.{IsLasting, next_once}
+use Rattle.explore.specs.Machines.{AreLawfulMachineSteps}
+use Rattle.explore.specs.Outcomes.{AreOutcomeReplies, outcome_replies_in}
+use Rattle.explore.specs.Prefixes.Beginnings.{IsFlatBeginning, IsHangingBeginning}
+use Rattle.explore.specs.Prefixes.Calling.{prefix_calling_section_steps, prefix_calling_shown_by}
+use Rattle.explore.proofs.locksets.Law.{lockset_guarded_quiet}
+use Rattle.explore.proofs.Machines.{machine_next_within, machine_some_at}
+use Rattle.explore.proofs.prefixes.Beginnings.{beginning_next, beginning_whole_done}
+use Rattle.explore.proofs.reduced.Same.{IsSame, reduced_same_other_way, same_calls, same_next}
+use Rattle.explore.proofs.reduced.Swapping.{reduced_swapped_next_after}
+use Rattle.explore.proofs.reduced.Reaching.{IsReachingLasting, reduced_reaching_next_once}
 
 -- a whole run can't go on
 pub follows_ends : (s : Plan) (g : List Event) (p : ℕ) (k : Kind) → length s.sections ≡ s.processors → Follows s g
     → ¬ IsFlatBeginning s (did g p k)
 follows_ends s g p k one follows next =
-    let both = (next_begins s g p k).0 next in
-    let within = next_within s g p k next in
-    let section = some_at s.sections p (omega arith) in
+    let both = (beginning_next s g p k).0 next in
+    let within = machine_next_within s g p k next in
+    let section = machine_some_at s.sections p (omega arith) in
     let called = both.1.calls.next section.0 section.1 in
-    let done = (whole_done s g both.0).0 follows p section.0 section.1 in
-    let lt = slice_get_within (section_steps section.0 (shown_by s p)) (length (followed_calls g p)) called.step called.at in
+    let done = (beginning_whole_done s g both.0).0 follows p section.0 section.1 in
+    let lt = slice_get_within (prefix_calling_section_steps section.0 (prefix_calling_shown_by s p)) (length (followed_calls g p)) called.step called.at in
     omega arith
 
-follows_same : (s : Plan) (g h : List Event) → IsSame s g h → Follows s g → Follows s h
-follows_same s g h same follows p section at =
-    subst (FollowsSection section (shown_by s p)) (same_calls s g h p same) (follows p section at)
+reduced_ends_follows_same : (s : Plan) (g h : List Event) → IsSame s g h → Follows s g → Follows s h
+reduced_ends_follows_same s g h same follows p section at =
+    subst (FollowsSection section (prefix_calling_shown_by s p)) (same_calls s g h p same) (follows p section at)
 
-replies_same : (s : Plan) (g h : List Event) (replies : List (List ℕ)) → IsSame s g h → AreReplies s g replies
-    → AreReplies s h replies
-replies_same s g h replies same are = record {
+reduced_ends_replies_same : (s : Plan) (g h : List Event) (replies : List (List ℕ)) → IsSame s g h → AreOutcomeReplies s g replies
+    → AreOutcomeReplies s h replies
+reduced_ends_replies_same s g h replies same are = record {
   long = are.long;
-  each = λ p lt. are.each p lt ∙ ap (λ ks. Some (replies_in ks)) (same_calls s g h p same);
+  each = λ p lt. are.each p lt ∙ ap (λ ks. Some (outcome_replies_in ks)) (same_calls s g h p same);
 }
 
 -- a hang
-pub hang_lasts : (s : Plan) (rows : List (Vec ScriptCall)) → IsLasting s rows (IsHang s)
-hang_lasts s rows = record {
+pub reduced_ends_hang_lasts : (s : Plan) (rows : List (Vec ScriptCall)) → IsReachingLasting s rows (IsHangingBeginning s)
+reduced_ends_hang_lasts s rows = record {
   shared = λ g h same begins hang. record {
     beginning = begins;
-    unfinished = λ follows. hang.unfinished (follows_same s h g (other_way s g h same) follows);
-    stuck = λ p k next. hang.stuck p k (same_next s h g p k (other_way s g h same) hang.beginning next);
+    unfinished = λ follows. hang.unfinished (reduced_ends_follows_same s h g (reduced_same_other_way s g h same) follows);
+    stuck = λ p k next. hang.stuck p k (same_next s h g p k (reduced_same_other_way s g h same) hang.beginning next);
   };
   stays = λ g p k free next hang. absurd (hang.stuck p k next);
 }
 
 -- a whole run that shows this
-pub record ShowsThis (s : Plan) (replies : List (List ℕ)) (g : List Event) : Type 0 where
+pub record EndsShowing (s : Plan) (replies : List (List ℕ)) (g : List Event) : Type 0 where
   pub follows : Follows s g
-  pub are : AreReplies s g replies
+  pub are : AreOutcomeReplies s g replies
 
-pub shows_last : (s : Plan) (rows : List (Vec ScriptCall)) (replies : List (List ℕ)) → length s.sections ≡ s.processors
-    → IsLasting s rows (ShowsThis s replies)
-shows_last s rows replies long = record {
+pub reduced_ends_shows_last : (s : Plan) (rows : List (Vec ScriptCall)) (replies : List (List ℕ)) → length s.sections ≡ s.processors
+    → IsReachingLasting s rows (EndsShowing s replies)
+reduced_ends_shows_last s rows replies long = record {
   shared = λ g h same begins shows. record {
-    follows = follows_same s g h same shows.follows;
-    are = replies_same s g h replies same shows.are;
+    follows = reduced_ends_follows_same s g h same shows.follows;
+    are = reduced_ends_replies_same s g h replies same shows.are;
   };
   stays = λ g p k free next shows. absurd (follows_ends s g p k long shows.follows next);
 }
 
 -- two next events that conflict
-pub record MayConflict (s : Plan) (g : List Event) : Type 0 where
+pub record EndsInConflict (s : Plan) (g : List Event) : Type 0 where
   pub p : ℕ
   pub q : ℕ
   pub a : Kind
@@ -81,32 +81,32 @@ pub record MayConflict (s : Plan) (g : List Event) : Type 0 where
   pub apart : p ≢ q
   pub conflict : Conflict (event p a) (event q b)
 
-turned : (p q : ℕ) (a b : Kind) → Conflict (event p a) (event q b) → Conflict (event q b) (event p a)
-turned p q a b c = record {
+reduced_ends_conflict_turned : (p q : ℕ) (a b : Kind) → Conflict (event p a) (event q b) → Conflict (event q b) (event p a)
+reduced_ends_conflict_turned p q a b c = record {
   address = c.address;
   first = c.second;
   second = c.first;
   stores = elim c.stores [ inl is ↦ inr is | inr is ↦ inl is ];
 }
 
-module _ (s : Plan) (rows : List (Vec ScriptCall)) (steps : AreLawfulSteps s rows) (g : List Event) (r : ℕ) (k : Kind)
+module _ (s : Plan) (rows : List (Vec ScriptCall)) (steps : AreLawfulMachineSteps s rows) (g : List Event) (r : ℕ) (k : Kind)
     (free : IsFree rows k) (next : IsFlatBeginning s (did g r k)) where
   -- a free event conflicts with no other that may come next
-  calm : (p : ℕ) (a : Kind) → r ≢ p → IsFlatBeginning s (did g p a) → ¬ Conflict (event r k) (event p a)
-  calm p a apart first c = guarded_quiet s rows steps g r p k a next first apart c (free.guarded c.address c.first)
+  reduced_ends_free_calm : (p : ℕ) (a : Kind) → r ≢ p → IsFlatBeginning s (did g p a) → ¬ Conflict (event r k) (event p a)
+  reduced_ends_free_calm p a apart first c = lockset_guarded_quiet s rows steps g r p k a next first apart c (free.guarded c.address c.first)
 
   -- and so is another's than those that do
-  others : (p q : ℕ) (a b : Kind) → p ≢ q → IsFlatBeginning s (did g p a) → IsFlatBeginning s (did g q b)
+  reduced_ends_others : (p q : ℕ) (a b : Kind) → p ≢ q → IsFlatBeginning s (did g p a) → IsFlatBeginning s (did g q b)
       → Conflict (event p a) (event q b) → r ≢ p
-  others p q a b apart first second conflict is =
+  reduced_ends_others p q a b apart first second conflict is =
       let mine = subst (λ t. IsFlatBeginning s (did g t a)) (sym is) first in
-      let same = next_once s g r k a steps.lawful.but_uneven.one_each next mine in
-      calm q b (λ other. apart (sym is ∙ other)) second
+      let same = reduced_reaching_next_once s g r k a steps.lawful.but_uneven.one_each next mine in
+      reduced_ends_free_calm q b (λ other. apart (sym is ∙ other)) second
       (subst (λ c. Conflict (event r c) (event q b)) (sym same)
       (subst (λ t. Conflict (event t a) (event q b)) (sym is) conflict))
 
-pub conflict_lasts : (s : Plan) (rows : List (Vec ScriptCall)) → AreLawfulSteps s rows → IsLasting s rows (MayConflict s)
-conflict_lasts s rows steps = record {
+pub reduced_ends_conflict_lasts : (s : Plan) (rows : List (Vec ScriptCall)) → AreLawfulMachineSteps s rows → IsReachingLasting s rows (EndsInConflict s)
+reduced_ends_conflict_lasts s rows steps = record {
   shared = λ g h same begins m. record {
     p = m.p;
     q = m.q;
@@ -118,16 +118,16 @@ conflict_lasts s rows steps = record {
     conflict = m.conflict;
   };
   stays = λ g r k free next m.
-      let one = others s rows steps g r k free next m.p m.q m.a m.b m.apart m.first m.second m.conflict in
-      let two = others s rows steps g r k free next m.q m.p m.b m.a (λ is. m.apart (sym is)) m.second m.first
-      (turned m.p m.q m.a m.b m.conflict) in
+      let one = reduced_ends_others s rows steps g r k free next m.p m.q m.a m.b m.apart m.first m.second m.conflict in
+      let two = reduced_ends_others s rows steps g r k free next m.q m.p m.b m.a (λ is. m.apart (sym is)) m.second m.first
+      (reduced_ends_conflict_turned m.p m.q m.a m.b m.conflict) in
       record {
         p = m.p;
         q = m.q;
         a = m.a;
         b = m.b;
-        first = next_after s g r m.p k m.a one (calm s rows steps g r k free next m.p m.a one m.first) next m.first;
-        second = next_after s g r m.q k m.b two (calm s rows steps g r k free next m.q m.b two m.second) next m.second;
+        first = reduced_swapped_next_after s g r m.p k m.a one (reduced_ends_free_calm s rows steps g r k free next m.p m.a one m.first) next m.first;
+        second = reduced_swapped_next_after s g r m.q k m.b two (reduced_ends_free_calm s rows steps g r k free next m.q m.b two m.second) next m.second;
         apart = m.apart;
         conflict = m.conflict;
       };

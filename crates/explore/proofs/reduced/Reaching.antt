@@ -23,20 +23,20 @@ use Rattle.explore.specs.declared.prefixes.script_call.ScriptCall.{ScriptCall}
 use Rattle.explore.specs.declared.prefixes.script_call.ScriptCall.TheVariants.{Call, Adds}
 use Rattle.explore.specs.Free.{IsFree}
 use Rattle.explore.specs.Guarded.{IsGuarded}
-use Rattle.explore.specs.Machines.{AreLawfulSteps}
-use Rattle.explore.specs.Outcomes.{AreReplies, replies_in}
-use Rattle.explore.specs.Prefixes.Beginnings.{IsFlatBeginning, IsHang}
-use Rattle.explore.specs.Prefixes.Calling.{IsStep, last_reply, replyless, section_steps, shown_by}
-use Rattle.explore.specs.Prefixes.Laws.{MayComeNext}
-use Rattle.explore.proofs.Lengths.{history_few}
-use Rattle.explore.proofs.Machines.{some_at}
-use Rattle.explore.proofs.locksets.Law.{guarded_quiet}
-use Rattle.explore.proofs.prefixes.Beginnings.{front_begins, next_begins}
-use Rattle.explore.proofs.reduced.Same.{IsSame, after_that, other_way, same_calls, same_next, same_on}
-use Rattle.explore.proofs.reduced.Swapping.{ComesFirst, comes_first, next_after}
+use Rattle.explore.specs.Machines.{AreLawfulMachineSteps}
+use Rattle.explore.specs.Outcomes.{AreOutcomeReplies, outcome_replies_in}
+use Rattle.explore.specs.Prefixes.Beginnings.{IsFlatBeginning, IsHangingBeginning}
+use Rattle.explore.specs.Prefixes.Calling.{IsCallOfStep, last_reply_of_calls, replyless_call, prefix_calling_section_steps, prefix_calling_shown_by}
+use Rattle.explore.specs.Prefixes.Laws.{MayComeNextByLaw}
+use Rattle.explore.proofs.Lengths.{history_length_few}
+use Rattle.explore.proofs.Machines.{machine_some_at}
+use Rattle.explore.proofs.locksets.Law.{lockset_guarded_quiet}
+use Rattle.explore.proofs.prefixes.Beginnings.{beginning_front, beginning_next}
+use Rattle.explore.proofs.reduced.Same.{IsSame, reduced_same_after_that, reduced_same_other_way, same_calls, same_next, same_on}
+use Rattle.explore.proofs.reduced.Swapping.{SwappedComesFirst, reduced_swapped_comes_first, reduced_swapped_next_after}
 
 -- one reply is the memory's
-once : (memory : List ℕ) (j k : Kind) → replyless j ≡ replyless k → AnswersFlatWord memory j → AnswersFlatWord memory k → j ≡ k
+once : (memory : List ℕ) (j k : Kind) → replyless_call j ≡ replyless_call k → AnswersFlatWord memory j → AnswersFlatWord memory k → j ≡ k
 once memory (Load a v) (Load b u) same one two =
     let place : a ≡ b = cc in
     let value : v ≡ u = same_Some v u (sym one ∙ ap (slice_get memory) place ∙ two) in
@@ -45,27 +45,27 @@ once memory (Load a v) k same one two = absurd cc
 once memory j (Load b u) same one two = absurd cc
 once memory j k same one two = same
 
-step_once : (reply : ℕ) (memory : List ℕ) (step : ScriptCall) (j k : Kind) → IsStep reply step j → IsStep reply step k
+reduced_reaching_step_once : (reply : ℕ) (memory : List ℕ) (step : ScriptCall) (j k : Kind) → IsCallOfStep reply step j → IsCallOfStep reply step k
     → AnswersFlatWord memory j → AnswersFlatWord memory k → j ≡ k
-step_once reply memory (Call c) j k first second one two = once memory j k (first ∙ sym second) one two
-step_once reply memory (Adds a v) j k first second one two = first ∙ sym second
+reduced_reaching_step_once reply memory (Call c) j k first second one two = once memory j k (first ∙ sym second) one two
+reduced_reaching_step_once reply memory (Adds a v) j k first second one two = first ∙ sym second
 
 -- a processor has one next event
-pub next_once : (s : Plan) (g : List Event) (p : ℕ) (j k : Kind) → length s.sections ≡ s.processors
+pub reduced_reaching_next_once : (s : Plan) (g : List Event) (p : ℕ) (j k : Kind) → length s.sections ≡ s.processors
     → IsFlatBeginning s (did g p j) → IsFlatBeginning s (did g p k) → j ≡ k
-next_once s g p j k long first second =
-    let one = ((next_begins s g p j).0 first).1 in
-    let two = ((next_begins s g p k).0 second).1 in
+reduced_reaching_next_once s g p j k long first second =
+    let one = ((beginning_next s g p j).0 first).1 in
+    let two = ((beginning_next s g p k).0 second).1 in
     let inside = one.may_follow.processor in
-    let section = some_at s.sections p (omega arith) in
+    let section = machine_some_at s.sections p (omega arith) in
     let here = one.calls.next section.0 section.1 in
     let there = two.calls.next section.0 section.1 in
     let same : there.step ≡ here.step = same_Some there.step here.step (sym there.at ∙ here.at) in
-    step_once (last_reply (followed_calls g p)) (memory_after (replicate (plan_addresses s) 0) g) here.step j k here.is
-    (subst (λ x. IsStep (last_reply (followed_calls g p)) x k) same there.is) one.answers two.answers
+    reduced_reaching_step_once (last_reply_of_calls (followed_calls g p)) (memory_after (replicate (plan_addresses s) 0) g) here.step j k here.is
+    (subst (λ x. IsCallOfStep (last_reply_of_calls (followed_calls g p)) x k) same there.is) one.answers two.answers
 
 -- p's first event among some, or none of them is its
-record FirstOf (w : List Event) (p : ℕ) : Type 0 where
+record FirstReaching (w : List Event) (p : ℕ) : Type 0 where
   before : List Event
   own : Event
   after : List Event
@@ -73,9 +73,9 @@ record FirstOf (w : List Event) (p : ℕ) : Type 0 where
   mine : own.processor ≡ p
   away : (m : ℕ) (f : Event) → At before m f → f.processor ≢ p
 
-first_of : (w : List Event) (p : ℕ) → FirstOf w p ⊎ ((m : ℕ) (f : Event) → At w m f → f.processor ≢ p)
-first_of [] p = inr (λ m f at. absurd (none-some f at))
-first_of (e ∷ w) p = elim (cases_eq e.processor p) [
+reduced_reaching_first_of : (w : List Event) (p : ℕ) → FirstReaching w p ⊎ ((m : ℕ) (f : Event) → At w m f → f.processor ≢ p)
+reduced_reaching_first_of [] p = inr (λ m f at. absurd (none-some f at))
+reduced_reaching_first_of (e ∷ w) p = elim (cases_eq e.processor p) [
   | inl is ↦ inl (record {
     before = [];
     own = e;
@@ -84,7 +84,7 @@ first_of (e ∷ w) p = elim (cases_eq e.processor p) [
     mine = is;
     away = λ m f at. absurd (none-some f at);
   })
-  | inr isnt ↦ elim (first_of w p) [
+  | inr isnt ↦ elim (reduced_reaching_first_of w p) [
     | inl found ↦ inl (record {
       before = e ∷ found.before;
       own = found.own;
@@ -103,23 +103,23 @@ first_of (e ∷ w) p = elim (cases_eq e.processor p) [
     further e w xs p isnt away (suc m) f at = away m f at
 
 -- what was followed of a beginning: all that may come next, or one free event
-pub record FollowsOne (s : Plan) (rows : List (Vec ScriptCall)) (V : List Event → Type 0) (h : List Event) : Type 0 where
+pub record ReachingFollowsOne (s : Plan) (rows : List (Vec ScriptCall)) (V : List Event → Type 0) (h : List Event) : Type 0 where
   pub processor : ℕ
   pub kind : Kind
   pub free : IsFree rows kind
   pub next : IsFlatBeginning s (did h processor kind)
   pub found : V (did h processor kind)
 
-abbrev pub FollowsAll : Plan → (List Event → Type 0) → List Event → Type 0
-FollowsAll s V h = (p : ℕ) (k : Kind) → IsFlatBeginning s (did h p k) → V (did h p k)
+abbrev pub ReachingFollowsAll : Plan → (List Event → Type 0) → List Event → Type 0
+ReachingFollowsAll s V h = (p : ℕ) (k : Kind) → IsFlatBeginning s (did h p k) → V (did h p k)
 
 -- a property that is looked for
-pub record IsLasting (s : Plan) (rows : List (Vec ScriptCall)) (T : List Event → Type 0) : Type 0 where
+pub record IsReachingLasting (s : Plan) (rows : List (Vec ScriptCall)) (T : List Event → Type 0) : Type 0 where
   pub shared : (g h : List Event) → IsSame s g h → IsFlatBeginning s h → T g → T h
   pub stays : (g : List Event) (p : ℕ) (k : Kind) → IsFree rows k → IsFlatBeginning s (did g p k) → T g → T (did g p k)
 
 -- what is left once the free event has come first
-record IsLeft (s : Plan) (T : List Event → Type 0) (h : List Event) : Type 0 where
+record IsReachingLeft (s : Plan) (T : List Event → Type 0) (h : List Event) : Type 0 where
   more : List Event
   begins : IsFlatBeginning s (h ++ more)
   has : T (h ++ more)
@@ -130,22 +130,22 @@ pub record IsReached (V T : List Event → Type 0) : Type 0 where
   pub found : V events
   pub has : T events
 
-module _ (s : Plan) (rows : List (Vec ScriptCall)) (steps : AreLawfulSteps s rows) (V T : List Event → Type 0)
-    (lasting : IsLasting s rows T)
-    (closed : (h : List Event) → V h → FollowsAll s V h ⊎ FollowsOne s rows V h) where
-  left_first : (h w : List Event) (p : ℕ) (k : Kind) → IsFree rows k → IsFlatBeginning s (did h p k)
-      → IsFlatBeginning s (h ++ w) → T (h ++ w) → FirstOf w p → IsLeft s T (did h p k)
-  left_first h w p k free next whole has f =
+module _ (s : Plan) (rows : List (Vec ScriptCall)) (steps : AreLawfulMachineSteps s rows) (V T : List Event → Type 0)
+    (lasting : IsReachingLasting s rows T)
+    (closed : (h : List Event) → V h → ReachingFollowsAll s V h ⊎ ReachingFollowsOne s rows V h) where
+  reduced_reaching_left_first : (h w : List Event) (p : ℕ) (k : Kind) → IsFree rows k → IsFlatBeginning s (did h p k)
+      → IsFlatBeginning s (h ++ w) → T (h ++ w) → FirstReaching w p → IsReachingLeft s T (did h p k)
+  reduced_reaching_left_first h w p k free next whole has f =
       let parted : h ++ w ≡ (h ++ f.before) ++ f.own ∷ f.after =
       ap (λ xs. h ++ xs) f.are ∙ sym (append_assoc h f.before (f.own ∷ f.after)) in
       let joined : (h ++ f.before) ++ f.own ∷ f.after ≡ ((h ++ f.before) ++ f.own ∷ []) ++ f.after =
       sym (append_assoc (h ++ f.before) (f.own ∷ []) f.after) in
       let all = subst (IsFlatBeginning s) (parted ∙ joined) whole in
-      let with_own = front_begins s ((h ++ f.before) ++ f.own ∷ []) f.after all in
-      let before = front_begins s (h ++ f.before) (f.own ∷ []) with_own in
-      let moved = comes_first s rows steps p k free f.before h f.away next before in
+      let with_own = beginning_front s ((h ++ f.before) ++ f.own ∷ []) f.after all in
+      let before = beginning_front s (h ++ f.before) (f.own ∷ []) with_own in
+      let moved = reduced_swapped_comes_first s rows steps p k free f.before h f.away next before in
       let mine = subst (λ q. IsFlatBeginning s (did (h ++ f.before) q f.own.kind)) f.mine with_own in
-      let same : k ≡ f.own.kind = next_once s (h ++ f.before) p k f.own.kind steps.lawful.but_uneven.one_each moved.last mine in
+      let same : k ≡ f.own.kind = reduced_reaching_next_once s (h ++ f.before) p k f.own.kind steps.lawful.but_uneven.one_each moved.last mine in
       let is : event p k ≡ f.own = ap (event p) same ∙ ap (λ q. event q f.own.kind) (sym f.mine) in
       let own_same = subst (λ e. IsSame s ((h ++ f.before) ++ e ∷ []) (did h p k ++ f.before)) is moved.same in
       let on = same_on s f.after ((h ++ f.before) ++ f.own ∷ []) (did h p k ++ f.before) own_same moved.first all in
@@ -157,10 +157,10 @@ module _ (s : Plan) (rows : List (Vec ScriptCall)) (steps : AreLawfulSteps s row
         has = subst T end (lasting.shared _ _ on.1 on.0 (subst T (parted ∙ joined) has));
       }
 
-  left_behind : (h w : List Event) (p : ℕ) (k : Kind) → IsFree rows k → IsFlatBeginning s (did h p k)
-      → IsFlatBeginning s (h ++ w) → T (h ++ w) → ((m : ℕ) (f : Event) → At w m f → f.processor ≢ p) → IsLeft s T (did h p k)
-  left_behind h w p k free next whole has away =
-      let moved = comes_first s rows steps p k free w h away next whole in
+  reduced_reaching_left_behind : (h w : List Event) (p : ℕ) (k : Kind) → IsFree rows k → IsFlatBeginning s (did h p k)
+      → IsFlatBeginning s (h ++ w) → T (h ++ w) → ((m : ℕ) (f : Event) → At w m f → f.processor ≢ p) → IsReachingLeft s T (did h p k)
+  reduced_reaching_left_behind h w p k free next whole has away =
+      let moved = reduced_swapped_comes_first s rows steps p k free w h away next whole in
       record {
         more = w;
         begins = moved.first;
@@ -168,29 +168,29 @@ module _ (s : Plan) (rows : List (Vec ScriptCall)) (steps : AreLawfulSteps s row
       }
 
   left : (h w : List Event) (p : ℕ) (k : Kind) → IsFree rows k → IsFlatBeginning s (did h p k)
-      → IsFlatBeginning s (h ++ w) → T (h ++ w) → IsLeft s T (did h p k)
-  left h w p k free next whole has = elim (first_of w p) [
-    | inl f ↦ left_first h w p k free next whole has f
-    | inr away ↦ left_behind h w p k free next whole has away
+      → IsFlatBeginning s (h ++ w) → T (h ++ w) → IsReachingLeft s T (did h p k)
+  left h w p k free next whole has = elim (reduced_reaching_first_of w p) [
+    | inl f ↦ reduced_reaching_left_first h w p k free next whole has f
+    | inr away ↦ reduced_reaching_left_behind h w p k free next whole has away
   ]
 
-  longer : (h : List Event) (p : ℕ) (k : Kind) → IsFlatBeginning s (did h p k) → (n : ℕ) → most_held ≤ length h + suc n
+  reduced_reaching_longer : (h : List Event) (p : ℕ) (k : Kind) → IsFlatBeginning s (did h p k) → (n : ℕ) → most_held ≤ length h + suc n
       → most_held ≤ length (did h p k) + n
-  longer h p k next n le = let long = length-append h (event p k ∷ []) in omega arith
+  reduced_reaching_longer h p k next n le = let long = length-append h (event p k ∷ []) in omega arith
 
   reach : (n : ℕ) (h w : List Event) → most_held ≤ length h + n → V h → IsFlatBeginning s (h ++ w) → T (h ++ w) → IsReached V T
   reach zero h w le found whole has =
-      let few = history_few s h steps.lawful (front_begins s h w whole) in absurd (omega arith)
+      let few = history_length_few s h steps.lawful (beginning_front s h w whole) in absurd (omega arith)
   reach (suc n) h [] le found whole has = record { events = h; found = found; has = subst T (append-nil h) has }
   reach (suc n) h (e ∷ w) le found whole has = elim (closed h found) [
     | inl all ↦
         (let joined = sym (append_assoc h (e ∷ []) w) in
         let longer_whole = subst (IsFlatBeginning s) joined whole in
-        let next = front_begins s (h ++ e ∷ []) w longer_whole in
-        reach n (h ++ e ∷ []) w (longer h e.processor e.kind next n le) (all e.processor e.kind next) longer_whole (subst T joined has))
+        let next = beginning_front s (h ++ e ∷ []) w longer_whole in
+        reach n (h ++ e ∷ []) w (reduced_reaching_longer h e.processor e.kind next n le) (all e.processor e.kind next) longer_whole (subst T joined has))
     | inr one ↦
         (let rest = left h (e ∷ w) one.processor one.kind one.free one.next whole has in
-        reach n (did h one.processor one.kind) rest.more (longer h one.processor one.kind one.next n le) one.found rest.begins
+        reach n (did h one.processor one.kind) rest.more (reduced_reaching_longer h one.processor one.kind one.next n le) one.found rest.begins
         rest.has)
   ]
 

@@ -28,17 +28,17 @@ use Rattle.conformance.proofs.Calls.{followed_calls-others}
 use Rattle.explore.specs.declared.prefixes.script_call.ScriptCall.{ScriptCall}
 use Rattle.explore.specs.Free.{IsFree, is_ask}
 use Rattle.explore.specs.Guarded.{IsGuarded}
-use Rattle.explore.specs.Machines.{AreLawfulSteps}
+use Rattle.explore.specs.Machines.{AreLawfulMachineSteps}
 use Rattle.explore.specs.Prefixes.Beginnings.{IsFlatBeginning}
-use Rattle.explore.specs.Prefixes.Calling.{IsCalledNext, section_steps, shown_by}
-use Rattle.explore.specs.Prefixes.Laws.{MayComeNext}
-use Rattle.explore.proofs.prefixes.Beginnings.{front_begins, next_begins}
-use Rattle.explore.proofs.locksets.Law.{guarded_quiet}
-use Rattle.explore.proofs.reduced.Same.{AsksFirst, IsSame, after_that, away_one, itself, memory_did, other_way, part_other, part_own, same_on}
+use Rattle.explore.specs.Prefixes.Calling.{IsCalledNext, prefix_calling_section_steps, prefix_calling_shown_by}
+use Rattle.explore.specs.Prefixes.Laws.{MayComeNextByLaw}
+use Rattle.explore.proofs.prefixes.Beginnings.{beginning_front, beginning_next}
+use Rattle.explore.proofs.locksets.Law.{lockset_guarded_quiet}
+use Rattle.explore.proofs.reduced.Same.{SameAsksFirst, IsSame, reduced_same_after_that, reduced_same_away_one, reduced_same_as_itself, reduced_same_memory_did, reduced_same_other_way, reduced_same_part_others, reduced_same_part_own, same_on}
 
 -- two locks that may both be acquired next are two
-not_both : (s : Sizes) (j : List Event) (p q l : ℕ) → p ≢ q → Allowed s j p (kind.Acquire l) → Allowed s j q (kind.Acquire l) → ⊥
-not_both s j p q l apart a b = elim (cases_order a.0 b.0) [
+reduced_swapped_not_both : (s : Sizes) (j : List Event) (p q l : ℕ) → p ≢ q → Allowed s j p (kind.Acquire l) → Allowed s j q (kind.Acquire l) → ⊥
+reduced_swapped_not_both s j p q l apart a b = elim (cases_order a.0 b.0) [
   | inl is ↦
       (let there = subst (λ n. Does j n p (kind.Ask l)) is a.1.does in
       apart (numbered_does_same j b.0 p q (kind.Ask l) (kind.Ask l) there b.1.does).0)
@@ -46,20 +46,20 @@ not_both s j p q l apart a b = elim (cases_order a.0 b.0) [
 ]
 
 module _ (s : Sizes) (j : List Event) (p q : ℕ) (k : Kind) (apart : p ≢ q) (may : MayFollow s j (event p k)) where
-  allowed_after : (c : Kind) → Allowed s j q c → Allowed s (did j p k) q c
-  allowed_after (kind.Ask l) a = λ holds. elim (well_formed_holds_cases j (event p k) q l holds) [
+  reduced_swapped_allowed_after : (c : Kind) → Allowed s j q c → Allowed s (did j p k) q c
+  reduced_swapped_allowed_after (kind.Ask l) a = λ holds. elim (well_formed_holds_cases j (event p k) q l holds) [
     | inl old ↦ a old.0
     | inr now ↦ apart (ap (λ (e : Event). e.processor) now)
   ]
-  allowed_after (kind.Acquire l) a = (
+  reduced_swapped_allowed_after (kind.Acquire l) a = (
     a.0,
-    last_longer j (event p k ∷ []) q a.0 (kind.Ask l) (away_one (event p k) q apart) a.1,
+    last_longer j (event p k ∷ []) q a.0 (kind.Ask l) (reduced_same_away_one (event p k) q apart) a.1,
     record {
       free = λ r holds. elim (well_formed_holds_cases j (event p k) r l holds) [
         | inl old ↦ a.2.free r old.0
         | inr now ↦
             (let takes = subst (Allowed s j p) (ap (λ (e : Event). e.kind) now) may.allowed in
-            not_both s j p q l apart takes a)
+            reduced_swapped_not_both s j p q l apart takes a)
       ];
       first = λ m r lt asks. elim (last_cases j (event p k) r m (kind.Ask l) asks) [
         | inl mine ↦
@@ -70,8 +70,8 @@ module _ (s : Sizes) (j : List Event) (p q : ℕ) (k : Kind) (apart : p ≢ q) (
       ];
     },
   )
-  allowed_after (kind.Release l) a = well_formed_holds_longer j (event p k) q l (λ is. apart (ap (λ (e : Event). e.processor) is)) a
-  allowed_after kind.Depart a =
+  reduced_swapped_allowed_after (kind.Release l) a = well_formed_holds_longer j (event p k) q l (λ is. apart (ap (λ (e : Event). e.processor) is)) a
+  reduced_swapped_allowed_after kind.Depart a =
       let sum = count_of-append is_depart j (event p k ∷ []) q in
       let none : count_of is_depart (event p k ∷ []) q ≡ 0 = elim (count_of-one_time is_depart (event p k) q) [
         | inl zero_more ↦ zero_more
@@ -81,115 +81,115 @@ module _ (s : Sizes) (j : List Event) (p q : ℕ) (k : Kind) (apart : p ≢ q) (
       (let enough = a.2 r within in
       let more = count_of-append is_arrive j (event p k ∷ []) r in
       omega (arith, enough, more, sum, none)) in
-      (a.0, last_longer j (event p k ∷ []) q a.0 kind.Arrive (away_one (event p k) q apart) a.1, all)
-  allowed_after (kind.Await f) a = (
+      (a.0, last_longer j (event p k ∷ []) q a.0 kind.Arrive (reduced_same_away_one (event p k) q apart) a.1, all)
+  reduced_swapped_allowed_after (kind.Await f) a = (
     a.0,
     a.1,
     a.2,
-    last_longer j (event p k ∷ []) q a.0 (kind.Watch f) (away_one (event p k) q apart) a.3,
+    last_longer j (event p k ∷ []) q a.0 (kind.Watch f) (reduced_same_away_one (event p k) q apart) a.3,
     numbered_at_longer j (event p k ∷ []) a.1 (event a.2 (kind.Set f)) a.4,
   )
-  allowed_after _ a = a
+  reduced_swapped_allowed_after _ a = a
 
   -- what may come next may still come after another's event
-  pub follows_after : (c : Kind) → MayFollow s j (event q c) → MayFollow s (did j p k) (event q c)
-  follows_after c other = record {
+  pub reduced_swapped_follows_after : (c : Kind) → MayFollow s j (event q c) → MayFollow s (did j p k) (event q c)
+  reduced_swapped_follows_after c other = record {
     processor = other.processor;
     in_range = other.in_range;
-    answers = λ i b last. other.answers i b (last_shorter j (event p k ∷ []) q i b (away_one (event p k) q apart) last);
-    allowed = allowed_after c other.allowed;
+    answers = λ i b last. other.answers i b (last_shorter j (event p k ∷ []) q i b (reduced_same_away_one (event p k) q apart) last);
+    allowed = reduced_swapped_allowed_after c other.allowed;
   }
 
 -- a load answers the same after an event that doesn't conflict with it
-answers_after : (m : List ℕ) (p q : ℕ) (k c : Kind) → ¬ Conflict (event p k) (event q c) → AnswersFlatWord m c
+reduced_swapped_answers_after : (m : List ℕ) (p q : ℕ) (k c : Kind) → ¬ Conflict (event p k) (event q c) → AnswersFlatWord m c
     → AnswersFlatWord (wrote m (flat_write k)) c
-answers_after m p q (kind.Store a v) (kind.Load w u) quiet word = elim (cases_eq w a) [
+reduced_swapped_answers_after m p q (kind.Store a v) (kind.Load w u) quiet word = elim (cases_eq w a) [
   | inl is ↦ absurd (quiet (record { address = a; first = refl; second = ap Some is; stores = inl refl }))
   | inr isnt ↦ slice_get-set_other m a w v isnt ∙ word
 ]
-answers_after m p q (kind.Store a v) _ quiet word = word
-answers_after m p q _ c quiet word = word
+reduced_swapped_answers_after m p q (kind.Store a v) _ quiet word = word
+reduced_swapped_answers_after m p q _ c quiet word = word
 
 -- so an event that doesn't conflict with another's may come after it, as it might before
-pub next_after : (s : Plan) (g : List Event) (p q : ℕ) (k c : Kind) → p ≢ q → ¬ Conflict (event p k) (event q c)
+pub reduced_swapped_next_after : (s : Plan) (g : List Event) (p q : ℕ) (k c : Kind) → p ≢ q → ¬ Conflict (event p k) (event q c)
     → IsFlatBeginning s (did g p k) → IsFlatBeginning s (did g q c) → IsFlatBeginning s (did (did g p k) q c)
-next_after s g p q k c apart quiet first second =
-    let one = (next_begins s g p k).0 first in
-    let two = (next_begins s g q c).0 second in
-    (next_begins s (did g p k) q c).1 (
+reduced_swapped_next_after s g p q k c apart quiet first second =
+    let one = (beginning_next s g p k).0 first in
+    let two = (beginning_next s g q c).0 second in
+    (beginning_next s (did g p k) q c).1 (
       first,
       record {
-        may_follow = follows_after (followed_plan_sizes s) g p q k apart one.1.may_follow c two.1.may_follow;
+        may_follow = reduced_swapped_follows_after (followed_plan_sizes s) g p q k apart one.1.may_follow c two.1.may_follow;
         calls = record {
           call = two.1.calls.call;
           next = λ section at.
-              subst (λ calls. IsCalledNext (section_steps section (shown_by s q)) calls c) (sym (followed_calls-others g p q k apart))
+              subst (λ calls. IsCalledNext (prefix_calling_section_steps section (prefix_calling_shown_by s q)) calls c) (sym (followed_calls-others g p q k apart))
               (two.1.calls.next section at);
         };
-        answers = subst (λ m. AnswersFlatWord m c) (sym (memory_did (replicate (plan_addresses s) 0) g p k))
-            (answers_after (memory_after (replicate (plan_addresses s) 0) g) p q k c quiet two.1.answers);
+        answers = subst (λ m. AnswersFlatWord m c) (sym (reduced_same_memory_did (replicate (plan_addresses s) 0) g p k))
+            (reduced_swapped_answers_after (memory_after (replicate (plan_addresses s) 0) g) p q k c quiet two.1.answers);
       },
     )
 
 -- writes that don't conflict commute
-writes_commute : (m : List ℕ) (p q : ℕ) (k c : Kind) → ¬ Conflict (event p k) (event q c)
+reduced_swapped_writes_commute : (m : List ℕ) (p q : ℕ) (k c : Kind) → ¬ Conflict (event p k) (event q c)
     → wrote (wrote m (flat_write k)) (flat_write c) ≡ wrote (wrote m (flat_write c)) (flat_write k)
-writes_commute m p q (kind.Store a v) (kind.Store b u) quiet = elim (cases_eq a b) [
+reduced_swapped_writes_commute m p q (kind.Store a v) (kind.Store b u) quiet = elim (cases_eq a b) [
   | inl is ↦ absurd (quiet (record { address = b; first = ap Some is; second = refl; stores = inl refl }))
   | inr isnt ↦ set_comm m a b v u isnt
 ]
-writes_commute m p q (kind.Store a v) _ quiet = refl
-writes_commute m p q _ c quiet = refl
+reduced_swapped_writes_commute m p q (kind.Store a v) _ quiet = refl
+reduced_swapped_writes_commute m p q _ c quiet = refl
 
 -- the ask of an event that is none
-no_ask_now : (k : Kind) (l : ℕ) → is_ask k ≡ false → kind.Ask l ≢ k
-no_ask_now k l none is = false≢true (sym none ∙ ap is_ask (sym is))
+swapped_no_ask_now : (k : Kind) (l : ℕ) → is_ask k ≡ false → kind.Ask l ≢ k
+swapped_no_ask_now k l none is = false≢true (sym none ∙ ap is_ask (sym is))
 
 -- after an event that is no ask, an open ask is an old one of another
-old_ask : (j : List Event) (p r i l : ℕ) (k : Kind) → is_ask k ≡ false → LastIs (did j p k) r i (kind.Ask l)
+reduced_swapped_old_ask : (j : List Event) (p r i l : ℕ) (k : Kind) → is_ask k ≡ false → LastIs (did j p k) r i (kind.Ask l)
     → (p ≢ r) × LastIs j r i (kind.Ask l)
-old_ask j p r i l k none last = elim (last_cases j (event p k) r i (kind.Ask l) last) [
-  | inl own ↦ absurd (no_ask_now k l none own.2)
+reduced_swapped_old_ask j p r i l k none last = elim (last_cases j (event p k) r i (kind.Ask l) last) [
+  | inl own ↦ absurd (swapped_no_ask_now k l none own.2)
   | inr old ↦ old
 ]
 
 -- two old asks stay open and in order after events of others
-two_old : (g : List Event) (e f : Event) (l r t i m : ℕ) → e.processor ≢ r → e.processor ≢ t → f.processor ≢ r
+reduced_swapped_two_old : (g : List Event) (e f : Event) (l r t i m : ℕ) → e.processor ≢ r → e.processor ≢ t → f.processor ≢ r
     → f.processor ≢ t → LastIs g r i (kind.Ask l) → LastIs g t m (kind.Ask l) → i < m
-    → AsksFirst ((g ++ e ∷ []) ++ f ∷ []) l r t
-two_old g e f l r t i m er et fr ft first second lt = record {
+    → SameAsksFirst ((g ++ e ∷ []) ++ f ∷ []) l r t
+reduced_swapped_two_old g e f l r t i m er et fr ft first second lt = record {
   first = i;
   second = m;
-  asks = last_longer (g ++ e ∷ []) (f ∷ []) r i (kind.Ask l) (away_one f r fr)
-      (last_longer g (e ∷ []) r i (kind.Ask l) (away_one e r er) first);
-  other = last_longer (g ++ e ∷ []) (f ∷ []) t m (kind.Ask l) (away_one f t ft)
-      (last_longer g (e ∷ []) t m (kind.Ask l) (away_one e t et) second);
+  asks = last_longer (g ++ e ∷ []) (f ∷ []) r i (kind.Ask l) (reduced_same_away_one f r fr)
+      (last_longer g (e ∷ []) r i (kind.Ask l) (reduced_same_away_one e r er) first);
+  other = last_longer (g ++ e ∷ []) (f ∷ []) t m (kind.Ask l) (reduced_same_away_one f t ft)
+      (last_longer g (e ∷ []) t m (kind.Ask l) (reduced_same_away_one e t et) second);
   before = lt;
 }
 
 -- events of two processors in either order, of which the first is no ask
 module _ (g : List Event) (p q : ℕ) (k c : Kind) (apart : p ≢ q) (none : is_ask k ≡ false) where
-  asks_there : (l r t : ℕ) → AsksFirst (did (did g p k) q c) l r t → AsksFirst (did (did g q c) p k) l r t
-  asks_there l r t a = elim (last_cases (did g p k) (event q c) t a.second (kind.Ask l) a.other) [
+  reduced_swapped_asks_there : (l r t : ℕ) → SameAsksFirst (did (did g p k) q c) l r t → SameAsksFirst (did (did g q c) p k) l r t
+  reduced_swapped_asks_there l r t a = elim (last_cases (did g p k) (event q c) t a.second (kind.Ask l) a.other) [
     | inl mine ↦ elim (last_cases (did g p k) (event q c) r a.first (kind.Ask l) a.asks) [
       | inl own ↦ (let lt = a.before in let one = mine.1 in let two = own.1 in absurd (omega arith))
       | inr old ↦
-          (let was = old_ask g p r a.first l k none old.1 in
+          (let was = reduced_swapped_old_ask g p r a.first l k none old.1 in
           let now : LastIs (did g q c) t (length g) (kind.Ask l) =
           subst (λ u. LastIs (did g q c) u (length g) (kind.Ask l)) mine.0
           (subst (LastIs (did g q c) q (length g)) (sym mine.2) (last_now g (event q c))) in
           record {
             first = a.first;
             second = length g;
-            asks = last_longer (did g q c) (event p k ∷ []) r a.first (kind.Ask l) (away_one (event p k) r was.0)
-                (last_longer g (event q c ∷ []) r a.first (kind.Ask l) (away_one (event q c) r old.0) was.1);
+            asks = last_longer (did g q c) (event p k ∷ []) r a.first (kind.Ask l) (reduced_same_away_one (event p k) r was.0)
+                (last_longer g (event q c ∷ []) r a.first (kind.Ask l) (reduced_same_away_one (event q c) r old.0) was.1);
             other = last_longer (did g q c) (event p k ∷ []) t (length g) (kind.Ask l)
-                (away_one (event p k) t (λ is. apart (is ∙ sym mine.0))) now;
+                (reduced_same_away_one (event p k) t (λ is. apart (is ∙ sym mine.0))) now;
             before = numbered_at_within g a.first (event r (kind.Ask l)) was.1.does;
           })
     ]
     | inr later ↦
-        (let second = old_ask g p t a.second l k none later.1 in
+        (let second = reduced_swapped_old_ask g p t a.second l k none later.1 in
         elim (last_cases (did g p k) (event q c) r a.first (kind.Ask l) a.asks) [
           | inl own ↦
               (let lt = a.before in
@@ -198,15 +198,15 @@ module _ (g : List Event) (p q : ℕ) (k c : Kind) (apart : p ≢ q) (none : is_
               let long = length-append g (event p k ∷ []) in
               absurd (omega arith))
           | inr old ↦
-              (let first = old_ask g p r a.first l k none old.1 in
-              two_old g (event q c) (event p k) l r t a.first a.second old.0 later.0 first.0 second.0 first.1 second.1 a.before)
+              (let first = reduced_swapped_old_ask g p r a.first l k none old.1 in
+              reduced_swapped_two_old g (event q c) (event p k) l r t a.first a.second old.0 later.0 first.0 second.0 first.1 second.1 a.before)
         ])
   ]
 
-  asks_back : (l r t : ℕ) → AsksFirst (did (did g q c) p k) l r t → AsksFirst (did (did g p k) q c) l r t
-  asks_back l r t a =
-      let first = old_ask (did g q c) p r a.first l k none a.asks in
-      let second = old_ask (did g q c) p t a.second l k none a.other in
+  reduced_swapped_asks_back : (l r t : ℕ) → SameAsksFirst (did (did g q c) p k) l r t → SameAsksFirst (did (did g p k) q c) l r t
+  reduced_swapped_asks_back l r t a =
+      let first = reduced_swapped_old_ask (did g q c) p r a.first l k none a.asks in
+      let second = reduced_swapped_old_ask (did g q c) p t a.second l k none a.other in
       elim (last_cases g (event q c) t a.second (kind.Ask l) second.1) [
         | inl mine ↦ elim (last_cases g (event q c) r a.first (kind.Ask l) first.1) [
           | inl own ↦ (let lt = a.before in let one = mine.1 in let two = own.1 in absurd (omega arith))
@@ -219,8 +219,8 @@ module _ (g : List Event) (p q : ℕ) (k c : Kind) (apart : p ≢ q) (none : is_
               record {
                 first = a.first;
                 second = length (did g p k);
-                asks = last_longer (did g p k) (event q c ∷ []) r a.first (kind.Ask l) (away_one (event q c) r old.0)
-                    (last_longer g (event p k ∷ []) r a.first (kind.Ask l) (away_one (event p k) r first.0) old.1);
+                asks = last_longer (did g p k) (event q c ∷ []) r a.first (kind.Ask l) (reduced_same_away_one (event q c) r old.0)
+                    (last_longer g (event p k ∷ []) r a.first (kind.Ask l) (reduced_same_away_one (event p k) r first.0) old.1);
                 other = now;
                 before = omega arith;
               })
@@ -231,69 +231,69 @@ module _ (g : List Event) (p q : ℕ) (k c : Kind) (apart : p ≢ q) (none : is_
               let within = numbered_at_within g a.second (event t (kind.Ask l)) later.1.does in
               let two = own.1 in
               absurd (omega arith))
-          | inr old ↦ two_old g (event p k) (event q c) l r t a.first a.second first.0 second.0 old.0 later.0 old.1 later.1 a.before
+          | inr old ↦ reduced_swapped_two_old g (event p k) (event q c) l r t a.first a.second first.0 second.0 old.0 later.0 old.1 later.1 a.before
         ]
       ]
 
-  parts_either : (r : ℕ) → events_of (did (did g p k) q c) r ≡ events_of (did (did g q c) p k) r
-  parts_either r = elim (cases_eq p r) [
+  reduced_swapped_parts_either : (r : ℕ) → events_of (did (did g p k) q c) r ≡ events_of (did (did g q c) p k) r
+  reduced_swapped_parts_either r = elim (cases_eq p r) [
     | inl is ↦
         (let isnt : q ≢ r = λ other. apart (is ∙ sym other) in
         let back : q ≢ p = λ other. apart (sym other) in
-        part_other (did g p k) (event q c) r isnt
+        reduced_same_part_others (did g p k) (event q c) r isnt
         ∙ subst (λ t. events_of (did g p k) t ≡ events_of (did (did g q c) p k) t) is
-        (part_own g (event p k) ∙ ap (λ xs. xs ++ event p k ∷ []) (sym (part_other g (event q c) p back))
-        ∙ sym (part_own (did g q c) (event p k))))
+        (reduced_same_part_own g (event p k) ∙ ap (λ xs. xs ++ event p k ∷ []) (sym (reduced_same_part_others g (event q c) p back))
+        ∙ sym (reduced_same_part_own (did g q c) (event p k))))
     | inr isnt ↦ elim (cases_eq q r) [
       | inl is ↦
           subst (λ t. events_of (did (did g p k) q c) t ≡ events_of (did (did g q c) p k) t) is
-          (part_own (did g p k) (event q c) ∙ ap (λ xs. xs ++ event q c ∷ []) (part_other g (event p k) q apart)
-          ∙ sym (part_own g (event q c)) ∙ sym (part_other (did g q c) (event p k) q apart))
+          (reduced_same_part_own (did g p k) (event q c) ∙ ap (λ xs. xs ++ event q c ∷ []) (reduced_same_part_others g (event p k) q apart)
+          ∙ sym (reduced_same_part_own g (event q c)) ∙ sym (reduced_same_part_others (did g q c) (event p k) q apart))
       | inr other ↦
-          part_other (did g p k) (event q c) r other ∙ part_other g (event p k) r isnt
-          ∙ sym (part_other g (event q c) r other) ∙ sym (part_other (did g q c) (event p k) r isnt)
+          reduced_same_part_others (did g p k) (event q c) r other ∙ reduced_same_part_others g (event p k) r isnt
+          ∙ sym (reduced_same_part_others g (event q c) r other) ∙ sym (reduced_same_part_others (did g q c) (event p k) r isnt)
     ]
   ]
 
-  pub same_either : (s : Plan) → ¬ Conflict (event p k) (event q c) → IsSame s (did (did g p k) q c) (did (did g q c) p k)
-  same_either s quiet =
+  pub reduced_swapped_same_either : (s : Plan) → ¬ Conflict (event p k) (event q c) → IsSame s (did (did g p k) q c) (did (did g q c) p k)
+  reduced_swapped_same_either s quiet =
       let start = replicate (plan_addresses s) 0 in
       record {
-        parts = parts_either;
+        parts = reduced_swapped_parts_either;
         memory =
-            memory_did start (did g p k) q c ∙ ap (λ m. wrote m (flat_write c)) (memory_did start g p k)
-            ∙ writes_commute (memory_after start g) p q k c quiet
-            ∙ sym (memory_did start (did g q c) p k ∙ ap (λ m. wrote m (flat_write k)) (memory_did start g q c));
-        asks = λ l r t. (asks_there l r t, asks_back l r t);
+            reduced_same_memory_did start (did g p k) q c ∙ ap (λ m. wrote m (flat_write c)) (reduced_same_memory_did start g p k)
+            ∙ reduced_swapped_writes_commute (memory_after start g) p q k c quiet
+            ∙ sym (reduced_same_memory_did start (did g q c) p k ∙ ap (λ m. wrote m (flat_write k)) (reduced_same_memory_did start g q c));
+        asks = λ l r t. (reduced_swapped_asks_there l r t, reduced_swapped_asks_back l r t);
       }
 
 -- what is so where an event came before some others of which none is its processor's
-pub record ComesFirst (s : Plan) (g w : List Event) (p : ℕ) (k : Kind) : Type 0 where
+pub record SwappedComesFirst (s : Plan) (g w : List Event) (p : ℕ) (k : Kind) : Type 0 where
   pub first : IsFlatBeginning s (did g p k ++ w)
   pub last : IsFlatBeginning s (did (g ++ w) p k)
   pub same : IsSame s (did (g ++ w) p k) (did g p k ++ w)
 
-module _ (s : Plan) (rows : List (Vec ScriptCall)) (steps : AreLawfulSteps s rows) (p : ℕ) (k : Kind)
+module _ (s : Plan) (rows : List (Vec ScriptCall)) (steps : AreLawfulMachineSteps s rows) (p : ℕ) (k : Kind)
     (free : IsFree rows k) where
   quiet : (g : List Event) (q : ℕ) (c : Kind) → p ≢ q → IsFlatBeginning s (did g p k) → IsFlatBeginning s (did g q c)
       → ¬ Conflict (event p k) (event q c)
   quiet g q c apart first second conflict =
-      guarded_quiet s rows steps g p q k c first second apart conflict (free.guarded conflict.address conflict.first)
+      lockset_guarded_quiet s rows steps g p q k c first second apart conflict (free.guarded conflict.address conflict.first)
 
   -- a free event comes before others' as well as after them
-  pub comes_first : (w g : List Event) → ((m : ℕ) (f : Event) → At w m f → f.processor ≢ p) → IsFlatBeginning s (did g p k)
-      → IsFlatBeginning s (g ++ w) → ComesFirst s g w p k
-  comes_first [] g away next whole = record {
+  pub reduced_swapped_comes_first : (w g : List Event) → ((m : ℕ) (f : Event) → At w m f → f.processor ≢ p) → IsFlatBeginning s (did g p k)
+      → IsFlatBeginning s (g ++ w) → SwappedComesFirst s g w p k
+  reduced_swapped_comes_first [] g away next whole = record {
     first = subst (IsFlatBeginning s) (sym (append-nil (did g p k))) next;
     last = subst (λ x. IsFlatBeginning s (did x p k)) (sym (append-nil g)) next;
     same = subst (λ x. IsSame s (did x p k) (did g p k ++ [])) (sym (append-nil g))
-        (subst (IsSame s (did g p k)) (sym (append-nil (did g p k))) (itself s (did g p k)));
+        (subst (IsSame s (did g p k)) (sym (append-nil (did g p k))) (reduced_same_as_itself s (did g p k)));
   }
-  comes_first (e ∷ w) g away next whole =
+  reduced_swapped_comes_first (e ∷ w) g away next whole =
       let apart : p ≢ e.processor = λ is. away 0 e refl (sym is) in
       let back : e.processor ≢ p = away 0 e refl in
       let longer = subst (IsFlatBeginning s) (sym (append_assoc g (e ∷ []) w)) whole in
-      let now = front_begins s (g ++ e ∷ []) w longer in
+      let now = beginning_front s (g ++ e ∷ []) w longer in
       let calm = quiet g e.processor e.kind apart next now in
       let calm_back : ¬ Conflict e (event p k) = λ c. calm (record {
         address = c.address;
@@ -301,16 +301,16 @@ module _ (s : Plan) (rows : List (Vec ScriptCall)) (steps : AreLawfulSteps s row
         second = c.first;
         stores = elim c.stores [ inl is ↦ inr is | inr is ↦ inl is ];
       }) in
-      let one = next_after s g p e.processor k e.kind apart calm next now in
-      let two = next_after s g e.processor p e.kind k back calm_back now next in
-      let more = comes_first w (g ++ e ∷ []) (λ m. away (suc m)) two longer in
-      let either = same_either g p e.processor k e.kind apart free.no_ask s calm in
-      let on = same_on s w (did (g ++ e ∷ []) p k) (did g p k ++ e ∷ []) (other_way s _ _ either) one more.first in
+      let one = reduced_swapped_next_after s g p e.processor k e.kind apart calm next now in
+      let two = reduced_swapped_next_after s g e.processor p e.kind k back calm_back now next in
+      let more = reduced_swapped_comes_first w (g ++ e ∷ []) (λ m. away (suc m)) two longer in
+      let either = reduced_swapped_same_either g p e.processor k e.kind apart free.no_ask s calm in
+      let on = same_on s w (did (g ++ e ∷ []) p k) (did g p k ++ e ∷ []) (reduced_same_other_way s _ _ either) one more.first in
       record {
         first = subst (IsFlatBeginning s) (append_assoc (did g p k) (e ∷ []) w) on.0;
         last = subst (λ x. IsFlatBeginning s (did x p k)) (append_assoc g (e ∷ []) w) more.last;
         same =
             subst (λ x. IsSame s (did x p k) (did g p k ++ e ∷ w)) (append_assoc g (e ∷ []) w)
             (subst (IsSame s (did ((g ++ e ∷ []) ++ w) p k)) (append_assoc (did g p k) (e ∷ []) w)
-            (after_that s _ _ _ more.same on.1));
+            (reduced_same_after_that s _ _ _ more.same on.1));
       }

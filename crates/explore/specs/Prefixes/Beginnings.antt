@@ -20,16 +20,16 @@ pub record IsFlatBeginning (s : Plan) (g : List Event) : Type 0 where
   pub no_fetch : FlatRunHasNoFetch g
 
 -- and all of them have done all of it
-pub record IsWhole (s : Plan) (g : List Event) : Type 0 where
+pub record IsWholeBeginning (s : Plan) (g : List Event) : Type 0 where
   pub beginning : IsFlatBeginning s g
   pub follows : Follows s g
 
 -- some haven't, and nothing may come next
-pub record IsHang (s : Plan) (g : List Event) : Type 0 where
+pub record IsHangingBeginning (s : Plan) (g : List Event) : Type 0 where
   pub beginning : IsFlatBeginning s g
   pub unfinished : ¬ Follows s g
   pub stuck : (p : ℕ) (k : Kind) → ¬ IsFlatBeginning s (did g p k)
 
 -- whatever the order, the script doesn't race on one flat memory, not even before it hangs
-abbrev pub IsFlatRaceFree : Plan → Type 0
-IsFlatRaceFree s = (g : List Event) → IsFlatBeginning s g → RaceFree g
+abbrev pub IsRaceFreeBeginning : Plan → Type 0
+IsRaceFreeBeginning s = (g : List Event) → IsFlatBeginning s g → RaceFree g

@@ -11,12 +11,12 @@ use Rattle.lrc_script.specs.Plan.{Plan}
 use Rattle.lrc_script.specs.Lawful.{plan_addresses}
 use Rattle.conformance.specs.Follows.{followed_plan_sizes, followed_calls, Follows}
 use Rattle.conformance.specs.FlatRuns.{NeverRacesFlat}
-use Rattle.explore.specs.Prefixes.Beginnings.{IsFlatBeginning, IsFlatRaceFree}
-use Rattle.explore.specs.Prefixes.Calling.{CallsNext, replyless, section_steps, shown_by}
+use Rattle.explore.specs.Prefixes.Beginnings.{IsFlatBeginning, IsRaceFreeBeginning}
+use Rattle.explore.specs.Prefixes.Calling.{CallsNext, replyless_call, prefix_calling_section_steps, prefix_calling_shown_by}
 
 -- a script of which no beginning races never races
 abbrev pub NeverRacesLaw : Type 0
-NeverRacesLaw = (s : Plan) → IsFlatRaceFree s → NeverRacesFlat s
+NeverRacesLaw = (s : Plan) → IsRaceFreeBeginning s → NeverRacesFlat s
 
 -- nothing begins each script
 abbrev pub EmptyLaw : Type 0
@@ -27,7 +27,7 @@ abbrev pub FrontLaw : Type 0
 FrontLaw = (s : Plan) (g more : List Event) → IsFlatBeginning s (g ++ more) → IsFlatBeginning s g
 
 -- p may do this next: its section says so, what it waits for has come, and a load answers its word
-pub record MayComeNext (s : Plan) (g : List Event) (p : ℕ) (k : Kind) : Type 0 where
+pub record MayComeNextByLaw (s : Plan) (g : List Event) (p : ℕ) (k : Kind) : Type 0 where
   pub may_follow : MayFollow (followed_plan_sizes s) g (event p k)
   pub calls : CallsNext s g p k
   pub answers : AnswersFlatWord (memory_after (replicate (plan_addresses s) 0) g) k
@@ -35,34 +35,34 @@ pub record MayComeNext (s : Plan) (g : List Event) (p : ℕ) (k : Kind) : Type 0
 -- exactly then it makes a beginning longer
 abbrev pub NextLaw : Type 0
 NextLaw = (s : Plan) (g : List Event) (p : ℕ) (k : Kind)
-    → IsFlatBeginning s (did g p k) ↔ (IsFlatBeginning s g × MayComeNext s g p k)
+    → IsFlatBeginning s (did g p k) ↔ (IsFlatBeginning s g × MayComeNextByLaw s g p k)
 
 -- each processor has made as many calls as its section says
-abbrev pub AreAllDone : Plan → List Event → Type 0
-AreAllDone s g = (p : ℕ) (section : List Instruction) → slice_get s.sections p ≡ Some section
-    → length (followed_calls g p) ≡ length (section_steps section (shown_by s p))
+abbrev pub AreAllDoneByLaw : Plan → List Event → Type 0
+AreAllDoneByLaw s g = (p : ℕ) (section : List Instruction) → slice_get s.sections p ≡ Some section
+    → length (followed_calls g p) ≡ length (prefix_calling_section_steps section (prefix_calling_shown_by s p))
 
 -- a beginning is whole exactly then
 abbrev pub WholeRunLaw : Type 0
-WholeRunLaw = (s : Plan) (g : List Event) → IsFlatBeginning s g → Follows s g ↔ AreAllDone s g
+WholeRunLaw = (s : Plan) (g : List Event) → IsFlatBeginning s g → Follows s g ↔ AreAllDoneByLaw s g
 
 -- no two processors may access one word next, one of them storing
-abbrev pub HasNoNeighbours : Plan → Type 0
-HasNoNeighbours s = (g : List Event) (p q : ℕ) (a b : Kind) → IsFlatBeginning s (did g p a)
+abbrev pub NoNeighboursByLaw : Plan → Type 0
+NoNeighboursByLaw s = (g : List Event) (p q : ℕ) (a b : Kind) → IsFlatBeginning s (did g p a)
     → IsFlatBeginning s (did g q b) → p ≢ q → ¬ Conflict (event p a) (event q b)
 
 -- then no beginning races
 abbrev pub NeighboursLaw : Type 0
-NeighboursLaw = (s : Plan) → HasNoNeighbours s → IsFlatRaceFree s
+NeighboursLaw = (s : Plan) → NoNeighboursByLaw s → IsRaceFreeBeginning s
 
 -- after g and p's access a, q's access b races with a, where b has the reply that a load of it has then
-pub record RacesAfter (s : Plan) (g : List Event) (p q : ℕ) (a b : Kind) : Type 0 where
+pub record LawRacesAfter (s : Plan) (g : List Event) (p q : ℕ) (a b : Kind) : Type 0 where
   pub kind : Kind
-  pub call : replyless kind ≡ replyless b
+  pub call : replyless_call kind ≡ replyless_call b
   pub beginning : IsFlatBeginning s (did (did g p a) q kind)
   pub race : Race (did (did g p a) q kind) (length g) (length g + 1)
 
 -- two that may access one word next, one of them storing, race where they do so one after the other
 abbrev pub RacingLaw : Type 0
 RacingLaw = (s : Plan) (g : List Event) (p q : ℕ) (a b : Kind) → IsFlatBeginning s (did g p a)
-    → IsFlatBeginning s (did g q b) → p ≢ q → Conflict (event p a) (event q b) → RacesAfter s g p q a b
+    → IsFlatBeginning s (did g q b) → p ≢ q → Conflict (event p a) (event q b) → LawRacesAfter s g p q a b

@@ -1,7 +1,7 @@
 //! What a script says of each call of a processor.
 ghost use Rattle.std.specs.Prelude.{◌≡◌, ◌++◌, OnOk, IfOk, option_to_list};
-ghost use Rattle.explore.specs.Prefixes.Prelude.{steps_of, section_steps, load_steps, steps_of_all, AreStepsOf};
-ghost use Rattle.explore.specs.Prefixes.Prelude.{shown_by};
+ghost use Rattle.explore.specs.Prefixes.Prelude.{prefix_calling_steps, prefix_calling_section_steps, prefix_calling_load_steps, prefix_calling_all_steps, AreCallingSteps};
+ghost use Rattle.explore.specs.Prefixes.Prelude.{prefix_calling_shown_by};
 ghost use Rattle.lrc_script.specs.Prelude.{plan_of};
 
 use journal::Kind;
@@ -18,8 +18,8 @@ pub enum ScriptCall {
 }
 
 /// The steps of an instruction, of which it has two at most.
-fn pair_of(instruction: Instruction) -> (Option<ScriptCall>, Option<ScriptCall>)
-    ensures { option_to_list result.0 ++ option_to_list result.1 ≡ steps_of instruction }
+fn script_call_pair(instruction: Instruction) -> (Option<ScriptCall>, Option<ScriptCall>)
+    ensures { option_to_list result.0 ++ option_to_list result.1 ≡ prefix_calling_steps instruction }
 {
     match instruction {
         Instruction::Load(address) => (Some(ScriptCall::Call(Kind::Load(address, 0))), None),
@@ -49,7 +49,10 @@ fn pair_of(instruction: Instruction) -> (Option<ScriptCall>, Option<ScriptCall>)
 }
 
 /// Puts the step at the end, if there is one.
-fn push_some(steps: &mut Vec<ScriptCall>, step: Option<ScriptCall>) -> Result<(), AllocError>
+fn push_some_script_call(
+    steps: &mut Vec<ScriptCall>,
+    step: Option<ScriptCall>,
+) -> Result<(), AllocError>
     ensures { OnOk result (steps.new.items ≡ steps.old.items ++ option_to_list step) }
 {
     if let Some(step) = step {
@@ -60,16 +63,19 @@ fn push_some(steps: &mut Vec<ScriptCall>, step: Option<ScriptCall>) -> Result<()
 
 /// Puts the steps of an instruction at the end.
 fn push_instruction(steps: &mut Vec<ScriptCall>, instruction: Instruction) -> Result<(), AllocError>
-    ensures { OnOk result (steps.new.items ≡ steps.old.items ++ steps_of instruction) }
+    ensures { OnOk result (steps.new.items ≡ steps.old.items ++ prefix_calling_steps instruction) }
 {
-    let (first, second) = pair_of(instruction);
-    push_some(steps, first)?;
-    push_some(steps, second)
+    let (first, second) = script_call_pair(instruction);
+    push_some_script_call(steps, first)?;
+    push_some_script_call(steps, second)
 }
 
 /// The steps of these instructions.
-fn own_steps(alloc: Global, section: &[Instruction]) -> Result<Vec<ScriptCall>, AllocError>
-    ensures { IfOk result (λ v. v.items ≡ steps_of_all section.now) }
+fn script_call_own_steps(
+    alloc: Global,
+    section: &[Instruction],
+) -> Result<Vec<ScriptCall>, AllocError>
+    ensures { IfOk result (λ v. v.items ≡ prefix_calling_all_steps section.now) }
 {
     let mut steps = Vec::new(alloc);
     for instruction in section {
@@ -79,8 +85,8 @@ fn own_steps(alloc: Global, section: &[Instruction]) -> Result<Vec<ScriptCall>, 
 }
 
 /// Puts a load of each of these addresses at the end.
-fn push_loads(steps: &mut Vec<ScriptCall>, shown: &[usize]) -> Result<(), AllocError>
-    ensures { OnOk result (steps.new.items ≡ steps.old.items ++ load_steps shown.now) }
+fn push_script_loads(steps: &mut Vec<ScriptCall>, shown: &[usize]) -> Result<(), AllocError>
+    ensures { OnOk result (steps.new.items ≡ steps.old.items ++ prefix_calling_load_steps shown.now) }
 {
     for address in shown {
         steps.push(ScriptCall::Call(Kind::Load(*address, 0)))?;
@@ -89,33 +95,33 @@ fn push_loads(steps: &mut Vec<ScriptCall>, shown: &[usize]) -> Result<(), AllocE
 }
 
 /// All that a processor calls which has this section, and shows these addresses.
-fn steps_of_section(
+fn script_section_steps(
     alloc: Global,
     section: &[Instruction],
     shown: &[usize],
 ) -> Result<Vec<ScriptCall>, AllocError>
-    ensures { IfOk result (λ v. v.items ≡ section_steps section.now shown.now) }
+    ensures { IfOk result (λ v. v.items ≡ prefix_calling_section_steps section.now shown.now) }
 {
-    let mut steps = own_steps(alloc, section)?;
+    let mut steps = script_call_own_steps(alloc, section)?;
     push_instruction(&mut steps, Instruction::Barrier)?;
-    push_loads(&mut steps, shown)?;
+    push_script_loads(&mut steps, shown)?;
     Ok(steps)
 }
 
 /// What the processor shows at the end.
-fn shown_of(script: &Script, processor: usize) -> &[usize]
-    ensures { result.now ≡ shown_by (plan_of script.now) processor }
+fn script_shown_by(script: &Script, processor: usize) -> &[usize]
+    ensures { result.now ≡ prefix_calling_shown_by (plan_of script.now) processor }
 {
     if processor == 0 { &script.shown } else { &[] }
 }
 
 /// Of each processor of a script, all that it calls. The only error is running out of memory.
 pub fn steps_of_script(alloc: Global, script: &Script) -> Result<Vec<Vec<ScriptCall>>, AllocError>
-    ensures { IfOk result (λ v. AreStepsOf (plan_of script.now) v.items) }
+    ensures { IfOk result (λ v. AreCallingSteps (plan_of script.now) v.items) }
 {
     let mut all = Vec::new(alloc);
     for (processor, section) in script.sections.iter().enumerate() {
-        let steps = steps_of_section(alloc, section, shown_of(script, processor))?;
+        let steps = script_section_steps(alloc, section, script_shown_by(script, processor))?;
         all.push(steps)?;
     }
     Ok(all)

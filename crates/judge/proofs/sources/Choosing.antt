@@ -23,15 +23,15 @@ use Rattle.journal.proofs.Times.LeavingCloses.{leaving_own_order}
 use Rattle.journal.proofs.Times.Uses.{time_uses_ordered}
 use Rattle.judge.specs.declared.sources.stored.Stored.{Stored}
 use Rattle.judge.specs.Sources.Latest.{IsLatest}
-use Rattle.judge.specs.Sources.Last.{IsLast, AreLast, IsStoreFollowed, IsUnfollowed}
+use Rattle.judge.specs.Sources.Last.{IsLast, AreLast, IsLastStoreFollowed, IsLastUnfollowed}
 use Rattle.judge.specs.declared.sources.readable.Sources.{Sources}
-use Rattle.judge.specs.Sources.Tells.{AreStoresOf}
+use Rattle.judge.specs.Sources.Tells.{AreSourceStoresOf}
 
 -- an event happens before one of another processor that takes nothing exactly where its timestamp before that counts
 -- the interval; of one processor the same event is meant
-pub ordered_at : (j : List Event) (k p q i : ℕ) (a b : Kind) (t : ℕ → ℕ) → IsTimeOf (take k j) p t → Does j i q a
+pub choosing_source_ordered_at : (j : List Event) (k p q i : ℕ) (a b : Kind) (t : ℕ → ℕ) → IsTimeOf (take k j) p t → Does j i q a
     → Does j k p b → is_taking b ≡ false → (q ≡ p → i ≡ k) → HappensBefore j i k ↔ (interval_at j q i < t q)
-ordered_at j k p q i a b t time does at quiet same = elim (cases_lt i k) [
+choosing_source_ordered_at j k p q i a b t time does at quiet same = elim (cases_lt i k) [
   | inl lt ↦ time_uses_ordered j k p q i a b t time does at quiet (λ is. (let e = same is in absurd (omega arith))) lt
   | inr le ↦
       (let top = time.within q in
@@ -40,37 +40,37 @@ ordered_at j k p q i a b t time does at quiet same = elim (cases_lt i k) [
 ]
 
 -- the load doesn't store
-load_apart : (a v b w p q : ℕ) → event p (Load a v) ≡ event q (Store b w) → ⊥
-load_apart a v b w p q e = let k = ap (λ x. x.kind) e in cc
+choosing_source_load_apart : (a v b w p q : ℕ) → event p (Load a v) ≡ event q (Store b w) → ⊥
+choosing_source_load_apart a v b w p q e = let k = ap (λ x. x.kind) e in cc
 
 -- the stores before the load are the journal's
-store_shorter : (j : List Event) (p a v i q b w : ℕ) → Does (did j p (Load a v)) i q (Store b w)
+choosing_source_store_shorter : (j : List Event) (p a v i q b w : ℕ) → Does (did j p (Load a v)) i q (Store b w)
     → Does j i q (Store b w)
-store_shorter j p a v i q b w does = elim (slice_push_cases j (event p (Load a v)) i (event q (Store b w)) does) [
+choosing_source_store_shorter j p a v i q b w does = elim (slice_push_cases j (event p (Load a v)) i (event q (Store b w)) does) [
   | inl old ↦ old.1
-  | inr new ↦ absurd (load_apart a v b w p q new.1)
+  | inr new ↦ absurd (choosing_source_load_apart a v b w p q new.1)
 ]
 
 -- what is given: the last stores to a in p's past, whose timestamps are among these
-pub record IsGiven (j : List Event) (times : List (List ℕ)) (p a : ℕ) (last : List (Option Stored)) : Type 0 where
+pub record IsGivenForChoosing (j : List Event) (times : List (List ℕ)) (p a : ℕ) (last : List (Option Stored)) : Type 0 where
   pub range : ProcessorsInRange 16 j
   pub long : length last ≡ 16
   pub are : AreLast j times p a last
 
 -- q's last store, where there is one
 found : (j : List Event) (times : List (List ℕ)) (p a q : ℕ) (last : List (Option Stored)) (s : Stored)
-    → IsGiven j times p a last → slice_get last q ≡ Some (Some s) → IsLast j times p a q s
+    → IsGivenForChoosing j times p a last → slice_get last q ≡ Some (Some s) → IsLast j times p a q s
 found j times p a q last s given at = given.are q (Some s) at
 
 -- each store of the past is up to its processor's last one
-record IsUpToLast (j : List Event) (times : List (List ℕ)) (p a q i : ℕ) (last : List (Option Stored)) : Type 0 where
+record IsChoosingUpToLast (j : List Event) (times : List (List ℕ)) (p a q i : ℕ) (last : List (Option Stored)) : Type 0 where
   store : Stored
   at : slice_get last q ≡ Some (Some store)
   up_to : i ≤ store.place
 
-up_to_last : (j : List Event) (times : List (List ℕ)) (p a q i v : ℕ) (last : List (Option Stored))
-    → IsGiven j times p a last → Does j i q (Store a v) → InPast j p i → IsUpToLast j times p a q i last
-up_to_last j times p a q i v last given does past = go (slice_index_or last q None) here
+choosing_up_to_last : (j : List Event) (times : List (List ℕ)) (p a q i v : ℕ) (last : List (Option Stored))
+    → IsGivenForChoosing j times p a last → Does j i q (Store a v) → InPast j p i → IsChoosingUpToLast j times p a q i last
+choosing_up_to_last j times p a q i v last given does past = go (slice_index_or last q None) here
   where
     here : slice_get last q ≡ Some (slice_index_or last q None)
     here =
@@ -78,62 +78,62 @@ up_to_last j times p a q i v last given does past = go (slice_index_or last q No
         let long = given.long in
         slice_get-get_or last q None (omega arith)
 
-    go : (o : Option Stored) → slice_get last q ≡ Some o → IsUpToLast j times p a q i last
+    go : (o : Option Stored) → slice_get last q ≡ Some o → IsChoosingUpToLast j times p a q i last
     go None at = absurd (given.are q None at i v does past)
     go (Some s) at = record { store = s; at = at; up_to = (given.are q (Some s) at).last i v does past }
 
 -- q's last store happens before r's exactly where the timestamp of r's counts its interval
-last_order : (j : List Event) (times : List (List ℕ)) (p a q r : ℕ) (last : List (Option Stored)) (s t : Stored)
-    → IsGiven j times p a last → slice_get last q ≡ Some (Some s) → slice_get last r ≡ Some (Some t)
+choosing_source_last_order : (j : List Event) (times : List (List ℕ)) (p a q r : ℕ) (last : List (Option Stored)) (s t : Stored)
+    → IsGivenForChoosing j times p a last → slice_get last q ≡ Some (Some s) → slice_get last r ≡ Some (Some t)
     → HappensBefore j s.place t.place ↔ (s.interval < entry times t.time q)
-last_order j times p a q r last s t given at to =
+choosing_source_last_order j times p a q r last s t given at to =
     let first = (found j times p a q last s given at).stored in
     let second = (found j times p a r last t given to).stored in
     let one : q ≡ r → s.place ≡ t.place =
     λ is. ap (λ (x : Stored). x.place)
     (same_Some s t (same_Some (Some s) (Some t) (sym at ∙ ap (slice_get last) is ∙ to))) in
     let tells =
-    ordered_at j t.place r q s.place (Store a first.value) (Store a second.value) (entry times t.time) second.time
+    choosing_source_ordered_at j t.place r q s.place (Store a first.value) (Store a second.value) (entry times t.time) second.time
     first.does second.does refl one in
     let interval = first.interval in
     ((λ h. (let lt = tells.0 h in omega arith)), (λ lt. tells.1 (omega arith)))
 
 -- what happens before a load that comes next is its processor's past
-load_past : (j : List Event) (p a v i : ℕ) → HappensBefore (did j p (Load a v)) i (length j) ↔ InPast j p i
-load_past j p a v i = past_reaches_new j (event p (Load a v)) i refl
+choosing_source_load_past : (j : List Event) (p a v i : ℕ) → HappensBefore (did j p (Load a v)) i (length j) ↔ InPast j p i
+choosing_source_load_past j p a v i = past_reaches_new j (event p (Load a v)) i refl
 
 -- up to there the order is the journal's
-load_order : (j : List Event) (p a v i k : ℕ) → k < length j
+choosing_source_load_order : (j : List Event) (p a v i k : ℕ) → k < length j
     → HappensBefore (did j p (Load a v)) i k ↔ HappensBefore j i k
-load_order j p a v i k lt = before_extension j (event p (Load a v) ∷ []) i k lt
+choosing_source_load_order j p a v i k lt = before_extension j (event p (Load a v) ∷ []) i k lt
 
 -- a store up to another one of its processor happens before what that happens before
-before_up_to : (j : List Event) (q i m k : ℕ) (a b : Kind) → Does j i q a → Does j m q b → i ≤ m → HappensBefore j m k
+choosing_before_up_to : (j : List Event) (q i m k : ℕ) (a b : Kind) → Does j i q a → Does j m q b → i ≤ m → HappensBefore j m k
     → HappensBefore j i k
-before_up_to j q i m k a b does to le h = elim (cases_eq i m) [
+choosing_before_up_to j q i m k a b does to le h = elim (cases_eq i m) [
   | inl is ↦ subst (λ x. HappensBefore j x k) (sym is) h
   | inr isnt ↦ before_transitive j (leaving_own_order j q i m a b does to (omega arith)) h
 ]
 
 -- what happens before a store happens before what that is up to
-before_on : (j : List Event) (q i m k : ℕ) (a b : Kind) → Does j m q a → Does j k q b → m ≤ k → HappensBefore j i m
+choosing_source_before_longer : (j : List Event) (q i m k : ℕ) (a b : Kind) → Does j m q a → Does j k q b → m ≤ k → HappensBefore j i m
     → HappensBefore j i k
-before_on j q i m k a b does to le h = elim (cases_eq m k) [
+choosing_source_before_longer j q i m k a b does to le h = elim (cases_eq m k) [
   | inl is ↦ subst (λ x. HappensBefore j i x) is h
   | inr isnt ↦ before_transitive j h (leaving_own_order j q m k a b does to (omega arith))
 ]
 
 -- a last store that no other follows is one that a load may answer that comes next
-pub unfollowed_latest : (j : List Event) (times : List (List ℕ)) (p a v q i : ℕ) (last : List (Option Stored))
-    → IsGiven j times p a last → IsUnfollowed times last q i → IsLatest (did j p (Load a v)) (length j) a q i
-unfollowed_latest j times p a v q i last given u = record {
+pub choosing_source_unfollowed_latest : (j : List Event) (times : List (List ℕ)) (p a v q i : ℕ) (last : List (Option Stored))
+    → IsGivenForChoosing j times p a last → IsLastUnfollowed times last q i → IsLatest (did j p (Load a v)) (length j) a q i
+choosing_source_unfollowed_latest j times p a v q i last given u = record {
   value = mine.stored.value;
   store = record {
     place = u.store.place;
     by = q;
     stores =
         numbered_at_longer j (event p (Load a v) ∷ []) u.store.place (event q (Store a mine.stored.value)) mine.stored.does;
-    before = (load_past j p a v u.store.place).1 mine.past;
+    before = (choosing_source_load_past j p a v u.store.place).1 mine.past;
     latest = latest;
   };
   place = u.place;
@@ -146,26 +146,26 @@ unfollowed_latest j times p a v q i last given u = record {
     latest : (m r w : ℕ) → Does (did j p (Load a v)) m r (Store a w)
         → HappensBefore (did j p (Load a v)) m (length j) → ¬ HappensBefore (did j p (Load a v)) u.store.place m
     latest m r w does before follows =
-        let old = store_shorter j p a v m r a w does in
-        let past = (load_past j p a v m).0 before in
+        let old = choosing_source_store_shorter j p a v m r a w does in
+        let past = (choosing_source_load_past j p a v m).0 before in
         let within = past_within j p m past in
-        let order = (load_order j p a v u.store.place m within).0 follows in
-        let up = up_to_last j times p a r m w last given old past in
+        let order = (choosing_source_load_order j p a v u.store.place m within).0 follows in
+        let up = choosing_up_to_last j times p a r m w last given old past in
         let theirs = (found j times p a r last up.store given up.at).stored in
         let on =
-        before_on j r u.store.place m up.store.place (Store a w) (Store a theirs.value) old theirs.does up.up_to order
+        choosing_source_before_longer j r u.store.place m up.store.place (Store a w) (Store a theirs.value) old theirs.does up.up_to order
         in
         u.free (record {
           by = r;
           store = up.store;
           at = up.at;
-          counts = (last_order j times p a q r last u.store up.store given u.at up.at).0 on;
+          counts = (choosing_source_last_order j times p a q r last u.store up.store given u.at up.at).0 on;
         })
 
 -- and each such store is one
-pub latest_unfollowed : (j : List Event) (times : List (List ℕ)) (p a v q i : ℕ) (last : List (Option Stored))
-    → IsGiven j times p a last → IsLatest (did j p (Load a v)) (length j) a q i → IsUnfollowed times last q i
-latest_unfollowed j times p a v q i last given x =
+pub choosing_source_latest_unfollowed : (j : List Event) (times : List (List ℕ)) (p a v q i : ℕ) (last : List (Option Stored))
+    → IsGivenForChoosing j times p a last → IsLatest (did j p (Load a v)) (length j) a q i → IsLastUnfollowed times last q i
+choosing_source_latest_unfollowed j times p a v q i last given x =
     record { store = up.store; at = up.at; place = place; free = free }
   where
     does_there : Does (did j p (Load a v)) i q (Store a x.value)
@@ -174,11 +174,11 @@ latest_unfollowed j times p a v q i last given x =
         (subst (λ n. Does (did j p (Load a v)) x.store.place n (Store a x.value)) x.by x.store.stores)
 
     does : Does j i q (Store a x.value)
-    does = store_shorter j p a v i q a x.value does_there
+    does = choosing_source_store_shorter j p a v i q a x.value does_there
 
     past : InPast j p i
     past =
-        (load_past j p a v i).0
+        (choosing_source_load_past j p a v i).0
         (subst (λ n. HappensBefore (did j p (Load a v)) n (length j)) x.place x.store.before)
 
     -- no store of the past happens after it
@@ -186,12 +186,12 @@ latest_unfollowed j times p a v q i last given x =
     none m r w to before follows =
         let within = past_within j p m before in
         x.store.latest m r w (numbered_at_longer j (event p (Load a v) ∷ []) m (event r (Store a w)) to)
-        ((load_past j p a v m).1 before)
+        ((choosing_source_load_past j p a v m).1 before)
         (subst (λ n. HappensBefore (did j p (Load a v)) n m) (sym x.place)
-        ((load_order j p a v i m within).1 follows))
+        ((choosing_source_load_order j p a v i m within).1 follows))
 
-    up : IsUpToLast j times p a q i last
-    up = up_to_last j times p a q i x.value last given does past
+    up : IsChoosingUpToLast j times p a q i last
+    up = choosing_up_to_last j times p a q i x.value last given does past
 
     mine : IsLast j times p a q up.store
     mine = found j times p a q last up.store given up.at
@@ -206,21 +206,21 @@ latest_unfollowed j times p a v q i last given x =
           (omega arith))))
     ]
 
-    free : ¬ IsStoreFollowed times last q up.store
+    free : ¬ IsLastStoreFollowed times last q up.store
     free f =
         let theirs = found j times p a f.by last f.store given f.at in
-        let order = (last_order j times p a q f.by last up.store f.store given up.at f.at).1 f.counts in
+        let order = (choosing_source_last_order j times p a q f.by last up.store f.store given up.at f.at).1 f.counts in
         none f.store.place f.by theirs.stored.value theirs.stored.does theirs.past
         (subst (λ n. HappensBefore j n f.store.place) place order)
 
 -- one processor more
-pub marks_next : (times : List (List ℕ)) (last : List (Option Stored)) (latest : List (Option ℕ)) (i : ℕ)
+pub choosing_source_marks_next : (times : List (List ℕ)) (last : List (Option Stored)) (latest : List (Option ℕ)) (i : ℕ)
     (o : Option ℕ) → i < length latest
-    → ((q n : ℕ) → q < i → (slice_get latest q ≡ Some (Some n)) ↔ IsUnfollowed times last q n)
-    → ((n : ℕ) → (o ≡ Some n) ↔ IsUnfollowed times last i n)
-    → (q n : ℕ) → q < i + 1 → (slice_get (slice_set latest i o) q ≡ Some (Some n)) ↔ IsUnfollowed times last q n
-marks_next times last latest i o within old now q n lt = elim (cases_eq q i) [
-  | inl is ↦ subst (λ x. (slice_get (slice_set latest i o) x ≡ Some (Some n)) ↔ IsUnfollowed times last x n) (sym is) (
+    → ((q n : ℕ) → q < i → (slice_get latest q ≡ Some (Some n)) ↔ IsLastUnfollowed times last q n)
+    → ((n : ℕ) → (o ≡ Some n) ↔ IsLastUnfollowed times last i n)
+    → (q n : ℕ) → q < i + 1 → (slice_get (slice_set latest i o) q ≡ Some (Some n)) ↔ IsLastUnfollowed times last q n
+choosing_source_marks_next times last latest i o within old now q n lt = elim (cases_eq q i) [
+  | inl is ↦ subst (λ x. (slice_get (slice_set latest i o) x ≡ Some (Some n)) ↔ IsLastUnfollowed times last x n) (sym is) (
     (λ at. (now n).0 (slice_get-set_found latest i o (Some n) at)),
     (λ u. slice_get-set_same latest i o within ∙ ap (λ (x : Option ℕ). Some x) ((now n).1 u)),
   )
@@ -231,8 +231,8 @@ marks_next times last latest i o within old now q n lt = elim (cases_eq q i) [
 ]
 
 -- the history's processors are few
-pub few_processors : (j : List Event) (s : Sources) → AreStoresOf j s → ProcessorsInRange 16 j
-few_processors j s tells i e at =
+pub choosing_source_few_processors : (j : List Event) (s : Sources) → AreSourceStoresOf j s → ProcessorsInRange 16 j
+choosing_source_few_processors j s tells i e at =
     let few = tells.clocks.few in
     let present = tells.present in
     let lt = tells.processors i e at in

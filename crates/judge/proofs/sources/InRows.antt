@@ -13,12 +13,12 @@ use Rattle.journal.specs.HappensBeforeEdges.{HappensBefore}
 use Rattle.journal.specs.WellFormed.{Does}
 use Rattle.journal.proofs.Order.CountedAndNumbered.{numbered_at_within, numbered_at_longer, numbered_at_shorter, numbered_at_last, numbered_at_same}
 use Rattle.journal.proofs.Order.HappensBefore.{before_begins_within, before_goes_forward, before_longer, before_shorter}
-use Rattle.judge.specs.Sources.Latest.{IsLatest, AreLatest, IsReadableRow, AreMarked}
+use Rattle.judge.specs.Sources.Latest.{IsLatest, AreLatest, IsLatestRow, AreLatestMarked}
 
 -- what a load may answer stays as the journal goes on
-pub latest_longer : (j es : List Event) (k a q i : ℕ) → k < length j → IsLatest j k a q i
+pub latest_row_longer : (j es : List Event) (k a q i : ℕ) → k < length j → IsLatest j k a q i
     → IsLatest (j ++ es) k a q i
-latest_longer j es k a q i within x = record {
+latest_row_longer j es k a q i within x = record {
   value = x.value;
   store = record {
     place = x.store.place;
@@ -39,9 +39,9 @@ latest_longer j es k a q i within x = record {
         x.store.latest m r w (numbered_at_shorter j es m (event r (Store a w)) inside does) (before_shorter j es within before)
         (before_shorter j es inside follows)
 
-pub latest_shorter : (j es : List Event) (k a q i : ℕ) → k < length j → IsLatest (j ++ es) k a q i
+pub latest_row_shorter : (j es : List Event) (k a q i : ℕ) → k < length j → IsLatest (j ++ es) k a q i
     → IsLatest j k a q i
-latest_shorter j es k a q i within x =
+latest_row_shorter j es k a q i within x =
     let before = before_shorter j es within x.store.before in
     record {
       value = x.value;
@@ -61,20 +61,20 @@ latest_shorter j es k a q i within x =
     }
 
 -- and so does a row
-pub row_longer : (j es : List Event) (k : ℕ) (places : List ℕ) → k < length j → IsReadableRow j k places
-    → IsReadableRow (j ++ es) k places
+pub row_longer : (j es : List Event) (k : ℕ) (places : List ℕ) → k < length j → IsLatestRow j k places
+    → IsLatestRow (j ++ es) k places
 row_longer j es k places within row = record {
   loads = λ p a v does. (let old = row.loads p a v (numbered_at_shorter j es k (event p (Load a v)) within does) in record {
     has = λ i. (
-      λ h. (let x = (old.has i).0 h in (x.0, latest_longer j es k a x.0 i within x.1)),
-      λ x. (old.has i).1 (x.0, latest_shorter j es k a x.0 i within x.1),
+      λ h. (let x = (old.has i).0 h in (x.0, latest_row_longer j es k a x.0 i within x.1)),
+      λ x. (old.has i).1 (x.0, latest_row_shorter j es k a x.0 i within x.1),
     );
     order = λ m n i l lt at to. (let x = old.order m n i l lt at to in (
       x.0,
       x.1,
       x.2,
-      latest_longer j es k a x.0 i within x.3,
-      latest_longer j es k a x.1 l within x.4,
+      latest_row_longer j es k a x.0 i within x.3,
+      latest_row_longer j es k a x.1 l within x.4,
     ));
   });
   others = λ none. row.others (λ p a v does. none p a v (numbered_at_longer j es k (event p (Load a v)) does));
@@ -82,7 +82,7 @@ row_longer j es k places within row = record {
 
 -- a row of a history's front is the history's
 pub row_in : (events : List Event) (k : ℕ) (e : Event) (places : List ℕ) → At events k e
-    → IsReadableRow (take k events ++ e ∷ []) (length (take k events)) places → IsReadableRow events k places
+    → IsLatestRow (take k events ++ e ∷ []) (length (take k events)) places → IsLatestRow events k places
 row_in events k e places at row =
     let lt = numbered_at_within events k e at in
     let long : length (take k events) ≡ k = length-take-le k events (omega arith) in
@@ -92,13 +92,13 @@ row_in events k e places at row =
     numbered_at_within (take k events ++ e ∷ []) (length (take k events)) e (numbered_at_last (take k events) e) in
     let whole =
     row_longer (take k events ++ e ∷ []) (drop (suc k) events) (length (take k events)) places within row in
-    subst (λ n. IsReadableRow events n places) long
-    (subst (λ xs. IsReadableRow xs (length (take k events)) places) split whole)
+    subst (λ n. IsLatestRow events n places) long
+    (subst (λ xs. IsLatestRow xs (length (take k events)) places) split whole)
 
 -- marks of the latest stores by processor make the row of a load
 pub row_marked : (j : List Event) (p a v : ℕ) (marks : List (Option ℕ)) (places : List ℕ)
     → ((q i : ℕ) → (slice_get marks q ≡ Some (Some i)) ↔ IsLatest (j ++ event p (Load a v) ∷ []) (length j) a q i)
-    → AreMarked marks places → IsReadableRow (j ++ event p (Load a v) ∷ []) (length j) places
+    → AreLatestMarked marks places → IsLatestRow (j ++ event p (Load a v) ∷ []) (length j) places
 row_marked j p a v marks places tells are = record { loads = loads; others = others }
   where
     e : Event
@@ -130,7 +130,7 @@ row_marked j p a v marks places tells are = record { loads = loads; others = oth
     others none = absurd (none p a v (numbered_at_last j (event p (Load a v))))
 
 -- an event that is no load has no place
-pub row_other : (j : List Event) (e : Event) → ((a v : ℕ) → e.kind ≢ Load a v) → IsReadableRow (j ++ e ∷ []) (length j) []
+pub row_other : (j : List Event) (e : Event) → ((a v : ℕ) → e.kind ≢ Load a v) → IsLatestRow (j ++ e ∷ []) (length j) []
 row_other j e isnt = record {
   loads = λ p a v does.
       (let same = numbered_at_same (j ++ e ∷ []) (length j) e (event p (Load a v)) (numbered_at_last j e) does in
@@ -139,9 +139,9 @@ row_other j e isnt = record {
 }
 
 -- a mark more is a place more
-pub marked_next : (marks : List (Option ℕ)) (places : List ℕ) (i : ℕ) → AreMarked marks places
-    → AreMarked (marks ++ Some i ∷ []) (places ++ i ∷ [])
-marked_next marks places i are = record { has = λ n. (there n, back n); order = order }
+pub latest_row_marked_next : (marks : List (Option ℕ)) (places : List ℕ) (i : ℕ) → AreLatestMarked marks places
+    → AreLatestMarked (marks ++ Some i ∷ []) (places ++ i ∷ [])
+latest_row_marked_next marks places i are = record { has = λ n. (there n, back n); order = order }
   where
     there : (n : ℕ) → Has (places ++ i ∷ []) n → Has (marks ++ Some i ∷ []) (Some n)
     there n h = elim (slice_push_cases places i h.0 n h.1) [
@@ -187,9 +187,9 @@ marked_next marks places i are = record { has = λ n. (there n, back n); order =
         kept q o at = slice_get-append_left marks (Some i ∷ []) q (slice_get_within marks q o at) ∙ at
 
 -- and without a mark there is none
-pub marked_none : (marks : List (Option ℕ)) (places : List ℕ) → AreMarked marks places
-    → AreMarked (marks ++ None ∷ []) places
-marked_none marks places are = record {
+pub latest_row_marked_none : (marks : List (Option ℕ)) (places : List ℕ) → AreLatestMarked marks places
+    → AreLatestMarked (marks ++ None ∷ []) places
+latest_row_marked_none marks places are = record {
   has = λ n. (
     λ h. (let m = (are.has n).0 h in (m.0, kept m.0 (Some n) m.1)),
     λ h. elim (slice_push_cases marks None h.0 (Some n) h.1)

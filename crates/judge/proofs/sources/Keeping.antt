@@ -21,42 +21,42 @@ use Rattle.journal.proofs.Times.Times.{time_equal}
 use Rattle.journal.proofs.Times.PushesCovered.{others_keep_time, own_time_quiet}
 use Rattle.judge.specs.declared.sources.stored.Stored.{Stored}
 use Rattle.judge.specs.declared.sources.known.Known.{Known}
-use Rattle.judge.specs.Sources.Stored.{IsStoreOf, AreStored, IsRecent, AreKnown}
-use Rattle.judge.specs.Sources.Tells.{row_of}
+use Rattle.judge.specs.Sources.Stored.{IsStoreOf, AreStored, IsStoredRecent, AreStoredKnown}
+use Rattle.judge.specs.Sources.Tells.{source_row_of}
 
 -- more timestamps, and those that there were as before
-pub record AreMore (old new : List (List ℕ)) : Type 0 where
+pub record AreMoreTimesForKeeping (old new : List (List ℕ)) : Type 0 where
   pub more : length old ≤ length new
   pub same : (n q : ℕ) → n < length old → entry new n q ≡ entry old n q
 
 -- one event and no other
-one_away : (e : Event) (p : ℕ) → e.processor ≢ p → (m : ℕ) (f : Event) → At (e ∷ []) m f → f.processor ≢ p
-one_away e p isnt m f at is = elim (slice_push_cases [] e m f at) [
+keeping_stored_one_away : (e : Event) (p : ℕ) → e.processor ≢ p → (m : ℕ) (f : Event) → At (e ∷ []) m f → f.processor ≢ p
+keeping_stored_one_away e p isnt m f at is = elim (slice_push_cases [] e m f at) [
   | inl none ↦ absurd (omega (arith, none.0))
   | inr same ↦ isnt (ap (λ (x : Event). x.processor) same.1 ∙ is)
 ]
 
 -- a timestamp of another processor is its still
-pub recent_other : (j : List Event) (e : Event) (times : List (List ℕ)) (p n : ℕ) → e.processor ≢ p
-    → IsRecent j times p n → IsRecent (j ++ e ∷ []) times p n
-recent_other j e times p n isnt is there =
-    let old = is there in (old.0, others_keep_time j (e ∷ []) p (entry times (n - 1)) (one_away e p isnt) old.1)
+pub keeping_stored_recent_others : (j : List Event) (e : Event) (times : List (List ℕ)) (p n : ℕ) → e.processor ≢ p
+    → IsStoredRecent j times p n → IsStoredRecent (j ++ e ∷ []) times p n
+keeping_stored_recent_others j e times p n isnt is there =
+    let old = is there in (old.0, others_keep_time j (e ∷ []) p (entry times (n - 1)) (keeping_stored_one_away e p isnt) old.1)
 
 -- and its own, where the event neither takes nor closes
-pub recent_quiet : (j : List Event) (e : Event) (times : List (List ℕ)) (p n : ℕ) → is_taking e.kind ≡ false
-    → is_closing e.kind ≡ false → IsRecent j times p n → IsRecent (j ++ e ∷ []) times p n
-recent_quiet j e times p n quiet inner is = elim (cases_eq e.processor p) [
-  | inl same ↦ subst (λ x. IsRecent (j ++ e ∷ []) times x n) same (own (subst (λ x. IsRecent j times x n) (sym same) is))
-  | inr isnt ↦ recent_other j e times p n isnt is
+pub keeping_stored_recent_quiet : (j : List Event) (e : Event) (times : List (List ℕ)) (p n : ℕ) → is_taking e.kind ≡ false
+    → is_closing e.kind ≡ false → IsStoredRecent j times p n → IsStoredRecent (j ++ e ∷ []) times p n
+keeping_stored_recent_quiet j e times p n quiet inner is = elim (cases_eq e.processor p) [
+  | inl same ↦ subst (λ x. IsStoredRecent (j ++ e ∷ []) times x n) same (own (subst (λ x. IsStoredRecent j times x n) (sym same) is))
+  | inr isnt ↦ keeping_stored_recent_others j e times p n isnt is
 ]
   where
-    own : IsRecent j times e.processor n → IsRecent (j ++ e ∷ []) times e.processor n
+    own : IsStoredRecent j times e.processor n → IsStoredRecent (j ++ e ∷ []) times e.processor n
     own old there = let o = old there in (o.0, own_time_quiet j e (entry times (n - 1)) quiet inner o.1)
 
 -- with more timestamps it stands where it stood
-pub recent_more : (j : List Event) (old new : List (List ℕ)) (p n : ℕ) → AreMore old new → IsRecent j old p n
-    → IsRecent j new p n
-recent_more j old new p n more is there =
+pub keeping_stored_recent_more : (j : List Event) (old new : List (List ℕ)) (p n : ℕ) → AreMoreTimesForKeeping old new → IsStoredRecent j old p n
+    → IsStoredRecent j new p n
+keeping_stored_recent_more j old new p n more is there =
     let was = is there in
     let m = more.more in
     let le : n ≤ length old = was.0 in (
@@ -65,9 +65,9 @@ recent_more j old new p n more is there =
           (λ q. sym (more.same (n - 1) q (omega (arith, there)))) was.1,
     )
 
-pub stored_more : (j : List Event) (old new : List (List ℕ)) (a q : ℕ) (s : Stored) → AreMore old new
+pub keeping_stored_more_times : (j : List Event) (old new : List (List ℕ)) (a q : ℕ) (s : Stored) → AreMoreTimesForKeeping old new
     → IsStoreOf j old a q s → IsStoreOf j new a q s
-stored_more j old new a q s more is = record {
+keeping_stored_more_times j old new a q s more is = record {
   value = is.value;
   does = is.does;
   interval = is.interval;
@@ -78,9 +78,9 @@ stored_more j old new a q s more is = record {
 }
 
 -- a store stays as the journal goes on
-pub stored_longer : (j : List Event) (e : Event) (times : List (List ℕ)) (a q : ℕ) (s : Stored)
+pub keeping_stored_longer : (j : List Event) (e : Event) (times : List (List ℕ)) (a q : ℕ) (s : Stored)
     → IsStoreOf j times a q s → IsStoreOf (j ++ e ∷ []) times a q s
-stored_longer j e times a q s is = record {
+keeping_stored_longer j e times a q s is = record {
   value = is.value;
   does = numbered_at_longer j (e ∷ []) s.place (event q (Store a is.value)) is.does;
   interval = (let i = is.interval in let front = count_of-front is_closing j (e ∷ []) s.place q le in omega arith);
@@ -92,19 +92,19 @@ stored_longer j e times a q s is = record {
     le = let lt = numbered_at_within j s.place (event q (Store a is.value)) is.does in omega arith
 
 -- the stores of an address by a processor stay under more timestamps
-pub are_stored_more : (j : List Event) (old new : List (List ℕ)) (a q : ℕ) (stores : List Stored) → AreMore old new
+pub keeping_all_stored_more : (j : List Event) (old new : List (List ℕ)) (a q : ℕ) (stores : List Stored) → AreMoreTimesForKeeping old new
     → AreStored j old a q stores → AreStored j new a q stores
-are_stored_more j old new a q stores more are = record {
-  each = λ n s at. stored_more j old new a q s more (are.each n s at);
+keeping_all_stored_more j old new a q stores more are = record {
+  each = λ n s at. keeping_stored_more_times j old new a q s more (are.each n s at);
   rising = are.rising;
   all = are.all;
 }
 
 -- and under any event but one more
-pub are_stored_other : (j : List Event) (e : Event) (times : List (List ℕ)) (a q : ℕ) (stores : List Stored)
+pub keeping_all_stored_others : (j : List Event) (e : Event) (times : List (List ℕ)) (a q : ℕ) (stores : List Stored)
     → ((v : ℕ) → e ≢ event q (Store a v)) → AreStored j times a q stores → AreStored (j ++ e ∷ []) times a q stores
-are_stored_other j e times a q stores away are = record {
-  each = λ n s at. stored_longer j e times a q s (are.each n s at);
+keeping_all_stored_others j e times a q stores away are = record {
+  each = λ n s at. keeping_stored_longer j e times a q s (are.each n s at);
   rising = are.rising;
   all = λ i v does. elim (slice_push_cases j e i (event q (Store a v)) does) [
     | inl old ↦ are.all i v old.1
@@ -137,7 +137,7 @@ are_stored_next j times a q v stores s place interval within time are =
 
     each : (n : ℕ) (t : Stored) → slice_get (stores ++ s ∷ []) n ≡ Some t → IsStoreOf (did j q (Store a v)) times a q t
     each n t at = elim (slice_push_cases stores s n t at) [
-      | inl old ↦ stored_longer j (event q (Store a v)) times a q t (are.each n t old.1)
+      | inl old ↦ keeping_stored_longer j (event q (Store a v)) times a q t (are.each n t old.1)
       | inr new ↦ subst (IsStoreOf (did j q (Store a v)) times a q) new.1 last
     ]
 
@@ -170,116 +170,116 @@ are_stored_next j times a q v stores s place interval within time are =
         older t n at = slice_get-append_left stores (s ∷ []) n (slice_get_within stores n t at) ∙ at
 
 -- one timestamp more
-pub more_pushed : (times : List (List ℕ)) (t : List ℕ) → AreMore times (times ++ t ∷ [])
-more_pushed times t = record {
+pub keeping_stored_more_pushed : (times : List (List ℕ)) (t : List ℕ) → AreMoreTimesForKeeping times (times ++ t ∷ [])
+keeping_stored_more_pushed times t = record {
   more = (let long = length-append times (t ∷ []) in omega arith);
   same = λ n q lt. ap (λ (x : List ℕ). slice_index x q) (get_or_append_left times (t ∷ []) [] n lt);
 }
 
 -- stands last
-pub last_entry : (times : List (List ℕ)) (t : List ℕ) (q : ℕ)
+pub keeping_stored_last_entry : (times : List (List ℕ)) (t : List ℕ) (q : ℕ)
     → entry (times ++ t ∷ []) (length times) q ≡ slice_index t q
-last_entry times t q = ap (λ (x : List ℕ). slice_index x q) (get_or-append_seam times t [] [])
+keeping_stored_last_entry times t q = ap (λ (x : List ℕ). slice_index x q) (get_or-append_seam times t [] [])
 
-pub time_pushed : (j : List Event) (times : List (List ℕ)) (t : List ℕ) (p : ℕ) → IsTimeOf j p (slice_index t)
+pub keeping_stored_time_pushed : (j : List Event) (times : List (List ℕ)) (t : List ℕ) (p : ℕ) → IsTimeOf j p (slice_index t)
     → IsTimeOf j p (entry (times ++ t ∷ []) (length times))
-time_pushed j times t p time =
+keeping_stored_time_pushed j times t p time =
     time_equal j (InPast j p) (slice_index t) (entry (times ++ t ∷ []) (length times))
-    (λ q. sym (last_entry times t q)) time
+    (λ q. sym (keeping_stored_last_entry times t q)) time
 
 -- a processor's timestamp that is kept at the end stands there
-pub recent_pushed : (j : List Event) (times : List (List ℕ)) (recent : List ℕ) (t : List ℕ) (p q : ℕ)
-    → p < length recent → IsRecent j times q (slice_index recent q) → IsTimeOf j p (slice_index t)
-    → IsRecent j (times ++ t ∷ []) q (slice_index (slice_set recent p (length times + 1)) q)
-recent_pushed j times recent t p q within old time = elim (cases_eq q p) [
-  | inl is ↦ subst (λ x. IsRecent j (times ++ t ∷ []) x (slice_index (slice_set recent p (length times + 1)) x)) (sym is)
-      (subst (IsRecent j (times ++ t ∷ []) p) (sym (get_or-set_same recent p (length times + 1) 0 within)) now)
-  | inr isnt ↦ subst (IsRecent j (times ++ t ∷ []) q) (sym (get_or-set_other recent p q (length times + 1) 0 isnt))
-      (recent_more j times (times ++ t ∷ []) q (slice_index recent q) (more_pushed times t) old)
+pub keeping_stored_recent_pushed : (j : List Event) (times : List (List ℕ)) (recent : List ℕ) (t : List ℕ) (p q : ℕ)
+    → p < length recent → IsStoredRecent j times q (slice_index recent q) → IsTimeOf j p (slice_index t)
+    → IsStoredRecent j (times ++ t ∷ []) q (slice_index (slice_set recent p (length times + 1)) q)
+keeping_stored_recent_pushed j times recent t p q within old time = elim (cases_eq q p) [
+  | inl is ↦ subst (λ x. IsStoredRecent j (times ++ t ∷ []) x (slice_index (slice_set recent p (length times + 1)) x)) (sym is)
+      (subst (IsStoredRecent j (times ++ t ∷ []) p) (sym (get_or-set_same recent p (length times + 1) 0 within)) now)
+  | inr isnt ↦ subst (IsStoredRecent j (times ++ t ∷ []) q) (sym (get_or-set_other recent p q (length times + 1) 0 isnt))
+      (keeping_stored_recent_more j times (times ++ t ∷ []) q (slice_index recent q) (keeping_stored_more_pushed times t) old)
 ]
   where
-    now : IsRecent j (times ++ t ∷ []) p (length times + 1)
+    now : IsStoredRecent j (times ++ t ∷ []) p (length times + 1)
     now some =
         let long = length-append times (t ∷ []) in
         let here : (length times + 1) - 1 ≡ length times = omega arith in
-        (omega arith, subst (λ n. IsTimeOf j p (entry (times ++ t ∷ []) n)) (sym here) (time_pushed j times t p time))
+        (omega arith, subst (λ n. IsTimeOf j p (entry (times ++ t ∷ []) n)) (sym here) (keeping_stored_time_pushed j times t p time))
 
 -- where processors' timestamps stand, after an event that neither takes nor closes
-pub known_quiet : (j : List Event) (e : Event) (known : Known) → is_taking e.kind ≡ false → is_closing e.kind ≡ false
-    → AreKnown j known → AreKnown (j ++ e ∷ []) known
-known_quiet j e known quiet inner are = record {
-  recent = λ p lt. recent_quiet j e known.times.items p (slice_index known.recent p) quiet inner (are.recent p lt);
+pub keeping_stored_known_quiet : (j : List Event) (e : Event) (known : Known) → is_taking e.kind ≡ false → is_closing e.kind ≡ false
+    → AreStoredKnown j known → AreStoredKnown (j ++ e ∷ []) known
+keeping_stored_known_quiet j e known quiet inner are = record {
+  recent = λ p lt. keeping_stored_recent_quiet j e known.times.items p (slice_index known.recent p) quiet inner (are.recent p lt);
 }
 
 -- and after any, where its processor's is forgotten
-pub known_forgot : (j : List Event) (e : Event) (old new : Known) → new.times ≡ old.times
+pub keeping_stored_known_forgot : (j : List Event) (e : Event) (old new : Known) → new.times ≡ old.times
     → slice_index new.recent e.processor ≡ 0
     → ((q : ℕ) → q ≢ e.processor → slice_index new.recent q ≡ slice_index old.recent q)
-    → AreKnown j old → AreKnown (j ++ e ∷ []) new
-known_forgot j e old new times gone same are = record { recent = recent }
+    → AreStoredKnown j old → AreStoredKnown (j ++ e ∷ []) new
+keeping_stored_known_forgot j e old new times gone same are = record { recent = recent }
   where
-    recent : (p : ℕ) → p < 16 → IsRecent (j ++ e ∷ []) new.times.items p (slice_index new.recent p)
+    recent : (p : ℕ) → p < 16 → IsStoredRecent (j ++ e ∷ []) new.times.items p (slice_index new.recent p)
     recent p lt = elim (cases_eq p e.processor) [
       | inl is ↦ (λ some. absurd (some (ap (slice_index new.recent) is ∙ gone)))
       | inr isnt ↦
-          subst (IsRecent (j ++ e ∷ []) new.times.items p) (sym (same p isnt))
-          (subst (λ v. IsRecent (j ++ e ∷ []) v.items p (slice_index old.recent p)) (sym times)
-          (recent_other j e old.times.items p (slice_index old.recent p) (λ is. isnt (sym is)) (are.recent p lt)))
+          subst (IsStoredRecent (j ++ e ∷ []) new.times.items p) (sym (same p isnt))
+          (subst (λ v. IsStoredRecent (j ++ e ∷ []) v.items p (slice_index old.recent p)) (sym times)
+          (keeping_stored_recent_others j e old.times.items p (slice_index old.recent p) (λ is. isnt (sym is)) (are.recent p lt)))
     ]
 
 -- the rows of stores, of which each has those of a processor to an address
-abbrev pub AreRowsOf : List Event → List (List ℕ) → List (Vec Stored) → Type 0
-AreRowsOf j times rows =
-    (a q : ℕ) (row : Vec Stored) → q < 16 → slice_get rows (row_of a q) ≡ Some row → AreStored j times a q row.items
+abbrev pub AreRowsForKeeping : List Event → List (List ℕ) → List (Vec Stored) → Type 0
+AreRowsForKeeping j times rows =
+    (a q : ℕ) (row : Vec Stored) → q < 16 → slice_get rows (source_row_of a q) ≡ Some row → AreStored j times a q row.items
 
 -- an event that is no store leaves them
-pub rows_other : (j : List Event) (e : Event) (times : List (List ℕ)) (rows : List (Vec Stored))
-    → ((a v : ℕ) → e.kind ≢ Store a v) → AreRowsOf j times rows → AreRowsOf (j ++ e ∷ []) times rows
-rows_other j e times rows away are a q row lt at =
-    are_stored_other j e times a q row.items (λ v is. away a v (ap (λ (x : Event). x.kind) is)) (are a q row lt at)
+pub keeping_stored_rows_others : (j : List Event) (e : Event) (times : List (List ℕ)) (rows : List (Vec Stored))
+    → ((a v : ℕ) → e.kind ≢ Store a v) → AreRowsForKeeping j times rows → AreRowsForKeeping (j ++ e ∷ []) times rows
+keeping_stored_rows_others j e times rows away are a q row lt at =
+    keeping_all_stored_others j e times a q row.items (λ v is. away a v (ap (λ (x : Event). x.kind) is)) (are a q row lt at)
 
-store_same : (a b v w p q : ℕ) → event p (Store a v) ≡ event q (Store b w) → (a ≡ b) × (p ≡ q)
-store_same a b v w p q is =
+keeping_stored_store_same : (a b v w p q : ℕ) → event p (Store a v) ≡ event q (Store b w) → (a ≡ b) × (p ≡ q)
+keeping_stored_store_same a b v w p q is =
     let kind = ap (λ (x : Event). x.kind) is in (cc, ap (λ (x : Event). x.processor) is)
 
 -- a store that comes next is one more of its row
-pub rows_next : (j : List Event) (old new : List (List ℕ)) (rows : List (Vec Stored)) (a p v : ℕ)
-    (was now : Vec Stored) (s : Stored) → AreMore old new → p < 16 → slice_get rows (row_of a p) ≡ Some was
+pub keeping_stored_rows_next : (j : List Event) (old new : List (List ℕ)) (rows : List (Vec Stored)) (a p v : ℕ)
+    (was now : Vec Stored) (s : Stored) → AreMoreTimesForKeeping old new → p < 16 → slice_get rows (source_row_of a p) ≡ Some was
     → now.items ≡ was.items ++ s ∷ [] → s.place ≡ length j → s.interval ≡ count_of is_closing j p
-    → s.time < length new → IsTimeOf j p (entry new s.time) → AreRowsOf j old rows
-    → AreRowsOf (did j p (Store a v)) new (slice_set rows (row_of a p) now)
-rows_next j old new rows a p v was now s more few there items place interval within time are b q row lt at =
-    elim (cases_eq (row_of b q) (row_of a p)) [
+    → s.time < length new → IsTimeOf j p (entry new s.time) → AreRowsForKeeping j old rows
+    → AreRowsForKeeping (did j p (Store a v)) new (slice_set rows (source_row_of a p) now)
+keeping_stored_rows_next j old new rows a p v was now s more few there items place interval within time are b q row lt at =
+    elim (cases_eq (source_row_of b q) (source_row_of a p)) [
       | inl same ↦ here same
       | inr other ↦ kept other
     ]
   where
-    here : row_of b q ≡ row_of a p → AreStored (did j p (Store a v)) new b q row.items
+    here : source_row_of b q ≡ source_row_of a p → AreStored (did j p (Store a v)) new b q row.items
     here same =
         let one : a ≡ b = omega arith in
         let two : p ≡ q = omega arith in
-        let is = slice_get-set_found rows (row_of a p) now row
-        (ap (slice_get (slice_set rows (row_of a p) now)) (sym same) ∙ at) in
+        let is = slice_get-set_found rows (source_row_of a p) now row
+        (ap (slice_get (slice_set rows (source_row_of a p) now)) (sym same) ∙ at) in
         let next =
         are_stored_next j new a p v was.items s place interval within time
-        (are_stored_more j old new a p was.items more (are a p was few there)) in
+        (keeping_all_stored_more j old new a p was.items more (are a p was few there)) in
         subst (λ x. AreStored (did j p (Store a v)) new x q row.items) one
         (subst (λ x. AreStored (did j p (Store a v)) new a x row.items) two
         (subst (λ (x : Vec Stored). AreStored (did j p (Store a v)) new a p x.items) is
         (subst (AreStored (did j p (Store a v)) new a p) (sym items) next)))
 
-    kept : row_of b q ≢ row_of a p → AreStored (did j p (Store a v)) new b q row.items
+    kept : source_row_of b q ≢ source_row_of a p → AreStored (did j p (Store a v)) new b q row.items
     kept other =
-        let there = sym (slice_get-set_other rows (row_of a p) (row_of b q) now other) ∙ at in
-        are_stored_other j (event p (Store a v)) new b q row.items
-        (λ w is. (let same = store_same a b v w p q is in other (rw (same.0, same.1) refl)))
-        (are_stored_more j old new b q row.items more (are b q row lt there))
+        let there = sym (slice_get-set_other rows (source_row_of a p) (source_row_of b q) now other) ∙ at in
+        keeping_all_stored_others j (event p (Store a v)) new b q row.items
+        (λ w is. (let same = keeping_stored_store_same a b v w p q is in other (rw (same.0, same.1) refl)))
+        (keeping_all_stored_more j old new b q row.items more (are b q row lt there))
 
 -- before the first event there is no store
-pub rows_first : (times : List (List ℕ)) (rows : List (Vec Stored))
-    → ((n : ℕ) (row : Vec Stored) → slice_get rows n ≡ Some row → row.items ≡ []) → AreRowsOf [] times rows
-rows_first times rows empty a q row lt at =
-    subst (AreStored [] times a q) (sym (empty (row_of a q) row at)) (record {
+pub keeping_stored_rows_first : (times : List (List ℕ)) (rows : List (Vec Stored))
+    → ((n : ℕ) (row : Vec Stored) → slice_get rows n ≡ Some row → row.items ≡ []) → AreRowsForKeeping [] times rows
+keeping_stored_rows_first times rows empty a q row lt at =
+    subst (AreStored [] times a q) (sym (empty (source_row_of a q) row at)) (record {
       each = λ n s at. absurd (none-some s at);
       rising = λ m n s t lt at to. absurd (none-some s at);
       all = λ i v does. absurd (none-some (event q (Store a v)) does);

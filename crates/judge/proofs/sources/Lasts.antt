@@ -17,13 +17,13 @@ use Rattle.journal.proofs.Order.CountedAndNumbered.{count_of-mono, count_of-take
 use Rattle.journal.proofs.Order.EdgesIntoPast.{own_in_past}
 use Rattle.journal.proofs.Times.PushesCovered.{own_time_entry, covered}
 use Rattle.judge.specs.declared.sources.stored.Stored.{Stored}
-use Rattle.judge.specs.Sources.Stored.{IsStoreOf, AreStored, IsLastBelow, NoneBelow}
+use Rattle.judge.specs.Sources.Stored.{IsStoreOf, AreStored, IsLastStoredBelow, NoneStoredBelow}
 use Rattle.judge.specs.Sources.Last.{IsLastOf}
 
 -- an event is in a processor's past exactly where it is its own, or the timestamp counts its interval
-pub in_past : (j : List Event) (p q i : ℕ) (k : Kind) (t : ℕ → ℕ) → IsTimeOf j p t → Does j i q k
+pub last_in_past : (j : List Event) (p q i : ℕ) (k : Kind) (t : ℕ → ℕ) → IsTimeOf j p t → Does j i q k
     → InPast j p i ↔ (interval_at j q i < t q + cond (q == p) 1 0)
-in_past j p q i k t time does = elim (cases_eq q p) [ inl is ↦ mine is | inr isnt ↦ theirs isnt ]
+last_in_past j p q i k t time does = elim (cases_eq q p) [ inl is ↦ mine is | inr isnt ↦ theirs isnt ]
   where
     mine : q ≡ p → InPast j p i ↔ (interval_at j q i < t q + cond (q == p) 1 0)
     mine is =
@@ -40,9 +40,9 @@ in_past j p q i k t time does = elim (cases_eq q p) [ inl is ↦ mine is | inr i
         ((λ x. let lt = tells.0 x in omega arith), (λ lt. tells.1 (omega arith)))
 
 -- a processor's intervals rise
-pub intervals_rise : (j : List Event) (times : List (List ℕ)) (a q : ℕ) (stores : List Stored)
+pub last_intervals_rise : (j : List Event) (times : List (List ℕ)) (a q : ℕ) (stores : List Stored)
     → AreStored j times a q stores → InOrder (λ (s t : Stored). s.interval ≤ t.interval) stores
-intervals_rise j times a q stores are m n s t lt at to =
+last_intervals_rise j times a q stores are m n s t lt at to =
     let first = (are.each m s at).interval in
     let second = (are.each n t to).interval in
     let before = are.rising m n s t lt at to in
@@ -52,19 +52,19 @@ intervals_rise j times a q stores are m n s t lt at to =
 -- the last store of an interval that a processor's timestamp counts, or of its own, is the last one in its past
 pub last_of : (j : List Event) (times : List (List ℕ)) (p a q : ℕ) (stores : List Stored) (t : ℕ → ℕ) (limit : ℕ)
     (o : Option Stored) → IsTimeOf j p t → limit ≡ t q + cond (q == p) 1 0 → AreStored j times a q stores
-    → MatchOption o (NoneBelow stores limit) (IsLastBelow stores limit) → IsLastOf j times p a q o
+    → MatchOption o (NoneStoredBelow stores limit) (IsLastStoredBelow stores limit) → IsLastOf j times p a q o
 last_of j times p a q stores t limit None time is are none =
     λ i v does past. (
     let kept = are.all i v does in
     let s = kept.0 in
     let interval = (are.each kept.1.0 s kept.1.1).interval in
     let here = ap (λ n. interval_at j q n) kept.2 in
-    let low = (in_past j p q i (Store a v) t time does).0 past in
+    let low = (last_in_past j p q i (Store a v) t time does).0 past in
     let high = none kept.1.0 s kept.1.1 in
     absurd (omega arith))
 last_of j times p a q stores t limit (Some s) time is are found = record {
   stored = stored;
-  past = (in_past j p q s.place (Store a stored.value) t time stored.does).1 (let i = stored.interval in
+  past = (last_in_past j p q s.place (Store a stored.value) t time stored.does).1 (let i = stored.interval in
       let below = found.below in
       omega arith);
   last = last;
@@ -80,7 +80,7 @@ last_of j times p a q stores t limit (Some s) time is are found = record {
         let n = kept.1.0 in
         let interval = (are.each n u kept.1.1).interval in
         let here = ap (λ m. interval_at j q m) kept.2 in
-        let low = (in_past j p q i (Store a v) t time does).0 past in
+        let low = (last_in_past j p q i (Store a v) t time does).0 past in
         elim (cases_lt found.index n) [
           | inl after ↦ (let high = found.later n u after kept.1.1 in absurd (omega arith))
           | inr le ↦ elim (cases_eq n found.index) [

@@ -5,9 +5,9 @@ use Rattle.std.proofs.lemmas.Option.{slice_get-get_or, slice_get_read, get_or_fr
 use Rattle.journal.specs.ClockEntry.{entry}
 
 -- what is read within a list stands there
-pub option_at : {A : Type 0} (xs : List (Option A)) (q : ℕ) (o : Option A) → q < length xs
+pub reading_option_at : {A : Type 0} (xs : List (Option A)) (q : ℕ) (o : Option A) → q < length xs
     → slice_index_or xs q None ≡ o → slice_get xs q ≡ Some o
-option_at xs q o lt is = slice_get-get_or xs q None lt ∙ ap Some is
+reading_option_at xs q o lt is = slice_get-get_or xs q None lt ∙ ap Some is
 
 -- an entry of a timestamp that is read
 pub entry_read : (times : List (List ℕ)) (n q : ℕ) (x : List ℕ) → n < length times → x ≡ slice_index_or times n x

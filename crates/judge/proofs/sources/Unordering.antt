@@ -18,26 +18,26 @@ use Rattle.journal.specs.Times.{IsTimeOf}
 use Rattle.journal.proofs.Order.CountedAndNumbered.{numbered_at_last, numbered_at_longer, numbered_at_within, count_of-front}
 use Rattle.journal.proofs.Times.Uses.{time_uses_ordered}
 use Rattle.judge.specs.declared.sources.stored.Stored.{Stored}
-use Rattle.judge.specs.Models.{UnorderedStore}
+use Rattle.judge.specs.Models.{ModelUnorderedStore}
 use Rattle.judge.specs.Sources.Stored.{AreStored, IsStoreOf}
-use Rattle.judge.specs.Sources.Unordered.{AreUnorderedFrom, IsFirstFrom, IsUnorderedAt, SomeStores}
+use Rattle.judge.specs.Sources.Unordered.{AreUnorderedFrom, IsFirstUnorderedFrom, IsUnorderedAt, SomeUnorderedStores}
 
 -- the load doesn't store
-load_no_store : (a v b w p q : ℕ) → event p (Load a v) ≡ event q (Store b w) → ⊥
-load_no_store a v b w p q e = let k = ap (λ (x : Event). x.kind) e in absurd cc
+unordered_load_no_store : (a v b w p q : ℕ) → event p (Load a v) ≡ event q (Store b w) → ⊥
+unordered_load_no_store a v b w p q e = let k = ap (λ (x : Event). x.kind) e in absurd cc
 
 -- the stores before the load are the journal's
-pub store_before_load : (j : List Event) (p a v i q b w : ℕ) → Does (did j p (Load a v)) i q (Store b w)
+pub unordered_store_before_load : (j : List Event) (p a v i q b w : ℕ) → Does (did j p (Load a v)) i q (Store b w)
     → Does j i q (Store b w)
-store_before_load j p a v i q b w does = elim (slice_push_cases j (event p (Load a v)) i (event q (Store b w)) does) [
+unordered_store_before_load j p a v i q b w does = elim (slice_push_cases j (event p (Load a v)) i (event q (Store b w)) does) [
   | inl old ↦ old.1
-  | inr new ↦ absurd (load_no_store a v b w p q new.1)
+  | inr new ↦ absurd (unordered_load_no_store a v b w p q new.1)
 ]
 
 -- what a processor has done is before its load
-pub own_before_load : (j : List Event) (p a v i : ℕ) (k : Kind) → Does j i p k
+pub unordered_own_before_load : (j : List Event) (p a v i : ℕ) (k : Kind) → Does j i p k
     → HappensBefore (did j p (Load a v)) i (length j)
-own_before_load j p a v i k does = edge (record {
+unordered_own_before_load j p a v i k does = edge (record {
   before = numbered_at_within j i (event p k) does;
   from = event p k;
   to = event p (Load a v);
@@ -47,9 +47,9 @@ own_before_load j p a v i k does = edge (record {
 })
 
 -- another's store is before the load exactly where the timestamp before it counts the interval
-store_counted : (j : List Event) (p a v q i w : ℕ) (t : ℕ → ℕ) → IsTimeOf j p t → q ≢ p → Does j i q (Store a w)
+unordered_store_counted : (j : List Event) (p a v q i w : ℕ) (t : ℕ → ℕ) → IsTimeOf j p t → q ≢ p → Does j i q (Store a w)
     → HappensBefore (did j p (Load a v)) i (length j) ↔ (interval_at j q i < t q)
-store_counted j p a v q i w t time apart does =
+unordered_store_counted j p a v q i w t time apart does =
     let lt = numbered_at_within j i (event q (Store a w)) does in
     let front = take-append_seam j (event p (Load a v) ∷ []) in
     let tells = time_uses_ordered (did j p (Load a v)) (length j) p q i (Store a w) (Load a v) t
@@ -60,7 +60,7 @@ store_counted j p a v q i w t time apart does =
 
 -- the stores of intervals that the timestamp doesn't count are those that the past doesn't have
 pub unordered_from : (j : List Event) (times : List (List ℕ)) (p a q : ℕ) (t : ℕ → ℕ) (stores : List Stored) (from : ℕ)
-    → IsTimeOf j p t → q ≢ p → AreStored j times a q stores → IsFirstFrom stores (t q) from
+    → IsTimeOf j p t → q ≢ p → AreStored j times a q stores → IsFirstUnorderedFrom stores (t q) from
     → AreUnorderedFrom j p a q stores from
 unordered_from j times p a q t stores from time apart are first = record {
   within = first.within;
@@ -68,7 +68,7 @@ unordered_from j times p a q t stores from time apart are first = record {
   sound = λ n x le at. (let is = are.each n x at in (
     is.value,
     is.does,
-    λ w before. (let below = (store_counted j p a w q x.place is.value t time apart is.does).0 before in
+    λ w before. (let below = (unordered_store_counted j p a w q x.place is.value t time apart is.does).0 before in
         let above = first.above n x le at in
         let interval = is.interval in
         omega arith),
@@ -89,14 +89,14 @@ unordered_from j times p a q t stores from time apart are first = record {
           | inl lt ↦
               (let below = first.below n x lt at in
               let interval = is.interval in
-              let before = (store_counted j p a w q x.place is.value t time apart is.does).1 (omega arith) in
+              let before = (unordered_store_counted j p a w q x.place is.value t time apart is.does).1 (omega arith) in
               absurd (free (subst (λ m. HappensBefore (did j p (Load a w)) m (length j)) place before)))
           | inr le ↦ (n, x, le, at, place)
         ]
 
 -- one of them is of the value exactly where the load has an unordered store of its processor
 pub some_unordered : (j : List Event) (p a v q from : ℕ) (stores : List Stored) → AreUnorderedFrom j p a q stores from
-    → SomeStores j stores from v → UnorderedStore (did j p (Load a v)) (length j) a v
+    → SomeUnorderedStores j stores from v → ModelUnorderedStore (did j p (Load a v)) (length j) a v
 some_unordered j p a v q from stores are x =
     let found = are.sound x.index x.store x.from_on x.at in
     let one : event q (Store a found.0) ≡ x.event = same_Some (event q (Store a found.0)) x.event (sym found.1 ∙ x.there) in
@@ -117,9 +117,9 @@ some_unordered j p a v q from stores are x =
         store_value b w c u k = cc
 
 pub unordered_some : (j : List Event) (p a v q from : ℕ) (stores : List Stored) → AreUnorderedFrom j p a q stores from
-    → (x : UnorderedStore (did j p (Load a v)) (length j) a v) → x.by ≡ q → SomeStores j stores from v
+    → (x : ModelUnorderedStore (did j p (Load a v)) (length j) a v) → x.by ≡ q → SomeUnorderedStores j stores from v
 unordered_some j p a v q from stores are x by =
-    let does = subst (λ r. Does j x.place r (Store a v)) by (store_before_load j p a v x.place x.by a v x.stores) in
+    let does = subst (λ r. Does j x.place r (Store a v)) by (unordered_store_before_load j p a v x.place x.by a v x.stores) in
     let found = are.complete x.place v v does x.unordered in
     record {
       index = found.0;
@@ -133,7 +133,7 @@ unordered_some j p a v q from stores are x by =
     }
 
 -- an unordered store is another processor's
-pub unordered_apart : (j : List Event) (p a w v : ℕ) (x : UnorderedStore (did j p (Load a w)) (length j) a v) → x.by ≢ p
+pub unordered_apart : (j : List Event) (p a w v : ℕ) (x : ModelUnorderedStore (did j p (Load a w)) (length j) a v) → x.by ≢ p
 unordered_apart j p a w v x is =
-    x.unordered (own_before_load j p a w x.place (Store a v)
-    (subst (λ q. Does j x.place q (Store a v)) is (store_before_load j p a w x.place x.by a v x.stores)))
+    x.unordered (unordered_own_before_load j p a w x.place (Store a v)
+    (subst (λ q. Does j x.place q (Store a v)) is (unordered_store_before_load j p a w x.place x.by a v x.stores)))

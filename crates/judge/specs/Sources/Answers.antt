@@ -7,20 +7,20 @@ use Rattle.journal.specs.ExplainedAnswers.{IsAnswer}
 use Rattle.judge.specs.Sources.Latest.{IsLatest}
 
 -- v is 0 and there is no latest store, or v is the value of one
-abbrev pub IsValue : List Event → ℕ → ℕ → ℕ → Type 0
-IsValue j k a v =
+abbrev pub IsAnswerValue : List Event → ℕ → ℕ → ℕ → Type 0
+IsAnswerValue j k a v =
     ((v ≡ 0) × ((q i : ℕ) → ¬ IsLatest j k a q i)) ⊎ ((q i : ℕ) × IsLatest j k a q i × Does j i q (Store a v))
 
 -- these are what a load may answer
 abbrev pub AnswersLaw : Type 0
-AnswersLaw = (j : List Event) (k a v : ℕ) → IsAnswer j k a v ↔ IsValue j k a v
+AnswersLaw = (j : List Event) (k a v : ℕ) → IsAnswer j k a v ↔ IsAnswerValue j k a v
 
 -- what a load may answer stays as the history goes on
-abbrev pub StaysLaw : Type 0
-StaysLaw = (j es : List Event) (k a v : ℕ) → k < length j → IsAnswer (j ++ es) k a v ↔ IsAnswer j k a v
+abbrev pub AnswerStaysLaw : Type 0
+AnswerStaysLaw = (j es : List Event) (k a v : ℕ) → k < length j → IsAnswer (j ++ es) k a v ↔ IsAnswer j k a v
 
 -- the load at place k answers what it may not, and each load before it what it may
-pub record IsFirstUnexplained (j : List Event) (k : ℕ) : Type 0 where
+pub record IsFirstUnsourcedAnswer (j : List Event) (k : ℕ) : Type 0 where
   pub by : ℕ
   pub address : ℕ
   pub value : ℕ

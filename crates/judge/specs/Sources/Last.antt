@@ -15,27 +15,27 @@ pub record IsLast (j : List Event) (times : List (List ℕ)) (p a q : ℕ) (s : 
   pub last : (i v : ℕ) → Does j i q (Store a v) → InPast j p i → i ≤ s.place
 
 -- p's past has no store of q to a
-abbrev pub HasNone : List Event → ℕ → ℕ → ℕ → Type 0
-HasNone j p a q = (i v : ℕ) → Does j i q (Store a v) → ¬ InPast j p i
+abbrev pub HasNoLastStore : List Event → ℕ → ℕ → ℕ → Type 0
+HasNoLastStore j p a q = (i v : ℕ) → Does j i q (Store a v) → ¬ InPast j p i
 
 -- that store, where there is one
 abbrev pub IsLastOf : List Event → List (List ℕ) → ℕ → ℕ → ℕ → Option Stored → Type 0
-IsLastOf j times p a q o = MatchOption o (HasNone j p a q) (IsLast j times p a q)
+IsLastOf j times p a q o = MatchOption o (HasNoLastStore j p a q) (IsLast j times p a q)
 
 -- these are the last stores to a in p's past, by processor
 abbrev pub AreLast : List Event → List (List ℕ) → ℕ → ℕ → List (Option Stored) → Type 0
 AreLast j times p a last = (q : ℕ) (o : Option Stored) → slice_get last q ≡ Some o → IsLastOf j times p a q o
 
 -- the timestamp of one of these stores counts the interval of q's store s
-pub record IsStoreFollowed (times : List (List ℕ)) (last : List (Option Stored)) (q : ℕ) (s : Stored) : Type 0 where
+pub record IsLastStoreFollowed (times : List (List ℕ)) (last : List (Option Stored)) (q : ℕ) (s : Stored) : Type 0 where
   pub by : ℕ
   pub store : Stored
   pub at : slice_get last by ≡ Some (Some store)
   pub counts : s.interval < entry times store.time q
 
 -- processor q has a last store at place i, and none of the others follows it
-pub record IsUnfollowed (times : List (List ℕ)) (last : List (Option Stored)) (q i : ℕ) : Type 0 where
+pub record IsLastUnfollowed (times : List (List ℕ)) (last : List (Option Stored)) (q i : ℕ) : Type 0 where
   pub store : Stored
   pub at : slice_get last q ≡ Some (Some store)
   pub place : store.place ≡ i
-  pub free : ¬ IsStoreFollowed times last q store
+  pub free : ¬ IsLastStoreFollowed times last q store

@@ -20,16 +20,16 @@ pub record AreLatest (j : List Event) (k a : ℕ) (places : List ℕ) : Type 0 w
   pub order : InOrder (λ i m. (q r : ℕ) × (q < r) × IsLatest j k a q i × IsLatest j k a r m) places
 
 -- the row of the event at place k: those places where it is a load, and else none
-pub record IsReadableRow (j : List Event) (k : ℕ) (places : List ℕ) : Type 0 where
+pub record IsLatestRow (j : List Event) (k : ℕ) (places : List ℕ) : Type 0 where
   pub loads : (p a v : ℕ) → Does j k p (Load a v) → AreLatest j k a places
   pub others : ((p a v : ℕ) → ¬ Does j k p (Load a v)) → places ≡ []
 
 -- these are the rows of the first places
-abbrev pub AreReadableRows : List Event → List (Vec ℕ) → Type 0
-AreReadableRows j rows = (k : ℕ) (row : Vec ℕ) → slice_get rows k ≡ Some row → IsReadableRow j k row.items
+abbrev pub AreLatestRows : List Event → List (Vec ℕ) → Type 0
+AreLatestRows j rows = (k : ℕ) (row : Vec ℕ) → slice_get rows k ≡ Some row → IsLatestRow j k row.items
 
 -- the marked places, in order
-pub record AreMarked (marks : List (Option ℕ)) (places : List ℕ) : Type 0 where
+pub record AreLatestMarked (marks : List (Option ℕ)) (places : List ℕ) : Type 0 where
   pub has : (i : ℕ) → Has places i ↔ Has marks (Some i)
   pub order : InOrder (λ i m. (q r : ℕ) × (q < r) × (slice_get marks q ≡ Some (Some i))
       × (slice_get marks r ≡ Some (Some m))) places

@@ -25,20 +25,20 @@ pub record AreStored (j : List Event) (times : List (List ℕ)) (a q : ℕ) (sto
   pub all : (i v : ℕ) → Does j i q (Store a v) → (s : Stored) × Has stores s × (s.place ≡ i)
 
 -- of these stores, s is the last one of an interval below the limit
-pub record IsLastBelow (stores : List Stored) (limit : ℕ) (s : Stored) : Type 0 where
+pub record IsLastStoredBelow (stores : List Stored) (limit : ℕ) (s : Stored) : Type 0 where
   pub index : ℕ
   pub at : slice_get stores index ≡ Some s
   pub below : s.interval < limit
   pub later : (n : ℕ) (t : Stored) → index < n → slice_get stores n ≡ Some t → limit ≤ t.interval
 
 -- none of these stores is of an interval below the limit
-abbrev pub NoneBelow : List Stored → ℕ → Type 0
-NoneBelow stores limit = (n : ℕ) (s : Stored) → slice_get stores n ≡ Some s → limit ≤ s.interval
+abbrev pub NoneStoredBelow : List Stored → ℕ → Type 0
+NoneStoredBelow stores limit = (n : ℕ) (s : Stored) → slice_get stores n ≡ Some s → limit ≤ s.interval
 
 -- the number n is one more than where p's timestamp stands, or 0
-abbrev pub IsRecent : List Event → List (List ℕ) → ℕ → ℕ → Type 0
-IsRecent j times p n = n ≢ 0 → (n ≤ length times) × IsTimeOf j p (entry times (n - 1))
+abbrev pub IsStoredRecent : List Event → List (List ℕ) → ℕ → ℕ → Type 0
+IsStoredRecent j times p n = n ≢ 0 → (n ≤ length times) × IsTimeOf j p (entry times (n - 1))
 
 -- the numbers tell where each processor's timestamp stands
-pub record AreKnown (j : List Event) (known : Known) : Type 0 where
-  pub recent : (p : ℕ) → p < 16 → IsRecent j known.times.items p (slice_index known.recent p)
+pub record AreStoredKnown (j : List Event) (known : Known) : Type 0 where
+  pub recent : (p : ℕ) → p < 16 → IsStoredRecent j known.times.items p (slice_index known.recent p)

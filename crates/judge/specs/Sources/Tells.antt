@@ -6,23 +6,23 @@ use Rattle.journal.specs.InRange.{ProcessorsInRange}
 use Rattle.journal.specs.Clocks.{AreClocks}
 use Rattle.judge.specs.declared.sources.stored.Stored.{Stored}
 use Rattle.judge.specs.declared.sources.readable.Sources.{Sources}
-use Rattle.judge.specs.Sources.Stored.{AreKnown, AreStored}
+use Rattle.judge.specs.Sources.Stored.{AreStoredKnown, AreStored}
 
 -- where the stores of q to a are kept
-abbrev pub row_of : ℕ → ℕ → ℕ
-row_of a q = a * 16 + q
+abbrev pub source_row_of : ℕ → ℕ → ℕ
+source_row_of a q = a * 16 + q
 
 -- what is kept of stores and timestamps is the journal's
-pub record StoresAreKept (j : List Event) (s : Sources) : Type 0 where
-  pub known : AreKnown j s.known
+pub record SourceStoresAreKept (j : List Event) (s : Sources) : Type 0 where
+  pub known : AreStoredKnown j s.known
   pub few : vec_len s.known.times ≤ length j
   pub long : vec_len s.stores ≡ s.addresses * 16
-  pub stores : (a q : ℕ) (row : Vec Stored) → q < 16 → slice_get s.stores.items (row_of a q) ≡ Some row
+  pub stores : (a q : ℕ) (row : Vec Stored) → q < 16 → slice_get s.stores.items (source_row_of a q) ≡ Some row
       → AreStored j s.known.times.items a q row.items
 
 -- the sources tell this history so far
-pub record AreStoresOf (j : List Event) (s : Sources) : Type 0 where
+pub record AreSourceStoresOf (j : List Event) (s : Sources) : Type 0 where
   pub clocks : AreClocks j s.clocks
   pub present : s.clocks.present ≡ s.processors
   pub processors : ProcessorsInRange s.processors j
-  pub kept : StoresAreKept j s
+  pub kept : SourceStoresAreKept j s

@@ -2,7 +2,7 @@
 ghost use Rattle.std.specs.Prelude.{◌≡◌, ◌≢◌, ℕ, ◌+◌, ◌<◌, ◌≤◌, ◌^◌, [], IfOk, OnOk, List, slice_index, vec_len};
 ghost use Rattle.journal.specs.declared.event.Event.{Event};
 ghost use Rattle.journal.specs.Prelude.{IsTimeOf, entry};
-ghost use Rattle.judge.specs.Sources.Prelude.{AreKnown};
+ghost use Rattle.judge.specs.Sources.Prelude.{AreStoredKnown};
 
 use journal::Clock;
 use std::alloc::{AllocError, Global};
@@ -18,7 +18,7 @@ pub(crate) struct Known {
 impl Known {
     /// None at all.
     pub(crate) fn new(alloc: Global) -> Known
-        ensures known { AreKnown [] result }
+        ensures known { AreStoredKnown [] result }
         ensures none { vec_len result.times ≡ 0 }
     {
         Known {
@@ -36,9 +36,9 @@ impl Known {
         ensures more { vec_len self.old.times ≤ vec_len self.new.times }
         ensures same { (n q : ℕ) → n < vec_len self.old.times
             → entry self.new.times.items n q ≡ entry self.old.times.items n q }
-        ensures placed { IfOk result (λ n. (j : List Event) → AreKnown j self.old
+        ensures placed { IfOk result (λ n. (j : List Event) → AreStoredKnown j self.old
             → IsTimeOf j processor (slice_index time.now)
-            → AreKnown j self.new × (n < vec_len self.new.times)
+            → AreStoredKnown j self.new × (n < vec_len self.new.times)
             × IsTimeOf j processor (entry self.new.times.items n)) }
     {
         let recent = self.recent[processor];

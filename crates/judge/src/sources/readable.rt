@@ -8,7 +8,7 @@ ghost use Rattle.journal.specs.declared.event.Kind.TheVariants.{Load, Store};
 ghost use Rattle.journal.specs.ExplainedAnswers.{IsAnswer};
 ghost use Rattle.journal.specs.Prelude.{AddressInRange, AddressesInRange, ProcessorsInRange, did};
 ghost use Rattle.judge.specs.declared.sources.stored.Stored.{Stored};
-ghost use Rattle.judge.specs.Sources.Prelude.{StoresAreKept, AreLast, IsStoreFollowed, IsLatest, IsUnfollowed, AreStoresOf};
+ghost use Rattle.judge.specs.Sources.Prelude.{SourceStoresAreKept, AreLast, IsLastStoreFollowed, IsLatest, IsLastUnfollowed, AreSourceStoresOf};
 
 use crate::sources::known::Known;
 use crate::sources::stored::{Stored, last_below};
@@ -77,8 +77,8 @@ fn raise(time: &mut Clock, other: &Clock)
 fn unfollowed(last: &LastStores, joined: &Clock, by: usize) -> Option<usize>
     requires by { by < 16 }
     ensures { (times : List (List ℕ)) → ((s : Stored)
-        → (s.interval < slice_index joined.now by) ↔ IsStoreFollowed times last.now by s)
-        → (i : ℕ) → (result ≡ Some i) ↔ IsUnfollowed times last.now by i }
+        → (s.interval < slice_index joined.now by) ↔ IsLastStoreFollowed times last.now by s)
+        → (i : ℕ) → (result ≡ Some i) ↔ IsLastUnfollowed times last.now by i }
 {
     let store = last[by]?;
     if store.interval < joined[by] {
@@ -93,7 +93,7 @@ impl Sources {
     /// addresses. The only error is running out of memory.
     pub fn new(alloc: Global, processors: usize, addresses: usize) -> Result<Sources, AllocError>
         requires { processors ≤ most_processors }
-        ensures tells { IfOk result (AreStoresOf []) }
+        ensures tells { IfOk result (AreSourceStoresOf []) }
         ensures processors { IfOk result (λ s. s.processors ≡ processors) }
         ensures addresses { IfOk result (λ s. s.addresses ≡ addresses) }
     {
@@ -109,10 +109,10 @@ impl Sources {
 
     /// Each processor's last store to the address in the past of this processor.
     fn last_stores(&self, processor: usize, address: usize) -> LastStores
-        requires tells { (j : List Event) × AreStoresOf j self.now }
+        requires tells { (j : List Event) × AreSourceStoresOf j self.now }
         requires processor { processor < self.now.processors }
         requires address { address < self.now.addresses }
-        ensures { (j : List Event) → AreStoresOf j self.now
+        ensures { (j : List Event) → AreSourceStoresOf j self.now
             → AreLast j self.now.known.times.items processor address result }
     {
         let time = self.clocks.of(processor);
@@ -129,7 +129,7 @@ impl Sources {
         requires { (r : ℕ) (s : Stored) → slice_get last.now r ≡ Some (Some s)
             → s.time < vec_len self.now.known.times }
         ensures { (q : ℕ) (s : Stored) → (s.interval < slice_index result q)
-            ↔ IsStoreFollowed self.now.known.times.items last.now q s }
+            ↔ IsLastStoreFollowed self.now.known.times.items last.now q s }
     {
         let mut joined = [0; 16];
         for store in last {
@@ -147,10 +147,10 @@ impl Sources {
     /// their timestamps: of n stores it takes time in the order of the processors times (the processors and the
     /// logarithm of n).
     pub fn before(&self, processor: usize, address: usize) -> [Option<usize>; 16]
-        requires tells { (j : List Event) × AreStoresOf j self.now }
+        requires tells { (j : List Event) × AreSourceStoresOf j self.now }
         requires processor { processor < self.now.processors }
         requires address { address < self.now.addresses }
-        ensures { (j : List Event) → AreStoresOf j self.now → (v q i : ℕ)
+        ensures { (j : List Event) → AreSourceStoresOf j self.now → (v q i : ℕ)
             → (slice_get result q ≡ Some (Some i))
             ↔ IsLatest (did j processor (Load address v)) (length j) address q i }
     {
@@ -166,7 +166,7 @@ impl Sources {
     /// Whether a load of the address by this processor that comes next, after these events, may answer the value: the
     /// value of one of its latest stores, or 0 where it has none. It takes no memory, and time as `before` does.
     pub fn may_answer(&self, events: &[Event], processor: usize, address: usize, value: u32) -> bool
-        requires tells { AreStoresOf events.now self.now }
+        requires tells { AreSourceStoresOf events.now self.now }
         requires processor { processor < self.now.processors }
         requires address { address < self.now.addresses }
         ensures { IsTrue result
@@ -193,15 +193,15 @@ impl Sources {
         address: usize,
         place: usize,
     ) -> Result<(), AllocError>
-        requires tells { (j : List Event) × AreStoresOf j self.old × (length j ≡ place) }
+        requires tells { (j : List Event) × AreSourceStoresOf j self.old × (length j ≡ place) }
         requires processor { processor < self.old.processors }
         requires address { address < self.old.addresses }
         requires few { place < 2 ^ 22 }
         ensures clocks { self.new.clocks ≡ self.old.clocks }
         ensures processors { self.new.processors ≡ self.old.processors }
         ensures addresses { self.new.addresses ≡ self.old.addresses }
-        ensures kept { OnOk result ((j : List Event) → AreStoresOf j self.old → length j ≡ place → (v : ℕ)
-            → StoresAreKept (did j processor (Store address v)) self.new) }
+        ensures kept { OnOk result ((j : List Event) → AreSourceStoresOf j self.old → length j ≡ place → (v : ℕ)
+            → SourceStoresAreKept (did j processor (Store address v)) self.new) }
     {
         let time = self.clocks.of(processor);
         let interval = time[processor];
@@ -218,15 +218,15 @@ impl Sources {
 
     /// Keeps what the event changes, which comes at this place, but for the timestamps so far.
     fn keep(&mut self, event: Event, place: usize) -> Result<(), AllocError>
-        requires tells { (j : List Event) × AreStoresOf j self.old × (length j ≡ place) }
+        requires tells { (j : List Event) × AreSourceStoresOf j self.old × (length j ≡ place) }
         requires processor { event.processor < self.old.processors }
         requires address { AddressInRange self.old.addresses event.kind }
         requires few { place < 2 ^ 22 }
         ensures clocks { self.new.clocks ≡ self.old.clocks }
         ensures processors { self.new.processors ≡ self.old.processors }
         ensures addresses { self.new.addresses ≡ self.old.addresses }
-        ensures kept { OnOk result ((j : List Event) → AreStoresOf j self.old → length j ≡ place
-            → StoresAreKept (j ++ event ∷ []) self.new) }
+        ensures kept { OnOk result ((j : List Event) → AreSourceStoresOf j self.old → length j ≡ place
+            → SourceStoresAreKept (j ++ event ∷ []) self.new) }
     {
         match event.kind {
             Kind::Store(address, _) => self.note_store(event.processor, address, place),
@@ -245,8 +245,8 @@ impl Sources {
         requires few { length events.now ≤ most_held + most_processors }
         requires processors { ProcessorsInRange self.old.processors events.now }
         requires addresses { AddressesInRange self.old.addresses events.now }
-        requires so_far { AreStoresOf (take place events.now) self.old }
-        ensures tells { OnOk result (AreStoresOf (take (place + 1) events.now) self.new) }
+        requires so_far { AreSourceStoresOf (take place events.now) self.old }
+        ensures tells { OnOk result (AreSourceStoresOf (take (place + 1) events.now) self.new) }
         ensures processors { self.new.processors ≡ self.old.processors }
         ensures addresses { self.new.addresses ≡ self.old.addresses }
     {

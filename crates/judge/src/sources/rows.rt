@@ -3,7 +3,7 @@ ghost use Rattle.std.specs.Prelude.{◌≡◌, ℕ, ◌<◌, ◌≤◌, ◌+◌,
 ghost use Rattle.base.specs.Prelude.{most_held, most_processors};
 ghost use Rattle.journal.specs.declared.event.Event.{Event};
 ghost use Rattle.journal.specs.Prelude.{AddressInRange, AddressesInRange, ProcessorsInRange};
-ghost use Rattle.judge.specs.Sources.Prelude.{AreMarked, AreReadableRows, IsReadableRow, AreStoresOf};
+ghost use Rattle.judge.specs.Sources.Prelude.{AreLatestMarked, AreLatestRows, IsLatestRow, AreSourceStoresOf};
 
 use crate::sources::readable::Sources;
 use journal::{Event, Kind};
@@ -11,7 +11,7 @@ use std::alloc::{AllocError, Global};
 
 /// The marked places, in order.
 fn marked(alloc: Global, marks: &[Option<usize>; 16]) -> Result<Vec<usize>, AllocError>
-    ensures { IfOk result (λ v. AreMarked marks.now v.items) }
+    ensures { IfOk result (λ v. AreLatestMarked marks.now v.items) }
 {
     let mut places = Vec::new(alloc);
     for mark in marks {
@@ -24,11 +24,11 @@ fn marked(alloc: Global, marks: &[Option<usize>; 16]) -> Result<Vec<usize>, Allo
 
 /// The places of the latest stores of the event, which comes next.
 fn row(alloc: Global, sources: &Sources, event: Event) -> Result<Vec<usize>, AllocError>
-    requires tells { (j : List Event) × AreStoresOf j sources.now }
+    requires tells { (j : List Event) × AreSourceStoresOf j sources.now }
     requires processor { event.processor < sources.now.processors }
     requires address { AddressInRange sources.now.addresses event.kind }
-    ensures { IfOk result (λ v. (j : List Event) → AreStoresOf j sources.now
-        → IsReadableRow (j ++ event ∷ []) (length j) v.items) }
+    ensures { IfOk result (λ v. (j : List Event) → AreSourceStoresOf j sources.now
+        → IsLatestRow (j ++ event ∷ []) (length j) v.items) }
 {
     match event.kind {
         Kind::Load(address, _) => marked(alloc, &sources.before(event.processor, address)),
@@ -54,7 +54,7 @@ pub fn latest(
     requires addresses { AddressesInRange addresses events.now }
     requires processors { ProcessorsInRange processors events.now }
     ensures long { IfOk result (λ v. vec_len v ≡ length events.now) }
-    ensures rows { IfOk result (λ v. AreReadableRows events.now v.items) }
+    ensures rows { IfOk result (λ v. AreLatestRows events.now v.items) }
 {
     let mut sources = Sources::new(alloc, processors, addresses)?;
     let mut rows = Vec::with_capacity(alloc, events.len())?;

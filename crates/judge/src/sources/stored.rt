@@ -1,7 +1,7 @@
 //! Stores that a past may have, in order.
 ghost use Rattle.std.specs.Prelude.{◌≤◌, MatchOption};
 ghost use Rattle.base.specs.InOrderOnce.{InOrder};
-ghost use Rattle.judge.specs.Sources.Prelude.{IsFirstFrom, IsLastBelow, NoneBelow};
+ghost use Rattle.judge.specs.Sources.Prelude.{IsFirstUnorderedFrom, IsLastStoredBelow, NoneStoredBelow};
 
 /// A store. It takes 12 bytes.
 #[derive(Clone, Copy)]
@@ -17,7 +17,7 @@ pub(crate) struct Stored {
 /// Where the stores of intervals from the limit on begin, looked for by halving. Their intervals rise.
 pub(crate) fn first_from(stores: &[Stored], limit: usize) -> usize
     requires { InOrder (λ s t. s.interval ≤ t.interval) stores.now }
-    ensures { IsFirstFrom stores.now limit result }
+    ensures { IsFirstUnorderedFrom stores.now limit result }
 {
     stores.partition_point(|store| (store.interval as usize) < limit)
 }
@@ -25,7 +25,7 @@ pub(crate) fn first_from(stores: &[Stored], limit: usize) -> usize
 /// The last of these stores that is of an interval below the limit, looked for by halving. Their intervals rise.
 fn halve(stores: &[Stored], limit: usize) -> Option<Stored>
     requires { InOrder (λ s t. s.interval ≤ t.interval) stores.now }
-    ensures { MatchOption result (NoneBelow stores.now limit) (IsLastBelow stores.now limit) }
+    ensures { MatchOption result (NoneStoredBelow stores.now limit) (IsLastStoredBelow stores.now limit) }
 {
     let count = first_from(stores, limit);
     if count == 0 {
@@ -39,7 +39,7 @@ fn halve(stores: &[Stored], limit: usize) -> Option<Stored>
 /// all, or there is none, so the last and the first one are looked at before all others.
 pub(crate) fn last_below(stores: &[Stored], limit: usize) -> Option<Stored>
     requires { InOrder (λ s t. s.interval ≤ t.interval) stores.now }
-    ensures { MatchOption result (NoneBelow stores.now limit) (IsLastBelow stores.now limit) }
+    ensures { MatchOption result (NoneStoredBelow stores.now limit) (IsLastStoredBelow stores.now limit) }
 {
     let count = stores.len();
     if count == 0 {

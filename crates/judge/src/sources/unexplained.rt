@@ -4,7 +4,7 @@ ghost use Rattle.base.specs.Prelude.{most_held, most_processors};
 ghost use Rattle.journal.specs.declared.event.Kind.TheVariants.{Load};
 ghost use Rattle.journal.specs.ExplainedAnswers.{Explained, IsAnswer};
 ghost use Rattle.journal.specs.Prelude.{AddressInRange, AddressesInRange, ProcessorsInRange};
-ghost use Rattle.judge.specs.Sources.Prelude.{IsFirstUnexplained, AreStoresOf};
+ghost use Rattle.judge.specs.Sources.Prelude.{IsFirstUnsourcedAnswer, AreSourceStoresOf};
 
 use crate::sources::readable::Sources;
 use journal::{Event, Kind};
@@ -12,7 +12,7 @@ use std::alloc::{AllocError, Global};
 
 /// Whether the event, which comes after these, answers what it may, if it is a load.
 fn is_explained(sources: &Sources, front: &[Event], event: Event) -> bool
-    requires tells { AreStoresOf front.now sources.now }
+    requires tells { AreSourceStoresOf front.now sources.now }
     requires processor { event.processor < sources.now.processors }
     requires address { AddressInRange sources.now.addresses event.kind }
     ensures { IsTrue result ↔ ((a v : ℕ) → event.kind ≡ Load a v
@@ -40,7 +40,7 @@ pub fn first_unexplained(
     requires few_processors { processors ≤ most_processors }
     requires addresses { AddressesInRange addresses events.now }
     requires processors { ProcessorsInRange processors events.now }
-    ensures { IfOk result (λ o. MatchOption o (Explained events.now) (IsFirstUnexplained events.now)) }
+    ensures { IfOk result (λ o. MatchOption o (Explained events.now) (IsFirstUnsourcedAnswer events.now)) }
 {
     let mut sources = Sources::new(alloc, processors, addresses)?;
     for place in 0..events.len() {

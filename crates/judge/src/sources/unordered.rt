@@ -5,8 +5,8 @@ ghost use Rattle.journal.specs.declared.event.Event.{Event};
 ghost use Rattle.journal.specs.declared.event.Kind.TheVariants.{Load};
 ghost use Rattle.journal.specs.Prelude.{did};
 ghost use Rattle.judge.specs.declared.sources.stored.Stored.{Stored};
-ghost use Rattle.judge.specs.Models.{UnorderedStore};
-ghost use Rattle.judge.specs.Sources.Prelude.{AreStoresOf, AreUnorderedFrom, IsPlaceWithin, IsUnorderedAt, SomeStores};
+ghost use Rattle.judge.specs.Models.{ModelUnorderedStore};
+ghost use Rattle.judge.specs.Sources.Prelude.{AreSourceStoresOf, AreUnorderedFrom, IsUnorderedWithin, IsUnorderedAt, SomeUnorderedStores};
 
 use crate::sources::readable::{Sources, is_store_of};
 use crate::sources::stored::{Stored, first_from};
@@ -16,7 +16,7 @@ use std::alloc::{AllocError, Global};
 /// Whether one of the stores from this one on is of the value.
 fn some_stores(events: &[Event], stores: &[Stored], from: usize, value: u32) -> bool
     requires { (n : ℕ) (s : Stored) → slice_get stores.now n ≡ Some s → s.place < length events.now }
-    ensures { IsTrue result ↔ SomeStores events.now stores.now from value }
+    ensures { IsTrue result ↔ SomeUnorderedStores events.now stores.now from value }
 {
     for index in from..stores.len() {
         let place = stores[index].place as usize;
@@ -31,7 +31,7 @@ fn some_stores(events: &[Event], stores: &[Stored], from: usize, value: u32) -> 
 fn add_places(places: &mut Vec<usize>, stores: &[Stored], from: usize) -> Result<(), AllocError>
     requires { from ≤ length stores.now }
     ensures { OnOk result ((i : ℕ) → Has places.new.items i
-        ↔ (Has places.old.items i ⊎ IsPlaceWithin stores.now from (length stores.now) i)) }
+        ↔ (Has places.old.items i ⊎ IsUnorderedWithin stores.now from (length stores.now) i)) }
 {
     for index in from..stores.len() {
         places.push(stores[index].place as usize)?;
@@ -43,11 +43,11 @@ impl Sources {
     /// The stores of `by` to the address that the past of the processor, another one, doesn't have, and where they begin in
     /// its row.
     fn unordered_by(&self, processor: usize, address: usize, by: usize) -> (&[Stored], usize)
-        requires tells { (j : List Event) × AreStoresOf j self.now }
+        requires tells { (j : List Event) × AreSourceStoresOf j self.now }
         requires processor { processor < self.now.processors }
         requires address { address < self.now.addresses }
         requires by { by < self.now.processors }
-        ensures { (j : List Event) → AreStoresOf j self.now → by ≢ processor
+        ensures { (j : List Event) → AreSourceStoresOf j self.now → by ≢ processor
             → AreUnorderedFrom j processor address by result.0.now result.1 }
     {
         let stores = self.stores[address * 16 + by].as_slice();
@@ -66,10 +66,10 @@ impl Sources {
         address: usize,
         value: u32,
     ) -> bool
-        requires tells { AreStoresOf events.now self.now }
+        requires tells { AreSourceStoresOf events.now self.now }
         requires processor { processor < self.now.processors }
         requires address { address < self.now.addresses }
-        ensures { IsTrue result ↔ UnorderedStore (did events.now processor (Load address value))
+        ensures { IsTrue result ↔ ModelUnorderedStore (did events.now processor (Load address value))
             (length events.now) address value }
     {
         for by in 0..self.processors {
@@ -91,10 +91,10 @@ impl Sources {
         processor: usize,
         address: usize,
     ) -> Result<Vec<usize>, AllocError>
-        requires tells { (j : List Event) × AreStoresOf j self.now }
+        requires tells { (j : List Event) × AreSourceStoresOf j self.now }
         requires processor { processor < self.now.processors }
         requires address { address < self.now.addresses }
-        ensures { IfOk result (λ v. (j : List Event) → AreStoresOf j self.now → (w i : ℕ)
+        ensures { IfOk result (λ v. (j : List Event) → AreSourceStoresOf j self.now → (w i : ℕ)
             → Has v.items i ↔ IsUnorderedAt (did j processor (Load address w)) (length j) address i) }
     {
         let mut places = Vec::new(alloc);

@@ -10,7 +10,7 @@ use Rattle.lrc_script.proofs.Reading.Words.{joined_words, parts_of_joined_words,
 use Rattle.lrc_script.proofs.Reading.Lines.{decimal_has_no}
 use Rattle.lrc_report.specs.ReportText.{cut_line}
 use Rattle.lrc_check.specs.Traces.Lines.{IsCutLine}
-use Rattle.lrc_check.proofs.traces.Lines.{plain_word}
+use Rattle.lrc_check.proofs.traces.Lines.{trace_line_plain_word}
 
 -- such a line, without its line feed
 pub cut_bytes : (n : ℕ) → 0 < n → cut_line n ≡ (codes "cut " ++ decimal n) ++ 10 ∷ []
@@ -24,7 +24,7 @@ cut_parts line n some small same =
     append_cancel_right line (codes "cut " ++ decimal n) (10 ∷ []) (same ∙ cut_bytes n some)
     ∙ ap (λ (t : List ℕ). codes "cut " ++ t) (sym (append-nil (decimal n))) in
     ap (parts_of_line 32) bytes
-    ∙ parts_of_joined_words 32 (codes "cut") (decimal n ∷ []) (plain_word (codes "cut") refl).0.no_space
+    ∙ parts_of_joined_words 32 (codes "cut") (decimal n ∷ []) (trace_line_plain_word (codes "cut") refl).0.no_space
     (decimal_has_no 32 n (omega arith) small, tt)
 
 -- a line of these words
@@ -47,14 +47,14 @@ cut_from line w rest n parts first number some =
     )
 
 -- other first words
-pub uncut_first : (line w : List ℕ) (ws : List (List ℕ)) → parts_of_line 32 line ≡ w ∷ ws → w ≢ codes "cut"
+pub cut_line_other_first : (line w : List ℕ) (ws : List (List ℕ)) → parts_of_line 32 line ≡ w ∷ ws → w ≢ codes "cut"
     → ¬ IsCutLine line
-uncut_first line w ws parts ne h =
+cut_line_other_first line w ws parts ne h =
     ne (let same : (w ∷ ws) ≡ (codes "cut" ∷ decimal h.0 ∷ []) = sym parts ∙ cut_parts line h.0 h.1 h.2 h.3 in cc)
 
 -- no more words
-pub uncut_alone : (line w : List ℕ) → parts_of_line 32 line ≡ w ∷ [] → ¬ IsCutLine line
-uncut_alone line w parts h =
+pub cut_line_alone : (line w : List ℕ) → parts_of_line 32 line ≡ w ∷ [] → ¬ IsCutLine line
+cut_line_alone line w parts h =
     let same : (w ∷ []) ≡ (codes "cut" ∷ decimal h.0 ∷ []) = sym parts ∙ cut_parts line h.0 h.1 h.2 h.3 in absurd cc
 
 -- the number behind the first word
@@ -69,15 +69,15 @@ cut_number line w rest parts h =
     ap number_read bytes ∙ number_again h.0 h.2
 
 -- what the reader says of such a line, and of another
-abbrev pub Tells : Bool → List ℕ → Type 0
-Tells answer line = (IsTrue answer → IsCutLine line) × (IsCutLine line → IsTrue answer)
+abbrev pub CutLineTells : Bool → List ℕ → Type 0
+CutLineTells answer line = (IsTrue answer → IsCutLine line) × (IsCutLine line → IsTrue answer)
 
-pub uncut_told : (line : List ℕ) → ¬ IsCutLine line → Tells false line
-uncut_told line none = (λ h. absurd cc, λ h. absurd (none h))
+pub cut_line_told_uncut : (line : List ℕ) → ¬ IsCutLine line → CutLineTells false line
+cut_line_told_uncut line none = (λ h. absurd cc, λ h. absurd (none h))
 
-pub count_told : (line w rest : List ℕ) (n : ℕ) → parts_of_line 32 line ≡ w ∷ parts_of_line 32 rest → w ≡ codes "cut"
-    → number_read rest ≡ Some n → Tells (ltb 0 n) line
-count_told line w rest n parts first number = (
+pub cut_line_count_told : (line w rest : List ℕ) (n : ℕ) → parts_of_line 32 line ≡ w ∷ parts_of_line 32 rest → w ≡ codes "cut"
+    → number_read rest ≡ Some n → CutLineTells (ltb 0 n) line
+cut_line_count_told line w rest n parts first number = (
   λ h. cut_from line w rest n parts first number (ltb-true 0 n h),
   λ h.
       let same : Some n ≡ Some h.0 = sym number ∙ cut_number line w rest parts h in
@@ -85,7 +85,7 @@ count_told line w rest n parts first number = (
       lt-ltb 0 n (omega (arith, count, h.1)),
 )
 
-pub uncounted_told : (line w rest : List ℕ) → parts_of_line 32 line ≡ w ∷ parts_of_line 32 rest → number_read rest ≡ None
-    → Tells false line
-uncounted_told line w rest parts number =
-    uncut_told line (λ h. let same : None ≡ Some h.0 = sym number ∙ cut_number line w rest parts h in absurd cc)
+pub cut_line_uncounted_told : (line w rest : List ℕ) → parts_of_line 32 line ≡ w ∷ parts_of_line 32 rest → number_read rest ≡ None
+    → CutLineTells false line
+cut_line_uncounted_told line w rest parts number =
+    cut_line_told_uncut line (λ h. let same : None ≡ Some h.0 = sym number ∙ cut_number line w rest parts h in absurd cc)

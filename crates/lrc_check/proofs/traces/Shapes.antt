@@ -16,98 +16,98 @@ use Rattle.lrc_script.proofs.Reading.Numbers.{AreWordNumbers, number_again, numb
 use Rattle.lrc_script.proofs.Reading.Words.{joined_words, words_from_split, parts_words_whole, words_split_from_parts}
 use Rattle.lrc_check.specs.declared.traces.fault.TraceFault.{TraceFault}
 use Rattle.lrc_check.specs.declared.traces.names.EventName.{EventName}
-use Rattle.lrc_check.specs.Traces.Names.{operand_count, kind_from, event_name, numbers_of, word_of}
-use Rattle.lrc_check.specs.Traces.Lines.{GivesKind, HasBadNumber, HasNoShape, IsEventLine, IsShaped}
-use Rattle.lrc_check.specs.Traces.Faults.{IsNoEvent, fault_from}
-use Rattle.lrc_check.proofs.traces.Called.{kind_counted, kind_takes, name_again, name_for, name_written}
-use Rattle.lrc_check.proofs.traces.Lines.{event_bytes, line_words}
+use Rattle.lrc_check.specs.Traces.Names.{trace_name_operand_count, kind_from_trace_name, event_name, trace_name_numbers, trace_name_word}
+use Rattle.lrc_check.specs.Traces.Lines.{TraceLineGivesKind, HasBadTraceLineNumber, HasNoTraceLineShape, IsEventLine, IsTraceLineShaped}
+use Rattle.lrc_check.specs.Traces.Faults.{IsNoTraceEvent, fault_from}
+use Rattle.lrc_check.proofs.traces.Called.{trace_kind_counted, trace_kind_takes, trace_name_again, trace_name_for, trace_name_written}
+use Rattle.lrc_check.proofs.traces.Lines.{trace_line_bytes, line_words}
 
 -- the first four words, and what is left
-pub four_words : (line : List ℕ) (w a b x : List ℕ) (l m n o : List (List ℕ)) → parts_of_line 32 line ≡ w ∷ l → l ≡ a ∷ m
+pub trace_shape_four_words : (line : List ℕ) (w a b x : List ℕ) (l m n o : List (List ℕ)) → parts_of_line 32 line ≡ w ∷ l → l ≡ a ∷ m
     → m ≡ b ∷ n → n ≡ x ∷ o → parts_of_line 32 line ≡ w ∷ a ∷ b ∷ x ∷ o
-four_words line w a b x l m n o first second third fourth =
+trace_shape_four_words line w a b x l m n o first second third fourth =
     first ∙ ap (λ (t : List (List ℕ)). w ∷ t) second ∙ ap (λ (t : List (List ℕ)). w ∷ a ∷ t) third
     ∙ ap (λ (t : List (List ℕ)). w ∷ a ∷ b ∷ t) fourth
 
 -- what a comparison of words says
-pub words_differ : (a text b : List ℕ) (r : Bool) → r ≡ not (bytes_eq a text) → r ≡ true → text ≡ b → a ≢ b
-words_differ a text b r test is same equal =
+pub trace_shape_words_differ : (a text b : List ℕ) (r : Bool) → r ≡ not (bytes_eq a text) → r ≡ true → text ≡ b → a ≢ b
+trace_shape_words_differ a text b r test is same equal =
     let both = (bytes_eq-Decides a text).1 (equal ∙ sym same) in
     let false-is-true : false ≡ true = ap not (sym both) ∙ sym test ∙ is in absurd cc
 
-pub words_same : (a text b : List ℕ) (r : Bool) → r ≡ not (bytes_eq a text) → r ≡ false → text ≡ b → a ≡ b
-words_same a text b r test is same =
+pub trace_shape_words_same : (a text b : List ℕ) (r : Bool) → r ≡ not (bytes_eq a text) → r ≡ false → text ≡ b → a ≡ b
+trace_shape_words_same a text b r test is same =
     elim (bytes_eq a text) as (λ t. bytes_eq a text ≡ t → r ≡ not t → a ≡ b) [
       | true ↦ λ e h. (bytes_eq-Decides a text).0 e ∙ same
       | false ↦ λ e h. absurd (let true-is-false : true ≡ false = sym h ∙ is in cc)
     ] refl test
 
 -- the words of a line that has a shape
-shape_parts : (line a b : List ℕ) (n : EventName) (ns : List (List ℕ)) → IsShaped line a b n ns
-    → (parts_of_line 32 line ≡ codes "event" ∷ a ∷ b ∷ word_of n ∷ ns) × (list_all has_bytes (parts_of_line 32 line) ≡ true)
+shape_parts : (line a b : List ℕ) (n : EventName) (ns : List (List ℕ)) → IsTraceLineShaped line a b n ns
+    → (parts_of_line 32 line ≡ codes "event" ∷ a ∷ b ∷ trace_name_word n ∷ ns) × (list_all has_bytes (parts_of_line 32 line) ≡ true)
 shape_parts line a b n ns h =
     let p = words_from_split line _ _ h.split in (p.0, ap (list_all has_bytes) p.0 ∙ p.1)
 
 -- words with the shape
 pub shaped_from : (line w a b x : List ℕ) (n : EventName) (ns : List (List ℕ))
     → parts_of_line 32 line ≡ w ∷ a ∷ b ∷ x ∷ ns → list_all has_bytes (parts_of_line 32 line) ≡ true → w ≡ codes "event"
-    → event_name x ≡ Some n → length ns ≡ operand_count n → IsShaped line a b n ns
+    → event_name x ≡ Some n → length ns ≡ trace_name_operand_count n → IsTraceLineShaped line a b n ns
 shaped_from line w a b x n ns parts have event name count =
-    let word = name_written x n name in
-    let parts' : parts_of_line 32 line ≡ codes "event" ∷ a ∷ b ∷ word_of n ∷ ns =
+    let word = trace_name_written x n name in
+    let parts' : parts_of_line 32 line ≡ codes "event" ∷ a ∷ b ∷ trace_name_word n ∷ ns =
     parts ∙ ap (λ (t : List ℕ). t ∷ a ∷ b ∷ x ∷ ns) event
     ∙ ap (λ (t : List ℕ). codes "event" ∷ a ∷ b ∷ t ∷ ns) word in
     record {
-      split = words_split_from_parts line (codes "event") (a ∷ b ∷ word_of n ∷ ns) parts'
+      split = words_split_from_parts line (codes "event") (a ∷ b ∷ trace_name_word n ∷ ns) parts'
           (ap (list_all has_bytes) (sym parts') ∙ have);
       count = count;
     }
 
 -- words without it
-pub unshaped_words : (line : List ℕ) → list_all has_bytes (parts_of_line 32 line) ≡ false → HasNoShape line
-unshaped_words line have a b n ns h =
+pub trace_unshaped_words : (line : List ℕ) → list_all has_bytes (parts_of_line 32 line) ≡ false → HasNoTraceLineShape line
+trace_unshaped_words line have a b n ns h =
     let p = shape_parts line a b n ns h in let same : false ≡ true = sym have ∙ p.1 in absurd cc
 
-pub unshaped_first : (line w : List ℕ) (ws : List (List ℕ)) → parts_of_line 32 line ≡ w ∷ ws → w ≢ codes "event"
-    → HasNoShape line
-unshaped_first line w ws parts ne a b n ns h =
+pub trace_unshaped_first : (line w : List ℕ) (ws : List (List ℕ)) → parts_of_line 32 line ≡ w ∷ ws → w ≢ codes "event"
+    → HasNoTraceLineShape line
+trace_unshaped_first line w ws parts ne a b n ns h =
     let p = (shape_parts line a b n ns h).0 in
-    ne (let same : (w ∷ ws) ≡ (codes "event" ∷ a ∷ b ∷ word_of n ∷ ns) = sym parts ∙ p in cc)
+    ne (let same : (w ∷ ws) ≡ (codes "event" ∷ a ∷ b ∷ trace_name_word n ∷ ns) = sym parts ∙ p in cc)
 
-pub unshaped_short : (line : List ℕ) (ws : List (List ℕ)) → parts_of_line 32 line ≡ ws → length ws ≤ 3 → HasNoShape line
-unshaped_short line ws parts short a b n ns h =
+pub trace_unshaped_short : (line : List ℕ) (ws : List (List ℕ)) → parts_of_line 32 line ≡ ws → length ws ≤ 3 → HasNoTraceLineShape line
+trace_unshaped_short line ws parts short a b n ns h =
     let p = (shape_parts line a b n ns h).0 in
     omega (arith, ap (λ (t : List (List ℕ)). length t) (sym parts ∙ p), short)
 
-pub unshaped_name : (line w a b x : List ℕ) (ns : List (List ℕ)) → parts_of_line 32 line ≡ w ∷ a ∷ b ∷ x ∷ ns
-    → event_name x ≡ None → HasNoShape line
-unshaped_name line w a b x ns parts none a' b' n ms h =
+pub trace_unshaped_name : (line w a b x : List ℕ) (ns : List (List ℕ)) → parts_of_line 32 line ≡ w ∷ a ∷ b ∷ x ∷ ns
+    → event_name x ≡ None → HasNoTraceLineShape line
+trace_unshaped_name line w a b x ns parts none a' b' n ms h =
     let p = (shape_parts line a' b' n ms h).0 in
-    let same : (w ∷ a ∷ b ∷ x ∷ ns) ≡ (codes "event" ∷ a' ∷ b' ∷ word_of n ∷ ms) = sym parts ∙ p in
-    let word : x ≡ word_of n = cc in
-    let again : Some n ≡ None = sym (name_again n) ∙ ap event_name (sym word) ∙ none in
+    let same : (w ∷ a ∷ b ∷ x ∷ ns) ≡ (codes "event" ∷ a' ∷ b' ∷ trace_name_word n ∷ ms) = sym parts ∙ p in
+    let word : x ≡ trace_name_word n = cc in
+    let again : Some n ≡ None = sym (trace_name_again n) ∙ ap event_name (sym word) ∙ none in
     absurd cc
 
-pub unshaped_count : (line w a b x : List ℕ) (m : EventName) (ns : List (List ℕ)) → parts_of_line 32 line ≡ w ∷ a ∷ b ∷ x ∷ ns
-    → event_name x ≡ Some m → length ns ≢ operand_count m → HasNoShape line
-unshaped_count line w a b x m ns parts some ne a' b' n ms h =
+pub trace_unshaped_count : (line w a b x : List ℕ) (m : EventName) (ns : List (List ℕ)) → parts_of_line 32 line ≡ w ∷ a ∷ b ∷ x ∷ ns
+    → event_name x ≡ Some m → length ns ≢ trace_name_operand_count m → HasNoTraceLineShape line
+trace_unshaped_count line w a b x m ns parts some ne a' b' n ms h =
     let p = (shape_parts line a' b' n ms h).0 in
-    let same : (w ∷ a ∷ b ∷ x ∷ ns) ≡ (codes "event" ∷ a' ∷ b' ∷ word_of n ∷ ms) = sym parts ∙ p in
-    let word : x ≡ word_of n = cc in
-    let again : Some n ≡ Some m = sym (name_again n) ∙ ap event_name (sym word) ∙ some in
+    let same : (w ∷ a ∷ b ∷ x ∷ ns) ≡ (codes "event" ∷ a' ∷ b' ∷ trace_name_word n ∷ ms) = sym parts ∙ p in
+    let word : x ≡ trace_name_word n = cc in
+    let again : Some n ≡ Some m = sym (trace_name_again n) ∙ ap event_name (sym word) ∙ some in
     let names : n ≡ m = cc in
     let numbers : ns ≡ ms = cc in
-    ne (ap (λ (t : List (List ℕ)). length t) numbers ∙ h.count ∙ ap operand_count names)
+    ne (ap (λ (t : List (List ℕ)). length t) numbers ∙ h.count ∙ ap trace_name_operand_count names)
 
 -- ---- numbers
 
-no_number : (w : List ℕ) → number_read w ≡ None → (n : ℕ) → n < 2 ^ 32 → w ≢ decimal n
-no_number w none n small same =
+trace_shape_no_number : (w : List ℕ) → number_read w ≡ None → (n : ℕ) → n < 2 ^ 32 → w ≢ decimal n
+trace_shape_no_number w none n small same =
     let again : None ≡ Some n = sym none ∙ ap number_read same ∙ number_again n small in cc
 
-pub bad_place : (line a b : List ℕ) (n : EventName) (ns : List (List ℕ)) → IsShaped line a b n ns → number_read a ≡ None
-    → HasBadNumber line
-bad_place line a b n ns h none = record {
+pub trace_shape_bad_place : (line a b : List ℕ) (n : EventName) (ns : List (List ℕ)) → IsTraceLineShaped line a b n ns → number_read a ≡ None
+    → HasBadTraceLineNumber line
+trace_shape_bad_place line a b n ns h none = record {
   place = a;
   processor = b;
   name = n;
@@ -115,12 +115,12 @@ bad_place line a b n ns h none = record {
   shape = h;
   bad = a;
   within = (0, omega arith, refl);
-  no_number = no_number a none;
+  no_number = trace_shape_no_number a none;
 }
 
-pub bad_processor : (line a b : List ℕ) (n : EventName) (ns : List (List ℕ)) → IsShaped line a b n ns
-    → number_read b ≡ None → HasBadNumber line
-bad_processor line a b n ns h none = record {
+pub trace_shape_bad_processor : (line a b : List ℕ) (n : EventName) (ns : List (List ℕ)) → IsTraceLineShaped line a b n ns
+    → number_read b ≡ None → HasBadTraceLineNumber line
+trace_shape_bad_processor line a b n ns h none = record {
   place = a;
   processor = b;
   name = n;
@@ -128,12 +128,12 @@ bad_processor line a b n ns h none = record {
   shape = h;
   bad = b;
   within = (1, omega arith, refl);
-  no_number = no_number b none;
+  no_number = trace_shape_no_number b none;
 }
 
-bad_others : (line a b : List ℕ) (n : EventName) (ns : List (List ℕ)) (e : ScriptFault) → IsShaped line a b n ns
-    → numbers_read_after [] ns ≡ Err e → (e ≡ script.BadNumber) × HasBadNumber line
-bad_others line a b n ns e h read =
+trace_shape_bad_others : (line a b : List ℕ) (n : EventName) (ns : List (List ℕ)) (e : ScriptFault) → IsTraceLineShaped line a b n ns
+    → numbers_read_after [] ns ≡ Err e → (e ≡ script.BadNumber) × HasBadTraceLineNumber line
+trace_shape_bad_others line a b n ns e h read =
     let refused = numbers_refused [] ns e read in (
       refused.fault_is,
       record {
@@ -149,46 +149,46 @@ bad_others line a b n ns e h read =
     )
 
 -- why the numbers behind the name weren't read
-pub numbers_fault : (line a b : List ℕ) (n : EventName) (ns : List (List ℕ)) (e : ScriptFault) (f : TraceFault)
-    → IsShaped line a b n ns → ReadFails e (numbers_read_after [] ns) → f ≡ fault_from e → IsNoEvent f line
-numbers_fault line a b n ns script.NoMemory f h read same =
-    subst (λ (x : TraceFault). IsNoEvent x line) (sym same) tt
-numbers_fault line a b n ns e f h read same =
-    let bad = bad_others line a b n ns e h read in
-    subst (λ (x : TraceFault). IsNoEvent x line) (sym (same ∙ ap fault_from bad.0)) bad.1
+pub trace_shape_numbers_fault : (line a b : List ℕ) (n : EventName) (ns : List (List ℕ)) (e : ScriptFault) (f : TraceFault)
+    → IsTraceLineShaped line a b n ns → ReadFails e (numbers_read_after [] ns) → f ≡ fault_from e → IsNoTraceEvent f line
+trace_shape_numbers_fault line a b n ns script.NoMemory f h read same =
+    subst (λ (x : TraceFault). IsNoTraceEvent x line) (sym same) tt
+trace_shape_numbers_fault line a b n ns e f h read same =
+    let bad = trace_shape_bad_others line a b n ns e h read in
+    subst (λ (x : TraceFault). IsNoTraceEvent x line) (sym (same ∙ ap fault_from bad.0)) bad.1
 
 -- ---- the event
 
 -- as many numbers as stand behind the name make a kind
-pub kind_read : (line a b : List ℕ) (n : EventName) (ns : List (List ℕ)) (ms : List ℕ) → IsShaped line a b n ns
-    → numbers_read_after [] ns ≡ Ok ms → kind_from n ms ≡ None → ⊥
-kind_read line a b n ns ms h read none =
+pub trace_shape_kind_read : (line a b : List ℕ) (n : EventName) (ns : List (List ℕ)) (ms : List ℕ) → IsTraceLineShaped line a b n ns
+    → numbers_read_after [] ns ≡ Ok ms → kind_from_trace_name n ms ≡ None → ⊥
+trace_shape_kind_read line a b n ns ms h read none =
     let t = numbers_take [] ns ms read in
-    let long : length ms ≡ operand_count n =
+    let long : length ms ≡ trace_name_operand_count n =
     ap (λ (x : List ℕ). length x) t.all_is ∙ sym (length-map t.numbers decimal)
     ∙ ap (λ (x : List (List ℕ)). length x) (sym t.words_are) ∙ h.count in
-    kind_counted n ms long none
+    trace_kind_counted n ms long none
 
 -- what is read of an event's words
-event_whole : (line a b : List ℕ) (n : EventName) (ns : List (List ℕ)) (i p : ℕ) (ms : List ℕ) (k : Kind)
-    → line ≡ joined_words 32 (codes "event") (a ∷ b ∷ word_of n ∷ ns) → number_read a ≡ Some i → number_read b ≡ Some p
-    → numbers_read_after [] ns ≡ Ok ms → kind_from n ms ≡ Some k
+trace_shape_event_whole : (line a b : List ℕ) (n : EventName) (ns : List (List ℕ)) (i p : ℕ) (ms : List ℕ) (k : Kind)
+    → line ≡ joined_words 32 (codes "event") (a ∷ b ∷ trace_name_word n ∷ ns) → number_read a ≡ Some i → number_read b ≡ Some p
+    → numbers_read_after [] ns ≡ Ok ms → kind_from_trace_name n ms ≡ Some k
     → IsEventLine line i (record { processor = p; kind = k })
-event_whole line a b n ns i p ms k whole place processor read kind =
+trace_shape_event_whole line a b n ns i p ms k whole place processor read kind =
     let e : Event = record { processor = p; kind = k } in
     let t = numbers_take [] ns ms read in
-    let c = kind_takes n ms k kind in
+    let c = trace_kind_takes n ms k kind in
     let a-is = number_takes a i place in
     let b-is = number_takes b p processor in
-    let numbers : numbers_of k ≡ t.numbers = sym c.numbers_are ∙ t.all_is in
-    let words : (a ∷ b ∷ word_of n ∷ ns)
-    ≡ (decimal i ∷ decimal p ∷ word_of (name_for k) ∷ map decimal (numbers_of k)) =
-    ap (λ (x : List ℕ). x ∷ b ∷ word_of n ∷ ns) a-is.0
-    ∙ ap (λ (x : List ℕ). decimal i ∷ x ∷ word_of n ∷ ns) b-is.0
-    ∙ ap (λ (x : EventName). decimal i ∷ decimal p ∷ word_of x ∷ ns) c.name_is
-    ∙ ap (λ (x : List (List ℕ)). decimal i ∷ decimal p ∷ word_of (name_for k) ∷ x)
+    let numbers : trace_name_numbers k ≡ t.numbers = sym c.numbers_are ∙ t.all_is in
+    let words : (a ∷ b ∷ trace_name_word n ∷ ns)
+    ≡ (decimal i ∷ decimal p ∷ trace_name_word (trace_name_for k) ∷ map decimal (trace_name_numbers k)) =
+    ap (λ (x : List ℕ). x ∷ b ∷ trace_name_word n ∷ ns) a-is.0
+    ∙ ap (λ (x : List ℕ). decimal i ∷ x ∷ trace_name_word n ∷ ns) b-is.0
+    ∙ ap (λ (x : EventName). decimal i ∷ decimal p ∷ trace_name_word x ∷ ns) c.name_is
+    ∙ ap (λ (x : List (List ℕ)). decimal i ∷ decimal p ∷ trace_name_word (trace_name_for k) ∷ x)
     (t.words_are ∙ ap (map decimal) (sym numbers)) in
-    let bytes : line ≡ event_bytes i e =
+    let bytes : line ≡ trace_line_bytes i e =
     whole ∙ ap (λ (x : List (List ℕ)). codes "event" ++ flat_map (λ v. 32 ∷ v) x) words in
     record {
       line_is = ap (λ (x : List ℕ). x ++ 10 ∷ []) bytes ∙ sym (line_words i e);
@@ -196,19 +196,19 @@ event_whole line a b n ns i p ms k whole place processor read kind =
     }
 
 -- what is read of an event's line
-pub event_found : (line a b : List ℕ) (n : EventName) (ns : List (List ℕ)) (i p : ℕ) (ms : List ℕ) (k : Kind)
-    → IsShaped line a b n ns → number_read a ≡ Some i → number_read b ≡ Some p → numbers_read_after [] ns ≡ Ok ms
-    → kind_from n ms ≡ Some k → IsEventLine line i (record { processor = p; kind = k })
-event_found line a b n ns i p ms k h place processor read kind =
-    event_whole line a b n ns i p ms k h.split.whole place processor read kind
+pub trace_shape_event_found : (line a b : List ℕ) (n : EventName) (ns : List (List ℕ)) (i p : ℕ) (ms : List ℕ) (k : Kind)
+    → IsTraceLineShaped line a b n ns → number_read a ≡ Some i → number_read b ≡ Some p → numbers_read_after [] ns ≡ Ok ms
+    → kind_from_trace_name n ms ≡ Some k → IsEventLine line i (record { processor = p; kind = k })
+trace_shape_event_found line a b n ns i p ms k h place processor read kind =
+    trace_shape_event_whole line a b n ns i p ms k h.split.whole place processor read kind
 
 -- what is read of its words, whose shape the numbers show
-pub event_quick : (line w a b x : List ℕ) (n : EventName) (ns : List (List ℕ)) (i p : ℕ) (k : Kind)
+pub trace_shape_event_quick : (line w a b x : List ℕ) (n : EventName) (ns : List (List ℕ)) (i p : ℕ) (k : Kind)
     → parts_of_line 32 line ≡ w ∷ a ∷ b ∷ x ∷ ns → w ≡ codes "event" → event_name x ≡ Some n → number_read a ≡ Some i
-    → number_read b ≡ Some p → GivesKind n ns k → IsEventLine line i (record { processor = p; kind = k })
-event_quick line w a b x n ns i p k parts event name place processor gives =
-    let parts' : parts_of_line 32 line ≡ codes "event" ∷ a ∷ b ∷ word_of n ∷ ns =
+    → number_read b ≡ Some p → TraceLineGivesKind n ns k → IsEventLine line i (record { processor = p; kind = k })
+trace_shape_event_quick line w a b x n ns i p k parts event name place processor gives =
+    let parts' : parts_of_line 32 line ≡ codes "event" ∷ a ∷ b ∷ trace_name_word n ∷ ns =
     parts ∙ ap (λ (t : List ℕ). t ∷ a ∷ b ∷ x ∷ ns) event
-    ∙ ap (λ (t : List ℕ). codes "event" ∷ a ∷ b ∷ t ∷ ns) (name_written x n name) in
-    event_whole line a b n ns i p gives.numbers k
-    (parts_words_whole 32 line (codes "event") (a ∷ b ∷ word_of n ∷ ns) parts') place processor gives.read gives.kind
+    ∙ ap (λ (t : List ℕ). codes "event" ∷ a ∷ b ∷ t ∷ ns) (trace_name_written x n name) in
+    trace_shape_event_whole line a b n ns i p gives.numbers k
+    (parts_words_whole 32 line (codes "event") (a ∷ b ∷ trace_name_word n ∷ ns) parts') place processor gives.read gives.kind

@@ -20,28 +20,28 @@ use Rattle.lrc_script.proofs.Reading.Numbers.{AreWordNumbers}
 use Rattle.lrc_script.proofs.Reading.Words.{HasNo, parts_first_word, parts_one_word}
 use Rattle.lrc_script.proofs.Front.PassedLines.{head_passes}
 use Rattle.lrc_report.specs.ReportText.{event_line, event_lines}
-use Rattle.lrc_check.specs.Traces.Sizes.{head}
-use Rattle.lrc_check.specs.Traces.Text.{head_line, trace_text}
-use Rattle.lrc_check.specs.Traces.Lawful.{HasWords, IsNoOther, IsTrace, IsWithin}
-use Rattle.lrc_check.specs.Traces.Names.{numbers_of}
+use Rattle.lrc_check.specs.Traces.Sizes.{trace_sizes_head}
+use Rattle.lrc_check.specs.Traces.Text.{trace_text_head_line, trace_text}
+use Rattle.lrc_check.specs.Traces.Lawful.{HasTraceWords, IsNoOtherTrace, IsTrace, IsWithinTrace}
+use Rattle.lrc_check.specs.Traces.Names.{trace_name_numbers}
 use Rattle.lrc_check.specs.Traces.Faults.{BeginsTraceText}
-use Rattle.lrc_check.proofs.traces.Lines.{AreSmall, event_bytes, event_clean, events_differ, line_words}
+use Rattle.lrc_check.proofs.traces.Lines.{AreTraceLineNumbers, trace_line_bytes, trace_line_clean, trace_line_events_differ, line_words}
 
 -- ---- the line of the sizes
 
 -- the line without its line feed
-abbrev pub head_bytes : Sizes → List ℕ
-head_bytes s = line_bytes (cluster_line (head s))
+abbrev pub trace_head_bytes : Sizes → List ℕ
+trace_head_bytes s = line_bytes (cluster_line (trace_sizes_head s))
 
-pub head_read : (s : Sizes) → AreLawfulSizes (head s) → LinePasses Nothing (cluster_line (head s)) (Headed (head s))
-head_read s h = head_passes (head s) (record { sizes = h; no_sections = refl; none_shown = refl })
+pub trace_text_head_read : (s : Sizes) → AreLawfulSizes (trace_sizes_head s) → LinePasses Nothing (cluster_line (trace_sizes_head s)) (Headed (trace_sizes_head s))
+trace_text_head_read s h = head_passes (trace_sizes_head s) (record { sizes = h; no_sections = refl; none_shown = refl })
 
-heads_differ : (s t : Sizes) → AreLawfulSizes (head s) → AreLawfulSizes (head t) → head_bytes s ≡ head_bytes t → s ≡ t
-heads_differ s t h k e =
-    let first = (head_read s h).after_is in let second = (head_read t k).after_is in
-    let both : Headed (head s) ≡ Headed (head t) =
-    let reads : Ok (Headed (head s)) ≡ Ok (Headed (head t)) = sym first ∙ ap (read_after Nothing) e ∙ second in cc in
-    let plans : head s ≡ head t = cc in
+trace_text_heads_differ : (s t : Sizes) → AreLawfulSizes (trace_sizes_head s) → AreLawfulSizes (trace_sizes_head t) → trace_head_bytes s ≡ trace_head_bytes t → s ≡ t
+trace_text_heads_differ s t h k e =
+    let first = (trace_text_head_read s h).after_is in let second = (trace_text_head_read t k).after_is in
+    let both : Headed (trace_sizes_head s) ≡ Headed (trace_sizes_head t) =
+    let reads : Ok (Headed (trace_sizes_head s)) ≡ Ok (Headed (trace_sizes_head t)) = sym first ∙ ap (read_after Nothing) e ∙ second in cc in
+    let plans : trace_sizes_head s ≡ trace_sizes_head t = cc in
     ap (λ p. record {
       processors = p.processors;
       pages = p.pages;
@@ -52,131 +52,131 @@ heads_differ s t h k e =
 
 -- ---- the numbers of events within the sizes
 
-kind_small : (s : Sizes) (k : Kind) → AreLawfulSizes (head s) → KindInRange s k → HasWords k → AreWordNumbers (numbers_of k)
-kind_small s (kind.Load a v) h range words =
-    (omega (arith, (sizes_small (head s) h).addresses_fit, range), (words, tt))
-kind_small s (kind.Store a v) h range words =
-    (omega (arith, (sizes_small (head s) h).addresses_fit, range), (words, tt))
-kind_small s (kind.Fetch w n r d) h range words =
+trace_text_kind_small : (s : Sizes) (k : Kind) → AreLawfulSizes (trace_sizes_head s) → KindInRange s k → HasTraceWords k → AreWordNumbers (trace_name_numbers k)
+trace_text_kind_small s (kind.Load a v) h range words =
+    (omega (arith, (sizes_small (trace_sizes_head s) h).addresses_fit, range), (words, tt))
+trace_text_kind_small s (kind.Store a v) h range words =
+    (omega (arith, (sizes_small (trace_sizes_head s) h).addresses_fit, range), (words, tt))
+trace_text_kind_small s (kind.Fetch w n r d) h range words =
     (omega (arith, h.most_pages, range), (words.0, (words.1, (words.2, tt))))
-kind_small s (kind.Ask l) h range words = (omega (arith, h.locks, range), tt)
-kind_small s (kind.Acquire l) h range words = (omega (arith, h.locks, range), tt)
-kind_small s (kind.Release l) h range words = (omega (arith, h.locks, range), tt)
-kind_small s kind.Arrive h range words = tt
-kind_small s kind.Depart h range words = tt
-kind_small s (kind.Set f) h range words = (omega (arith, h.flags, range), tt)
-kind_small s (kind.Watch f) h range words = (omega (arith, h.flags, range), tt)
-kind_small s (kind.Await f) h range words = (omega (arith, h.flags, range), tt)
+trace_text_kind_small s (kind.Ask l) h range words = (omega (arith, h.locks, range), tt)
+trace_text_kind_small s (kind.Acquire l) h range words = (omega (arith, h.locks, range), tt)
+trace_text_kind_small s (kind.Release l) h range words = (omega (arith, h.locks, range), tt)
+trace_text_kind_small s kind.Arrive h range words = tt
+trace_text_kind_small s kind.Depart h range words = tt
+trace_text_kind_small s (kind.Set f) h range words = (omega (arith, h.flags, range), tt)
+trace_text_kind_small s (kind.Watch f) h range words = (omega (arith, h.flags, range), tt)
+trace_text_kind_small s (kind.Await f) h range words = (omega (arith, h.flags, range), tt)
 
-pub event_small : (s : Sizes) (i : ℕ) (e : Event) → AreLawfulSizes (head s) → i ≤ most_held → IsWithin s e → AreSmall i e
-event_small s i e h le within = (
+pub trace_text_event_small : (s : Sizes) (i : ℕ) (e : Event) → AreLawfulSizes (trace_sizes_head s) → i ≤ most_held → IsWithinTrace s e → AreTraceLineNumbers i e
+trace_text_event_small s i e h le within = (
   omega (arith, le),
-  (omega (arith, within.processor, h.most_processors), kind_small s e.kind h within.kind within.words),
+  (omega (arith, within.processor, h.most_processors), trace_text_kind_small s e.kind h within.kind within.words),
 )
 
 -- events at their places, from i on
-abbrev pub AreSmallFrom : ℕ → List Event → Type 0
-AreSmallFrom i [] = Unit {0}
-AreSmallFrom i (e ∷ es) = AreSmall i e × AreSmallFrom (i + 1) es
+abbrev pub AreSmallInTraceText : ℕ → List Event → Type 0
+AreSmallInTraceText i [] = Unit {0}
+AreSmallInTraceText i (e ∷ es) = AreTraceLineNumbers i e × AreSmallInTraceText (i + 1) es
 
-events_small : (s : Sizes) (i : ℕ) (es : List Event) → AreLawfulSizes (head s) → i + length es ≤ most_held
-    → AllByRecursion (IsWithin s) es → AreSmallFrom i es
-events_small s i [] h le within = tt
-events_small s i (e ∷ es) h le within =
-    (event_small s i e h (omega (arith, le)) within.0, events_small s (i + 1) es h (omega (arith, le)) within.1)
+trace_text_events_small : (s : Sizes) (i : ℕ) (es : List Event) → AreLawfulSizes (trace_sizes_head s) → i + length es ≤ most_held
+    → AllByRecursion (IsWithinTrace s) es → AreSmallInTraceText i es
+trace_text_events_small s i [] h le within = tt
+trace_text_events_small s i (e ∷ es) h le within =
+    (trace_text_event_small s i e h (omega (arith, le)) within.0, trace_text_events_small s (i + 1) es h (omega (arith, le)) within.1)
 
-pub trace_small : (s : Sizes) (es : List Event) → IsTrace s es → AreSmallFrom 0 es
+pub trace_small : (s : Sizes) (es : List Event) → IsTrace s es → AreSmallInTraceText 0 es
 trace_small s es h =
-    events_small s 0 es h.sizes (omega (arith, h.few)) (recursion_from_All (IsWithin s) es h.events)
+    trace_text_events_small s 0 es h.sizes (omega (arith, h.few)) (recursion_from_All (IsWithinTrace s) es h.events)
 
 -- ---- the lines
 
 -- the lines of events, the first at place i, without their line feeds
-abbrev pub event_list : ℕ → List Event → List (List ℕ)
-event_list i [] = []
-event_list i (e ∷ es) = event_bytes i e ∷ event_list (i + 1) es
+abbrev pub trace_text_event_list : ℕ → List Event → List (List ℕ)
+trace_text_event_list i [] = []
+trace_text_event_list i (e ∷ es) = trace_line_bytes i e ∷ trace_text_event_list (i + 1) es
 
-events_parts : (i : ℕ) (es : List Event) (more : List ℕ) → AreSmallFrom i es
-    → parts_of_line 10 (event_lines i es ++ more) ≡ event_list i es ++ parts_of_line 10 more
-events_parts i [] more small = refl
-events_parts i (e ∷ es) more small =
+trace_text_events_parts : (i : ℕ) (es : List Event) (more : List ℕ) → AreSmallInTraceText i es
+    → parts_of_line 10 (event_lines i es ++ more) ≡ trace_text_event_list i es ++ parts_of_line 10 more
+trace_text_events_parts i [] more small = refl
+trace_text_events_parts i (e ∷ es) more small =
     let rest = event_lines (i + 1) es in
-    let bytes : (event_line i e ++ rest) ++ more ≡ event_bytes i e ++ 10 ∷ (rest ++ more) =
+    let bytes : (event_line i e ++ rest) ++ more ≡ trace_line_bytes i e ++ 10 ∷ (rest ++ more) =
     append_assoc (event_line i e) rest more
     ∙ ap (λ (t : List ℕ). t ++ (rest ++ more)) (line_words i e)
-    ∙ append_assoc (event_bytes i e) (10 ∷ []) (rest ++ more) in
-    ap (parts_of_line 10) bytes ∙ parts_first_word 10 (event_bytes i e) (rest ++ more) (event_clean i e small.0)
-    ∙ ap (λ (t : List (List ℕ)). event_bytes i e ∷ t) (events_parts (i + 1) es more small.1)
+    ∙ append_assoc (trace_line_bytes i e) (10 ∷ []) (rest ++ more) in
+    ap (parts_of_line 10) bytes ∙ parts_first_word 10 (trace_line_bytes i e) (rest ++ more) (trace_line_clean i e small.0)
+    ∙ ap (λ (t : List (List ℕ)). trace_line_bytes i e ∷ t) (trace_text_events_parts (i + 1) es more small.1)
 
 -- all lines of a trace, and what stands behind them
 pub trace_parts : (s : Sizes) (es : List Event) (more : List ℕ) → IsTrace s es
-    → parts_of_line 10 (trace_text s es ++ more) ≡ head_bytes s ∷ (event_list 0 es ++ parts_of_line 10 more)
+    → parts_of_line 10 (trace_text s es ++ more) ≡ trace_head_bytes s ∷ (trace_text_event_list 0 es ++ parts_of_line 10 more)
 trace_parts s es more h =
     let events = event_lines 0 es in
-    let bytes : (head_line s ++ events) ++ more ≡ head_bytes s ++ 10 ∷ (events ++ more) =
-    append_assoc (head_line s) events more ∙ append_assoc (head_bytes s) (10 ∷ []) (events ++ more) in
-    ap (parts_of_line 10) bytes ∙ parts_first_word 10 (head_bytes s) (events ++ more) (head_read s h.sizes).one_line
-    ∙ ap (λ (t : List (List ℕ)). head_bytes s ∷ t) (events_parts 0 es more (trace_small s es h))
+    let bytes : (trace_text_head_line s ++ events) ++ more ≡ trace_head_bytes s ++ 10 ∷ (events ++ more) =
+    append_assoc (trace_text_head_line s) events more ∙ append_assoc (trace_head_bytes s) (10 ∷ []) (events ++ more) in
+    ap (parts_of_line 10) bytes ∙ parts_first_word 10 (trace_head_bytes s) (events ++ more) (trace_text_head_read s h.sizes).one_line
+    ∙ ap (λ (t : List (List ℕ)). trace_head_bytes s ∷ t) (trace_text_events_parts 0 es more (trace_small s es h))
 
 text_parts : (s : Sizes) (es : List Event) → IsTrace s es
-    → parts_of_line 10 (trace_text s es) ≡ head_bytes s ∷ (event_list 0 es ++ [] ∷ [])
+    → parts_of_line 10 (trace_text s es) ≡ trace_head_bytes s ∷ (trace_text_event_list 0 es ++ [] ∷ [])
 text_parts s es h = ap (parts_of_line 10) (sym (append-nil (trace_text s es))) ∙ trace_parts s es [] h
 
 -- ---- one text, one trace
 
-lists_differ : (i : ℕ) (es fs : List Event) → AreSmallFrom i es → AreSmallFrom i fs
-    → event_list i es ≡ event_list i fs → es ≡ fs
-lists_differ i [] [] small less e = refl
-lists_differ i [] (f ∷ fs) small less e = absurd cc
-lists_differ i (e ∷ es) [] small less same = absurd cc
-lists_differ i (e ∷ es) (f ∷ fs) small less same =
-    let first : event_bytes i e ≡ event_bytes i f = cc in
-    let others : event_list (i + 1) es ≡ event_list (i + 1) fs = cc in
-    let events = (events_differ i i e f small.0 less.0 first).1 in
-    let rest = lists_differ (i + 1) es fs small.1 less.1 others in
+trace_text_lists_differ : (i : ℕ) (es fs : List Event) → AreSmallInTraceText i es → AreSmallInTraceText i fs
+    → trace_text_event_list i es ≡ trace_text_event_list i fs → es ≡ fs
+trace_text_lists_differ i [] [] small less e = refl
+trace_text_lists_differ i [] (f ∷ fs) small less e = absurd cc
+trace_text_lists_differ i (e ∷ es) [] small less same = absurd cc
+trace_text_lists_differ i (e ∷ es) (f ∷ fs) small less same =
+    let first : trace_line_bytes i e ≡ trace_line_bytes i f = cc in
+    let others : trace_text_event_list (i + 1) es ≡ trace_text_event_list (i + 1) fs = cc in
+    let events = (trace_line_events_differ i i e f small.0 less.0 first).1 in
+    let rest = trace_text_lists_differ (i + 1) es fs small.1 less.1 others in
     ap (λ (x : Event). x ∷ es) events ∙ ap (λ (xs : List Event). f ∷ xs) rest
 
 pub text_injective : (s t : Sizes) (es fs : List Event) → IsTrace s es → IsTrace t fs → trace_text s es ≡ trace_text t fs
     → (s ≡ t) × (es ≡ fs)
 text_injective s t es fs h k e =
-    let lines : (head_bytes s ∷ (event_list 0 es ++ [] ∷ [])) ≡ (head_bytes t ∷ (event_list 0 fs ++ [] ∷ [])) =
+    let lines : (trace_head_bytes s ∷ (trace_text_event_list 0 es ++ [] ∷ [])) ≡ (trace_head_bytes t ∷ (trace_text_event_list 0 fs ++ [] ∷ [])) =
     sym (text_parts s es h) ∙ ap (parts_of_line 10) e ∙ text_parts t fs k in
-    let heads : head_bytes s ≡ head_bytes t = cc in
-    let others : event_list 0 es ++ [] ∷ [] ≡ event_list 0 fs ++ [] ∷ [] = cc in (
-      heads_differ s t h.sizes k.sizes heads,
-      lists_differ 0 es fs (trace_small s es h) (trace_small t fs k)
-          (append_cancel_right (event_list 0 es) (event_list 0 fs) ([] ∷ []) others),
+    let heads : trace_head_bytes s ≡ trace_head_bytes t = cc in
+    let others : trace_text_event_list 0 es ++ [] ∷ [] ≡ trace_text_event_list 0 fs ++ [] ∷ [] = cc in (
+      trace_text_heads_differ s t h.sizes k.sizes heads,
+      trace_text_lists_differ 0 es fs (trace_small s es h) (trace_small t fs k)
+          (append_cancel_right (trace_text_event_list 0 es) (trace_text_event_list 0 fs) ([] ∷ []) others),
     )
 
-pub no_other : (s : Sizes) (es : List Event) (bytes : List ℕ) → IsTrace s es → bytes ≡ trace_text s es
-    → IsNoOther bytes s es
-no_other s es bytes h e t fs k same = text_injective t s fs es k h (sym same ∙ e)
+pub no_other_trace_text : (s : Sizes) (es : List Event) (bytes : List ℕ) → IsTrace s es → bytes ≡ trace_text s es
+    → IsNoOtherTrace bytes s es
+no_other_trace_text s es bytes h e t fs k same = text_injective t s fs es k h (sym same ∙ e)
 
 -- ---- the next line
 
 -- the line is that of an event that may come next
-pub record IsNextLine (s : Sizes) (es : List Event) (line : List ℕ) : Type 0 where
+pub record IsNextTraceTextLine (s : Sizes) (es : List Event) (line : List ℕ) : Type 0 where
   pub event : Event
-  pub line_is : line ≡ event_bytes (length es) event
-  pub within : IsWithin s event
+  pub line_is : line ≡ trace_line_bytes (length es) event
+  pub within : IsWithinTrace s event
   pub room : length es < most_held
 
 -- a line among those of events
-record IsAmong (i : ℕ) (es fs : List Event) (line : List ℕ) : Type 0 where
+record IsAmongTraceText (i : ℕ) (es fs : List Event) (line : List ℕ) : Type 0 where
   event : Event
   front : List Event
   back : List Event
   events_are : fs ≡ front ++ event ∷ back
   as_many : length front ≡ length es
-  line_is : line ≡ event_bytes (i + length es) event
+  line_is : line ≡ trace_line_bytes (i + length es) event
 
-nothing_left : (line : List ℕ) (parts : List (List ℕ)) → 0 < length parts → [] ∷ [] ≡ line ∷ parts → ⊥
-nothing_left line [] some e = omega arith
-nothing_left line (p ∷ parts) some e = absurd cc
+trace_text_nothing_left : (line : List ℕ) (parts : List (List ℕ)) → 0 < length parts → [] ∷ [] ≡ line ∷ parts → ⊥
+trace_text_nothing_left line [] some e = omega arith
+trace_text_nothing_left line (p ∷ parts) some e = absurd cc
 
-among_longer : (i : ℕ) (e f : Event) (es fs : List Event) (line : List ℕ) → IsAmong (i + 1) es fs line
-    → IsAmong i (e ∷ es) (f ∷ fs) line
-among_longer i e f es fs line w =
+trace_text_among_longer : (i : ℕ) (e f : Event) (es fs : List Event) (line : List ℕ) → IsAmongTraceText (i + 1) es fs line
+    → IsAmongTraceText i (e ∷ es) (f ∷ fs) line
+trace_text_among_longer i e f es fs line w =
     let place : (i + 1) + length es ≡ i + suc (length es) = omega arith in
     record {
       event = w.event;
@@ -184,48 +184,48 @@ among_longer i e f es fs line w =
       back = w.back;
       events_are = ap (λ (xs : List Event). f ∷ xs) w.events_are;
       as_many = ap suc w.as_many;
-      line_is = w.line_is ∙ ap (λ (n : ℕ). event_bytes n w.event) place;
+      line_is = w.line_is ∙ ap (λ (n : ℕ). trace_line_bytes n w.event) place;
     }
 
-walk : (i : ℕ) (es fs : List Event) (line : List ℕ) (parts : List (List ℕ)) → 0 < length parts
-    → event_list i fs ++ [] ∷ [] ≡ event_list i es ++ line ∷ parts → IsAmong i es fs line
-walk i [] [] line parts some e = absurd (nothing_left line parts some e)
-walk i [] (f ∷ fs) line parts some e = record {
+trace_text_walk : (i : ℕ) (es fs : List Event) (line : List ℕ) (parts : List (List ℕ)) → 0 < length parts
+    → trace_text_event_list i fs ++ [] ∷ [] ≡ trace_text_event_list i es ++ line ∷ parts → IsAmongTraceText i es fs line
+trace_text_walk i [] [] line parts some e = absurd (trace_text_nothing_left line parts some e)
+trace_text_walk i [] (f ∷ fs) line parts some e = record {
   event = f;
   front = [];
   back = fs;
   events_are = refl;
   as_many = refl;
   line_is =
-      (let first : line ≡ event_bytes i f = cc in
+      (let first : line ≡ trace_line_bytes i f = cc in
       let place : i ≡ i + 0 = omega arith in
-      first ∙ ap (λ (n : ℕ). event_bytes n f) place);
+      first ∙ ap (λ (n : ℕ). trace_line_bytes n f) place);
 }
-walk i (e ∷ es) [] line parts some same = absurd (let none : [] ≡ event_bytes i e = cc in cc)
-walk i (e ∷ es) (f ∷ fs) line parts some same =
-    among_longer i e f es fs line
-    (walk (i + 1) es fs line parts some
-    (let others : event_list (i + 1) fs ++ [] ∷ [] ≡ event_list (i + 1) es ++ line ∷ parts = cc in others))
+trace_text_walk i (e ∷ es) [] line parts some same = absurd (let none : [] ≡ trace_line_bytes i e = cc in cc)
+trace_text_walk i (e ∷ es) (f ∷ fs) line parts some same =
+    trace_text_among_longer i e f es fs line
+    (trace_text_walk (i + 1) es fs line parts some
+    (let others : trace_text_event_list (i + 1) fs ++ [] ∷ [] ≡ trace_text_event_list (i + 1) es ++ line ∷ parts = cc in others))
 
 among : (P : Event → Type 0) (front : List Event) (e : Event) (back : List Event)
     → AllByRecursion P (front ++ e ∷ back) → P e
 among P [] e back h = h.0
 among P (f ∷ front) e back h = among P front e back h.1
 
-pub parts_some : (bytes : List ℕ) → 0 < length (parts_of_line 10 bytes)
-parts_some bytes = omega (arith, length-slice_split (λ b. eqb b 10) bytes)
+pub trace_text_parts_some : (bytes : List ℕ) → 0 < length (parts_of_line 10 bytes)
+trace_text_parts_some bytes = omega (arith, length-slice_split (λ b. eqb b 10) bytes)
 
-next_from : (s t : Sizes) (es fs : List Event) (line : List ℕ) → IsTrace t fs → t ≡ s → IsAmong 0 es fs line
-    → IsNextLine s es line
-next_from s t es fs line k sizes w =
+trace_text_next_from : (s t : Sizes) (es fs : List Event) (line : List ℕ) → IsTrace t fs → t ≡ s → IsAmongTraceText 0 es fs line
+    → IsNextTraceTextLine s es line
+trace_text_next_from s t es fs line k sizes w =
     let place : 0 + length es ≡ length es = omega arith in
     let all =
-    subst (λ (xs : List Event). AllByRecursion (IsWithin t) xs) w.events_are
-    (recursion_from_All (IsWithin t) fs k.events) in
+    subst (λ (xs : List Event). AllByRecursion (IsWithinTrace t) xs) w.events_are
+    (recursion_from_All (IsWithinTrace t) fs k.events) in
     record {
       event = w.event;
-      line_is = w.line_is ∙ ap (λ (n : ℕ). event_bytes n w.event) place;
-      within = subst (λ (x : Sizes). IsWithin x w.event) sizes (among (IsWithin t) w.front w.event w.back all);
+      line_is = w.line_is ∙ ap (λ (n : ℕ). trace_line_bytes n w.event) place;
+      within = subst (λ (x : Sizes). IsWithinTrace x w.event) sizes (among (IsWithinTrace t) w.front w.event w.back all);
       room =
           omega (
             arith,
@@ -237,60 +237,60 @@ next_from s t es fs line k sizes w =
     }
 
 -- where a trace's text goes on by a line, that line is due
-pub next_due : (s : Sizes) (es : List Event) (line : List ℕ) → IsTrace s es → HasNo 10 line
-    → BeginsTraceText (trace_text s es ++ (line ++ 10 ∷ [])) → IsNextLine s es line
-next_due s es line h clean b =
+pub trace_text_next_due : (s : Sizes) (es : List Event) (line : List ℕ) → IsTrace s es → HasNo 10 line
+    → BeginsTraceText (trace_text s es ++ (line ++ 10 ∷ [])) → IsNextTraceTextLine s es line
+trace_text_next_due s es line h clean b =
     let t = b.0 in let fs = b.1 in let k = b.2 in let more = b.3 in
     let bytes : trace_text t fs ≡ trace_text s es ++ (line ++ 10 ∷ more) =
     b.4 ∙ append_assoc (trace_text s es) (line ++ 10 ∷ []) more
     ∙ ap (λ (x : List ℕ). trace_text s es ++ x) (append_assoc line (10 ∷ []) more) in
-    let lines : (head_bytes t ∷ (event_list 0 fs ++ [] ∷ []))
-    ≡ (head_bytes s ∷ (event_list 0 es ++ line ∷ parts_of_line 10 more)) =
+    let lines : (trace_head_bytes t ∷ (trace_text_event_list 0 fs ++ [] ∷ []))
+    ≡ (trace_head_bytes s ∷ (trace_text_event_list 0 es ++ line ∷ parts_of_line 10 more)) =
     sym (text_parts t fs k) ∙ ap (parts_of_line 10) bytes ∙ trace_parts s es (line ++ 10 ∷ more) h
-    ∙ ap (λ (x : List (List ℕ)). head_bytes s ∷ (event_list 0 es ++ x)) (parts_first_word 10 line more clean) in
-    let heads : head_bytes t ≡ head_bytes s = cc in
-    let others : event_list 0 fs ++ [] ∷ [] ≡ event_list 0 es ++ line ∷ parts_of_line 10 more = cc in
-    next_from s t es fs line k (heads_differ t s k.sizes h.sizes heads)
-    (walk 0 es fs line (parts_of_line 10 more) (parts_some more) others)
+    ∙ ap (λ (x : List (List ℕ)). trace_head_bytes s ∷ (trace_text_event_list 0 es ++ x)) (parts_first_word 10 line more clean) in
+    let heads : trace_head_bytes t ≡ trace_head_bytes s = cc in
+    let others : trace_text_event_list 0 fs ++ [] ∷ [] ≡ trace_text_event_list 0 es ++ line ∷ parts_of_line 10 more = cc in
+    trace_text_next_from s t es fs line k (trace_text_heads_differ t s k.sizes h.sizes heads)
+    (trace_text_walk 0 es fs line (parts_of_line 10 more) (trace_text_parts_some more) others)
 
 -- ---- the first line, and the last
 
 -- a trace's text begins with its sizes
-pub first_due : (line : List ℕ) → HasNo 10 line → BeginsTraceText (line ++ 10 ∷ [])
-    → (s : Sizes) × AreLawfulSizes (head s) × (line ≡ head_bytes s)
-first_due line clean b =
+pub trace_text_first_due : (line : List ℕ) → HasNo 10 line → BeginsTraceText (line ++ 10 ∷ [])
+    → (s : Sizes) × AreLawfulSizes (trace_sizes_head s) × (line ≡ trace_head_bytes s)
+trace_text_first_due line clean b =
     let t = b.0 in let fs = b.1 in let k = b.2 in let more = b.3 in
-    let lines : (head_bytes t ∷ (event_list 0 fs ++ [] ∷ [])) ≡ (line ∷ parts_of_line 10 more) =
+    let lines : (trace_head_bytes t ∷ (trace_text_event_list 0 fs ++ [] ∷ [])) ≡ (line ∷ parts_of_line 10 more) =
     sym (text_parts t fs k) ∙ ap (parts_of_line 10) (b.4 ∙ append_assoc line (10 ∷ []) more)
     ∙ parts_first_word 10 line more clean in
     (t, k.sizes, cc)
 
-last_same : (xs ys : List (List ℕ)) (a b : List ℕ) → xs ++ a ∷ [] ≡ ys ++ b ∷ [] → a ≡ b
-last_same [] [] a b e = cc
-last_same [] (y ∷ ys) a b e =
+trace_text_last_same : (xs ys : List (List ℕ)) (a b : List ℕ) → xs ++ a ∷ [] ≡ ys ++ b ∷ [] → a ≡ b
+trace_text_last_same [] [] a b e = cc
+trace_text_last_same [] (y ∷ ys) a b e =
     absurd
     (let none : [] ≡ ys ++ b ∷ [] = cc in
     omega (arith, ap (λ (x : List (List ℕ)). length x) none, length-append ys (b ∷ [])))
-last_same (x ∷ xs) [] a b e =
+trace_text_last_same (x ∷ xs) [] a b e =
     absurd
     (let none : xs ++ a ∷ [] ≡ [] = cc in
     omega (arith, ap (λ (x : List (List ℕ)). length x) none, length-append xs (a ∷ [])))
-last_same (x ∷ xs) (y ∷ ys) a b e = last_same xs ys a b (let rest : xs ++ a ∷ [] ≡ ys ++ b ∷ [] = cc in rest)
+trace_text_last_same (x ∷ xs) (y ∷ ys) a b e = trace_text_last_same xs ys a b (let rest : xs ++ a ∷ [] ≡ ys ++ b ∷ [] = cc in rest)
 
 -- it ends with a line feed
 pub text_ends : (s t : Sizes) (es fs : List Event) (rest : List ℕ) → IsTrace s es → IsTrace t fs → HasNo 10 rest
     → trace_text t fs ≡ trace_text s es ++ rest → rest ≡ []
 text_ends s t es fs rest h k clean e =
-    let lines : (head_bytes t ∷ (event_list 0 fs ++ [] ∷ [])) ≡ (head_bytes s ∷ (event_list 0 es ++ rest ∷ [])) =
+    let lines : (trace_head_bytes t ∷ (trace_text_event_list 0 fs ++ [] ∷ [])) ≡ (trace_head_bytes s ∷ (trace_text_event_list 0 es ++ rest ∷ [])) =
     sym (text_parts t fs k) ∙ ap (parts_of_line 10) e ∙ trace_parts s es rest h
-    ∙ ap (λ (x : List (List ℕ)). head_bytes s ∷ (event_list 0 es ++ x)) (parts_one_word 10 rest clean) in
-    let others : event_list 0 es ++ rest ∷ [] ≡ event_list 0 fs ++ [] ∷ [] = cc in
-    last_same (event_list 0 es) (event_list 0 fs) rest [] others
+    ∙ ap (λ (x : List (List ℕ)). trace_head_bytes s ∷ (trace_text_event_list 0 es ++ x)) (parts_one_word 10 rest clean) in
+    let others : trace_text_event_list 0 es ++ rest ∷ [] ≡ trace_text_event_list 0 fs ++ [] ∷ [] = cc in
+    trace_text_last_same (trace_text_event_list 0 es) (trace_text_event_list 0 fs) rest [] others
 
 -- and has one
 pub text_feeds : (t : Sizes) (fs : List Event) → IsTrace t fs → HasNo 10 (trace_text t fs) → ⊥
 text_feeds t fs k clean =
-    let lines : (head_bytes t ∷ (event_list 0 fs ++ [] ∷ [])) ≡ (trace_text t fs ∷ []) =
+    let lines : (trace_head_bytes t ∷ (trace_text_event_list 0 fs ++ [] ∷ [])) ≡ (trace_text t fs ∷ []) =
     sym (text_parts t fs k) ∙ parts_one_word 10 (trace_text t fs) clean in
-    let none : event_list 0 fs ++ [] ∷ [] ≡ [] = cc in
-    omega (arith, ap (λ (x : List (List ℕ)). length x) none, length-append (event_list 0 fs) ([] ∷ []))
+    let none : trace_text_event_list 0 fs ++ [] ∷ [] ≡ [] = cc in
+    omega (arith, ap (λ (x : List (List ℕ)). length x) none, length-append (trace_text_event_list 0 fs) ([] ∷ []))

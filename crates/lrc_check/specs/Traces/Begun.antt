@@ -15,6 +15,6 @@ abbrev pub IsTraceBegun : Option Trace → Type 0
 IsTraceBegun begun = IfSome begun (λ t. IsTrace (sizes_of t.sizes) t.events.items)
 
 -- the number of the next line, counted from 1
-abbrev pub number_after : Option Trace → ℕ
-number_after None = 1
-number_after (Some t) = length t.events.items + 2
+abbrev pub trace_line_number_after : Option Trace → ℕ
+trace_line_number_after None = 1
+trace_line_number_after (Some t) = length t.events.items + 2

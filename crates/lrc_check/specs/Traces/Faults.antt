@@ -13,10 +13,10 @@ use Rattle.lrc_script.specs.LineFaults.{HasLine, HasNoLineFeed, SaysOfLine}
 use Rattle.lrc_script.specs.LineReading.{IsLineCut}
 use Rattle.lrc_check.specs.declared.traces.fault.TraceFault.{TraceFault}
 use Rattle.lrc_check.specs.declared.traces.fault.TraceFault.TheVariants.{Truncated, Cut, BadLine, BadNumber, BadSize, BadPlace, BadProcessor, OutOfRange, BadLock, BadFlag, TooLong, NoMemory}
-use Rattle.lrc_check.specs.Traces.Sizes.{head}
-use Rattle.lrc_check.specs.Traces.Text.{head_line, trace_text}
+use Rattle.lrc_check.specs.Traces.Sizes.{trace_sizes_head}
+use Rattle.lrc_check.specs.Traces.Text.{trace_text_head_line, trace_text}
 use Rattle.lrc_check.specs.Traces.Lawful.{IsTrace}
-use Rattle.lrc_check.specs.Traces.Lines.{HasBadNumber, HasNoShape, IsCutLine, IsEventLine}
+use Rattle.lrc_check.specs.Traces.Lines.{HasBadTraceLineNumber, HasNoTraceLineShape, IsCutLine, IsEventLine}
 
 -- a fault of the first line, by what a script's reader calls it
 abbrev pub fault_from : ScriptFault → TraceFault
@@ -26,68 +26,68 @@ fault_from script.NoMemory = NoMemory
 fault_from _ = BadLine
 
 -- what a fault says of the line of the sizes: the same as of a script's first line
-abbrev pub HeadSays : TraceFault → List ℕ → Type 0
-HeadSays BadLine line = SaysOfLine script.BadLine Nothing line
-HeadSays BadNumber line = SaysOfLine script.BadNumber Nothing line
-HeadSays BadSize line = SaysOfLine script.BadSize Nothing line
-HeadSays _ line = ⊥
+abbrev pub TraceHeadSays : TraceFault → List ℕ → Type 0
+TraceHeadSays BadLine line = SaysOfLine script.BadLine Nothing line
+TraceHeadSays BadNumber line = SaysOfLine script.BadNumber Nothing line
+TraceHeadSays BadSize line = SaysOfLine script.BadSize Nothing line
+TraceHeadSays _ line = ⊥
 
 -- the kind names an address, a page, a lock or a flag past the sizes, and this is its fault
-abbrev pub IsPast : TraceFault → Sizes → Kind → Type 0
-IsPast OutOfRange s (kind.Load a v) = addresses s ≤ a
-IsPast OutOfRange s (kind.Store a v) = addresses s ≤ a
-IsPast OutOfRange s (kind.Fetch w n r d) = s.pages ≤ n
-IsPast BadLock s (kind.Ask l) = s.locks ≤ l
-IsPast BadLock s (kind.Acquire l) = s.locks ≤ l
-IsPast BadLock s (kind.Release l) = s.locks ≤ l
-IsPast BadFlag s (kind.Set f) = s.flags ≤ f
-IsPast BadFlag s (kind.Watch f) = s.flags ≤ f
-IsPast BadFlag s (kind.Await f) = s.flags ≤ f
-IsPast _ s k = ⊥
+abbrev pub IsTraceFaultPast : TraceFault → Sizes → Kind → Type 0
+IsTraceFaultPast OutOfRange s (kind.Load a v) = addresses s ≤ a
+IsTraceFaultPast OutOfRange s (kind.Store a v) = addresses s ≤ a
+IsTraceFaultPast OutOfRange s (kind.Fetch w n r d) = s.pages ≤ n
+IsTraceFaultPast BadLock s (kind.Ask l) = s.locks ≤ l
+IsTraceFaultPast BadLock s (kind.Acquire l) = s.locks ≤ l
+IsTraceFaultPast BadLock s (kind.Release l) = s.locks ≤ l
+IsTraceFaultPast BadFlag s (kind.Set f) = s.flags ≤ f
+IsTraceFaultPast BadFlag s (kind.Watch f) = s.flags ≤ f
+IsTraceFaultPast BadFlag s (kind.Await f) = s.flags ≤ f
+IsTraceFaultPast _ s k = ⊥
 
 -- what a fault says of an event of this place behind that many others
-abbrev pub EventSays : TraceFault → Sizes → ℕ → ℕ → Event → Type 0
-EventSays BadPlace s count place e = place ≢ count
-EventSays BadProcessor s count place e = s.processors ≤ e.processor
-EventSays TooLong s count place e = most_held ≤ count
-EventSays fault s count place e = IsPast fault s e.kind
+abbrev pub TraceEventSays : TraceFault → Sizes → ℕ → ℕ → Event → Type 0
+TraceEventSays BadPlace s count place e = place ≢ count
+TraceEventSays BadProcessor s count place e = s.processors ≤ e.processor
+TraceEventSays TooLong s count place e = most_held ≤ count
+TraceEventSays fault s count place e = IsTraceFaultPast fault s e.kind
 
 -- what a fault says of a line behind these events
-abbrev pub LineSays : TraceFault → Sizes → List Event → List ℕ → Type 0
-LineSays Cut s es line = (es ≡ []) × IsCutLine line
-LineSays BadLine s es line = HasNoShape line × ((es ≡ []) → ¬ IsCutLine line)
-LineSays BadNumber s es line = HasBadNumber line
-LineSays fault s es line =
-    (place : ℕ) × (e : Event) × IsEventLine line place e × EventSays fault s (length es) place e
+abbrev pub TraceLineSays : TraceFault → Sizes → List Event → List ℕ → Type 0
+TraceLineSays Cut s es line = (es ≡ []) × IsCutLine line
+TraceLineSays BadLine s es line = HasNoTraceLineShape line × ((es ≡ []) → ¬ IsCutLine line)
+TraceLineSays BadNumber s es line = HasBadTraceLineNumber line
+TraceLineSays fault s es line =
+    (place : ℕ) × (e : Event) × IsEventLine line place e × TraceEventSays fault s (length es) place e
 
 -- why a line is no event's, unless memory ran out
-abbrev pub IsNoEvent : TraceFault → List ℕ → Type 0
-IsNoEvent NoMemory line = Unit {0}
-IsNoEvent BadLine line = HasNoShape line
-IsNoEvent BadNumber line = HasBadNumber line
-IsNoEvent _ line = ⊥
+abbrev pub IsNoTraceEvent : TraceFault → List ℕ → Type 0
+IsNoTraceEvent NoMemory line = Unit {0}
+IsNoTraceEvent BadLine line = HasNoTraceLineShape line
+IsNoTraceEvent BadNumber line = HasBadTraceLineNumber line
+IsNoTraceEvent _ line = ⊥
 
 -- why a line adds no event to these, unless memory ran out
-abbrev pub Refuses : TraceFault → Sizes → List Event → List ℕ → Type 0
-Refuses NoMemory s es line = Unit {0}
-Refuses fault s es line = LineSays fault s es line
+abbrev pub TraceRefuses : TraceFault → Sizes → List Event → List ℕ → Type 0
+TraceRefuses NoMemory s es line = Unit {0}
+TraceRefuses fault s es line = TraceLineSays fault s es line
 
 -- the line has sizes that a script may have
-pub record LineHasSizes (line : List ℕ) (s : Sizes) : Type 0 where
-  pub sizes : AreLawfulSizes (head s)
-  pub line_is : line ++ 10 ∷ [] ≡ head_line s
+pub record TraceLineHasSizes (line : List ℕ) (s : Sizes) : Type 0 where
+  pub sizes : AreLawfulSizes (trace_sizes_head s)
+  pub line_is : line ++ 10 ∷ [] ≡ trace_text_head_line s
 
 -- why a line has no such sizes, unless memory ran out
-abbrev pub HasNoSizes : TraceFault → List ℕ → Type 0
-HasNoSizes NoMemory line = Unit {0}
-HasNoSizes fault line = HeadSays fault line × ((s : Sizes) → ¬ LineHasSizes line s)
+abbrev pub TraceHasNoSizes : TraceFault → List ℕ → Type 0
+TraceHasNoSizes NoMemory line = Unit {0}
+TraceHasNoSizes fault line = TraceHeadSays fault line × ((s : Sizes) → ¬ TraceLineHasSizes line s)
 
 -- some trace has a text that begins so
 abbrev pub BeginsTraceText : List ℕ → Type 0
 BeginsTraceText bytes = (s : Sizes) × (es : List Event) × IsTrace s es × (more : List ℕ) × (trace_text s es ≡ bytes ++ more)
 
 -- behind these bytes, which are whole lines, stands a line of which this holds, and no trace has it there
-pub record IsBadLine (before rest : List ℕ) (Holds : List ℕ → Type 0) : Type 0 where
+pub record IsBadTraceLine (before rest : List ℕ) (Holds : List ℕ → Type 0) : Type 0 where
   pub line : List ℕ
   pub more : List ℕ
   pub cut : IsLineCut rest line more
@@ -98,13 +98,13 @@ pub record IsBadLine (before rest : List ℕ) (Holds : List ℕ → Type 0) : Ty
 abbrev pub IsHeadFault : TraceFault → List ℕ → Type 0
 IsHeadFault Truncated bytes = HasNoLineFeed bytes
 IsHeadFault NoMemory bytes = HasLine bytes
-IsHeadFault fault bytes = IsBadLine [] bytes (HeadSays fault)
+IsHeadFault fault bytes = IsBadTraceLine [] bytes (TraceHeadSays fault)
 
 -- the fault of the line behind these events, where this is left
 abbrev pub IsTraceFaultBehind : TraceFault → Sizes → List Event → List ℕ → Type 0
 IsTraceFaultBehind Truncated s es rest = HasNoLineFeed rest × (0 < length rest)
 IsTraceFaultBehind NoMemory s es rest = HasLine rest
-IsTraceFaultBehind fault s es rest = IsBadLine (trace_text s es) rest (LineSays fault s es)
+IsTraceFaultBehind fault s es rest = IsBadTraceLine (trace_text s es) rest (TraceLineSays fault s es)
 
 -- line n is the first that isn't due: the lines before it are the text of a trace, and the fault says what is wrong
 pub record IsTraceFaultAt (s : Sizes) (bytes : List ℕ) (n : ℕ) (fault : TraceFault) : Type 0 where

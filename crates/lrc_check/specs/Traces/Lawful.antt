@@ -7,33 +7,33 @@ use Rattle.journal.specs.declared.event.Kind.TheVariants.{Load, Store, Fetch}
 use Rattle.journal.specs.Sizes.{Sizes}
 use Rattle.journal.specs.WellFormed.{KindInRange}
 use Rattle.lrc_script.specs.Lawful.{AreLawfulSizes}
-use Rattle.lrc_check.specs.Traces.Sizes.{head}
+use Rattle.lrc_check.specs.Traces.Sizes.{trace_sizes_head}
 use Rattle.lrc_check.specs.Traces.Text.{trace_text}
 
 -- what is read, written or counted is a word
-abbrev pub HasWords : Kind → Type 0
-HasWords (Load a v) = v < 2 ^ 32
-HasWords (Store a v) = v < 2 ^ 32
-HasWords (Fetch w n r d) = (w < 2 ^ 32) × (r < 2 ^ 32) × (d < 2 ^ 32)
-HasWords _ = Unit {0}
+abbrev pub HasTraceWords : Kind → Type 0
+HasTraceWords (Load a v) = v < 2 ^ 32
+HasTraceWords (Store a v) = v < 2 ^ 32
+HasTraceWords (Fetch w n r d) = (w < 2 ^ 32) × (r < 2 ^ 32) × (d < 2 ^ 32)
+HasTraceWords _ = Unit {0}
 
 -- each number that the event names is within the sizes
-pub record IsWithin (s : Sizes) (e : Event) : Type 0 where
+pub record IsWithinTrace (s : Sizes) (e : Event) : Type 0 where
   pub processor : e.processor < s.processors
   pub kind : KindInRange s e.kind
-  pub words : HasWords e.kind
+  pub words : HasTraceWords e.kind
 
 -- these are sizes that a script may have, and events within them, no more than a journal can hold
 pub record IsTrace (s : Sizes) (es : List Event) : Type 0 where
-  pub sizes : AreLawfulSizes (head s)
+  pub sizes : AreLawfulSizes (trace_sizes_head s)
   pub few : length es ≤ most_held
-  pub events : All (IsWithin s) es
+  pub events : All (IsWithinTrace s) es
 
 -- the bytes are the text of no trace
 abbrev pub IsNoTrace : List ℕ → Type 0
 IsNoTrace bytes = (s : Sizes) (es : List Event) → IsTrace s es → bytes ≢ trace_text s es
 
 -- they are the text of this trace at most
-abbrev pub IsNoOther : List ℕ → Sizes → List Event → Type 0
-IsNoOther bytes s es =
+abbrev pub IsNoOtherTrace : List ℕ → Sizes → List Event → Type 0
+IsNoOtherTrace bytes s es =
     (t : Sizes) (fs : List Event) → IsTrace t fs → bytes ≡ trace_text t fs → (t ≡ s) × (fs ≡ es)

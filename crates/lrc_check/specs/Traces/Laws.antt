@@ -9,30 +9,30 @@ use Rattle.lrc_script.specs.Lawful.{AreLawfulSizes}
 use Rattle.lrc_report.specs.ReportText.{left_text}
 use Rattle.lrc_check.specs.declared.traces.fault.TraceFault.{TraceFault}
 use Rattle.lrc_check.specs.declared.traces.fault.TraceFault.TheVariants.{Cut, NoMemory}
-use Rattle.lrc_check.specs.Traces.Sizes.{head}
-use Rattle.lrc_check.specs.Traces.Text.{head_line, trace_text}
-use Rattle.lrc_check.specs.Traces.Lawful.{HasWords, IsNoOther, IsTrace}
+use Rattle.lrc_check.specs.Traces.Sizes.{trace_sizes_head}
+use Rattle.lrc_check.specs.Traces.Text.{trace_text_head_line, trace_text}
+use Rattle.lrc_check.specs.Traces.Lawful.{HasTraceWords, IsNoOtherTrace, IsTrace}
 use Rattle.lrc_check.specs.Traces.Faults.{IsTraceFault}
 
 -- no two traces have one text
 abbrev pub OneTraceLaw : Type 0
-OneTraceLaw = (s : Sizes) (es : List Event) → IsTrace s es → IsNoOther (trace_text s es) s es
+OneTraceLaw = (s : Sizes) (es : List Event) → IsTrace s es → IsNoOtherTrace (trace_text s es) s es
 
 -- a well formed journal of words, no longer than a journal can be, is a trace
 abbrev pub WellFormedTraceLaw : Type 0
-WellFormedTraceLaw = (s : Sizes) (es : List Event) → AreLawfulSizes (head s) → length es ≤ most_held → WellFormed s es
-    → All (λ e. HasWords e.kind) es → IsTrace s es
+WellFormedTraceLaw = (s : Sizes) (es : List Event) → AreLawfulSizes (trace_sizes_head s) → length es ≤ most_held → WellFormed s es
+    → All (λ e. HasTraceWords e.kind) es → IsTrace s es
 
 -- what is printed of a journal of which nothing was cut off is, behind the line of its sizes, the text of a trace of
 -- its events, if they are one, and of no other
 abbrev pub PrintedLaw : Type 0
 PrintedLaw = (s : Sizes) (j : Log) → IsTrace s j.events → j.base.cut ≡ 0
-    → (head_line s ++ left_text j ≡ trace_text s j.events)
-    × IsNoOther (head_line s ++ left_text j) s j.events
+    → (trace_text_head_line s ++ left_text j ≡ trace_text s j.events)
+    × IsNoOtherTrace (trace_text_head_line s ++ left_text j) s j.events
 
 -- what is left of a journal of which something was cut off is refused at its second line as that, unless memory ran
 -- out
 abbrev pub CutRefusedLaw : Type 0
-CutRefusedLaw = (s : Sizes) (j : Log) (n : ℕ) (fault : TraceFault) → AreLawfulSizes (head s) → 0 < j.base.cut
-    → j.base.cut ≤ most_cut → fault ≢ NoMemory → IsTraceFault (head_line s ++ left_text j) n fault
+CutRefusedLaw = (s : Sizes) (j : Log) (n : ℕ) (fault : TraceFault) → AreLawfulSizes (trace_sizes_head s) → 0 < j.base.cut
+    → j.base.cut ≤ most_cut → fault ≢ NoMemory → IsTraceFault (trace_text_head_line s ++ left_text j) n fault
     → (n ≡ 2) × (fault ≡ Cut)

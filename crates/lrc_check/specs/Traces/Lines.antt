@@ -11,61 +11,61 @@ use Rattle.lrc_script.specs.LineFaults.{IsLineSplit}
 use Rattle.lrc_script.specs.LineReading.{numbers_read_after}
 use Rattle.lrc_report.specs.ReportText.{cut_line, event_line}
 use Rattle.lrc_check.specs.declared.traces.names.EventName.{EventName}
-use Rattle.lrc_check.specs.Traces.Lawful.{IsWithin}
-use Rattle.lrc_check.specs.Traces.Names.{operand_count, kind_from, numbers_of, word_of}
+use Rattle.lrc_check.specs.Traces.Lawful.{IsWithinTrace}
+use Rattle.lrc_check.specs.Traces.Names.{trace_name_operand_count, kind_from_trace_name, trace_name_numbers, trace_name_word}
 
 -- the line is the word `event` and others, with one space before each: a place, a processor, a name, and as many
 -- words as the name has numbers
-pub record IsShaped (line place processor : List ℕ) (name : EventName) (numbers : List (List ℕ)) : Type 0 where
-  pub split : IsLineSplit line (codes "event") (place ∷ processor ∷ word_of name ∷ numbers)
-  pub count : length numbers ≡ operand_count name
+pub record IsTraceLineShaped (line place processor : List ℕ) (name : EventName) (numbers : List (List ℕ)) : Type 0 where
+  pub split : IsLineSplit line (codes "event") (place ∷ processor ∷ trace_name_word name ∷ numbers)
+  pub count : length numbers ≡ trace_name_operand_count name
 
 -- the words are numbers, and with these an event of this name did what k says
-pub record GivesKind (name : EventName) (words : List (List ℕ)) (k : Kind) : Type 0 where
+pub record TraceLineGivesKind (name : EventName) (words : List (List ℕ)) (k : Kind) : Type 0 where
   pub numbers : List ℕ
   pub read : numbers_read_after [] words ≡ Ok numbers
-  pub kind : kind_from name numbers ≡ Some k
+  pub kind : kind_from_trace_name name numbers ≡ Some k
 
 -- no words make the line such a one
-abbrev pub HasNoShape : List ℕ → Type 0
-HasNoShape line = (place processor : List ℕ) (name : EventName) (numbers : List (List ℕ))
-    → ¬ IsShaped line place processor name numbers
+abbrev pub HasNoTraceLineShape : List ℕ → Type 0
+HasNoTraceLineShape line = (place processor : List ℕ) (name : EventName) (numbers : List (List ℕ))
+    → ¬ IsTraceLineShaped line place processor name numbers
 
 -- the word isn't a number below 2 ^ 32 in decimal, with no leading zero
-abbrev pub IsNoNumber : List ℕ → Type 0
-IsNoNumber word = (n : ℕ) → n < 2 ^ 32 → word ≢ decimal n
+abbrev pub IsNoTraceLineNumber : List ℕ → Type 0
+IsNoTraceLineNumber word = (n : ℕ) → n < 2 ^ 32 → word ≢ decimal n
 
 -- the line has the shape of an event's, and a word in a number's place is none
-pub record HasBadNumber (line : List ℕ) : Type 0 where
+pub record HasBadTraceLineNumber (line : List ℕ) : Type 0 where
   pub place : List ℕ
   pub processor : List ℕ
   pub name : EventName
   pub numbers : List (List ℕ)
-  pub shape : IsShaped line place processor name numbers
+  pub shape : IsTraceLineShaped line place processor name numbers
   pub bad : List ℕ
   pub within : Contains (place ∷ processor ∷ numbers) bad
-  pub no_number : IsNoNumber bad
+  pub no_number : IsNoTraceLineNumber bad
 
 -- the line, whose line feed isn't there, is this event's at this place, and its numbers are below 2 ^ 32
 pub record IsEventLine (line : List ℕ) (place : ℕ) (e : Event) : Type 0 where
   pub line_is : line ++ 10 ∷ [] ≡ event_line place e
-  pub small : AllByRecursion (λ n. n < 2 ^ 32) (place ∷ e.processor ∷ numbers_of e.kind)
+  pub small : AllByRecursion (λ n. n < 2 ^ 32) (place ∷ e.processor ∷ trace_name_numbers e.kind)
 
 -- the line tells how many events were cut off
 abbrev pub IsCutLine : List ℕ → Type 0
 IsCutLine line = (n : ℕ) × (0 < n) × (n < 2 ^ 32) × (line ++ 10 ∷ [] ≡ cut_line n)
 
 -- an event of this place may stand behind that many others
-pub record IsDueEvent (s : Sizes) (count place : ℕ) (e : Event) : Type 0 where
+pub record IsDueOnTraceLine (s : Sizes) (count place : ℕ) (e : Event) : Type 0 where
   pub place_is : place ≡ count
   pub processor : e.processor < s.processors
   pub kind : KindInRange s e.kind
   pub room : count < most_held
 
 -- the line is that of an event that may come next, and adds it
-pub record EventRead (s : Sizes) (before : List Event) (line : List ℕ) (after : List Event) : Type 0 where
+pub record TraceLineRead (s : Sizes) (before : List Event) (line : List ℕ) (after : List Event) : Type 0 where
   pub event : Event
   pub after_is : after ≡ before ++ event ∷ []
   pub line_is : IsEventLine line (length before) event
-  pub within : IsWithin s event
+  pub within : IsWithinTrace s event
   pub room : length before < most_held

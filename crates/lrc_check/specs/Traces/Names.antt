@@ -7,41 +7,41 @@ use Rattle.lrc_check.specs.declared.traces.names.EventName.{EventName}
 use Rattle.lrc_check.specs.declared.traces.names.EventName.TheVariants.{Load, Store, Fetch, Ask, Acquire, Release, Arrive, Depart, Set, Watch, Await}
 
 -- how a name is written
-abbrev pub word_of : EventName → List ℕ
-word_of Load = codes "load"
-word_of Store = codes "store"
-word_of Fetch = codes "fetch"
-word_of Ask = codes "ask"
-word_of Acquire = codes "acquire"
-word_of Release = codes "release"
-word_of Arrive = codes "arrive"
-word_of Depart = codes "depart"
-word_of Set = codes "set"
-word_of Watch = codes "watch"
-word_of Await = codes "await"
+abbrev pub trace_name_word : EventName → List ℕ
+trace_name_word Load = codes "load"
+trace_name_word Store = codes "store"
+trace_name_word Fetch = codes "fetch"
+trace_name_word Ask = codes "ask"
+trace_name_word Acquire = codes "acquire"
+trace_name_word Release = codes "release"
+trace_name_word Arrive = codes "arrive"
+trace_name_word Depart = codes "depart"
+trace_name_word Set = codes "set"
+trace_name_word Watch = codes "watch"
+trace_name_word Await = codes "await"
 
 -- how many numbers stand behind it
-abbrev pub operand_count : EventName → ℕ
-operand_count Load = 2
-operand_count Store = 2
-operand_count Fetch = 4
-operand_count Arrive = 0
-operand_count Depart = 0
-operand_count _ = 1
+abbrev pub trace_name_operand_count : EventName → ℕ
+trace_name_operand_count Load = 2
+trace_name_operand_count Store = 2
+trace_name_operand_count Fetch = 4
+trace_name_operand_count Arrive = 0
+trace_name_operand_count Depart = 0
+trace_name_operand_count _ = 1
 
 -- the numbers of what an event did, in their order on its line
-abbrev pub numbers_of : Kind → List ℕ
-numbers_of (kind.Load a v) = a ∷ v ∷ []
-numbers_of (kind.Store a v) = a ∷ v ∷ []
-numbers_of (kind.Fetch writers page records words) = page ∷ writers ∷ records ∷ words ∷ []
-numbers_of (kind.Ask l) = l ∷ []
-numbers_of (kind.Acquire l) = l ∷ []
-numbers_of (kind.Release l) = l ∷ []
-numbers_of kind.Arrive = []
-numbers_of kind.Depart = []
-numbers_of (kind.Set f) = f ∷ []
-numbers_of (kind.Watch f) = f ∷ []
-numbers_of (kind.Await f) = f ∷ []
+abbrev pub trace_name_numbers : Kind → List ℕ
+trace_name_numbers (kind.Load a v) = a ∷ v ∷ []
+trace_name_numbers (kind.Store a v) = a ∷ v ∷ []
+trace_name_numbers (kind.Fetch writers page records words) = page ∷ writers ∷ records ∷ words ∷ []
+trace_name_numbers (kind.Ask l) = l ∷ []
+trace_name_numbers (kind.Acquire l) = l ∷ []
+trace_name_numbers (kind.Release l) = l ∷ []
+trace_name_numbers kind.Arrive = []
+trace_name_numbers kind.Depart = []
+trace_name_numbers (kind.Set f) = f ∷ []
+trace_name_numbers (kind.Watch f) = f ∷ []
+trace_name_numbers (kind.Await f) = f ∷ []
 
 -- the name that is written so
 abbrev pub event_name : List ℕ → Option EventName
@@ -59,16 +59,16 @@ event_name w =
     if bytes_eq w (codes "await") then Some Await else None
 
 -- what an event of this name and these numbers did
-abbrev pub kind_from : EventName → List ℕ → Option Kind
-kind_from Load (a ∷ v ∷ []) = Some (kind.Load a v)
-kind_from Store (a ∷ v ∷ []) = Some (kind.Store a v)
-kind_from Fetch (n ∷ w ∷ r ∷ d ∷ []) = Some (kind.Fetch w n r d)
-kind_from Ask (l ∷ []) = Some (kind.Ask l)
-kind_from Acquire (l ∷ []) = Some (kind.Acquire l)
-kind_from Release (l ∷ []) = Some (kind.Release l)
-kind_from Arrive [] = Some kind.Arrive
-kind_from Depart [] = Some kind.Depart
-kind_from Set (f ∷ []) = Some (kind.Set f)
-kind_from Watch (f ∷ []) = Some (kind.Watch f)
-kind_from Await (f ∷ []) = Some (kind.Await f)
-kind_from _ _ = None
+abbrev pub kind_from_trace_name : EventName → List ℕ → Option Kind
+kind_from_trace_name Load (a ∷ v ∷ []) = Some (kind.Load a v)
+kind_from_trace_name Store (a ∷ v ∷ []) = Some (kind.Store a v)
+kind_from_trace_name Fetch (n ∷ w ∷ r ∷ d ∷ []) = Some (kind.Fetch w n r d)
+kind_from_trace_name Ask (l ∷ []) = Some (kind.Ask l)
+kind_from_trace_name Acquire (l ∷ []) = Some (kind.Acquire l)
+kind_from_trace_name Release (l ∷ []) = Some (kind.Release l)
+kind_from_trace_name Arrive [] = Some kind.Arrive
+kind_from_trace_name Depart [] = Some kind.Depart
+kind_from_trace_name Set (f ∷ []) = Some (kind.Set f)
+kind_from_trace_name Watch (f ∷ []) = Some (kind.Watch f)
+kind_from_trace_name Await (f ∷ []) = Some (kind.Await f)
+kind_from_trace_name _ _ = None

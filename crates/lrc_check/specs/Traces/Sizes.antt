@@ -14,5 +14,5 @@ sizes_of s = record {
 }
 
 -- the sizes, as a script that has no section says them
-abbrev pub head : Sizes → Plan
-head s = head_plan s.processors s.pages s.words s.locks s.flags
+abbrev pub trace_sizes_head : Sizes → Plan
+trace_sizes_head s = head_plan s.processors s.pages s.words s.locks s.flags

@@ -2,8 +2,8 @@
 ghost use Rattle.std.specs.Prelude.{◌≡◌, [], ◌∷◌, ◌++◌, IfOk, IfErr, OnOk};
 ghost use Rattle.lrc_script.specs.Prelude.{HasNoLineFeed};
 ghost use Rattle.lrc_check.specs.declared.traces.fault.TraceFault.TheVariants.{Truncated};
-ghost use Rattle.lrc_check.specs.Traces.Prelude.{HasNoSizes, LineHasSizes, IsTraceBegun, IsTraceFault, IsLastingFault, IsNoOther};
-ghost use Rattle.lrc_check.specs.Traces.Prelude.{IsNoTrace, IsTrace, begun_text, number_after, sizes_of, trace_text};
+ghost use Rattle.lrc_check.specs.Traces.Prelude.{TraceHasNoSizes, TraceLineHasSizes, IsTraceBegun, IsTraceFault, IsLastingFault, IsNoOtherTrace};
+ghost use Rattle.lrc_check.specs.Traces.Prelude.{IsNoTrace, IsTrace, begun_text, trace_line_number_after, sizes_of, trace_text};
 
 use crate::traces::fault::TraceFault;
 use crate::traces::line::add;
@@ -14,9 +14,9 @@ use std::alloc::Global;
 
 /// The trace without an event that begins with this line.
 fn begin(alloc: Global, line: &[u8]) -> Result<Trace, TraceFault>
-    ensures sizes { IfOk result (λ t. LineHasSizes line.now (sizes_of t.sizes)) }
+    ensures sizes { IfOk result (λ t. TraceLineHasSizes line.now (sizes_of t.sizes)) }
     ensures empty { IfOk result (λ t. t.events.items ≡ []) }
-    ensures fault { IfErr result (λ e. HasNoSizes e line.now) }
+    ensures fault { IfErr result (λ e. TraceHasNoSizes e line.now) }
 {
     match read_sizes(alloc, line) {
         Ok(script) => Ok(Trace {
@@ -36,7 +36,7 @@ fn begin(alloc: Global, line: &[u8]) -> Result<Trace, TraceFault>
 /// The number of the line that comes next, counted from 1.
 pub fn next_number(begun: &Option<Trace>) -> usize
     requires { IsTraceBegun begun.now }
-    ensures { result ≡ number_after begun.now }
+    ensures { result ≡ trace_line_number_after begun.now }
 {
     match begun {
         None => 1,
@@ -101,7 +101,7 @@ pub fn end(begun: Option<Trace>, rest: &[u8]) -> Result<Trace, (usize, TraceFaul
     requires rest { HasNoLineFeed rest.now }
     ensures found { IfOk result (λ t. IsTrace (sizes_of t.sizes) t.events.items
         × (begun_text begun ++ rest.now ≡ trace_text (sizes_of t.sizes) t.events.items)) }
-    ensures again { IfOk result (λ t. IsNoOther (begun_text begun ++ rest.now) (sizes_of t.sizes) t.events.items) }
+    ensures again { IfOk result (λ t. IsNoOtherTrace (begun_text begun ++ rest.now) (sizes_of t.sizes) t.events.items) }
     ensures only { IfErr result (λ _. IsNoTrace (begun_text begun ++ rest.now)) }
     ensures truncated { IfErr result (λ e. e.1 ≡ Truncated) }
     ensures fault { IfErr result (λ e. IsTraceFault (begun_text begun ++ rest.now) e.0 e.1) }

@@ -1,8 +1,8 @@
 //! One line of a trace.
 ghost use Rattle.std.specs.Prelude.{◌≡◌, IsTrue, ◌↔◌, [], ◌∷◌, IfOk, IfErr, IfSome, OnOk, MatchOption};
 ghost use Rattle.lrc_script.specs.Prelude.{AreLawfulSizes, parts_left_of_line};
-ghost use Rattle.lrc_check.specs.Traces.Prelude.{GivesKind, HasNoShape, EventRead, IsCutLine, IsEventLine, IsNoEvent, IsShaped};
-ghost use Rattle.lrc_check.specs.Traces.Prelude.{Refuses, head, sizes_of};
+ghost use Rattle.lrc_check.specs.Traces.Prelude.{TraceLineGivesKind, HasNoTraceLineShape, TraceLineRead, IsCutLine, IsEventLine, IsNoTraceEvent, IsTraceLineShaped};
+ghost use Rattle.lrc_check.specs.Traces.Prelude.{TraceRefuses, trace_sizes_head, sizes_of};
 
 use crate::traces::fault::TraceFault;
 use crate::traces::names::EventName;
@@ -36,8 +36,8 @@ fn next_word(words: Option<&[u8]>) -> Option<(&[u8], Option<&[u8]>)>
 
 /// The words of a line that has the shape of an event's.
 fn words_of(line: &[u8]) -> Option<Words<'_>>
-    ensures { MatchOption result (HasNoShape line.now)
-        (λ w. IsShaped line.now w.place.now w.processor.now w.name (parts_left_of_line 32 w.numbers)) }
+    ensures { MatchOption result (HasNoTraceLineShape line.now)
+        (λ w. IsTraceLineShaped line.now w.place.now w.processor.now w.name (parts_left_of_line 32 w.numbers)) }
 {
     if !is_separated(line) {
         return None;
@@ -65,7 +65,7 @@ fn words_of(line: &[u8]) -> Option<Words<'_>>
 // Within the loop over lines its answer doesn't go through memory, which is some 20 instructions a line.
 #[inline(always)]
 fn kind_of(alloc: Global, name: EventName, words: Option<&[u8]>) -> Option<Kind>
-    ensures { IfSome result (GivesKind name (parts_left_of_line 32 words.entry)) }
+    ensures { IfSome result (TraceLineGivesKind name (parts_left_of_line 32 words.entry)) }
 {
     if let Some(few) = few_numbers(words) {
         return name.kind(few.as_slice());
@@ -99,7 +99,7 @@ fn quick_event(alloc: Global, line: &[u8]) -> Option<(usize, Event)>
 /// The event of a line, and the place that the line gives it, or what is wrong with the line.
 fn event_or_fault(alloc: Global, line: &[u8]) -> Result<(usize, Event), TraceFault>
     ensures found { IfOk result (λ x. IsEventLine line.now x.0 x.1) }
-    ensures fault { IfErr result (λ e. IsNoEvent e line.now) }
+    ensures fault { IfErr result (λ e. IsNoTraceEvent e line.now) }
 {
     let Some(words) = words_of(line) else {
         return Err(TraceFault::BadLine);
@@ -125,7 +125,7 @@ fn event_or_fault(alloc: Global, line: &[u8]) -> Result<(usize, Event), TraceFau
 /// fault.
 fn read_event(alloc: Global, line: &[u8]) -> Result<(usize, Event), TraceFault>
     ensures found { IfOk result (λ x. IsEventLine line.now x.0 x.1) }
-    ensures fault { IfErr result (λ e. IsNoEvent e line.now) }
+    ensures fault { IfErr result (λ e. IsNoTraceEvent e line.now) }
 {
     match quick_event(alloc, line) {
         Some(found) => Ok(found),
@@ -157,9 +157,9 @@ pub fn add(
     events: &mut Vec<Event>,
     line: &[u8],
 ) -> Result<(), TraceFault>
-    requires { AreLawfulSizes (head (sizes_of sizes.now)) }
-    ensures found { OnOk result (EventRead (sizes_of sizes.now) events.old.items line.now events.new.items) }
-    ensures fault { IfErr result (λ e. Refuses e (sizes_of sizes.now) events.old.items line.now) }
+    requires { AreLawfulSizes (trace_sizes_head (sizes_of sizes.now)) }
+    ensures found { OnOk result (TraceLineRead (sizes_of sizes.now) events.old.items line.now events.new.items) }
+    ensures fault { IfErr result (λ e. TraceRefuses e (sizes_of sizes.now) events.old.items line.now) }
 {
     if events.is_empty() && is_cut(line) {
         return Err(TraceFault::Cut);

@@ -1,6 +1,6 @@
 //! What an event's line calls what the event did.
 ghost use Rattle.std.specs.Prelude.{◌≡◌};
-ghost use Rattle.lrc_check.specs.Traces.Prelude.{event_name, operand_count, kind_from};
+ghost use Rattle.lrc_check.specs.Traces.Prelude.{event_name, trace_name_operand_count, kind_from_trace_name};
 
 use journal::Kind;
 
@@ -54,7 +54,7 @@ impl EventName {
 
     /// How many numbers stand behind it.
     pub fn numbers(self) -> usize
-        ensures { result ≡ operand_count self }
+        ensures { result ≡ trace_name_operand_count self }
     {
         match self {
             EventName::Arrive | EventName::Depart => 0,
@@ -66,7 +66,7 @@ impl EventName {
 
     /// What an event of this name and these numbers did, where they are as many as stand behind the name.
     pub fn kind(self, numbers: &[u32]) -> Option<Kind>
-        ensures { result ≡ kind_from self numbers.now }
+        ensures { result ≡ kind_from_trace_name self numbers.now }
     {
         match (self, numbers) {
             (EventName::Load, [a, v]) => Some(Kind::Load(*a as usize, *v)),

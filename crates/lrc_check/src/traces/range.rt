@@ -1,6 +1,6 @@
 //! Whether an event is within a cluster's sizes, and stands where its number says.
 ghost use Rattle.std.specs.Prelude.{IfSome, IfNone};
-ghost use Rattle.lrc_check.specs.Traces.Prelude.{EventSays, IsDueEvent, IsPast, head, sizes_of};
+ghost use Rattle.lrc_check.specs.Traces.Prelude.{TraceEventSays, IsDueOnTraceLine, IsTraceFaultPast, trace_sizes_head, sizes_of};
 ghost use Rattle.journal.specs.WellFormed.{KindInRange};
 ghost use Rattle.lrc_script.specs.Prelude.{AreLawfulSizes};
 
@@ -10,9 +10,9 @@ use journal::{Event, Kind, MOST_HELD};
 
 /// The fault of a kind that names an address, a page, a lock or a flag past the sizes.
 fn kind_fault(sizes: &Sizes, kind: Kind) -> Option<TraceFault>
-    requires { AreLawfulSizes (head (sizes_of sizes.now)) }
+    requires { AreLawfulSizes (trace_sizes_head (sizes_of sizes.now)) }
     ensures none { IfNone result (KindInRange (sizes_of sizes.now) kind) }
-    ensures some { IfSome result (λ f. IsPast f (sizes_of sizes.now) kind) }
+    ensures some { IfSome result (λ f. IsTraceFaultPast f (sizes_of sizes.now) kind) }
 {
     match kind {
         Kind::Load(address, _) | Kind::Store(address, _) => {
@@ -31,9 +31,9 @@ fn kind_fault(sizes: &Sizes, kind: Kind) -> Option<TraceFault>
 
 /// Why the event of a line that gives this place can't stand behind `count` others.
 pub fn event_fault(sizes: &Sizes, count: usize, place: usize, event: &Event) -> Option<TraceFault>
-    requires { AreLawfulSizes (head (sizes_of sizes.now)) }
-    ensures none { IfNone result (IsDueEvent (sizes_of sizes.now) count place event.now) }
-    ensures some { IfSome result (λ f. EventSays f (sizes_of sizes.now) count place event.now) }
+    requires { AreLawfulSizes (trace_sizes_head (sizes_of sizes.now)) }
+    ensures none { IfNone result (IsDueOnTraceLine (sizes_of sizes.now) count place event.now) }
+    ensures some { IfSome result (λ f. TraceEventSays f (sizes_of sizes.now) count place event.now) }
 {
     if place != count {
         Some(TraceFault::BadPlace)

@@ -2,7 +2,7 @@
 ghost use Rattle.std.specs.Prelude.{◌≡◌, ◌≢◌, [], ◌++◌, IfOk, IfErr, OnOk};
 ghost use Rattle.lrc_script.specs.Prelude.{HasNoLineFeed};
 ghost use Rattle.lrc_check.specs.declared.traces.fault.TraceFault.TheVariants.{NoMemory, Truncated};
-ghost use Rattle.lrc_check.specs.Traces.Prelude.{BeginsTraceText, IsTraceBegun, IsTraceFault, IsLastingFault, IsNoOther, IsNoTrace, IsTrace};
+ghost use Rattle.lrc_check.specs.Traces.Prelude.{BeginsTraceText, IsTraceBegun, IsTraceFault, IsLastingFault, IsNoOtherTrace, IsNoTrace, IsTrace};
 ghost use Rattle.lrc_check.specs.Traces.Prelude.{begun_text, sizes_of, trace_text};
 
 use crate::traces::begun::{end, next_number, read_lines};
@@ -116,7 +116,7 @@ impl Reader {
     pub fn finish(self) -> Result<Trace, (usize, TraceFault)>
         ensures found { IfOk result (λ t. IsTrace (sizes_of t.sizes) t.events.items
             × (self ≡ trace_text (sizes_of t.sizes) t.events.items)) }
-        ensures again { IfOk result (λ t. IsNoOther self (sizes_of t.sizes) t.events.items) }
+        ensures again { IfOk result (λ t. IsNoOtherTrace self (sizes_of t.sizes) t.events.items) }
         ensures only { IfErr result (λ _. IsNoTrace self) }
         ensures truncated { IfErr result (λ e. e.1 ≡ Truncated) }
         ensures fault { IfErr result (λ e. IsTraceFault self e.0 e.1) }

@@ -1,7 +1,7 @@
 //! A trace: the sizes of a cluster, and its events in order.
 ghost use Rattle.std.specs.Prelude.{◌≡◌, ◌≢◌, IfOk, IfErr};
 ghost use Rattle.lrc_check.specs.declared.traces.fault.TraceFault.TheVariants.{NoMemory};
-ghost use Rattle.lrc_check.specs.Traces.Prelude.{IsTraceFault, IsNoOther, IsNoTrace, IsTrace, sizes_of, trace_text};
+ghost use Rattle.lrc_check.specs.Traces.Prelude.{IsTraceFault, IsNoOtherTrace, IsNoTrace, IsTrace, sizes_of, trace_text};
 
 use crate::traces::begun::{end, read_lines};
 use crate::traces::fault::TraceFault;
@@ -38,7 +38,7 @@ pub fn read(alloc: Global, bytes: &[u8]) -> Result<Trace, (usize, TraceFault)>
     ensures found { IfOk result (λ t. IsTrace (sizes_of t.sizes) t.events.items
         × (bytes.now ≡ trace_text (sizes_of t.sizes) t.events.items)) }
     // It is the one trace with this text.
-    ensures again { IfOk result (λ t. IsNoOther bytes.now (sizes_of t.sizes) t.events.items) }
+    ensures again { IfOk result (λ t. IsNoOtherTrace bytes.now (sizes_of t.sizes) t.events.items) }
     // No trace is refused, unless memory runs out.
     ensures only { IfErr result (λ e. e.1 ≢ NoMemory → IsNoTrace bytes.now) }
     // The lines before the fault are a trace's text, or none; no trace has that line next, and the fault says why.

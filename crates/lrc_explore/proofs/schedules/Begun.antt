@@ -33,48 +33,48 @@ use Rattle.conformance.proofs.WithoutFetches.WellFormed.{well_formed_without_fet
 use Rattle.conformance.proofs.Like.Order.{race_like}
 use Rattle.conformance.proofs.Like.WellFormed.{well_formed_like}
 use Rattle.conformance.proofs.Recomputing.Replaying.{replaying_fetch_like}
-use Rattle.explore.specs.Prefixes.Beginnings.{IsFlatBeginning, IsFlatRaceFree}
-use Rattle.explore.specs.Prefixes.Calling.{IsCalledNext, last_reply, section_steps, shown_by}
-use Rattle.explore.proofs.prefixes.Beginnings.{next_begins, script_front}
-use Rattle.explore.proofs.prefixes.Calling.{begins_push}
+use Rattle.explore.specs.Prefixes.Beginnings.{IsFlatBeginning, IsRaceFreeBeginning}
+use Rattle.explore.specs.Prefixes.Calling.{IsCalledNext, last_reply_of_calls, prefix_calling_section_steps, prefix_calling_shown_by}
+use Rattle.explore.proofs.prefixes.Beginnings.{beginning_next, beginning_script_front}
+use Rattle.explore.proofs.prefixes.Calling.{prefix_calling_begins_push}
 use Rattle.explore.proofs.prefixes.Neighbours.LastRace.{race_take}
 use Rattle.explore.proofs.prefixes.Neighbours.Replies.{replied, step_replied}
 use Rattle.lrc_explore.specs.Schedules.Laws.{BegunLaw}
 
 -- what replays and begins the script does so on one flat memory, its fetches aside
-pub flat_part : (s : Plan) (h : List Event) → WellFormed (followed_plan_sizes s) h → BeginsScript s h
+pub schedule_begun_flat_part : (s : Plan) (h : List Event) → WellFormed (followed_plan_sizes s) h → BeginsScript s h
     → Replays (replicate (plan_addresses s) 0) h → IsFlatBeginning s (without_fetches h)
-flat_part s h well begins replays =
+schedule_begun_flat_part s h well begins replays =
     record {
       well_formed = well_formed_without_fetches (followed_plan_sizes s) (without_fetches h) h (without_fetches_of h) well;
       begins = λ p section at.
-          subst (BeginsSection section (shown_by s p)) (sym (calls_without_fetches p h)) (begins p section at);
+          subst (BeginsSection section (prefix_calling_shown_by s p)) (sym (calls_without_fetches p h)) (begins p section at);
       replays = replays_without_fetches h (replicate (plan_addresses s) 0) replays;
       no_fetch = no_fetch_in h;
     }
 
 -- a call at the end stays there
-pub fetchless_push : (h : List Event) (p : ℕ) (k : Kind) → is_followed_fetch k ≡ false
+pub schedule_begun_fetchless_push : (h : List Event) (p : ℕ) (k : Kind) → is_followed_fetch k ≡ false
     → without_fetches (did h p k) ≡ did (without_fetches h) p k
-fetchless_push h p k call =
+schedule_begun_fetchless_push h p k call =
     filter-append (λ (e : Event). not (is_followed_fetch e.kind)) h (event p k ∷ [])
     ∙ ap (λ es. without_fetches h ++ es) (cond-true (not (is_followed_fetch k)) (event p k ∷ []) [] (ap not call))
 
 -- the call with the word of this memory is the same but for its value
-replied_like : (memory : List ℕ) (k : Kind) → like_without_value k ≡ like_without_value (replied memory k)
-replied_like memory (Load a v) = refl
-replied_like memory _ = refl
+schedule_begun_replied_like : (memory : List ℕ) (k : Kind) → like_without_value k ≡ like_without_value (replied memory k)
+schedule_begun_replied_like memory (Load a v) = refl
+schedule_begun_replied_like memory _ = refl
 
-like_push : (g : List Event) (p : ℕ) (k l : Kind) → like_without_value k ≡ like_without_value l → SameButValues (did g p k) (did g p l)
-like_push g p k l same =
+schedule_begun_like_push : (g : List Event) (p : ℕ) (k l : Kind) → like_without_value k ≡ like_without_value l → SameButValues (did g p k) (did g p l)
+schedule_begun_like_push g p k l same =
     map-append event_like_without_value g (event p k ∷ []) ∙ ap (λ x. map event_like_without_value g ++ event p x ∷ []) same
     ∙ sym (map-append event_like_without_value g (event p l ∷ []))
 
 -- and it answers its word
-word_replied : (s : Plan) (memory : List ℕ) (k : Kind) → length memory ≡ plan_addresses s → KindInRange (followed_plan_sizes s) k
+schedule_begun_word_replied : (s : Plan) (memory : List ℕ) (k : Kind) → length memory ≡ plan_addresses s → KindInRange (followed_plan_sizes s) k
     → AnswersFlatWord memory (replied memory k)
-word_replied s memory (Load a v) long inside = slice_get-get_or memory a 0 (subst (λ n. a < n) (sym long) inside)
-word_replied s memory _ long inside = tt
+schedule_begun_word_replied s memory (Load a v) long inside = slice_get-get_or memory a 0 (subst (λ n. a < n) (sym long) inside)
+schedule_begun_word_replied s memory _ long inside = tt
 
 -- a call after what replays makes its flat part longer, with the reply that it has there
 module _ (s : Plan) (h : List Event) (p : ℕ) (k : Kind) (replays : Replays (replicate (plan_addresses s) 0) h)
@@ -88,47 +88,47 @@ module _ (s : Plan) (h : List Event) (p : ℕ) (k : Kind) (replays : Replays (re
 
   before : IsFlatBeginning s (without_fetches h)
   before =
-      flat_part s h ((well_formed_push (followed_plan_sizes s) h (event p k)).0 well).0 (script_front s h (event p k ∷ []) begins) replays
+      schedule_begun_flat_part s h ((well_formed_push (followed_plan_sizes s) h (event p k)).0 well).0 (beginning_script_front s h (event p k ∷ []) begins) replays
 
   may : MayFollow (followed_plan_sizes s) (without_fetches h) (event p (replied memory k))
   may =
       let there = well_formed_without_fetches (followed_plan_sizes s) (without_fetches (did h p k)) (did h p k) (without_fetches_of (did h p k)) well in
-      let here = subst (WellFormed (followed_plan_sizes s)) (fetchless_push h p k call) there in
-      let like = like_push (without_fetches h) p k (replied memory k) (replied_like memory k) in
+      let here = subst (WellFormed (followed_plan_sizes s)) (schedule_begun_fetchless_push h p k call) there in
+      let like = schedule_begun_like_push (without_fetches h) p k (replied memory k) (schedule_begun_replied_like memory k) in
       let same = well_formed_like (followed_plan_sizes s) (did (without_fetches h) p k) (did (without_fetches h) p (replied memory k)) like here in
       ((well_formed_push (followed_plan_sizes s) (without_fetches h) (event p (replied memory k))).0 same).1
 
-  called : (section : List Instruction) → slice_get s.sections p ≡ Some section
-      → IsCalledNext (section_steps section (shown_by s p)) (followed_calls (without_fetches h) p) (replied memory k)
-  called section at =
-      let own = subst (BeginsSection section (shown_by s p)) (followed_calls-own h p k call) (begins p section at) in
-      let is = ((begins_push section (shown_by s p) (followed_calls h p) k).0 own).1 in
-      subst (λ calls. IsCalledNext (section_steps section (shown_by s p)) calls (replied memory k)) (sym (calls_without_fetches p h))
-      (record { step = is.step; at = is.at; is = step_replied (last_reply (followed_calls h p)) is.step k memory is.is })
+  schedule_begun_called : (section : List Instruction) → slice_get s.sections p ≡ Some section
+      → IsCalledNext (prefix_calling_section_steps section (prefix_calling_shown_by s p)) (followed_calls (without_fetches h) p) (replied memory k)
+  schedule_begun_called section at =
+      let own = subst (BeginsSection section (prefix_calling_shown_by s p)) (followed_calls-own h p k call) (begins p section at) in
+      let is = ((prefix_calling_begins_push section (prefix_calling_shown_by s p) (followed_calls h p) k).0 own).1 in
+      subst (λ calls. IsCalledNext (prefix_calling_section_steps section (prefix_calling_shown_by s p)) calls (replied memory k)) (sym (calls_without_fetches p h))
+      (record { step = is.step; at = is.at; is = step_replied (last_reply_of_calls (followed_calls h p)) is.step k memory is.is })
 
-  pub call_replied : is_followed_fetch (replied memory k) ≡ false
-  call_replied = sym (replaying_fetch_like k (replied memory k) (replied_like memory k)) ∙ call
+  pub schedule_begun_call_replied : is_followed_fetch (replied memory k) ≡ false
+  schedule_begun_call_replied = sym (replaying_fetch_like k (replied memory k) (schedule_begun_replied_like memory k)) ∙ call
 
-  pub longer : IsFlatBeginning s (did (without_fetches h) p (replied memory k))
-  longer =
-      (next_begins s (without_fetches h) p (replied memory k)).1 (
+  pub schedule_begun_longer : IsFlatBeginning s (did (without_fetches h) p (replied memory k))
+  schedule_begun_longer =
+      (beginning_next s (without_fetches h) p (replied memory k)).1 (
         before,
         record {
           may_follow = may;
-          calls = record { call = call_replied; next = called };
-          answers = word_replied s memory k long ((well_formed_push (followed_plan_sizes s) h (event p k)).0 well).1.in_range;
+          calls = record { call = schedule_begun_call_replied; next = schedule_begun_called };
+          answers = schedule_begun_word_replied s memory k long ((well_formed_push (followed_plan_sizes s) h (event p k)).0 well).1.in_range;
         },
       )
 
 -- a history of a script of which no flat beginning races
-module _ (s : Plan) (free : IsFlatRaceFree s) (h : List Event) (well : WellFormed (followed_plan_sizes s) h)
+module _ (s : Plan) (free : IsRaceFreeBeginning s) (h : List Event) (well : WellFormed (followed_plan_sizes s) h)
     (explained : Explained h) (begins : BeginsScript s h) where
-  in_range : (i p a v : ℕ) → Does h i p (Load a v) → a < plan_addresses s
-  in_range i p a v does = (well i (event p (Load a v)) does).in_range
+  schedule_begun_in_range : (i p a v : ℕ) → Does h i p (Load a v) → a < plan_addresses s
+  schedule_begun_in_range i p a v does = (well i (event p (Load a v)) does).in_range
 
   -- no race is the first
-  race_at : (m k : ℕ) → Race h m k → ((i n : ℕ) → n < k → ¬ Race h i n) → ⊥
-  race_at m k race none = free (without_fetches now) (subst (IsFlatBeginning s) (sym pushed) flat) again.0 again.1 again.2
+  schedule_begun_race_at : (m k : ℕ) → Race h m k → ((i n : ℕ) → n < k → ¬ Race h i n) → ⊥
+  schedule_begun_race_at m k race none = free (without_fetches now) (subst (IsFlatBeginning s) (sym pushed) flat) again.0 again.1 again.2
     where
       p : ℕ
       p = race.second.processor
@@ -137,7 +137,7 @@ module _ (s : Plan) (free : IsFlatRaceFree s) (h : List Event) (well : WellForme
       c = race.second.kind
 
       replays : Replays (replicate (plan_addresses s) 0) (take k h)
-      replays = flat_up_to (plan_addresses s) h k in_range explained none
+      replays = flat_up_to (plan_addresses s) h k schedule_begun_in_range explained none
 
       front : take (suc k) h ≡ did (take k h) p c
       front = take-suc_at h k race.second race.second_at
@@ -148,7 +148,7 @@ module _ (s : Plan) (free : IsFlatRaceFree s) (h : List Event) (well : WellForme
       begins_now : BeginsScript s (did (take k h) p c)
       begins_now =
           subst (BeginsScript s) front
-          (script_front s (take (suc k) h) (drop (suc k) h)
+          (beginning_script_front s (take (suc k) h) (drop (suc k) h)
           (subst (BeginsScript s) (sym (take-append-drop (suc k) h)) begins))
 
       call : is_followed_fetch c ≡ false
@@ -161,31 +161,31 @@ module _ (s : Plan) (free : IsFlatRaceFree s) (h : List Event) (well : WellForme
       now = did (take k h) p reply
 
       flat : IsFlatBeginning s (did (without_fetches (take k h)) p reply)
-      flat = longer s (take k h) p c replays well_now begins_now call
+      flat = schedule_begun_longer s (take k h) p c replays well_now begins_now call
 
       pushed : without_fetches now ≡ did (without_fetches (take k h)) p reply
-      pushed = fetchless_push (take k h) p reply (call_replied s (take k h) p c replays well_now begins_now call)
+      pushed = schedule_begun_fetchless_push (take k h) p reply (schedule_begun_call_replied s (take k h) p c replays well_now begins_now call)
 
       race_now : Race now m k
       race_now =
-          let like = like_push (take k h) p c reply
-          (replied_like (memory s (take k h) p c replays well_now begins_now call) c) in
+          let like = schedule_begun_like_push (take k h) p c reply
+          (schedule_begun_replied_like (memory s (take k h) p c replays well_now begins_now call) c) in
           (race_like (did (take k h) p c) now m k like).0
           (subst (λ es. Race es m k) front (race_take h m k race))
 
       again : (i n : ℕ) × Race (without_fetches now) i n
       again = race_without_fetches (without_fetches now) now (without_fetches_of now) m k race_now
 
-  no_race : (n m k : ℕ) → k < n → ¬ Race h m k
-  no_race zero m k less race = absurd (omega (arith, less))
-  no_race (suc n) m k less race = race_at m k race (λ i j before. no_race n i j (omega (arith, less, before)))
+  schedule_begun_no_race : (n m k : ℕ) → k < n → ¬ Race h m k
+  schedule_begun_no_race zero m k less race = absurd (omega (arith, less))
+  schedule_begun_no_race (suc n) m k less race = schedule_begun_race_at m k race (λ i j before. schedule_begun_no_race n i j (omega (arith, less, before)))
 
   pub race_free : RaceFree h
-  race_free m k race = no_race (suc k) m k (omega arith) race
+  race_free m k race = schedule_begun_no_race (suc k) m k (omega arith) race
 
-  pub replays_whole : Replays (replicate (plan_addresses s) 0) h
-  replays_whole = flat_memory (plan_addresses s) h in_range explained race_free
+  pub schedule_begun_replays_whole : Replays (replicate (plan_addresses s) 0) h
+  schedule_begun_replays_whole = flat_memory (plan_addresses s) h schedule_begun_in_range explained race_free
 
 pub begun_law : BegunLaw
 begun_law s h free well explained begins =
-    (race_free s free h well explained begins, replays_whole s free h well explained begins)
+    (race_free s free h well explained begins, schedule_begun_replays_whole s free h well explained begins)

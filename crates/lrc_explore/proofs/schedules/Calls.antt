@@ -6,8 +6,8 @@ use Rattle.conformance.specs.Follows.{is_followed_fetch}
 use Rattle.conformance.proofs.WithoutFetches.Embeds.{without_fetches, by_events_without_fetches, count_fetch, EmbedsCountsSame}
 
 -- each processor has as many events of each kind, but for fetches
-pub counts_same : (h : List Event) → EmbedsCountsSame (without_fetches h) h
-counts_same = by_events_without_fetches EmbedsCountsSame (λ is none p. refl) fetch call
+pub schedule_calls_count_same : (h : List Event) → EmbedsCountsSame (without_fetches h) h
+schedule_calls_count_same = by_events_without_fetches EmbedsCountsSame (λ is none p. refl) fetch call
   where
     fetch : (e : Event) (h : List Event) → is_followed_fetch e.kind ≡ true → EmbedsCountsSame (without_fetches h) h
         → EmbedsCountsSame (without_fetches h) (e ∷ h)

@@ -17,9 +17,9 @@ abbrev pub Decided : Type 0 → Type 0
 Decided P = P ⊎ (¬ P)
 
 -- what is decided of one thing is decided of another that is so exactly then
-moved : {A B : Type 0} → (A → B) → (B → A) → Decided A → Decided B
-moved there back (inl a) = inl (there a)
-moved there back (inr none) = inr (λ b. none (back b))
+schedule_decided_moved : {A B : Type 0} → (A → B) → (B → A) → Decided A → Decided B
+schedule_decided_moved there back (inl a) = inl (there a)
+schedule_decided_moved there back (inr none) = inr (λ b. none (back b))
 
 decided_not : {A : Type 0} → Decided A → Decided (¬ A)
 decided_not (inl a) = inr (λ none. none a)
@@ -39,14 +39,14 @@ decided_lt : (a b : ℕ) → Decided (a < b)
 decided_lt a b = elim (cases_lt a b) [ inl lt ↦ inl lt | inr le ↦ inr (λ lt. absurd (omega (arith, le, lt))) ]
 
 decided_le : (a b : ℕ) → Decided (a ≤ b)
-decided_le a b = moved (λ (lt : a < suc b). omega (arith, lt)) (λ le. omega (arith, le)) (decided_lt a (suc b))
+decided_le a b = schedule_decided_moved (λ (lt : a < suc b). omega (arith, lt)) (λ le. omega (arith, le)) (decided_lt a (suc b))
 
 -- of all numbers below one, and of some number below it
 module _ (P : ℕ → Type 0) (each : (i : ℕ) → Decided (P i)) where
   pub decided_all : (n : ℕ) → Decided ((i : ℕ) → i < n → P i)
   decided_all zero = inl (λ i lt. absurd (omega (arith, lt)))
   decided_all (suc n) =
-      moved (λ (both : P n × ((i : ℕ) → i < n → P i)). λ i lt. elim (cases_eq i n) [
+      schedule_decided_moved (λ (both : P n × ((i : ℕ) → i < n → P i)). λ i lt. elim (cases_eq i n) [
         | inl is ↦ subst P (sym is) both.0
         | inr isnt ↦ both.1 i (omega (arith, lt, isnt))
       ]) (λ all. (all n (omega arith), λ i lt. all i (omega (arith, lt)))) (decided_and (each n) (decided_all n))
@@ -64,73 +64,73 @@ module _ (P : ℕ → Type 0) (each : (i : ℕ) → Decided (P i)) where
       ])
 
 -- whether a kind is this one
-is_ask : (l : ℕ) (k : Kind) → Decided (k ≡ Ask l)
-is_ask l (Ask m) = moved (λ is. ap Ask is) (λ is. cc) (cases_eq m l)
-is_ask l _ = inr (λ is. absurd cc)
+schedule_decided_is_ask : (l : ℕ) (k : Kind) → Decided (k ≡ Ask l)
+schedule_decided_is_ask l (Ask m) = schedule_decided_moved (λ is. ap Ask is) (λ is. cc) (cases_eq m l)
+schedule_decided_is_ask l _ = inr (λ is. absurd cc)
 
-is_acquire : (l : ℕ) (k : Kind) → Decided (k ≡ Acquire l)
-is_acquire l (Acquire m) = moved (λ is. ap Acquire is) (λ is. cc) (cases_eq m l)
-is_acquire l _ = inr (λ is. absurd cc)
+schedule_decided_is_acquire : (l : ℕ) (k : Kind) → Decided (k ≡ Acquire l)
+schedule_decided_is_acquire l (Acquire m) = schedule_decided_moved (λ is. ap Acquire is) (λ is. cc) (cases_eq m l)
+schedule_decided_is_acquire l _ = inr (λ is. absurd cc)
 
-is_release : (l : ℕ) (k : Kind) → Decided (k ≡ Release l)
-is_release l (Release m) = moved (λ is. ap Release is) (λ is. cc) (cases_eq m l)
-is_release l _ = inr (λ is. absurd cc)
+schedule_decided_is_release : (l : ℕ) (k : Kind) → Decided (k ≡ Release l)
+schedule_decided_is_release l (Release m) = schedule_decided_moved (λ is. ap Release is) (λ is. cc) (cases_eq m l)
+schedule_decided_is_release l _ = inr (λ is. absurd cc)
 
-is_arrival : (k : Kind) → Decided (k ≡ Arrive)
-is_arrival Arrive = inl refl
-is_arrival _ = inr (λ is. absurd cc)
+schedule_decided_is_arrival : (k : Kind) → Decided (k ≡ Arrive)
+schedule_decided_is_arrival Arrive = inl refl
+schedule_decided_is_arrival _ = inr (λ is. absurd cc)
 
-is_departure : (k : Kind) → Decided (k ≡ Depart)
-is_departure Depart = inl refl
-is_departure _ = inr (λ is. absurd cc)
+schedule_decided_is_departure : (k : Kind) → Decided (k ≡ Depart)
+schedule_decided_is_departure Depart = inl refl
+schedule_decided_is_departure _ = inr (λ is. absurd cc)
 
-is_set : (f : ℕ) (k : Kind) → Decided (k ≡ Set f)
-is_set f (Set g) = moved (λ is. ap Set is) (λ is. cc) (cases_eq g f)
-is_set f _ = inr (λ is. absurd cc)
+schedule_decided_is_set : (f : ℕ) (k : Kind) → Decided (k ≡ Set f)
+schedule_decided_is_set f (Set g) = schedule_decided_moved (λ is. ap Set is) (λ is. cc) (cases_eq g f)
+schedule_decided_is_set f _ = inr (λ is. absurd cc)
 
-is_watch : (f : ℕ) (k : Kind) → Decided (k ≡ Watch f)
-is_watch f (Watch g) = moved (λ is. ap Watch is) (λ is. cc) (cases_eq g f)
-is_watch f _ = inr (λ is. absurd cc)
+schedule_decided_is_watch : (f : ℕ) (k : Kind) → Decided (k ≡ Watch f)
+schedule_decided_is_watch f (Watch g) = schedule_decided_moved (λ is. ap Watch is) (λ is. cc) (cases_eq g f)
+schedule_decided_is_watch f _ = inr (λ is. absurd cc)
 
-is_await : (f : ℕ) (k : Kind) → Decided (k ≡ Await f)
-is_await f (Await g) = moved (λ is. ap Await is) (λ is. cc) (cases_eq g f)
-is_await f _ = inr (λ is. absurd cc)
+schedule_decided_is_await : (f : ℕ) (k : Kind) → Decided (k ≡ Await f)
+schedule_decided_is_await f (Await g) = schedule_decided_moved (λ is. ap Await is) (λ is. cc) (cases_eq g f)
+schedule_decided_is_await f _ = inr (λ is. absurd cc)
 
 -- what is decided of each event is decided of the one at a place, if there is one
 module _ (j : List Event) (P : ℕ → Event → Type 0) (each : (i : ℕ) (e : Event) → At j i e → Decided (P i e)) where
-  at_place : (i : ℕ) → Decided ((e : Event) → At j i e → P i e)
-  at_place i = go (slice_get j i) refl
+  schedule_decided_at_place : (i : ℕ) → Decided ((e : Event) → At j i e → P i e)
+  schedule_decided_at_place i = go (slice_get j i) refl
     where
       go : (o : Option Event) → slice_get j i ≡ o → Decided ((e : Event) → At j i e → P i e)
       go None is = inl (λ e at. absurd (none-some e (sym is ∙ at)))
       go (Some e) is =
-          moved (λ mine f at. subst (P i) (same_Some e f (sym is ∙ at)) mine) (λ all. all e is) (each i e is)
+          schedule_decided_moved (λ mine f at. subst (P i) (same_Some e f (sym is ∙ at)) mine) (λ all. all e is) (each i e is)
 
   -- and so of each event
-  pub every : Decided ((i : ℕ) (e : Event) → At j i e → P i e)
-  every =
-      moved (λ (all : (i : ℕ) → i < length j → (e : Event) → At j i e → P i e). λ i e at. all i (numbered_at_within j i e at) e at)
-      (λ all i lt. all i) (decided_all (λ i. (e : Event) → At j i e → P i e) at_place (length j))
+  pub schedule_decided_of_every : Decided ((i : ℕ) (e : Event) → At j i e → P i e)
+  schedule_decided_of_every =
+      schedule_decided_moved (λ (all : (i : ℕ) → i < length j → (e : Event) → At j i e → P i e). λ i e at. all i (numbered_at_within j i e at) e at)
+      (λ all i lt. all i) (decided_all (λ i. (e : Event) → At j i e → P i e) schedule_decided_at_place (length j))
 
-  some_place : (i : ℕ) → Decided ((e : Event) × At j i e × P i e)
-  some_place i = go (slice_get j i) refl
+  schedule_decided_some_place : (i : ℕ) → Decided ((e : Event) × At j i e × P i e)
+  schedule_decided_some_place i = go (slice_get j i) refl
     where
       go : (o : Option Event) → slice_get j i ≡ o → Decided ((e : Event) × At j i e × P i e)
       go None is = inr (λ some. absurd (none-some some.0 (sym is ∙ some.1)))
       go (Some e) is =
-          moved (λ mine. (e, is, mine)) (λ some. subst (P i) (same_Some some.0 e (sym some.1 ∙ is)) some.2) (each i e is)
+          schedule_decided_moved (λ mine. (e, is, mine)) (λ some. subst (P i) (same_Some some.0 e (sym some.1 ∙ is)) some.2) (each i e is)
 
   -- and of some event
   pub some : Decided ((i : ℕ) × (e : Event) × At j i e × P i e)
   some =
-      moved (λ (s : (i : ℕ) × (i < length j) × ((e : Event) × At j i e × P i e)). (s.0, s.2.0, s.2.1, s.2.2))
+      schedule_decided_moved (λ (s : (i : ℕ) × (i < length j) × ((e : Event) × At j i e × P i e)). (s.0, s.2.0, s.2.1, s.2.2))
       (λ s. (s.0, numbered_at_within j s.0 s.1 s.2, (s.1, s.2, s.3)))
-      (decided_some (λ i. (e : Event) × At j i e × P i e) some_place (length j))
+      (decided_some (λ i. (e : Event) × At j i e × P i e) schedule_decided_some_place (length j))
 
 -- an event is p's, of this kind
-is_event : (p : ℕ) (k : Kind) (e : Event) → ((b : Kind) → Decided (b ≡ k)) → Decided (e ≡ event p k)
-is_event p k e same =
-    moved (λ (both : (e.processor ≡ p) × (e.kind ≡ k)). ap₂ (λ q b. event q b) both.0 both.1)
+schedule_decided_is_event : (p : ℕ) (k : Kind) (e : Event) → ((b : Kind) → Decided (b ≡ k)) → Decided (e ≡ event p k)
+schedule_decided_is_event p k e same =
+    schedule_decided_moved (λ (both : (e.processor ≡ p) × (e.kind ≡ k)). ap₂ (λ q b. event q b) both.0 both.1)
     (λ is. (ap (λ (x : Event). x.processor) is, ap (λ (x : Event). x.kind) is))
     (decided_and (cases_eq e.processor p) (same e.kind))
 
@@ -138,27 +138,27 @@ module _ (j : List Event) where
   -- p does nothing after place i
   decided_last : (p i : ℕ) (k : Kind) → Does j i p k → Decided (LastIs j p i k)
   decided_last p i k does =
-      moved (λ (none : (m : ℕ) (f : Event) → At j m f → i < m → f.processor ≢ p).
+      schedule_decided_moved (λ (none : (m : ℕ) (f : Event) → At j m f → i < m → f.processor ≢ p).
       record { does = does; last = λ m f lt at. none m f at lt }) (λ last m f at lt. last.last m f lt at)
-      (every j (λ m f. i < m → f.processor ≢ p) (λ m f at. decided_if (decided_lt i m) (decided_not (cases_eq f.processor p))))
+      (schedule_decided_of_every j (λ m f. i < m → f.processor ≢ p) (λ m f at. decided_if (decided_lt i m) (decided_not (cases_eq f.processor p))))
 
   -- p's last event is of this kind, and there it is so
   decided_last_with : (p : ℕ) (k : Kind) (P : ℕ → Type 0) → ((b : Kind) → Decided (b ≡ k)) → ((i : ℕ) → Decided (P i))
       → Decided ((i : ℕ) × LastIs j p i k × P i)
   decided_last_with p k P same each =
-      moved (λ (s : (i : ℕ) × (e : Event) × At j i e × ((e ≡ event p k) × LastIs j p i k × P i)). (s.0, s.3.1, s.3.2))
+      schedule_decided_moved (λ (s : (i : ℕ) × (e : Event) × At j i e × ((e ≡ event p k) × LastIs j p i k × P i)). (s.0, s.3.1, s.3.2))
       (λ s. (s.0, event p k, s.1.does, (refl, s.1, s.2)))
-      (some j (λ i e. (e ≡ event p k) × LastIs j p i k × P i) (λ i e at. here i e at (is_event p k e same)))
+      (some j (λ i e. (e ≡ event p k) × LastIs j p i k × P i) (λ i e at. here i e at (schedule_decided_is_event p k e same)))
     where
       here : (i : ℕ) (e : Event) → At j i e → Decided (e ≡ event p k) → Decided ((e ≡ event p k) × LastIs j p i k × P i)
       here i e at (inl is) =
-          moved (λ (both : LastIs j p i k × P i). (is, both.0, both.1)) (λ all. (all.1, all.2))
+          schedule_decided_moved (λ (both : LastIs j p i k × P i). (is, both.0, both.1)) (λ all. (all.1, all.2))
           (decided_and (decided_last p i k (subst (At j i) is at)) (each i))
       here i e at (inr isnt) = inr (λ all. isnt all.0)
 
   decided_holds : (p l : ℕ) → Decided (Holds j p l)
   decided_holds p l =
-      moved (λ (s : (i : ℕ) × (e : Event) × At j i e
+      schedule_decided_moved (λ (s : (i : ℕ) × (e : Event) × At j i e
       × ((e ≡ event p (Acquire l)) × ((m : ℕ) (f : Event) → At j m f → i < m → f ≢ event p (Release l)))).
       record {
         place = s.0;
@@ -173,21 +173,21 @@ module _ (j : List Event) where
       ))
       (some j (λ i e. (e ≡ event p (Acquire l))
       × ((m : ℕ) (f : Event) → At j m f → i < m → f ≢ event p (Release l))) (λ i e at.
-      decided_and (is_event p (Acquire l) e (is_acquire l)) (every j (λ m f. i < m → f ≢ event p (Release l)) (λ m f here.
-      decided_if (decided_lt i m) (decided_not (is_event p (Release l) f (is_release l)))))))
+      decided_and (schedule_decided_is_event p (Acquire l) e (schedule_decided_is_acquire l)) (schedule_decided_of_every j (λ m f. i < m → f ≢ event p (Release l)) (λ m f here.
+      decided_if (decided_lt i m) (decided_not (schedule_decided_is_event p (Release l) f (schedule_decided_is_release l)))))))
 
   decided_granted : (i l : ℕ) → Decided (MayBeGranted j i l)
   decided_granted i l =
-      moved (λ (both : ((m : ℕ) (e : Event) → At j m e → ¬ Holds j e.processor l)
+      schedule_decided_moved (λ (both : ((m : ℕ) (e : Event) → At j m e → ¬ Holds j e.processor l)
       × ((m : ℕ) (e : Event) → At j m e → m < i → ¬ LastIs j e.processor m (Ask l))).
       record {
         free = λ q held. both.0 held.place (event q (Acquire l)) held.acquires held;
         first = λ m q lt last. both.1 m (event q (Ask l)) last.does lt last;
       })
       (λ may. (λ m e at held. may.free e.processor held, λ m e at lt last. may.first m e.processor lt last))
-      (decided_and (every j (λ m e. ¬ Holds j e.processor l) (λ m e at. decided_not (decided_holds e.processor l)))
-      (every j (λ m e. m < i → ¬ LastIs j e.processor m (Ask l)) (λ m e at.
-      decided_if (decided_lt m i) (decided_not (asked m e at (is_ask l e.kind))))))
+      (decided_and (schedule_decided_of_every j (λ m e. ¬ Holds j e.processor l) (λ m e at. decided_not (decided_holds e.processor l)))
+      (schedule_decided_of_every j (λ m e. m < i → ¬ LastIs j e.processor m (Ask l)) (λ m e at.
+      decided_if (decided_lt m i) (decided_not (asked m e at (schedule_decided_is_ask l e.kind))))))
     where
       asked : (m : ℕ) (e : Event) → At j m e → Decided (e.kind ≡ Ask l) → Decided (LastIs j e.processor m (Ask l))
       asked m e at (inl is) = decided_last e.processor m (Ask l) (subst (λ k. At j m (event e.processor k)) is at)
@@ -195,30 +195,30 @@ module _ (j : List Event) where
 
   decided_allowed : (s : Sizes) (p : ℕ) (k : Kind) → Decided (Allowed s j p k)
   decided_allowed s p (Ask l) = decided_not (decided_holds p l)
-  decided_allowed s p (Acquire l) = decided_last_with p (Ask l) (λ i. MayBeGranted j i l) (is_ask l) (λ i. decided_granted i l)
+  decided_allowed s p (Acquire l) = decided_last_with p (Ask l) (λ i. MayBeGranted j i l) (schedule_decided_is_ask l) (λ i. decided_granted i l)
   decided_allowed s p (Release l) = decided_holds p l
   decided_allowed s p Depart =
-      decided_last_with p Arrive (λ i. AllArrived s j (count_of is_depart j p + 1)) is_arrival (λ i.
+      decided_last_with p Arrive (λ i. AllArrived s j (count_of is_depart j p + 1)) schedule_decided_is_arrival (λ i.
       decided_all (λ q. count_of is_depart j p + 1 ≤ count_of is_arrive j q) (λ q. decided_le _ _) s.processors)
   decided_allowed s p (Await f) =
-      moved (λ (both : ((i : ℕ) × LastIs j p i (Watch f) × Unit {0}) × ((i : ℕ) × (e : Event) × At j i e × (e.kind ≡ Set f))).
+      schedule_decided_moved (λ (both : ((i : ℕ) × LastIs j p i (Watch f) × Unit {0}) × ((i : ℕ) × (e : Event) × At j i e × (e.kind ≡ Set f))).
       (both.0.0, both.1.0, both.1.1.processor, both.0.1, subst (λ k. At j both.1.0 (event both.1.1.processor k)) both.1.3 both.1.2))
       (λ a. ((a.0, a.3, tt), (a.1, event a.2 (Set f), a.4, refl)))
-      (decided_and (decided_last_with p (Watch f) (λ i. Unit {0}) (is_watch f) (λ i. inl tt))
-      (some j (λ i e. e.kind ≡ Set f) (λ i e at. is_set f e.kind)))
+      (decided_and (decided_last_with p (Watch f) (λ i. Unit {0}) (schedule_decided_is_watch f) (λ i. inl tt))
+      (some j (λ i e. e.kind ≡ Set f) (λ i e at. schedule_decided_is_set f e.kind)))
   decided_allowed s p _ = inl tt
 
   decided_answers : (a k : Kind) → Decided (AnswersCall a k)
-  decided_answers (Ask l) k = is_acquire l k
-  decided_answers Arrive k = is_departure k
-  decided_answers (Watch f) k = is_await f k
+  decided_answers (Ask l) k = schedule_decided_is_acquire l k
+  decided_answers Arrive k = schedule_decided_is_departure k
+  decided_answers (Watch f) k = schedule_decided_is_await f k
   decided_answers _ k = inl tt
 
   decided_turn : (p : ℕ) (k : Kind) → Decided ((i : ℕ) (b : Kind) → LastIs j p i b → AnswersCall b k)
   decided_turn p k =
-      moved (λ (all : (i : ℕ) (e : Event) → At j i e → LastIs j p i e.kind → AnswersCall e.kind k).
+      schedule_decided_moved (λ (all : (i : ℕ) (e : Event) → At j i e → LastIs j p i e.kind → AnswersCall e.kind k).
       λ i b last. all i (event p b) last.does last) (λ all i e at last. all i e.kind last)
-      (every j (λ i e. LastIs j p i e.kind → AnswersCall e.kind k) (λ i e at.
+      (schedule_decided_of_every j (λ i e. LastIs j p i e.kind → AnswersCall e.kind k) (λ i e at.
       decided_if (mine i e at (cases_eq e.processor p)) (decided_answers e.kind k)))
     where
       mine : (i : ℕ) (e : Event) → At j i e → Decided (e.processor ≡ p) → Decided (LastIs j p i e.kind)
@@ -239,7 +239,7 @@ decided_range s _ = inl tt
 
 pub decided_follow : (s : Sizes) (j : List Event) (p : ℕ) (k : Kind) → Decided (MayFollow s j (event p k))
 decided_follow s j p k =
-    moved (λ (all : (p < s.processors) × (KindInRange s k × (((i : ℕ) (b : Kind) → LastIs j p i b → AnswersCall b k) × Allowed s j p k))).
+    schedule_decided_moved (λ (all : (p < s.processors) × (KindInRange s k × (((i : ℕ) (b : Kind) → LastIs j p i b → AnswersCall b k) × Allowed s j p k))).
     record { processor = all.0; in_range = all.1.0; answers = all.1.1.0; allowed = all.1.1.1 })
     (λ may. (may.processor, (may.in_range, (may.answers, may.allowed))))
     (decided_and (decided_lt p s.processors) (decided_and (decided_range s k) (decided_and (decided_turn j p k)

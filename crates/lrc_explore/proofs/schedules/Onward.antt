@@ -17,71 +17,71 @@ use Rattle.conformance.proofs.Script.SectionSteps.{section_load_told}
 use Rattle.explore.specs.declared.prefixes.script_call.ScriptCall.{ScriptCall}
 use Rattle.explore.specs.declared.prefixes.script_call.ScriptCall.TheVariants.{Call, Adds}
 use Rattle.explore.specs.Prefixes.Beginnings.{IsFlatBeginning}
-use Rattle.explore.specs.Prefixes.Calling.{IsCalledNext, IsStep, last_reply, section_steps, shown_by}
-use Rattle.explore.specs.Prefixes.Laws.{MayComeNext}
-use Rattle.explore.proofs.prefixes.Beginnings.{next_begins}
-use Rattle.explore.proofs.Machines.{adds_call, load_call, next_within, other_call, some_at}
+use Rattle.explore.specs.Prefixes.Calling.{IsCalledNext, IsCallOfStep, last_reply_of_calls, prefix_calling_section_steps, prefix_calling_shown_by}
+use Rattle.explore.specs.Prefixes.Laws.{MayComeNextByLaw}
+use Rattle.explore.proofs.prefixes.Beginnings.{beginning_next}
+use Rattle.explore.proofs.Machines.{machine_adds_call, machine_load_call, machine_next_within, machine_other_call, machine_some_at}
 use Rattle.lrc_explore.proofs.schedules.Deciding.{Decided, decided_and, decided_follow}
 
 -- the step says this call, with the word of the memory, and no other
-record IsTheCall (reply : ℕ) (x : ScriptCall) (memory : List ℕ) : Type 0 where
+record IsTheOnwardCall (reply : ℕ) (x : ScriptCall) (memory : List ℕ) : Type 0 where
   call : Kind
-  says : (k : Kind) → (call ≡ k) ↔ (IsStep reply x k × AnswersFlatWord memory k)
+  says : (k : Kind) → (call ≡ k) ↔ (IsCallOfStep reply x k × AnswersFlatWord memory k)
 
 -- there is none only where it loads past the memory
-the_call : (reply : ℕ) (x : ScriptCall) (memory : List ℕ)
-    → IsTheCall reply x memory ⊎ ((k : Kind) → ¬ (IsStep reply x k × AnswersFlatWord memory k))
-the_call reply (Call (kind.Load a w)) memory = go (slice_get memory a) refl
+schedule_onward_the_call : (reply : ℕ) (x : ScriptCall) (memory : List ℕ)
+    → IsTheOnwardCall reply x memory ⊎ ((k : Kind) → ¬ (IsCallOfStep reply x k × AnswersFlatWord memory k))
+schedule_onward_the_call reply (Call (kind.Load a w)) memory = go (slice_get memory a) refl
   where
-    go : (o : Option ℕ) → slice_get memory a ≡ o → IsTheCall reply (Call (kind.Load a w)) memory
-        ⊎ ((k : Kind) → ¬ (IsStep reply (Call (kind.Load a w)) k × AnswersFlatWord memory k))
+    go : (o : Option ℕ) → slice_get memory a ≡ o → IsTheOnwardCall reply (Call (kind.Load a w)) memory
+        ⊎ ((k : Kind) → ¬ (IsCallOfStep reply (Call (kind.Load a w)) k × AnswersFlatWord memory k))
     go None is = inr (λ k h.
         let load = section_load_told k a h.0 in
         let word : slice_get memory a ≡ Some load.0 = subst (AnswersFlatWord memory) load.1 h.1 in
         none-some load.0 (sym is ∙ word))
-    go (Some v) is = inl (record { call = kind.Load a v; says = load_call reply a w v memory is })
-the_call reply (Call c) memory = inl (record { call = c; says = other_call reply c memory (λ a w is. absurd cc) })
-the_call reply (Adds a v) memory =
-    inl (record { call = kind.Store a ((reply + v) % 2 ^ 32); says = adds_call reply a v memory })
+    go (Some v) is = inl (record { call = kind.Load a v; says = machine_load_call reply a w v memory is })
+schedule_onward_the_call reply (Call c) memory = inl (record { call = c; says = machine_other_call reply c memory (λ a w is. absurd cc) })
+schedule_onward_the_call reply (Adds a v) memory =
+    inl (record { call = kind.Store a ((reply + v) % 2 ^ 32); says = machine_adds_call reply a v memory })
 
-no_fetch : (k : Kind) → Decided (is_followed_fetch k ≡ false)
-no_fetch k = elim (cases_Bool (is_followed_fetch k)) [ inl is ↦ inr (λ isnt. false≢true (sym isnt ∙ is)) | inr isnt ↦ inl isnt ]
+schedule_onward_no_fetch : (k : Kind) → Decided (is_followed_fetch k ≡ false)
+schedule_onward_no_fetch k = elim (cases_Bool (is_followed_fetch k)) [ inl is ↦ inr (λ isnt. false≢true (sym isnt ∙ is)) | inr isnt ↦ inl isnt ]
 
 module _ (s : Plan) (g : List Event) (p : ℕ) (flat : IsFlatBeginning s g) where
   abbrev memory : List ℕ
   memory = memory_after (replicate (plan_addresses s) 0) g
 
   abbrev reply : ℕ
-  reply = last_reply (followed_calls g p)
+  reply = last_reply_of_calls (followed_calls g p)
 
-  next_of : (k : Kind) → IsFlatBeginning s (did g p k) → MayComeNext s g p k
-  next_of k next = ((next_begins s g p k).0 next).1
+  schedule_onward_next_of : (k : Kind) → IsFlatBeginning s (did g p k) → MayComeNextByLaw s g p k
+  schedule_onward_next_of k next = ((beginning_next s g p k).0 next).1
 
   -- by p's section, and the step that comes next in it
   module _ (section : List Instruction) (at : slice_get s.sections p ≡ Some section) (x : ScriptCall)
-      (here : slice_get (section_steps section (shown_by s p)) (length (followed_calls g p)) ≡ Some x) where
-    said : (k : Kind) → IsFlatBeginning s (did g p k) → IsStep reply x k × AnswersFlatWord memory k
-    said k next =
-        let all = next_of k next in
+      (here : slice_get (prefix_calling_section_steps section (prefix_calling_shown_by s p)) (length (followed_calls g p)) ≡ Some x) where
+    schedule_onward_said : (k : Kind) → IsFlatBeginning s (did g p k) → IsCallOfStep reply x k × AnswersFlatWord memory k
+    schedule_onward_said k next =
+        let all = schedule_onward_next_of k next in
         let called = all.calls.next section at in
-        (subst (λ y. IsStep reply y k) (same_Some called.step x (sym called.at ∙ here)) called.is, all.answers)
+        (subst (λ y. IsCallOfStep reply y k) (same_Some called.step x (sym called.at ∙ here)) called.is, all.answers)
 
-    by_call : IsTheCall reply x memory ⊎ ((k : Kind) → ¬ (IsStep reply x k × AnswersFlatWord memory k))
+    schedule_onward_by_call : IsTheOnwardCall reply x memory ⊎ ((k : Kind) → ¬ (IsCallOfStep reply x k × AnswersFlatWord memory k))
         → Decided ((k : Kind) × IsFlatBeginning s (did g p k))
-    by_call (inr none) = inr (λ next. none next.0 (said next.0 next.1))
-    by_call (inl c) = elim (decided_and (decided_follow (followed_plan_sizes s) g p c.call) (no_fetch c.call)) [
+    schedule_onward_by_call (inr none) = inr (λ next. none next.0 (schedule_onward_said next.0 next.1))
+    schedule_onward_by_call (inl c) = elim (decided_and (decided_follow (followed_plan_sizes s) g p c.call) (schedule_onward_no_fetch c.call)) [
       | inl both ↦
           (let is = (c.says c.call).0 refl in
           inl (
             c.call,
-            (next_begins s g p c.call).1 (
+            (beginning_next s g p c.call).1 (
               flat,
               record {
                 may_follow = both.0;
                 calls = record {
                   call = both.1;
                   next = λ other there.
-                      subst (λ y. IsCalledNext (section_steps y (shown_by s p)) (followed_calls g p) c.call)
+                      subst (λ y. IsCalledNext (prefix_calling_section_steps y (prefix_calling_shown_by s p)) (followed_calls g p) c.call)
                       (same_Some section other (sym at ∙ there)) (record { step = x; at = here; is = is.0 });
                 };
                 answers = is.1;
@@ -89,23 +89,23 @@ module _ (s : Plan) (g : List Event) (p : ℕ) (flat : IsFlatBeginning s g) wher
             ),
           ))
       | inr none ↦ inr (λ next.
-          let all = next_of next.0 next.1 in
-          let is = (c.says next.0).1 (said next.0 next.1) in
+          let all = schedule_onward_next_of next.0 next.1 in
+          let is = (c.says next.0).1 (schedule_onward_said next.0 next.1) in
           none (
             subst (λ k. MayFollow (followed_plan_sizes s) g (event p k)) (sym is) all.may_follow,
             subst (λ k. is_followed_fetch k ≡ false) (sym is) all.calls.call,
           ))
     ]
 
-  by_step : (section : List Instruction) → slice_get s.sections p ≡ Some section → (o : Option ScriptCall)
-      → slice_get (section_steps section (shown_by s p)) (length (followed_calls g p)) ≡ o
+  schedule_onward_by_step : (section : List Instruction) → slice_get s.sections p ≡ Some section → (o : Option ScriptCall)
+      → slice_get (prefix_calling_section_steps section (prefix_calling_shown_by s p)) (length (followed_calls g p)) ≡ o
       → Decided ((k : Kind) × IsFlatBeginning s (did g p k))
-  by_step section at None is = inr (λ next.
-      let called = (next_of next.0 next.1).calls.next section at in none-some called.step (sym is ∙ called.at))
-  by_step section at (Some x) is = by_call section at x is (the_call reply x memory)
+  schedule_onward_by_step section at None is = inr (λ next.
+      let called = (schedule_onward_next_of next.0 next.1).calls.next section at in none-some called.step (sym is ∙ called.at))
+  schedule_onward_by_step section at (Some x) is = schedule_onward_by_call section at x is (schedule_onward_the_call reply x memory)
 
-  pub decided_next : length s.sections ≡ s.processors → Decided ((k : Kind) × IsFlatBeginning s (did g p k))
-  decided_next one = elim (cases_lt p s.processors) [
-    | inl lt ↦ (let section = some_at s.sections p (omega (arith, lt, one)) in by_step section.0 section.1 _ refl)
-    | inr past ↦ inr (λ next. let lt = next_within s g p next.0 next.1 in absurd (omega (arith, past, lt)))
+  pub schedule_onward_decided_next : length s.sections ≡ s.processors → Decided ((k : Kind) × IsFlatBeginning s (did g p k))
+  schedule_onward_decided_next one = elim (cases_lt p s.processors) [
+    | inl lt ↦ (let section = machine_some_at s.sections p (omega (arith, lt, one)) in schedule_onward_by_step section.0 section.1 _ refl)
+    | inr past ↦ inr (λ next. let lt = machine_next_within s g p next.0 next.1 in absurd (omega (arith, past, lt)))
   ]

@@ -12,62 +12,62 @@ use Rattle.conformance.specs.Begins.{BeginsScript}
 use Rattle.conformance.specs.Follows.{followed_calls, followed_load, FollowsSection}
 use Rattle.conformance.proofs.WithoutFetches.Embeds.{without_fetches}
 use Rattle.conformance.proofs.WithoutFetches.Runs.{calls_without_fetches}
-use Rattle.explore.specs.Prefixes.Beginnings.{IsFlatRaceFree, IsWhole}
-use Rattle.explore.proofs.prefixes.Beginnings.{follows_begins}
-use Rattle.explore.specs.Prefixes.Calling.{shown_by}
+use Rattle.explore.specs.Prefixes.Beginnings.{IsRaceFreeBeginning, IsWholeBeginning}
+use Rattle.explore.proofs.prefixes.Beginnings.{beginning_of_followed}
+use Rattle.explore.specs.Prefixes.Calling.{prefix_calling_shown_by}
 use Rattle.conformance.specs.Reports.{AreReportedReplies}
 use Rattle.explore.specs.declared.explored.Explored.{Explored}
-use Rattle.explore.specs.Explored.{IsVerdictOn}
-use Rattle.explore.specs.Outcomes.{AreReplies, replies_in}
-use Rattle.lrc_explore.specs.Schedules.Laws.{EndsWith, IsFoundRaceFree, ReportLaw}
-use Rattle.lrc_explore.proofs.schedules.Begun.{flat_part, race_free, replays_whole}
+use Rattle.explore.specs.Explored.{IsExploredVerdict}
+use Rattle.explore.specs.Outcomes.{AreOutcomeReplies, outcome_replies_in}
+use Rattle.lrc_explore.specs.Schedules.Laws.{ScheduleEndsWith, NoScheduleRaces, ReportLaw}
+use Rattle.lrc_explore.proofs.schedules.Begun.{schedule_begun_flat_part, race_free, schedule_begun_replays_whole}
 
 -- these words of each processor below n, in order
 abbrev rows : (ℕ → List ℕ) → ℕ → List (List ℕ)
 rows f zero = []
 rows f (suc n) = f 0 ∷ rows (λ p. f (suc p)) n
 
-rows_long : (f : ℕ → List ℕ) (n : ℕ) → length (rows f n) ≡ n
-rows_long f zero = refl
-rows_long f (suc n) = ap suc (rows_long (λ p. f (suc p)) n)
+schedule_report_rows_long : (f : ℕ → List ℕ) (n : ℕ) → length (rows f n) ≡ n
+schedule_report_rows_long f zero = refl
+schedule_report_rows_long f (suc n) = ap suc (schedule_report_rows_long (λ p. f (suc p)) n)
 
-row_at : (f : ℕ → List ℕ) (n p : ℕ) → p < n → slice_get (rows f n) p ≡ Some (f p)
-row_at f zero p less = absurd (omega (arith, less))
-row_at f (suc n) zero less = refl
-row_at f (suc n) (suc p) less = row_at (λ q. f (suc q)) n p (omega (arith, less))
+schedule_report_row_at : (f : ℕ → List ℕ) (n p : ℕ) → p < n → slice_get (rows f n) p ≡ Some (f p)
+schedule_report_row_at f zero p less = absurd (omega (arith, less))
+schedule_report_row_at f (suc n) zero less = refl
+schedule_report_row_at f (suc n) (suc p) less = schedule_report_row_at (λ q. f (suc q)) n p (omega (arith, less))
 
 -- each history shows some replies
-shows : (s : Plan) (h : List Event) → (replies : List (List ℕ)) × AreReplies s h replies
-shows s h =
-    let f : ℕ → List ℕ = λ p. replies_in (followed_calls h p) in
-    (rows f s.processors, record { long = rows_long f s.processors; each = row_at f s.processors })
+schedule_report_shows : (s : Plan) (h : List Event) → (replies : List (List ℕ)) × AreOutcomeReplies s h replies
+schedule_report_shows s h =
+    let f : ℕ → List ℕ = λ p. outcome_replies_in (followed_calls h p) in
+    (rows f s.processors, record { long = schedule_report_rows_long f s.processors; each = schedule_report_row_at f s.processors })
 
 -- and without its fetches the same
-shows_fetchless : (s : Plan) (h : List Event) (replies : List (List ℕ)) → AreReplies s h replies
-    → AreReplies s (without_fetches h) replies
-shows_fetchless s h replies are = record {
+schedule_report_shows_fetchless : (s : Plan) (h : List Event) (replies : List (List ℕ)) → AreOutcomeReplies s h replies
+    → AreOutcomeReplies s (without_fetches h) replies
+schedule_report_shows_fetchless s h replies are = record {
   long = are.long;
-  each = λ p less. are.each p less ∙ ap (λ ks. Some (replies_in ks)) (sym (calls_without_fetches p h));
+  each = λ p less. are.each p less ∙ ap (λ ks. Some (outcome_replies_in ks)) (sym (calls_without_fetches p h));
 }
 
 -- the last loads answered what is shown
-replies_end : (front : List Kind) (shown : List (ℕ × ℕ))
-    → replies_in (front ++ map followed_load shown) ≡ replies_in front ++ map (λ (x : ℕ × ℕ). x.1) shown
-replies_end [] [] = refl
-replies_end [] (x ∷ shown) = ap (λ words. x.1 ∷ words) (replies_end [] shown)
-replies_end (kind.Load a v ∷ front) shown = ap (λ words. v ∷ words) (replies_end front shown)
-replies_end (k ∷ front) shown = replies_end front shown
+schedule_report_replies_end : (front : List Kind) (shown : List (ℕ × ℕ))
+    → outcome_replies_in (front ++ map followed_load shown) ≡ outcome_replies_in front ++ map (λ (x : ℕ × ℕ). x.1) shown
+schedule_report_replies_end [] [] = refl
+schedule_report_replies_end [] (x ∷ shown) = ap (λ words. x.1 ∷ words) (schedule_report_replies_end [] shown)
+schedule_report_replies_end (kind.Load a v ∷ front) shown = ap (λ words. v ∷ words) (schedule_report_replies_end front shown)
+schedule_report_replies_end (k ∷ front) shown = schedule_report_replies_end front shown
 
-ends_shown : (calls : List Kind) (shown : List (ℕ × ℕ)) → AreReportedReplies calls shown
-    → EndsWith (replies_in calls) (map (λ (x : ℕ × ℕ). x.1) shown)
-ends_shown calls shown last = record {
-  front = replies_in last.front;
-  are = ap replies_in last.ends ∙ replies_end last.front shown;
+schedule_report_ends_shown : (calls : List Kind) (shown : List (ℕ × ℕ)) → AreReportedReplies calls shown
+    → ScheduleEndsWith (outcome_replies_in calls) (map (λ (x : ℕ × ℕ). x.1) shown)
+schedule_report_ends_shown calls shown last = record {
+  front = outcome_replies_in last.front;
+  are = ap outcome_replies_in last.ends ∙ schedule_report_replies_end last.front shown;
 }
 
 -- a script that was found race-free is
-pub found : (s : Plan) (answer : Explored) → IsFoundRaceFree s answer → IsFlatRaceFree s
-found s answer f = subst (IsVerdictOn s) f.verdict f.explored.verdict
+pub found : (s : Plan) (answer : Explored) → NoScheduleRaces s answer → IsRaceFreeBeginning s
+found s answer f = subst (IsExploredVerdict s) f.verdict f.explored.verdict
 
 pub report_law : ReportLaw
 report_law s answer r f is = record {
@@ -77,7 +77,7 @@ report_law s answer r f is = record {
   listed = λ all. record {
     replies = shown.0;
     are = shown.1;
-    listed = f.explored.all all shown.0 (without_fetches h, whole, shows_fetchless s h shown.0 shown.1);
+    listed = f.explored.all all shown.0 (without_fetches h, whole, schedule_report_shows_fetchless s h shown.0 shown.1);
     shown = ends;
   };
 }
@@ -85,28 +85,28 @@ report_law s answer r f is = record {
     h : List Event
     h = is.history
 
-    free : IsFlatRaceFree s
+    free : IsRaceFreeBeginning s
     free = found s answer f
 
     begins : BeginsScript s h
-    begins = follows_begins s h is.tells.follows
+    begins = beginning_of_followed s h is.tells.follows
 
-    whole : IsWhole s (without_fetches h)
+    whole : IsWholeBeginning s (without_fetches h)
     whole = record {
       beginning =
-          flat_part s h is.tells.well_formed begins
-          (replays_whole s free h is.tells.well_formed is.tells.explained begins);
+          schedule_begun_flat_part s h is.tells.well_formed begins
+          (schedule_begun_replays_whole s free h is.tells.well_formed is.tells.explained begins);
       follows = λ p section at.
-          subst (FollowsSection section (shown_by s p)) (sym (calls_without_fetches p h)) (is.tells.follows p section at);
+          subst (FollowsSection section (prefix_calling_shown_by s p)) (sym (calls_without_fetches p h)) (is.tells.follows p section at);
     }
 
-    shown : (replies : List (List ℕ)) × AreReplies s h replies
-    shown = shows s h
+    shown : (replies : List (List ℕ)) × AreOutcomeReplies s h replies
+    shown = schedule_report_shows s h
 
-    ends : (words : List ℕ) → slice_get shown.0 0 ≡ Some words → EndsWith words (map (λ (x : ℕ × ℕ). x.1) r.shown.items)
+    ends : (words : List ℕ) → slice_get shown.0 0 ≡ Some words → ScheduleEndsWith words (map (λ (x : ℕ × ℕ). x.1) r.shown.items)
     ends words at =
         let less = slice_get_within shown.0 0 words at in
         let long = shown.1.long in
         let first = shown.1.each 0 (omega (arith, less, long)) in
-        subst (λ ws. EndsWith ws (map (λ (x : ℕ × ℕ). x.1) r.shown.items)) (same_Some _ _ (sym first ∙ at))
-        (ends_shown (followed_calls h 0) r.shown.items is.tells.replies)
+        subst (λ ws. ScheduleEndsWith ws (map (λ (x : ℕ × ℕ). x.1) r.shown.items)) (same_Some _ _ (sym first ∙ at))
+        (schedule_report_ends_shown (followed_calls h 0) r.shown.items is.tells.replies)

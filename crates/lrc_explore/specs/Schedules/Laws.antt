@@ -14,74 +14,74 @@ use Rattle.lrc_report.specs.declared.report.Report.{Report}
 use Rattle.conformance.specs.Begins.{BeginsScript}
 use Rattle.conformance.specs.Follows.{followed_plan_sizes, is_followed_fetch, Follows}
 use Rattle.conformance.specs.Reports.{IsReportOf}
-use Rattle.explore.specs.Prefixes.Beginnings.{IsFlatRaceFree}
+use Rattle.explore.specs.Prefixes.Beginnings.{IsRaceFreeBeginning}
 use Rattle.explore.specs.declared.explored.Explored.{Explored}
 use Rattle.explore.specs.declared.explored.Hanging.TheVariants as hanging
 use Rattle.explore.specs.declared.explored.ScriptOutcome.{ScriptOutcome}
 use Rattle.explore.specs.declared.explored.Verdict.TheVariants as verdict
-use Rattle.explore.specs.Explored.{IsExplored, outcome_replies}
-use Rattle.explore.specs.Outcomes.{AreReplies}
+use Rattle.explore.specs.Explored.{IsExplored, explored_outcome}
+use Rattle.explore.specs.Outcomes.{AreOutcomeReplies}
 
 -- an explained history that only begins a script, of which no beginning on one flat memory races, has no race and replays
 abbrev pub BegunLaw : Type 0
-BegunLaw = (s : Plan) (h : List Event) → IsFlatRaceFree s → WellFormed (followed_plan_sizes s) h → Explained h → BeginsScript s h
+BegunLaw = (s : Plan) (h : List Event) → IsRaceFreeBeginning s → WellFormed (followed_plan_sizes s) h → Explained h → BeginsScript s h
     → RaceFree h × Replays (replicate (plan_addresses s) 0) h
 
 -- a search has found the script race-free
-pub record IsFoundRaceFree (s : Plan) (answer : Explored) : Type 0 where
+pub record NoScheduleRaces (s : Plan) (answer : Explored) : Type 0 where
   pub most : ℕ
   pub explored : IsExplored s most answer
   pub verdict : answer.verdict ≡ verdict.RaceFree
 
 -- and that it never hangs
-pub record IsFoundHangless (s : Plan) (answer : Explored) : Type 0 where
-  pub found : IsFoundRaceFree s answer
+pub record NoScheduleHangs (s : Plan) (answer : Explored) : Type 0 where
+  pub found : NoScheduleRaces s answer
   pub hanging : answer.hanging ≡ hanging.Never
 
 -- the words end with these
-pub record EndsWith (words last : List ℕ) : Type 0 where
+pub record ScheduleEndsWith (words last : List ℕ) : Type 0 where
   pub front : List ℕ
   pub are : words ≡ front ++ last
 
 -- the words that a report shows
-abbrev pub words_shown : Report → List ℕ
-words_shown r = map (λ (x : ℕ × ℕ). x.1) r.shown.items
+abbrev pub schedule_words_shown : Report → List ℕ
+schedule_words_shown r = map (λ (x : ℕ × ℕ). x.1) r.shown.items
 
 -- what the loads of the history answered is one of the outcomes, and ends at processor 0 with what the report shows
-pub record IsListed (s : Plan) (outcomes : List ScriptOutcome) (r : Report) (h : List Event) : Type 0 where
+pub record IsScheduleListed (s : Plan) (outcomes : List ScriptOutcome) (r : Report) (h : List Event) : Type 0 where
   pub replies : List (List ℕ)
-  pub are : AreReplies s h replies
-  pub listed : Has (map outcome_replies outcomes) replies
-  pub shown : (words : List ℕ) → slice_get replies 0 ≡ Some words → EndsWith words (words_shown r)
+  pub are : AreOutcomeReplies s h replies
+  pub listed : Has (map explored_outcome outcomes) replies
+  pub shown : (words : List ℕ) → slice_get replies 0 ≡ Some words → ScheduleEndsWith words (schedule_words_shown r)
 
 -- the report says race-free, and where all outcomes were found its history is listed
-pub record IsForetold (s : Plan) (answer : Explored) (r : Report) (h : List Event) : Type 0 where
+pub record IsScheduleForetold (s : Plan) (answer : Explored) (r : Report) (h : List Event) : Type 0 where
   pub race_free : r.racy ≡ false
-  pub listed : IsTrue answer.are_all → IsListed s answer.outcomes.items r h
+  pub listed : IsTrue answer.are_all → IsScheduleListed s answer.outcomes.items r h
 
 -- a search that finds a script race-free foretells each report of it, by its whole history
 abbrev pub ReportLaw : Type 0
-ReportLaw = (s : Plan) (answer : Explored) (r : Report) → IsFoundRaceFree s answer → (is : IsReportOf s r)
-    → IsForetold s answer r is.history
+ReportLaw = (s : Plan) (answer : Explored) (r : Report) → NoScheduleRaces s answer → (is : IsReportOf s r)
+    → IsScheduleForetold s answer r is.history
 
 -- the history has begun the script, and isn't whole
-pub record IsUnfinished (s : Plan) (h : List Event) : Type 0 where
+pub record IsScheduleUnfinished (s : Plan) (h : List Event) : Type 0 where
   pub well_formed : WellFormed (followed_plan_sizes s) h
   pub explained : Explained h
   pub begins : BeginsScript s h
   pub unfinished : ¬ Follows s h
 
 -- and no call may come next; fetches are no calls
-pub record IsStuck (s : Plan) (h : List Event) : Type 0 where
-  pub begun : IsUnfinished s h
+pub record IsScheduleStuck (s : Plan) (h : List Event) : Type 0 where
+  pub begun : IsScheduleUnfinished s h
   pub stuck : (p : ℕ) (k : Kind) → is_followed_fetch k ≡ false → WellFormed (followed_plan_sizes s) (did h p k) → ¬ BeginsScript s (did h p k)
 
 -- if a search finds a script race-free and no hang, no history of it is stuck
 abbrev pub NeverStuckLaw : Type 0
-NeverStuckLaw = (s : Plan) (answer : Explored) (h : List Event) → IsFoundHangless s answer → ¬ IsStuck s h
+NeverStuckLaw = (s : Plan) (answer : Explored) (h : List Event) → NoScheduleHangs s answer → ¬ IsScheduleStuck s h
 
 -- this call may come next
-pub record CanContinue (s : Plan) (h : List Event) : Type 0 where
+pub record ScheduleCanContinue (s : Plan) (h : List Event) : Type 0 where
   pub processor : ℕ
   pub kind : Kind
   pub call : is_followed_fetch kind ≡ false
@@ -90,5 +90,5 @@ pub record CanContinue (s : Plan) (h : List Event) : Type 0 where
 
 -- if a search finds a lawful script race-free and no hang, each history of it that isn't whole may go on by some call
 abbrev pub GoesOnLaw : Type 0
-GoesOnLaw = (s : Plan) (answer : Explored) (h : List Event) → IsLawful s → IsFoundHangless s answer
-    → IsUnfinished s h → CanContinue s h
+GoesOnLaw = (s : Plan) (answer : Explored) (h : List Event) → IsLawful s → NoScheduleHangs s answer
+    → IsScheduleUnfinished s h → ScheduleCanContinue s h

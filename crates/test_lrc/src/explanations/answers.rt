@@ -2,7 +2,7 @@
 ghost use Rattle.std.specs.Prelude.{◌<◌, ◌≤◌, length};
 ghost use Rattle.base.specs.Prelude.{most_held, most_processors};
 ghost use Rattle.journal.specs.Prelude.{AddressInRange, AddressesInRange, ProcessorsInRange};
-ghost use Rattle.judge.specs.Sources.Prelude.{AreStoresOf};
+ghost use Rattle.judge.specs.Sources.Prelude.{AreSourceStoresOf};
 
 use super::{Row, are_in_range, history};
 use journal::{Event, Kind, MOST_PROCESSORS};
@@ -115,7 +115,7 @@ fn only_these(
 
 /// Whether the event, which comes next, is no load, or one that may answer its value and no other below 10.
 fn answers_only(sources: &Sources, front: &[Event], event: Event) -> bool
-    requires tells { AreStoresOf front.now sources.now }
+    requires tells { AreSourceStoresOf front.now sources.now }
     requires processor { event.processor < sources.now.processors }
     requires address { AddressInRange sources.now.addresses event.kind }
 {

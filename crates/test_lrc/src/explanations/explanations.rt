@@ -3,7 +3,7 @@ ghost use Rattle.std.specs.Prelude.{ℕ, ◌≤◌, IsTrue, length};
 ghost use Rattle.base.specs.Prelude.{most_held};
 ghost use Rattle.journal.specs.declared.event.Event.{Event};
 ghost use Rattle.journal.specs.Events.{At};
-ghost use Rattle.judge.specs.Prelude.{AreSmall, IsWithin, sizes_of};
+ghost use Rattle.judge.specs.Prelude.{AreSizesSmall, IsMiscountWithin, sizes_of};
 
 use super::{Row, are_in_range, history};
 use causes::{Due, FirstRace, Source, Wait, Ways, dues, edges, explain, incoming, waits, way};
@@ -670,9 +670,9 @@ fn are_due(found: &[Due], want: &[(usize, usize, usize)]) -> bool {
 
 /// Whether a history of these sizes can have all of the events.
 fn are_within(events: &[Event], sizes: Sizes) -> bool
-    ensures small { IsTrue result → AreSmall (sizes_of sizes) }
+    ensures small { IsTrue result → AreSizesSmall (sizes_of sizes) }
     ensures few { IsTrue result → length events.now ≤ most_held }
-    ensures within { IsTrue result → (k : ℕ) (e : Event) → At events.now k e → IsWithin (sizes_of sizes) e }
+    ensures within { IsTrue result → (k : ℕ) (e : Event) → At events.now k e → IsMiscountWithin (sizes_of sizes) e }
 {
     if !sizes.are_small() {
         return false;

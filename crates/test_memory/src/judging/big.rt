@@ -1,7 +1,7 @@
 //! Histories of 2^20 events, which are judged in a test's time: whether each event may follow, whether each load and each
 //! fetch is right, and the first race.
 ghost use Rattle.std.specs.Prelude.{◌≡◌};
-ghost use Rattle.judge.specs.Prelude.{AreSmall, sizes_of};
+ghost use Rattle.judge.specs.Prelude.{AreSizesSmall, sizes_of};
 
 use journal::{Event, Kind, MOST_HELD};
 use judge::{MemoryModel, Sizes};
@@ -17,7 +17,7 @@ fn by(processor: usize, kind: Kind) -> Event {
 
 /// As many of everything as there can be.
 fn most() -> Sizes
-    ensures { AreSmall (sizes_of result) }
+    ensures { AreSizesSmall (sizes_of result) }
 {
     Sizes {
         processors: 16,

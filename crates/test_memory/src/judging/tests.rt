@@ -1,6 +1,6 @@
 //! Histories worked by hand: the first event that may not stand where it does, and why.
 ghost use Rattle.std.specs.Prelude.{◌≡◌};
-ghost use Rattle.judge.specs.Prelude.{AreSmall, sizes_of};
+ghost use Rattle.judge.specs.Prelude.{AreSizesSmall, sizes_of};
 
 use crate::judging::callers::is_well_formed;
 use journal::{Event, Kind, MOST_HELD};
@@ -17,7 +17,7 @@ fn by(processor: usize, kind: Kind) -> Event
 
 /// Three processors, two pages of four words, two locks and two flags.
 fn three() -> Sizes
-    ensures { AreSmall (sizes_of result) }
+    ensures { AreSizesSmall (sizes_of result) }
 {
     Sizes {
         processors: 3,
@@ -30,7 +30,7 @@ fn three() -> Sizes
 
 /// As many of everything as there can be.
 fn most() -> Sizes
-    ensures { AreSmall (sizes_of result) }
+    ensures { AreSizesSmall (sizes_of result) }
 {
     Sizes {
         processors: 16,

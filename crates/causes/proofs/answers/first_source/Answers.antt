@@ -4,7 +4,7 @@ use Rattle.std.proofs.lemmas.Option.{slice_get-get_or}
 use Rattle.journal.specs.declared.event.Event.{Event}
 use Rattle.journal.specs.declared.event.Kind.TheVariants.{Load}
 use Rattle.journal.specs.DidEvent.{event}
-use Rattle.causes.proofs.Answering.{found, none_next, nothing, place_within, unexplained}
+use Rattle.causes.proofs.CauseSources.{found, cause_source_none_next, cause_source_is_nothing, cause_source_place_within, cause_source_unexplained}
 use Rattle.causes.proofs.answers.first_source.Goals as goal
 
 -- the event at this place
@@ -17,7 +17,7 @@ offset_bounds-events-place c =
     let n = c.loop-place.place-index in
     let at = slice_get-get_or places n 0 c.loop-place-test.true in
     let are = c.requires.latest in
-    let within = place_within c.args.events.now are.0 are.1 n (slice_index_or places n 0) places are.2 at in
+    let within = cause_source_place_within c.args.events.now are.0 are.1 n (slice_index_or places n 0) places are.2 at in
     omega arith
 
 pub bounds-events-place : goal.bounds-events-place
@@ -26,7 +26,7 @@ bounds-events-place c =
     let n = c.loop-place.place-index in
     let at = slice_get-get_or places n 0 c.loop-place-test.true in
     let are = c.requires.latest in
-    place_within c.args.events.now are.0 are.1 n (slice_index_or places n 0) places are.2 at
+    cause_source_place_within c.args.events.now are.0 are.1 n (slice_index_or places n 0) places are.2 at
 
 pub returns-then-is_store_of : goal.returns-then-is_store_of
 returns-then-is_store_of c = λ k a are.
@@ -35,7 +35,7 @@ returns-then-is_store_of c = λ k a are.
     let n = c.loop-place.place-index in
     let i = slice_index_or places n 0 in
     let at = slice_get-get_or places n 0 c.loop-place-test.true in
-    let within = place_within events k a n i places are at in
+    let within = cause_source_place_within events k a n i places are at in
     let there = slice_get-get_or events i (event 0 (Load 0 0)) within in
     let stores = c.if-is_store_of.ensures.0 refl in
     found events k a stores.0 c.args.value n i (here events i) places are at there stores.1
@@ -48,20 +48,20 @@ loop-place-preserved c =
     let i = slice_index_or places n 0 in
     let at = slice_get-get_or places n 0 c.loop-place-test.true in
     let are = c.requires.latest in
-    let within = place_within events are.0 are.1 n i places are.2 at in
+    let within = cause_source_place_within events are.0 are.1 n i places are.2 at in
     let there = slice_get-get_or events i (event 0 (Load 0 0)) within in
-    none_next events places n c.args.value i (here events i) at there
+    cause_source_none_next events places n c.args.value i (here events i) at there
     (λ a is. false≢true (c.if-is_store_of.ensures.1 (a, is))) c.loop-place.invariant
 
 pub returns-then-value-eq0 : goal.returns-then-value-eq0
 returns-then-value-eq0 c = λ k a are.
     let places = c.args.places.now in
-    (c.if-value-eq0.true, nothing c.args.events.now k a places are (eqb-true (length places) 0 (sym c.if-is_empty.ensures)))
+    (c.if-value-eq0.true, cause_source_is_nothing c.args.events.now k a places are (eqb-true (length places) 0 (sym c.if-is_empty.ensures)))
 
 pub returns-else-is_empty : goal.returns-else-is_empty
 returns-else-is_empty c = λ k a are.
     let places = c.args.places.now in
-    unexplained c.args.events.now k a c.args.value places are
+    cause_source_unexplained c.args.events.now k a c.args.value places are
     (λ m i e lt. c.loop-place.invariant m i e (omega arith))
     (λ empty. elim c.else-is_empty.either [
       | inl x ↦ x.1

@@ -1,5 +1,5 @@
-use Rattle.causes.proofs.Answering.{NoneStores}
+use Rattle.causes.proofs.CauseSources.{NoSourceStores}
 use Rattle.causes.proofs.answers.first_source.Given as goal
 
 abbrev pub invariant-loop-place : goal.invariant-loop-place
-invariant-loop-place l = NoneStores l.events l.places l.place-index l.value
+invariant-loop-place l = NoSourceStores l.events l.places l.place-index l.value

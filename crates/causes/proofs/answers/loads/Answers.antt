@@ -3,11 +3,11 @@ use Rattle.std.specs.Prelude.{None}
 use Rattle.std.proofs.lemmas.Option.{slice_get-get_or, slice_get_read}
 use Rattle.journal.specs.declared.event.Kind.TheVariants.{Load}
 use Rattle.journal.specs.DidEvent.{event}
-use Rattle.judge.specs.Sources.Latest.{IsReadableRow}
+use Rattle.judge.specs.Sources.Latest.{IsLatestRow}
 use Rattle.causes.specs.declared.originating.WordOrigin.{WordOrigin}
 use Rattle.causes.specs.Origins.{NameOrigins}
 use Rattle.causes.specs.Source.{AreSources}
-use Rattle.causes.proofs.Answering.{named_next, sources_next}
+use Rattle.causes.proofs.CauseSources.{cause_source_named_next, cause_source_rows_next}
 use Rattle.causes.proofs.answers.loads.Goals as goal
 
 pub source_at-source-requires : goal.source_at-source-requires
@@ -20,8 +20,8 @@ source_at-source-requires c =
     let long = c.requires.latest_long in
     let read = c.index-latest-place.result in
     let there = slice_get_read rows (length rows) place read refl (omega arith) c.index-latest-place.is in
-    let row : IsReadableRow events place c.deref.result.now =
-    subst (IsReadableRow events place) (sym c.deref.ensures.value) (c.requires.latest place read there) in
+    let row : IsLatestRow events place c.deref.result.now =
+    subst (IsLatestRow events place) (sym c.deref.ensures.value) (c.requires.latest place read there) in
     record { row = (place, at, row) }
 
 pub loop-place-preserved : goal.loop-place-preserved
@@ -36,8 +36,8 @@ loop-place-preserved c =
     let origins_long = c.requires.origins_long in
     let read = c.index-latest-place.result in
     let there = slice_get_read rows (length rows) place read refl (omega arith) c.index-latest-place.is in
-    let row : IsReadableRow events place c.deref.result.now =
-    subst (IsReadableRow events place) (sym c.deref.ensures.value) (c.requires.latest place read there) in
+    let row : IsLatestRow events place c.deref.result.now =
+    subst (IsLatestRow events place) (sym c.deref.ensures.value) (c.requires.latest place read there) in
     let sources = c.loop-place.sources in
     let long : length sources.items ≡ place = omega (arith, sources.ok.0, old.long) in
     let origin : Option WordOrigin = slice_index_or c.args.origins.now place None in
@@ -45,11 +45,11 @@ loop-place-preserved c =
       long = (let len = c.in_ok-push.ensures.len in let was = old.long in omega arith);
       sources =
           subst (AreSources events) (sym c.in_ok-push.ensures.items)
-          (sources_next events sources.items place c.source_at-source.result long old.sources
+          (cause_source_rows_next events sources.items place c.source_at-source.result long old.sources
           (c.source_at-source.ensures.source place at row));
       named =
           subst (NameOrigins events c.args.origins.now) (sym c.in_ok-push.ensures.items)
-          (named_next events c.args.origins.now sources.items place origin c.source_at-source.result long
+          (cause_source_named_next events c.args.origins.now sources.items place origin c.source_at-source.result long
           (slice_get-get_or c.args.origins.now place None (omega arith)) old.named
           (c.source_at-source.ensures.origin place at row));
     }

@@ -10,7 +10,7 @@ use Rattle.journal.proofs.Order.CountedAndNumbered.{numbered_at_same}
 use Rattle.judge.specs.Sources.Latest.{AreLatest}
 use Rattle.causes.specs.declared.originating.WordOrigin.{WordOrigin}
 use Rattle.causes.specs.Origins.{IsOriginStore}
-use Rattle.causes.proofs.Answering.{place_within}
+use Rattle.causes.proofs.CauseSources.{cause_source_place_within}
 use Rattle.causes.proofs.answers.origin_among.Goals as goal
 
 -- the event at this place
@@ -25,7 +25,7 @@ store_is j places v i o x is y =
 
 within : (j : List Event) (places : List ℕ) (i : ℕ) → (k : ℕ) × (a : ℕ) × AreLatest j k a places → Has places i
     → i < length j
-within j places i are at = place_within j are.0 are.1 at.0 i places are.2 at.1
+within j places i are at = cause_source_place_within j are.0 are.1 at.0 i places are.2 at.1
 
 pub returns-in_default : goal.returns-in_default
 returns-in_default c = λ i y. c.in_default.not-Some y.origin_is y.is

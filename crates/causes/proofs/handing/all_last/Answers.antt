@@ -3,8 +3,8 @@ use Rattle.std.specs.Global.{Vec}
 use Rattle.std.proofs.lemmas.Option.{slice_get_read}
 use Rattle.journal.proofs.Order.CountedAndNumbered.{numbered_at_within}
 use Rattle.causes.specs.HandOvers.{AreHandOvers}
-use Rattle.causes.specs.News.{AreNewlyOrdered}
-use Rattle.causes.proofs.HandOvers.{hand_over_rows_next, last_all}
+use Rattle.causes.specs.News.{AreNewsInOrder}
+use Rattle.causes.proofs.HandOvers.{hand_over_rows_next, hand_over_last_all}
 use Rattle.causes.proofs.handing.all_last.Goals as goal
 
 pub last_ones-requires : goal.last_ones-requires
@@ -16,8 +16,8 @@ last_ones-requires c =
     let long = c.requires.long in
     let read = c.index-rows-place.result in
     let there = slice_get_read rows (length rows) place read refl (omega arith) c.index-rows-place.is in
-    let news : AreNewlyOrdered events place c.deref.result.now =
-    subst (AreNewlyOrdered events place) (sym c.deref.ensures.value) (c.requires.news place read there) in
+    let news : AreNewsInOrder events place c.deref.result.now =
+    subst (AreNewsInOrder events place) (sym c.deref.ensures.value) (c.requires.news place read there) in
     record {
       tells = c.requires.tells;
       within = λ n has. (let edge = ((news.has n).0 has).leads.edge in numbered_at_within events n edge.from edge.from_at);
@@ -33,8 +33,8 @@ loop-place-preserved c =
     let long = c.requires.long in
     let read = c.index-rows-place.result in
     let there = slice_get_read rows (length rows) place read refl (omega arith) c.index-rows-place.is in
-    let news : AreNewlyOrdered events place c.deref.result.now =
-    subst (AreNewlyOrdered events place) (sym c.deref.ensures.value) (c.requires.news place read there) in
+    let news : AreNewsInOrder events place c.deref.result.now =
+    subst (AreNewsInOrder events place) (sym c.deref.ensures.value) (c.requires.news place read there) in
     let old = c.loop-place.invariant in
     let last = c.loop-place.last in
     let row = c.in_ok-last_ones.field-0 in
@@ -46,7 +46,7 @@ loop-place-preserved c =
           (λ (xs : List (Vec ℕ)). (k : ℕ) (new : Vec ℕ) → slice_get xs k ≡ Some new → AreHandOvers events k new.items)
           (sym c.in_ok-push.ensures.items)
           (hand_over_rows_next events last.items place row so_far old.rows
-          (last_all events place c.deref.result.now row.items news c.in_ok-last_ones.ensures));
+          (hand_over_last_all events place c.deref.result.now row.items news c.in_ok-last_ones.ensures));
     }
 
 pub returns : goal.returns

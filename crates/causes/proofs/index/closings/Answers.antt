@@ -1,7 +1,7 @@
 use Rattle.std.proofs.Common.{◌≡◌, ℕ, Some, length, slice_get, subst, sym, arith, List}
 use Rattle.std.specs.Global.{Vec}
-use Rattle.causes.specs.Index.{AreClosingsOf}
-use Rattle.causes.proofs.LookedUp.{closing_rows_next}
+use Rattle.causes.specs.Index.{AreIndexedClosingsOf}
+use Rattle.causes.proofs.LookedUpIndex.{index_closing_rows_next}
 use Rattle.causes.proofs.index.closings.Goals as goal
 
 pub loop-by-preserved : goal.loop-by-preserved
@@ -13,8 +13,8 @@ loop-by-preserved c =
     record {
       long = (let len = c.in_ok-push.ensures.len in let was = old.long in omega arith);
       rows =
-          subst (λ (items : List (Vec ℕ)). (q : ℕ) (row : Vec ℕ) → slice_get items q ≡ Some row → AreClosingsOf events q row.items)
+          subst (λ (items : List (Vec ℕ)). (q : ℕ) (row : Vec ℕ) → slice_get items q ≡ Some row → AreIndexedClosingsOf events q row.items)
           (sym c.in_ok-push.ensures.items)
-          (closing_rows_next events rows.items c.loop-by.by c.in_ok-closings_of.field-0 long old.rows
+          (index_closing_rows_next events rows.items c.loop-by.by c.in_ok-closings_of.field-0 long old.rows
           c.in_ok-closings_of.ensures);
     }

@@ -3,7 +3,7 @@ use Rattle.std.specs.Global.{Vec}
 use Rattle.std.proofs.lemmas.Option.{slice_get-get_or}
 use Rattle.journal.specs.declared.event.Kind.TheVariants.{Load}
 use Rattle.journal.specs.DidEvent.{event}
-use Rattle.causes.proofs.LookedUp.{AreClosingsBelow, closings_all, closings_next, closings_other}
+use Rattle.causes.proofs.LookedUpIndex.{AreIndexedClosingsBelow, index_closings_all, index_closings_next, index_closings_others}
 use Rattle.causes.proofs.index.closings_of.Goals as goal
 use Rattle.causes.proofs.index.closings_of.Goals.{then-closes+in_ok-push, else-closes}
 
@@ -15,13 +15,13 @@ loop-place-preserved c =
     let at = slice_get-get_or events n (event 0 (Load 0 0)) c.loop-place-test.true in
     elim c.if-closes.branch [
       | then-closes+in_ok-push w ↦
-          subst (λ (v : Vec ℕ). AreClosingsBelow events c.args.by (n + 1) v.items) (sym w.places-is)
-          (subst (AreClosingsBelow events c.args.by (n + 1)) (sym w.in_ok-push.ensures.items)
-          (closings_next events c.args.by n e c.loop-place.places.items at (sym w.if-closes.ensures)
+          subst (λ (v : Vec ℕ). AreIndexedClosingsBelow events c.args.by (n + 1) v.items) (sym w.places-is)
+          (subst (AreIndexedClosingsBelow events c.args.by (n + 1)) (sym w.in_ok-push.ensures.items)
+          (index_closings_next events c.args.by n e c.loop-place.places.items at (sym w.if-closes.ensures)
           c.loop-place.invariant))
       | else-closes w ↦
-          subst (λ (v : Vec ℕ). AreClosingsBelow events c.args.by (n + 1) v.items) (sym w.places-is)
-          (closings_other events c.args.by n e c.loop-place.places.items at (sym w.if-closes.ensures)
+          subst (λ (v : Vec ℕ). AreIndexedClosingsBelow events c.args.by (n + 1) v.items) (sym w.places-is)
+          (index_closings_others events c.args.by n e c.loop-place.places.items at (sym w.if-closes.ensures)
           c.loop-place.invariant)
     ]
 
@@ -29,5 +29,5 @@ pub returns : goal.returns
 returns c =
     let top = c.loop-place.auto.place-end in
     let end = c.loop-place-test.false in
-    closings_all c.args.events.now c.args.by c.loop-place.place c.loop-place.places.items (omega arith)
+    index_closings_all c.args.events.now c.args.by c.loop-place.place c.loop-place.places.items (omega arith)
     c.loop-place.invariant

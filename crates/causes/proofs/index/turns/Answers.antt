@@ -6,8 +6,8 @@ use Rattle.journal.specs.declared.event.Kind.TheVariants.{Load}
 use Rattle.journal.specs.DidEvent.{event}
 use Rattle.journal.specs.Events.{At}
 use Rattle.causes.specs.declared.index.Turn.{Turn}
-use Rattle.causes.specs.Index.{IsEventTurn}
-use Rattle.causes.proofs.LookedUp.{AreNext, next_first, next_next, turn_small, turns_next}
+use Rattle.causes.specs.Index.{IsIndexedTurn}
+use Rattle.causes.proofs.LookedUpIndex.{AreIndexNextTurns, index_next_turns_start, index_next_turns_next, index_turn_small, index_turns_next}
 use Rattle.causes.proofs.index.turns.Goals as goal
 
 abbrev zero : Turn
@@ -19,8 +19,8 @@ here events place = slice_index_or events place (event 0 (Load 0 0))
 
 -- the turn that is next for its processor
 own : (events : List Event) (place : ℕ) (next : List Turn) → place < length events → length next ≡ 16
-    → (here events place).processor < 16 → AreNext events place next
-    → IsEventTurn events place (here events place).processor (slice_index_or next (here events place).processor zero)
+    → (here events place).processor < 16 → AreIndexNextTurns events place next
+    → IsIndexedTurn events place (here events place).processor (slice_index_or next (here events place).processor zero)
 own events place next lt long low are =
     are (here events place).processor (slice_index_or next (here events place).processor zero)
     (slice_get-get_or next (here events place).processor zero (omega arith))
@@ -28,7 +28,7 @@ own events place next lt long low are =
 pub loop-place-init : goal.loop-place-init
 loop-place-init c = record {
   next_long = refl;
-  next = next_first c.args.events.now zero refl refl;
+  next = index_next_turns_start c.args.events.now zero refl refl;
   long = c.in_ok-turns.ensures.len;
   each = λ i e t at to.
       absurd (none-some t (subst (λ (items : List Turn). slice_get items i ≡ Some t) c.in_ok-turns.ensures.items to));
@@ -57,7 +57,7 @@ turn_after-requires-clause-arrived c =
     let at = slice_get-get_or events place (event 0 (Load 0 0)) (omega arith) in
     let low = c.requires.processors place (here events place) at in
     let mine = own events place c.loop-place.next (omega arith) c.loop-place.invariant.next_long low c.loop-place.invariant.next in
-    (turn_small events place (here events place).processor _ (omega arith) few mine).0
+    (index_turn_small events place (here events place).processor _ (omega arith) few mine).0
 
 pub turn_after-requires-clause-departed : goal.turn_after-requires-clause-departed
 turn_after-requires-clause-departed c =
@@ -69,7 +69,7 @@ turn_after-requires-clause-departed c =
     let at = slice_get-get_or events place (event 0 (Load 0 0)) (omega arith) in
     let low = c.requires.processors place (here events place) at in
     let mine = own events place c.loop-place.next (omega arith) c.loop-place.invariant.next_long low c.loop-place.invariant.next in
-    (turn_small events place (here events place).processor _ (omega arith) few mine).1
+    (index_turn_small events place (here events place).processor _ (omega arith) few mine).1
 
 pub offset_bounds-next-event-in-loop-place : goal.offset_bounds-next-event-in-loop-place
 offset_bounds-next-event-in-loop-place c =
@@ -100,13 +100,13 @@ loop-place-preserved c =
     record {
       next_long = length-set c.loop-place.next e.processor _ ∙ old.next_long;
       next =
-          next_next events place e c.loop-place.next turn c.turn_after.result at mine c.turn_after.ensures.arrived
+          index_next_turns_next events place e c.loop-place.next turn c.turn_after.result at mine c.turn_after.ensures.arrived
           c.turn_after.ensures.departed old.next;
       long = (let len = c.in_ok-push.ensures.len in let was = old.long in omega arith);
       each =
           subst (λ (items : List Turn). (i : ℕ) (f : Event) (t : Turn) → At events i f → slice_get items i ≡ Some t
-          → IsEventTurn events i f.processor t) (sym c.in_ok-push.ensures.items)
-          (turns_next events place e turns.items turn long at mine old.each);
+          → IsIndexedTurn events i f.processor t) (sym c.in_ok-push.ensures.items)
+          (index_turns_next events place e turns.items turn long at mine old.each);
     }
 
 pub returns : goal.returns

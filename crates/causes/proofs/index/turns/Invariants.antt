@@ -2,15 +2,15 @@ use Rattle.std.proofs.Common.{◌≡◌, ℕ, Some, length, slice_get, vec_len}
 use Rattle.journal.specs.declared.event.Event.{Event}
 use Rattle.journal.specs.Events.{At}
 use Rattle.causes.specs.declared.index.Turn.{Turn}
-use Rattle.causes.specs.Index.{IsEventTurn}
-use Rattle.causes.proofs.LookedUp.{AreNext}
+use Rattle.causes.specs.Index.{IsIndexedTurn}
+use Rattle.causes.proofs.LookedUpIndex.{AreIndexNextTurns}
 use Rattle.causes.proofs.index.turns.Given as goal
 
 abbrev pub invariant-loop-place : goal.invariant-loop-place
 invariant-loop-place l = record {
   next_long : length l.next ≡ 16;
-  next : AreNext l.events l.place l.next;
+  next : AreIndexNextTurns l.events l.place l.next;
   long : vec_len l.turns ≡ l.place;
   each : (i : ℕ) (e : Event) (t : Turn) → At l.events i e → slice_get l.turns.items i ≡ Some t
-      → IsEventTurn l.events i e.processor t;
+      → IsIndexedTurn l.events i e.processor t;
 }

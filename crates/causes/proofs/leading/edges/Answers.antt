@@ -8,8 +8,8 @@ use Rattle.journal.specs.DidEvent.{event}
 use Rattle.journal.specs.Events.{count_of, is_arrive, is_depart}
 use Rattle.journal.proofs.Passes.ClockEntry.{entry_zeros_at}
 use Rattle.journal.specs.InRange.{ProcessorsInRange}
-use Rattle.causes.specs.Edges.{EdgeFromOther, LeadsOn}
-use Rattle.causes.proofs.LeadsOn.{AreEdgesBelow, count_within, counts_next, edges_all, edges_none, edges_next, edges_other, leads, led, one_or_none}
+use Rattle.causes.specs.Edges.{EdgeFromOther, EdgeLeadsOn}
+use Rattle.causes.proofs.EdgeLeadsOn.{AreLeadingEdgesBelow, edge_leads_count_within, edge_leads_counts_next, edges_below_all, edges_start, edges_below_next, edges_others, leads, edge_leads_led, edge_one_or_none}
 use Rattle.causes.proofs.leading.edges.Goals as goal
 use Rattle.causes.proofs.leading.edges.Goals.{then-from-to+then-lets_on+in_ok-push, else-from-to, else-from-to-via-then-from-to+else-lets_on, else-from-to-via-else-from-to}
 
@@ -28,8 +28,8 @@ loop-i-init c = record {
   long = refl;
   counts = λ q lt. entry_zeros_at 16 q;
   edges =
-      subst (AreEdgesBelow c.args.events.now c.args.place 0) (sym c.new-places.ensures.items)
-      (edges_none c.args.events.now c.args.place);
+      subst (AreLeadingEdgesBelow c.args.events.now c.args.place 0) (sym c.new-places.ensures.items)
+      (edges_start c.args.events.now c.args.place);
 }
 
 pub offset_bounds-arrivals-from : goal.offset_bounds-arrivals-from
@@ -51,9 +51,9 @@ overflow_add-arrivals c =
     let small = c.ranges.place.fits in
     let is = low events c.args.place i lt inside c.requires.processors in
     let count = c.loop-i.invariant.counts p is in
-    let most = count_within is_arrive events i p (omega arith) in
+    let most = edge_leads_count_within is_arrive events i p (omega arith) in
     let one = c.arrivals_of.ensures in
-    let bit = one_or_none (is_arrive (here events i).kind) in
+    let bit = edge_one_or_none (is_arrive (here events i).kind) in
     omega arith
 
 pub offset_bounds-arrivals-from-in-loop-i : goal.offset_bounds-arrivals-from-in-loop-i
@@ -83,28 +83,28 @@ loop-i-preserved c =
     let one = c.arrivals_of.ensures in
     record {
       long = length-set c.loop-i.arrivals from.processor _ ∙ old.long;
-      counts = counts_next is_arrive events i from c.loop-i.arrivals _ at old.long old.counts (omega arith);
+      counts = edge_leads_counts_next is_arrive events i from c.loop-i.arrivals _ at old.long old.counts (omega arith);
       edges = elim c.if-from-to.branch [
         | then-from-to+then-lets_on+in_ok-push w ↦
-            (let on : LeadsOn from.kind (count_of is_arrive (take i events) from.processor) to.kind (count_of is_depart (take k events) to.processor) =
-            subst (λ n. LeadsOn from.kind n to.kind (count_of is_depart (take k events) to.processor)) arrived
-            (subst (λ m. LeadsOn from.kind (slice_index c.loop-i.arrivals from.processor) to.kind m) departed (w.if-lets_on.ensures.0 refl)) in
-            subst (λ v. AreEdgesBelow events k (i + 1) v.items) (sym w.places-is)
-            (subst (AreEdgesBelow events k (i + 1)) (sym w.in_ok-push.ensures.items)
-            (edges_next events k i c.loop-i.places.items (leads events i k from to lt at end (w.if-from-to.true, on))
+            (let on : EdgeLeadsOn from.kind (count_of is_arrive (take i events) from.processor) to.kind (count_of is_depart (take k events) to.processor) =
+            subst (λ n. EdgeLeadsOn from.kind n to.kind (count_of is_depart (take k events) to.processor)) arrived
+            (subst (λ m. EdgeLeadsOn from.kind (slice_index c.loop-i.arrivals from.processor) to.kind m) departed (w.if-lets_on.ensures.0 refl)) in
+            subst (λ v. AreLeadingEdgesBelow events k (i + 1) v.items) (sym w.places-is)
+            (subst (AreLeadingEdgesBelow events k (i + 1)) (sym w.in_ok-push.ensures.items)
+            (edges_below_next events k i c.loop-i.places.items (leads events i k from to lt at end (w.if-from-to.true, on))
             old.edges)))
         | else-from-to w ↦
             (let away : ¬ EdgeFromOther events i k = λ x.
-            let l = led events i k from to at end x in
-            let on : LeadsOn from.kind (slice_index c.loop-i.arrivals from.processor) to.kind c.departures_before-departed.result =
-            subst (λ n. LeadsOn from.kind n to.kind c.departures_before-departed.result) (sym arrived)
-            (subst (λ m. LeadsOn from.kind (count_of is_arrive (take i events) from.processor) to.kind m) (sym departed) l.1) in
+            let l = edge_leads_led events i k from to at end x in
+            let on : EdgeLeadsOn from.kind (slice_index c.loop-i.arrivals from.processor) to.kind c.departures_before-departed.result =
+            subst (λ n. EdgeLeadsOn from.kind n to.kind c.departures_before-departed.result) (sym arrived)
+            (subst (λ m. EdgeLeadsOn from.kind (count_of is_arrive (take i events) from.processor) to.kind m) (sym departed) l.1) in
             elim w.else-from-to.branch [
               | else-from-to-via-then-from-to+else-lets_on v ↦ false≢true (v.if-lets_on.ensures.1 on)
               | else-from-to-via-else-from-to v ↦ l.0 v.if-from-to.false
             ] in
-            subst (λ v. AreEdgesBelow events k (i + 1) v.items) (sym w.places-is)
-            (edges_other events k i c.loop-i.places.items away old.edges))
+            subst (λ v. AreLeadingEdgesBelow events k (i + 1) v.items) (sym w.places-is)
+            (edges_others events k i c.loop-i.places.items away old.edges))
       ];
     }
 
@@ -112,4 +112,4 @@ pub returns : goal.returns
 returns c =
     let lt = c.loop-i-test.false in
     let top = c.loop-i.auto.i-end in
-    edges_all c.args.events.now c.args.place c.loop-i.i c.loop-i.places.items (omega arith) c.loop-i.invariant.edges
+    edges_below_all c.args.events.now c.args.place c.loop-i.i c.loop-i.places.items (omega arith) c.loop-i.invariant.edges

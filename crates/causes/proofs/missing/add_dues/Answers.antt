@@ -2,10 +2,10 @@ use Rattle.std.proofs.Common.{◌≡◌, ◌+◌, ◌*◌, Some, ap, ◌∙◌, 
 use Rattle.std.specs.Prelude.{None}
 use Rattle.std.specs.Global.{Vec}
 use Rattle.judge.specs.Sizes.{sizes_of}
-use Rattle.judge.specs.Tallies.{row_index}
+use Rattle.judge.specs.GapTally.{gap_tally_row_index}
 use Rattle.causes.specs.declared.missing.Due.{Due}
-use Rattle.causes.specs.Dues.{MissingBelow, IsOneOf}
-use Rattle.causes.proofs.Owing.{due_below_next}
+use Rattle.causes.specs.Dues.{DuesBelow, IsOneOfDues}
+use Rattle.causes.proofs.Dues.{dues_below_next}
 use Rattle.causes.proofs.missing.add_dues.Goals as goal
 use Rattle.causes.proofs.missing.add_dues.Goals.{in-Some+in_ok-push, in_default}
 
@@ -18,15 +18,15 @@ loop-writer-preserved c = λ j tells before.
     let old = c.loop-writer.dues.items in
     let new = c.match-found.dues.items in
     let are = c.loop-writer.invariant j tells before in
-    let next : row_index n q + 1 ≡ n * 16 + (q + 1) = omega arith in
-    subst (λ row. MissingBelow s j span row new) next (elim c.match-found.branch [
+    let next : gap_tally_row_index n q + 1 ≡ n * 16 + (q + 1) = omega arith in
+    subst (λ row. DuesBelow s j span row new) next (elim c.match-found.branch [
       | in-Some+in_ok-push w ↦
-          due_below_next s j span n q (Some w.in-Some.due) old new c.loop-writer-test.true
-          (subst (IsOneOf s j span n q) w.in-Some.is (c.found.ensures j tells))
+          dues_below_next s j span n q (Some w.in-Some.due) old new c.loop-writer-test.true
+          (subst (IsOneOfDues s j span n q) w.in-Some.is (c.found.ensures j tells))
           (ap (λ (v : Vec Due). v.items) w.dues-is ∙ w.in_ok-push.ensures.items) are
       | in_default w ↦
-          due_below_next s j span n q None old new c.loop-writer-test.true
-          (subst (IsOneOf s j span n q) w.in_default.is (c.found.ensures j tells))
+          dues_below_next s j span n q None old new c.loop-writer-test.true
+          (subst (IsOneOfDues s j span n q) w.in_default.is (c.found.ensures j tells))
           (ap (λ (v : Vec Due). v.items) w.dues-is) are
     ])
 
@@ -36,5 +36,5 @@ returns c = λ j tells before.
     let top = c.loop-writer.auto.writer-end in
     let is : c.loop-writer.writer ≡ 16 = omega arith in
     subst
-    (λ m. MissingBelow (sizes_of c.args.gaps.now.sizes) j c.args.span.now (c.args.page * 16 + m) c.loop-writer.dues.items) is
+    (λ m. DuesBelow (sizes_of c.args.gaps.now.sizes) j c.args.span.now (c.args.page * 16 + m) c.loop-writer.dues.items) is
     (c.loop-writer.invariant j tells before)

@@ -10,11 +10,11 @@ use Rattle.journal.specs.Times.{IsTimeOf}
 use Rattle.journal.specs.WellFormed.{KindInRange}
 use Rattle.journal.proofs.Order.CountedAndNumbered.{numbered_at_same}
 use Rattle.judge.specs.declared.sizes.Sizes.{Sizes as Given}
-use Rattle.judge.specs.Miscounted.{IsWithin}
+use Rattle.judge.specs.Miscounted.{IsMiscountWithin}
 use Rattle.judge.specs.Sizes.{sizes_of}
 use Rattle.causes.specs.declared.missing.Due.{Due}
 use Rattle.causes.specs.Dues.{AreDues}
-use Rattle.causes.proofs.Owing.{quiet_dues}
+use Rattle.causes.proofs.Dues.{dues_quiet}
 use Rattle.causes.proofs.missing.dues_at.Goals as goal
 
 -- the event at this place
@@ -98,7 +98,7 @@ taken-requires c =
       tells = c.in_ok-note-2.ensures.tells;
       place = c.requires.place;
       within = λ n e at.
-          subst (λ (x : Given). IsWithin (sizes_of x) e) (sym c.note-2.ensures.sizes) (c.requires.within n e at);
+          subst (λ (x : Given). IsMiscountWithin (sizes_of x) e) (sym c.note-2.ensures.sizes) (c.requires.within n e at);
       takes = λ e at.
           subst (λ (f : Event). is_taking f.kind ≡ true) (numbered_at_same events k (here events k) e there at)
           (sym c.takes.ensures ∙ c.if-takes.true);
@@ -133,5 +133,5 @@ returns-else-takes c =
       dues = λ e at.
           subst (AreDues s events k e) (sym c.new.ensures.items)
           (subst (λ (f : Event). AreDues s events k f []) (numbered_at_same events k (here events k) e there at)
-          (quiet_dues s events k (here events k) there (sym c.takes.ensures ∙ c.if-takes.false) c.in_default.not-Fetch));
+          (dues_quiet s events k (here events k) there (sym c.takes.ensures ∙ c.if-takes.false) c.in_default.not-Fetch));
     }

@@ -2,11 +2,11 @@ use Rattle.std.proofs.Common.{◌≡◌, List, Some, length, slice_get, subst, s
 use Rattle.std.specs.Global.{Vec}
 use Rattle.std.proofs.lemmas.Option.{none-some}
 use Rattle.judge.specs.declared.sizes.Sizes.{Sizes as Given}
-use Rattle.judge.specs.Miscounted.{IsWithin}
+use Rattle.judge.specs.Miscounted.{IsMiscountWithin}
 use Rattle.judge.specs.Sizes.{sizes_of}
 use Rattle.causes.specs.declared.missing.Due.{Due}
 use Rattle.causes.specs.Dues.{AreAllDues, AreDues}
-use Rattle.causes.proofs.Owing.{due_rows_next}
+use Rattle.causes.proofs.Dues.{dues_rows_next}
 use Rattle.causes.proofs.missing.dues_of.Goals as goal
 
 pub loop-place-init : goal.loop-place-init
@@ -26,7 +26,7 @@ dues_at-requires c =
       few = c.requires.few;
       place = c.loop-place-test.true;
       within = λ k e at.
-          subst (λ (x : Given). IsWithin (sizes_of x) e) (sym old.sizes) (c.requires.within k e at);
+          subst (λ (x : Given). IsMiscountWithin (sizes_of x) e) (sym old.sizes) (c.requires.within k e at);
       so_far = old.tells;
     }
 
@@ -44,7 +44,7 @@ loop-place-preserved c =
       long = (let len = c.in_ok-push.ensures.len in let was = old.long in omega arith);
       rows =
           subst (AreAllDues (sizes_of c.args.gaps.now.sizes) events) (sym c.in_ok-push.ensures.items)
-          (due_rows_next (sizes_of c.args.gaps.now.sizes) events rows.items place row long old.rows
+          (dues_rows_next (sizes_of c.args.gaps.now.sizes) events rows.items place row long old.rows
           (λ e at. subst (λ (x : Given). AreDues (sizes_of x) events place e row.items) old.sizes
           (c.in_ok-dues_at.ensures.dues e at)));
     }

@@ -12,8 +12,8 @@ use Rattle.judge.specs.Gaps.{TellsGaps}
 use Rattle.judge.specs.Sizes.{sizes_of}
 use Rattle.causes.specs.declared.missing.Due.{Due}
 use Rattle.causes.specs.declared.missing.Span.{Span}
-use Rattle.causes.specs.Dues.{MissingBelow, AreDues}
-use Rattle.causes.proofs.Owing.{dues_all, if_ok, in_fetch}
+use Rattle.causes.specs.Dues.{DuesBelow, AreDues}
+use Rattle.causes.proofs.Dues.{all_dues_below, due_if_ok, due_in_fetch}
 use Rattle.causes.proofs.missing.fetched.Goals as goal
 
 -- the event at this place
@@ -61,10 +61,10 @@ returns c =
     omega arith) in
     let kind = c.requires.fetch own there in
     let same =
-    in_fetch s events k own kind.0 c.args.page kind.1 kind.2 span kind.3 refl refl refl low
+    due_in_fetch s events k own kind.0 c.args.page kind.1 kind.2 span kind.3 refl refl refl low
     (c.last_fetch.ensures h c.requires.tells) (c.time.ensures h c.requires.tells) in
-    if_ok c.dues_in.result
-    (λ (v : Vec Due). (j : List Event) → TellsGaps j g → MissingBelow s j span (span.end * 16) v.items)
+    due_if_ok c.dues_in.result
+    (λ (v : Vec Due). (j : List Event) → TellsGaps j g → DuesBelow s j span (span.end * 16) v.items)
     (λ (v : Vec Due). (e : Event) → At events k e → AreDues s events k e v.items)
     (λ v are e at. subst (λ (f : Event). AreDues s events k f v.items) (numbered_at_same events k own e there at)
-    (dues_all s events h k own span v.items same (are h c.requires.tells))) c.dues_in.ensures
+    (all_dues_below s events h k own span v.items same (are h c.requires.tells))) c.dues_in.ensures

@@ -11,8 +11,8 @@ use Rattle.judge.specs.Gaps.{TellsGaps}
 use Rattle.judge.specs.Sizes.{sizes_of}
 use Rattle.causes.specs.declared.missing.Due.{Due}
 use Rattle.causes.specs.declared.missing.Span.{Span}
-use Rattle.causes.specs.Dues.{MissingBelow, AreDues}
-use Rattle.causes.proofs.Owing.{dues_all, if_ok, in_taken, pages_within}
+use Rattle.causes.specs.Dues.{DuesBelow, AreDues}
+use Rattle.causes.proofs.Dues.{all_dues_below, due_if_ok, due_in_taken, due_pages_within}
 use Rattle.causes.proofs.missing.taken.Goals as goal
 
 pub returns : goal.returns
@@ -36,11 +36,11 @@ returns c =
     let small = c.requires.tells.long.sizes.processors in
     omega arith) in
     let same =
-    in_taken s events k here span there (c.requires.takes here there) refl refl c.pages.ensures low
-    (pages_within s events (k + 1) c.requires.within) (c.requires.before here there)
+    due_in_taken s events k here span there (c.requires.takes here there) refl refl c.pages.ensures low
+    (due_pages_within s events (k + 1) c.requires.within) (c.requires.before here there)
     (c.time.ensures h c.requires.tells) in
-    if_ok c.dues_in.result
-    (λ (v : Vec Due). (j : List Event) → TellsGaps j g → MissingBelow s j span (span.end * 16) v.items)
+    due_if_ok c.dues_in.result
+    (λ (v : Vec Due). (j : List Event) → TellsGaps j g → DuesBelow s j span (span.end * 16) v.items)
     (λ (v : Vec Due). (e : Event) → At events k e → AreDues s events k e v.items)
     (λ v are e at. subst (λ (f : Event). AreDues s events k f v.items) (numbered_at_same events k here e there at)
-    (dues_all s events h k here span v.items same (are h c.requires.tells))) c.dues_in.ensures
+    (all_dues_below s events h k here span v.items same (are h c.requires.tells))) c.dues_in.ensures

@@ -4,7 +4,7 @@ use Rattle.std.proofs.lemmas.Bool.{false≢true}
 use Rattle.std.proofs.lemmas.Option.{slice_get_read, slice_get_within}
 use Rattle.journal.specs.DidEvent.{event}
 use Rattle.journal.proofs.Order.CountedAndNumbered.{numbered_at_within}
-use Rattle.causes.proofs.Fresh.{HasBelow, IsOnceIf, below_all, below_next, below_other, closing_read, number_within, once_push}
+use Rattle.causes.proofs.FreshNews.{HasNewsBelow, IsNewsOnceIf, fresh_news_below_all, fresh_news_below_next, fresh_news_below_others, fresh_news_closing_read, fresh_news_number_within, fresh_news_once_push}
 use Rattle.causes.proofs.news.add_news.Goals as goal
 use Rattle.causes.proofs.news.add_news.Goals.{then-leads+in_ok-push, else-leads}
 
@@ -21,7 +21,7 @@ index-place-requires c =
     let mine = are.each c.args.by row at in
     let lt = c.loop-number-test.true in
     let top = c.loop-number.auto.number-end in
-    let within = number_within events x c.args.by c.loop-number.number row.items c.requires.step mine (omega arith) in
+    let within = fresh_news_number_within events x c.args.by c.loop-number.number row.items c.requires.step mine (omega arith) in
     omega (arith, row.ok.0)
 
 pub leads-requires-clause-to : goal.leads-requires-clause-to
@@ -34,7 +34,7 @@ leads-requires-clause-from c =
     let lt = c.loop-number-test.true in
     let top = c.loop-number.auto.number-end in
     let here =
-    closing_read events c.args.step.now c.args.by c.loop-number.number c.index-place.result.now
+    fresh_news_closing_read events c.args.step.now c.args.by c.loop-number.number c.index-place.result.now
     c.args.index.now.closings.items c.index.result.now c.requires.by c.requires.step c.requires.index.closings
     c.index.ensures (omega arith) c.index-place.ensures in
     numbered_at_within events c.index-place.result.now (event c.args.by here.closes.kind) here.closes.does
@@ -52,26 +52,26 @@ loop-number-preserved c =
     let lt = c.loop-number-test.true in
     let top = c.loop-number.auto.number-end in
     let here =
-    closing_read events x q n p c.args.index.now.closings.items c.index.result.now c.requires.by c.requires.step
+    fresh_news_closing_read events x q n p c.args.index.now.closings.items c.index.result.now c.requires.by c.requires.step
     c.requires.index.closings c.index.ensures (omega arith) c.index-place.ensures in
     let late = was.late in
     record {
       late = omega arith;
       has = elim c.if-leads.branch [
         | then-leads+in_ok-push w ↦
-            subst (λ (v : Vec ℕ). HasBelow events x q (n + 1) first v.items) (sym w.places-is)
-            (subst (HasBelow events x q (n + 1) first) (sym w.in_ok-push.ensures.items)
-            (below_next events x q n p first places here late (omega arith) (w.if-leads.ensures.0 refl) was.has))
+            subst (λ (v : Vec ℕ). HasNewsBelow events x q (n + 1) first v.items) (sym w.places-is)
+            (subst (HasNewsBelow events x q (n + 1) first) (sym w.in_ok-push.ensures.items)
+            (fresh_news_below_next events x q n p first places here late (omega arith) (w.if-leads.ensures.0 refl) was.has))
         | else-leads w ↦
-            subst (λ (v : Vec ℕ). HasBelow events x q (n + 1) first v.items) (sym w.places-is)
-            (below_other events x q n p first places here (λ leads. false≢true (w.if-leads.ensures.1 leads)) was.has)
+            subst (λ (v : Vec ℕ). HasNewsBelow events x q (n + 1) first v.items) (sym w.places-is)
+            (fresh_news_below_others events x q n p first places here (λ leads. false≢true (w.if-leads.ensures.1 leads)) was.has)
       ];
       once = elim c.if-leads.branch [
         | then-leads+in_ok-push w ↦
-            subst (λ (v : Vec ℕ). IsOnceIf events q first v.items) (sym w.places-is)
-            (subst (IsOnceIf events q first) (sym w.in_ok-push.ensures.items)
-            (once_push events x q n p first places here was.has was.once))
-        | else-leads w ↦ subst (λ (v : Vec ℕ). IsOnceIf events q first v.items) (sym w.places-is) was.once
+            subst (λ (v : Vec ℕ). IsNewsOnceIf events q first v.items) (sym w.places-is)
+            (subst (IsNewsOnceIf events q first) (sym w.in_ok-push.ensures.items)
+            (fresh_news_once_push events x q n p first places here was.has was.once))
+        | else-leads w ↦ subst (λ (v : Vec ℕ). IsNewsOnceIf events q first v.items) (sym w.places-is) was.once
       ];
     }
 
@@ -79,5 +79,5 @@ pub returns-clause-has : goal.returns-clause-has
 returns-clause-has c =
     let end = c.loop-number-test.false in
     let top = c.loop-number.auto.number-end in
-    below_all c.args.events.now c.args.step.now c.args.by c.loop-number.number c.args.places.now.items
+    fresh_news_below_all c.args.events.now c.args.step.now c.args.by c.loop-number.number c.args.places.now.items
     c.loop-number.places.items (omega arith) c.loop-number.invariant.has

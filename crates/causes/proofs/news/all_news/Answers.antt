@@ -2,8 +2,8 @@ use Rattle.std.proofs.Common.{◌≡◌, ℕ, List, Some, length, slice_get, sub
 use Rattle.std.specs.Global.{Vec}
 use Rattle.std.proofs.lemmas.Option.{none-some}
 use Rattle.journal.specs.InRange.{ProcessorsInRange}
-use Rattle.causes.specs.News.{AreIncoming, AreNewlyOrdered}
-use Rattle.causes.proofs.Fresh.{incoming_next}
+use Rattle.causes.specs.News.{AreIncoming, AreNewsInOrder}
+use Rattle.causes.proofs.FreshNews.{fresh_news_incoming_next}
 use Rattle.causes.proofs.news.all_news.Goals as goal
 
 pub loop-place-init : goal.loop-place-init
@@ -51,8 +51,8 @@ loop-place-preserved c =
       rows =
           subst (AreIncoming events)
           (sym c.in_ok-push.ensures.items)
-          (incoming_next events rows.items place row long old.rows
-          (subst (λ n. AreNewlyOrdered events n row.items) c.in_ok-step.ensures.place c.in_ok-news.ensures));
+          (fresh_news_incoming_next events rows.items place row long old.rows
+          (subst (λ n. AreNewsInOrder events n row.items) c.in_ok-step.ensures.place c.in_ok-news.ensures));
     }
 
 pub returns-clause-long : goal.returns-clause-long

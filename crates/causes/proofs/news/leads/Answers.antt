@@ -4,7 +4,7 @@ use Rattle.journal.specs.declared.event.Event.{Event}
 use Rattle.journal.specs.declared.event.Kind.TheVariants.{Load}
 use Rattle.journal.specs.DidEvent.{event}
 use Rattle.causes.specs.declared.index.Turn.{Turn}
-use Rattle.causes.proofs.Fresh.{leads_by_turns}
+use Rattle.causes.proofs.FreshNews.{news_leads_by_turns}
 use Rattle.causes.proofs.news.leads.Goals as goal
 
 abbrev zero : Turn
@@ -28,5 +28,5 @@ returns-then-from-to c =
     let t = slice_index_or turns k zero in
     let one = c.requires.turns.each i (here events i) s at (slice_get-get_or turns i zero (omega arith)) in
     let two = c.requires.turns.each k (here events k) t to (slice_get-get_or turns k zero (omega arith)) in
-    leads_by_turns events i k (here events i) (here events k) s t c.lets_on.result at to one two c.if-from-to.true
+    news_leads_by_turns events i k (here events i) (here events k) s t c.lets_on.result at to one two c.if-from-to.true
     c.if-start-end.false c.lets_on.ensures

@@ -1,15 +1,15 @@
 use Rattle.std.proofs.Common.{ℕ}
 use Rattle.std.proofs.lemmas.List.Sorted.{IsNonDecreasingBy-from_sort}
-use Rattle.causes.proofs.Fresh.{news_all, news_next}
+use Rattle.causes.proofs.FreshNews.{fresh_news_sorted_all, fresh_news_next_processor}
 use Rattle.causes.proofs.news.news.Goals as goal
 
 pub loop-by-preserved : goal.loop-by-preserved
 loop-by-preserved c =
-    news_next c.args.events.now c.args.step.now c.loop-by.by c.loop-by.places.items c.add_news.new.places.items
+    fresh_news_next_processor c.args.events.now c.args.step.now c.loop-by.by c.loop-by.places.items c.add_news.new.places.items
     c.loop-by.invariant c.in_ok-add_news.ensures.has c.in_ok-add_news.ensures.once
 
 pub returns : goal.returns
 returns c =
-    news_all c.args.events.now c.args.step.now c.loop-by.by c.loop-by.places.items c.sort_unstable.new.self.items
+    fresh_news_sorted_all c.args.events.now c.args.step.now c.loop-by.by c.loop-by.places.items c.sort_unstable.new.self.items
     c.loop-by-test.false c.requires.processors c.requires.step c.loop-by.invariant c.sort_unstable.ensures.permutation
     (IsNonDecreasingBy-from_sort (λ (x : ℕ). x) c.sort_unstable.new.self.items c.sort_unstable.ensures.sorted)

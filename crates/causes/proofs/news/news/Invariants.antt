@@ -1,4 +1,4 @@
-use Rattle.causes.proofs.Fresh.{AreNewsBelow}
+use Rattle.causes.proofs.FreshNews.{AreNewsBelow}
 use Rattle.causes.proofs.news.news.Given as goal
 
 abbrev pub invariant-loop-by : goal.invariant-loop-by

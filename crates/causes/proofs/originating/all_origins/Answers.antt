@@ -1,6 +1,6 @@
 use Rattle.std.proofs.Common.{◌≡◌, ◌+◌, length, subst, sym, ◌∙◌, arith}
 use Rattle.judge.specs.declared.sizes.Sizes.{Sizes as Given}
-use Rattle.judge.specs.Sizes.{AreSmall, sizes_of}
+use Rattle.judge.specs.Sizes.{AreSizesSmall, sizes_of}
 use Rattle.causes.specs.Origins.{AreOrigins}
 use Rattle.causes.specs.OriginSteps.{AreOriginsBefore}
 use Rattle.causes.proofs.OriginSteps.{origin_rows_next}
@@ -14,7 +14,7 @@ loop-place-preserved c =
     let old = c.loop-place.invariant in
     let rows = c.loop-place.rows in
     let long : length rows.items ≡ place = omega (arith, rows.ok.0, old.long) in
-    let small : AreSmall s = subst (λ (x : Given). AreSmall (sizes_of x)) old.sizes old.tells.long.sizes in
+    let small : AreSizesSmall s = subst (λ (x : Given). AreSizesSmall (sizes_of x)) old.sizes old.tells.long.sizes in
     record {
       tells = c.in_ok-note.ensures.tells;
       sizes = c.note.ensures.sizes ∙ old.sizes;

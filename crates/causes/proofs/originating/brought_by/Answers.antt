@@ -6,11 +6,11 @@ use Rattle.journal.specs.declared.event.Event.{Event}
 use Rattle.journal.specs.Sizes.{Sizes}
 use Rattle.causes.specs.declared.originating.LookedUp.{LookedUp}
 use Rattle.causes.specs.declared.originating.PageFetch.{PageFetch}
-use Rattle.causes.specs.Index.{IsClosing}
-use Rattle.causes.specs.Origins.{IsBroughtStore}
-use Rattle.causes.specs.OriginSteps.{IsFetchOf, IsLookedUp}
-use Rattle.causes.specs.Stores.{IsLastUnder, NoneUnder}
-use Rattle.causes.proofs.Brought.{brought_before, brought_last, brought_none, brought_own, fetched_closed}
+use Rattle.causes.specs.Index.{IsIndexedClosing}
+use Rattle.causes.specs.Origins.{IsOriginBrought}
+use Rattle.causes.specs.OriginSteps.{IsOriginFetch, IsOriginLookedUp}
+use Rattle.causes.specs.Stores.{IsLastStoredUnder, NoneStoredUnder}
+use Rattle.causes.proofs.Brought.{brought_before, brought_last, brought_none, brought_own, origin_brought_fetched_closed}
 use Rattle.causes.proofs.originating.brought_by.Goals as goal
 
 pub returns-then-by-fetch : goal.returns-then-by-fetch
@@ -19,14 +19,14 @@ returns-then-by-fetch c = λ s j looked fetch page q i c' is b.
     (is ∙ c.if-by-fetch.true) b
 
 -- where a processor closes an interval that the fetch has
-closing_at : (s : Sizes) (j : List Event) (x : LookedUp) (f : PageFetch) (q n c : ℕ) (row : Vec ℕ) → IsLookedUp j x
-    → IsFetchOf s j f → q < 16 → row ≡ slice_index_or x.index.closings.items q row
-    → n < slice_index f.to q → c ≡ slice_index_or row.items n c → IsClosing j q n c
+closing_at : (s : Sizes) (j : List Event) (x : LookedUp) (f : PageFetch) (q n c : ℕ) (row : Vec ℕ) → IsOriginLookedUp j x
+    → IsOriginFetch s j f → q < 16 → row ≡ slice_index_or x.index.closings.items q row
+    → n < slice_index f.to q → c ≡ slice_index_or row.items n c → IsIndexedClosing j q n c
 closing_at s j x f q n c row looked fetch low is lt read =
     let are = looked.index.closings in
     let long = are.long in
     let mine = are.each q row (slice_get_read x.index.closings.items (length x.index.closings.items) q row refl (omega arith) is) in
-    let counted = fetched_closed s j f q n fetch lt in
+    let counted = origin_brought_fetched_closed s j f q n fetch lt in
     let all = mine.long in
     mine.each n c (slice_get_read row.items (length row.items) n c refl (omega arith) read)
 
@@ -42,10 +42,10 @@ returns-in_default c = λ s j looked fetch page q i d is b.
     let limit = slice_index c.args.fetch.now.to c.args.by in
     let are = looked.stores.each c.args.address c.args.by found.0 by found.1 in
     let none =
-    none_of c.last.result (NoneUnder found.0.items limit) (IsLastUnder found.0.items limit) c.in_default.not-Some found.2 in
+    none_of c.last.result (NoneStoredUnder found.0.items limit) (IsLastStoredUnder found.0.items limit) c.in_default.not-Some found.2 in
     brought_none s j c.args.fetch.now c.args.address c.args.by found.0.items fetch page
     (λ same. c.if-by-fetch.false same) are none i d
-    (subst (λ r. IsBroughtStore s j c.args.fetch.now.reader c.args.address c.args.fetch.now.place r i d) is b))
+    (subst (λ r. IsOriginBrought s j c.args.fetch.now.reader c.args.address c.args.fetch.now.place r i d) is b))
 
 pub returns-then-store-fetch : goal.returns-then-store-fetch
 returns-then-store-fetch c = λ s j looked fetch page q i d is b.
@@ -53,7 +53,7 @@ returns-then-store-fetch c = λ s j looked fetch page q i d is b.
     let are = looked.stores.each c.args.address c.args.by found.0 c.requires.by found.1 in
     brought_before s j c.args.fetch.now c.args.address c.args.by found.0.items c.in-Some.store fetch page
     (λ same. c.if-by-fetch.false same) are found.2 c.if-store-fetch.true i d
-    (subst (λ r. IsBroughtStore s j c.args.fetch.now.reader c.args.address c.args.fetch.now.place r i d) is b))
+    (subst (λ r. IsOriginBrought s j c.args.fetch.now.reader c.args.address c.args.fetch.now.place r i d) is b))
 
 pub index-requires-2 : goal.index-requires-2
 index-requires-2 c =
@@ -71,7 +71,7 @@ index-requires-2 c =
     let under = c.in-Some.ensures.2.under in
     let mine = are.each q row
     (slice_get_read x.index.closings.items (length x.index.closings.items) q row refl (omega arith) c.index.ensures) in
-    let counted = fetched_closed s j c.args.fetch.now q c.in-Some.store.interval fetch under in
+    let counted = origin_brought_fetched_closed s j c.args.fetch.now q c.in-Some.store.interval fetch under in
     let all = mine.long in
     omega (arith, row.ok.0)
 

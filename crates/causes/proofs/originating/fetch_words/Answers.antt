@@ -8,14 +8,14 @@ use Rattle.journal.specs.declared.event.Kind.TheVariants.{Fetch, Store}
 use Rattle.journal.specs.DidEvent.{event}
 use Rattle.journal.specs.Sizes.{Sizes}
 use Rattle.journal.proofs.Order.CountedAndNumbered.{numbered_does_same}
-use Rattle.judge.specs.Tallies.{row_index}
+use Rattle.judge.specs.GapTally.{gap_tally_row_index}
 use Rattle.causes.specs.declared.originating.Applied.{Applied}
 use Rattle.causes.specs.declared.originating.LookedUp.{LookedUp}
 use Rattle.causes.specs.declared.originating.WordOrigin.{WordOrigin}
 use Rattle.causes.specs.declared.originating.PageFetch.{PageFetch}
 use Rattle.causes.specs.Origins.{IsWordOriginOf}
-use Rattle.causes.specs.OriginSteps.{ArePartFetched, IsFetchOf, IsLookedUp, IsOriginAfter, LastApplied}
-use Rattle.causes.proofs.OriginSteps.{fetched_next, fetched_start, fetched_word}
+use Rattle.causes.specs.OriginSteps.{AreOriginsPartFetched, IsOriginFetch, IsOriginLookedUp, IsOriginAfter, OriginLastApplied}
+use Rattle.causes.proofs.OriginSteps.{origins_fetched_next, origins_fetched_start, origins_fetched_word}
 use Rattle.causes.proofs.originating.fetch_words.Goals as goal
 
 store_no_fetch : (a v w n r d : ℕ) → Store a v ≡ Fetch w n r d → ⊥
@@ -23,25 +23,25 @@ store_no_fetch a v w n r d is = cc
 
 -- a word of the page more
 word_next : (s : Sizes) (j : List Event) (x : LookedUp) (f : PageFetch) (size offset : ℕ) (words : List (Option WordOrigin))
-    → (r : Option WordOrigin) (b : Option Applied) → IsLookedUp j x → IsFetchOf s j f → size ≡ s.words → offset < size
-    → f.reader < 16 → row_index (f.page * size + offset) f.reader < length words
+    → (r : Option WordOrigin) (b : Option Applied) → IsOriginLookedUp j x → IsOriginFetch s j f → size ≡ s.words → offset < size
+    → f.reader < 16 → gap_tally_row_index (f.page * size + offset) f.reader < length words
     → ((f.page * size + offset) / s.words ≡ f.page
-    → LastApplied s j f.reader (f.page * size + offset) f.place (λ q. q < 16) b)
-    → IsOriginAfter (slice_index_or words (row_index (f.page * size + offset) f.reader) None) f.place b r
-    → ArePartFetched s j f.place f.reader (f.page * size) (f.page * size + offset) words
-    → ArePartFetched s j f.place f.reader (f.page * size) (f.page * size + (offset + 1))
-    (slice_set words (row_index (f.page * size + offset) f.reader) r)
+    → OriginLastApplied s j f.reader (f.page * size + offset) f.place (λ q. q < 16) b)
+    → IsOriginAfter (slice_index_or words (gap_tally_row_index (f.page * size + offset) f.reader) None) f.place b r
+    → AreOriginsPartFetched s j f.place f.reader (f.page * size) (f.page * size + offset) words
+    → AreOriginsPartFetched s j f.place f.reader (f.page * size) (f.page * size + (offset + 1))
+    (slice_set words (gap_tally_row_index (f.page * size + offset) f.reader) r)
 word_next s j x f size offset words r b looked fetch is lt low within last after old =
     let a = f.page * size + offset in
     let page : a / s.words ≡ f.page =
     ap (λ n. (f.page * n + offset) / s.words) is ∙ div-mul-add f.page s.words offset (omega arith) in
-    let o = slice_index_or words (row_index a f.reader) None in
-    let there : slice_get words (row_index a f.reader) ≡ Some o =
-    slice_get-get_or words (row_index a f.reader) None within in
+    let o = slice_index_or words (gap_tally_row_index a f.reader) None in
+    let there : slice_get words (gap_tally_row_index a f.reader) ≡ Some o =
+    slice_get-get_or words (gap_tally_row_index a f.reader) None within in
     let before : IsWordOriginOf s j f.reader a f.place o =
     old.others a f.reader o low (λ mine up below. absurd (omega arith)) there in
     let now : IsWordOriginOf s j f.reader a (f.place + 1) r =
-    fetched_word s j f.place f.reader a o r b low
+    origins_fetched_word s j f.place f.reader a o r b low
     (λ v does.
     (let fetches = fetch.fetches in
     store_no_fetch a v fetches.0 f.page fetches.1 fetches.2
@@ -49,17 +49,17 @@ word_next s j x f size offset words r b looked fetch is lt low within last after
     (λ q i c brought. looked.processors i (event q (Store a brought.value)) brought.does) (last page) after before in
     let next : a + 1 ≡ f.page * size + (offset + 1) = omega arith in
     subst
-    (λ end. ArePartFetched s j f.place f.reader (f.page * size) end (slice_set words (row_index a f.reader) r)) next
-    (fetched_next s j f.place f.reader (f.page * size) a words r low (omega arith) now old)
+    (λ end. AreOriginsPartFetched s j f.place f.reader (f.page * size) end (slice_set words (gap_tally_row_index a f.reader) r)) next
+    (origins_fetched_next s j f.place f.reader (f.page * size) a words r low (omega arith) now old)
 
 pub loop-offset-init : goal.loop-offset-init
 loop-offset-init c = record {
   long = refl;
   fetched = λ s j looked fetch size before.
       (let start : c.args.fetch.now.page * c.args.size ≡ c.args.fetch.now.page * c.args.size + 0 = omega arith in
-      subst (λ end. ArePartFetched s j c.args.fetch.now.place c.args.fetch.now.reader
+      subst (λ end. AreOriginsPartFetched s j c.args.fetch.now.place c.args.fetch.now.reader
       (c.args.fetch.now.page * c.args.size) end c.args.words.now) start
-      (fetched_start s j c.args.fetch.now.place c.args.fetch.now.reader (c.args.fetch.now.page * c.args.size)
+      (origins_fetched_start s j c.args.fetch.now.place c.args.fetch.now.reader (c.args.fetch.now.page * c.args.size)
       c.args.words.now before));
 }
 
@@ -78,9 +78,9 @@ loop-offset-preserved c =
     let page = c.requires.page in
     let low = c.requires.reader in
     let was = old.long in
-    let within : row_index a f.reader < length words = omega arith in
+    let within : gap_tally_row_index a f.reader < length words = omega arith in
     record {
-      long = length-set words (row_index a f.reader) c.origin_after.result ∙ old.long;
+      long = length-set words (gap_tally_row_index a f.reader) c.origin_after.result ∙ old.long;
       fetched = λ s j looked fetch is before.
           word_next s j c.args.looked.now f size offset words c.origin_after.result c.last_brought.result looked fetch is
           lt low within (c.last_brought.ensures s j looked fetch) c.origin_after.ensures
@@ -92,6 +92,6 @@ returns c = λ s j looked fetch is before.
     (let end = c.loop-offset-test.false in
     let top = c.loop-offset.auto.offset-end in
     let all : c.loop-offset.offset ≡ c.args.size = omega arith in
-    subst (λ n. ArePartFetched s j c.args.fetch.now.place c.args.fetch.now.reader
+    subst (λ n. AreOriginsPartFetched s j c.args.fetch.now.place c.args.fetch.now.reader
     (c.args.fetch.now.page * c.args.size) (c.args.fetch.now.page * c.args.size + n) c.loop-offset.words) all
     (c.loop-offset.invariant.fetched s j looked fetch is before))

@@ -1,14 +1,14 @@
 use Rattle.std.proofs.Common.{◌≡◌, ◌<◌, subst, arith}
-use Rattle.causes.specs.OriginSteps.{LastApplied}
-use Rattle.causes.proofs.Brought.{applied_next, applied_start}
+use Rattle.causes.specs.OriginSteps.{OriginLastApplied}
+use Rattle.causes.proofs.Brought.{origin_brought_applied_next, origin_brought_applied_start}
 use Rattle.causes.proofs.originating.last_brought.Goals as goal
 
 pub loop-by-init : goal.loop-by-init
-loop-by-init c = λ s j looked fetch page. applied_start s j c.args.fetch.now.reader c.args.address c.args.fetch.now.place
+loop-by-init c = λ s j looked fetch page. origin_brought_applied_start s j c.args.fetch.now.reader c.args.address c.args.fetch.now.place
 
 pub loop-by-preserved : goal.loop-by-preserved
 loop-by-preserved c = λ s j looked fetch page.
-    applied_next s j c.args.fetch.now.reader c.args.address c.args.fetch.now.place c.loop-by.by c.loop-by.last
+    origin_brought_applied_next s j c.args.fetch.now.reader c.args.address c.args.fetch.now.place c.loop-by.by c.loop-by.last
     c.brought_by.result c.later-last.result c.later-last.ensures (c.loop-by.invariant s j looked fetch page)
     (c.brought_by.ensures s j looked fetch page)
 
@@ -17,5 +17,5 @@ returns c = λ s j looked fetch page.
     let end = c.loop-by-test.false in
     let top = c.loop-by.auto.by-end in
     let is : c.loop-by.by ≡ 16 = omega arith in
-    subst (λ n. LastApplied s j c.args.fetch.now.reader c.args.address c.args.fetch.now.place (λ q. q < n) c.loop-by.last) is
+    subst (λ n. OriginLastApplied s j c.args.fetch.now.reader c.args.address c.args.fetch.now.place (λ q. q < n) c.loop-by.last) is
     (c.loop-by.invariant s j looked fetch page)

@@ -10,7 +10,7 @@ use Rattle.journal.specs.Events.{At}
 use Rattle.journal.specs.WellFormed.{Does, KindInRange}
 use Rattle.judge.specs.Sizes.{sizes_of}
 use Rattle.causes.specs.OriginSteps.{AreOriginsBefore}
-use Rattle.causes.proofs.OriginSteps.{fetched_done, origins_quiet, origins_stored}
+use Rattle.causes.proofs.OriginSteps.{origins_fetched_done, origins_quiet, origins_stored}
 use Rattle.causes.proofs.originating.note_words.Goals as goal
 
 -- the event at this place
@@ -86,7 +86,7 @@ returns-in-Fetch c =
     let fetches : FetchesPage events k (here events k).processor f.page =
     (f.writers, f.records, f.words, does events k (Fetch f.writers f.page f.records f.words) lt f.is) in
     let before = subst (λ n. AreOriginsBefore s events n c.args.words.now) (sym c.fetch_at-fetch.ensures.place) c.requires.so_far in
-    fetched_done s events k (here events k).processor f.page f.writers f.records f.words c.fetch_at-fetch.result c.args.size
+    origins_fetched_done s events k (here events k).processor f.page f.writers f.records f.words c.fetch_at-fetch.result c.args.size
     c.fetch_words.new.words c.fetch_at-fetch.ensures.place c.fetch_at-fetch.ensures.reader c.fetch_at-fetch.ensures.page
     c.requires.size (does events k (Fetch f.writers f.page f.records f.words) lt f.is)
     (c.fetch_words.ensures s events c.requires.looked

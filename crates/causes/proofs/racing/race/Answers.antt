@@ -7,7 +7,7 @@ use Rattle.journal.specs.Events.{At}
 use Rattle.journal.specs.Races.{IsFirstRace}
 use Rattle.journal.proofs.Order.CountedAndNumbered.{numbered_at_same}
 use Rattle.causes.specs.Heard.{IsHeard}
-use Rattle.causes.proofs.Heard.{are_apart}
+use Rattle.causes.proofs.Heard.{heard_are_apart}
 use Rattle.causes.proofs.racing.race.Goals as goal
 
 -- the event at this place
@@ -25,7 +25,7 @@ offset_bounds-events-first c =
     let events = c.args.events.now in
     let first = c.in-Some.first in
     let race : IsFirstRace events first c.in-Some.second = rw c.in-Some.is at c.in_ok-first.ensures in
-    let parts = are_apart events first c.in-Some.second (here events first) race.race (there events first) in
+    let parts = heard_are_apart events first c.in-Some.second (here events first) race.race (there events first) in
     let within = parts.within in
     omega arith
 
@@ -34,14 +34,14 @@ bounds-events-first c =
     let events = c.args.events.now in
     let first = c.in-Some.first in
     let race : IsFirstRace events first c.in-Some.second = rw c.in-Some.is at c.in_ok-first.ensures in
-    (are_apart events first c.in-Some.second (here events first) race.race (there events first)).within
+    (heard_are_apart events first c.in-Some.second (here events first) race.race (there events first)).within
 
 pub heard-requires-clause-by : goal.heard-requires-clause-by
 heard-requires-clause-by c =
     let events = c.args.events.now in
     let first = c.in-Some.first in
     let race : IsFirstRace events first c.in-Some.second = rw c.in-Some.is at c.in_ok-first.ensures in
-    let parts = are_apart events first c.in-Some.second (here events first) race.race (there events first) in
+    let parts = heard_are_apart events first c.in-Some.second (here events first) race.race (there events first) in
     let lt = c.requires.processors first (here events first) (there events first parts.within) in
     let few = c.requires.few_processors in
     omega arith
@@ -51,7 +51,7 @@ heard-requires-clause-second c =
     let events = c.args.events.now in
     let first = c.in-Some.first in
     let race : IsFirstRace events first c.in-Some.second = rw c.in-Some.is at c.in_ok-first.ensures in
-    let parts = are_apart events first c.in-Some.second (here events first) race.race (there events first) in
+    let parts = heard_are_apart events first c.in-Some.second (here events first) race.race (there events first) in
     (parts.second, parts.at, parts.quiet, parts.apart)
 
 pub returns : goal.returns
@@ -60,7 +60,7 @@ returns c =
     let first = c.in-Some.first in
     let second = c.in-Some.second in
     let race : IsFirstRace events first second = rw c.in-Some.is at c.in_ok-first.ensures in
-    let parts = are_apart events first second (here events first) race.race (there events first) in
+    let parts = heard_are_apart events first second (here events first) race.race (there events first) in
     record {
       race = race;
       heard = λ e at.

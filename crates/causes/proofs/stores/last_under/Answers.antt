@@ -5,7 +5,7 @@ use Rattle.std.proofs.lemmas.List.Sorted.{IsPartitionPoint-from_clause, IsPartit
 use Rattle.std.specs.List.Sorted.{IsNonDecreasingBy, IsPartitionPoint}
 use Rattle.base.specs.InOrderOnce.{InOrder}
 use Rattle.causes.specs.declared.stores.NumberedStore.{NumberedStore}
-use Rattle.causes.specs.Stores.{IsLastUnder}
+use Rattle.causes.specs.Stores.{IsLastStoredUnder}
 use Rattle.causes.proofs.stores.last_under.Goals as goal
 
 -- the intervals do not fall
@@ -33,7 +33,7 @@ above stores limit i n s point le at =
     ltb-false s.interval limit (subst (λ (x : NumberedStore). nat_lt x.interval limit ≡ false) same is)
 
 found : (stores : List NumberedStore) (limit i : ℕ) (d : NumberedStore) → IsPoint stores limit i → 0 < i
-    → i ≤ length stores → IsLastUnder stores limit (slice_index_or stores (i - 1) d)
+    → i ≤ length stores → IsLastStoredUnder stores limit (slice_index_or stores (i - 1) d)
 found stores limit i d point some le = record {
   index = i - 1;
   at = slice_get-get_or stores (i - 1) d (omega arith);

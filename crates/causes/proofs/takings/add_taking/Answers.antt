@@ -8,15 +8,15 @@ use Rattle.journal.specs.Times.{IsTimeOf}
 use Rattle.journal.proofs.Order.CountedAndNumbered.{numbered_at_same}
 use Rattle.causes.specs.declared.news.Step.{Step}
 use Rattle.causes.specs.declared.takings.Taking.{Taking}
-use Rattle.causes.specs.News.{TimesAround}
-use Rattle.causes.proofs.Takes.{rows_quiet, rows_taken}
+use Rattle.causes.specs.News.{TimesAroundNews}
+use Rattle.causes.proofs.TakingRows.{taking_rows_quiet, taking_rows_taken}
 use Rattle.causes.proofs.takings.add_taking.Goals as goal
 
 -- the step's event
 abbrev here : List Event → Step → Event
 here events x = slice_index_or events x.place (event 0 (Load 0 0))
 
-there : (events : List Event) (x : Step) → TimesAround events x → At events x.place (here events x)
+there : (events : List Event) (x : Step) → TimesAroundNews events x → At events x.place (here events x)
 there events x step =
     slice_get-get_or events x.place (event 0 (Load 0 0)) (slice_get_within events x.place step.event step.at)
 
@@ -24,7 +24,7 @@ pub returns-then-not-takes : goal.returns-then-not-takes
 returns-then-not-takes c =
     let events = c.args.events.now in
     let x = c.args.step.now in
-    rows_quiet events x.place (here events x) c.args.takings.now.items (there events x c.requires.step)
+    taking_rows_quiet events x.place (here events x) c.args.takings.now.items (there events x c.requires.step)
     (sym c.takes.ensures ∙ c.if-not-takes.true) c.requires.so_far
 
 pub index_mut-requires : goal.index_mut-requires
@@ -51,5 +51,5 @@ returns c =
     let taking : Taking = record { place = x.place; after = x.after } in
     let row = slice_get_read rows (length rows) e.processor c.index_mut.result.now refl (omega arith)
     c.index_mut.ensures.value in
-    rows_taken events x.place e taking rows c.index_mut.result.now c.push.new.self at refl time row
+    taking_rows_taken events x.place e taking rows c.index_mut.result.now c.push.new.self at refl time row
     c.in_ok-push.ensures.items c.requires.so_far

@@ -5,7 +5,7 @@ use Rattle.std.proofs.lemmas.List.Sorted.{IsPartitionPoint-from_clause}
 use Rattle.std.specs.List.Sorted.{IsPartitionedBy, IsPartitionPoint}
 use Rattle.base.specs.InOrderOnce.{InOrder}
 use Rattle.causes.specs.declared.takings.Taking.{Taking}
-use Rattle.causes.specs.Takings.{IsFirstAbove}
+use Rattle.causes.specs.Takings.{IsFirstTakingAbove}
 use Rattle.causes.proofs.takings.first_above.Goals as goal
 
 -- whether the timestamp counts no more of p's intervals
@@ -41,7 +41,7 @@ under takings p number i point n x lt at =
     (point.0 n x (omega arith) lt))
 
 found : (takings : List Taking) (p number i : ℕ) (x : Taking) → IsPoint takings p number i
-    → slice_get takings i ≡ Some x → IsFirstAbove takings p number x.place
+    → slice_get takings i ≡ Some x → IsFirstTakingAbove takings p number x.place
 found takings p number i x point at = record {
   index = i;
   taking = x;

@@ -2,7 +2,7 @@ use Rattle.std.proofs.Common.{◌≡◌, ℕ, inl, inr, [], ◌∷◌, ◌++◌,
 use Rattle.std.specs.Global.{Vec}
 use Rattle.base.proofs.SlicesAndCounts.{slice_push_cases}
 use Rattle.causes.specs.declared.takings.Taking.{Taking}
-use Rattle.causes.proofs.Takes.{takings_none}
+use Rattle.causes.proofs.TakingRows.{takings_none}
 use Rattle.causes.proofs.takings.no_takings.Goals as goal
 
 -- nothing stands in these rows

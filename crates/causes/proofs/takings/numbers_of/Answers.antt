@@ -7,8 +7,8 @@ use Rattle.journal.specs.DidEvent.{event}
 use Rattle.journal.specs.Events.{is_closing}
 use Rattle.journal.specs.InRange.{ProcessorsInRange}
 use Rattle.journal.proofs.Passes.ClockEntry.{entry_zeros_at}
-use Rattle.causes.proofs.LeadsOn.{count_within, counts_next, one_or_none}
-use Rattle.causes.proofs.Takes.{numbers_next}
+use Rattle.causes.proofs.EdgeLeadsOn.{edge_leads_count_within, edge_leads_counts_next, edge_one_or_none}
+use Rattle.causes.proofs.TakingRows.{taking_numbers_next}
 use Rattle.causes.proofs.takings.numbers_of.Goals as goal
 
 -- the event at this place
@@ -45,9 +45,9 @@ overflow_add-closed c =
     let few = c.requires.few in
     let is = low events place lt c.requires.processors in
     let count = c.loop-place.invariant.closed p is in
-    let most = count_within is_closing events place p (omega arith) in
+    let most = edge_leads_count_within is_closing events place p (omega arith) in
     let one = c.closing_of.ensures in
-    let bit = one_or_none (is_closing (here events place).kind) in
+    let bit = edge_one_or_none (is_closing (here events place).kind) in
     omega arith
 
 pub offset_bounds-closed-event-in-loop-place : goal.offset_bounds-closed-event-in-loop-place
@@ -72,10 +72,10 @@ loop-place-preserved c =
     let long : length numbers.items ≡ place = omega (arith, numbers.ok.0, old.long) in
     record {
       closed_long = length-set c.loop-place.closed e.processor _ ∙ old.closed_long;
-      closed = counts_next is_closing events place e c.loop-place.closed _ at old.closed_long old.closed (omega arith);
+      closed = edge_leads_counts_next is_closing events place e c.loop-place.closed _ at old.closed_long old.closed (omega arith);
       long = (let len = c.in_ok-push.ensures.len in let was = old.long in omega arith);
       numbers =
-          numbers_next events place _ e numbers.items c.push.new.self.items long at (old.closed e.processor low)
+          taking_numbers_next events place _ e numbers.items c.push.new.self.items long at (old.closed e.processor low)
           c.in_ok-push.ensures.items old.numbers;
     }
 

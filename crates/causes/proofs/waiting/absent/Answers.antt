@@ -2,8 +2,8 @@ use Rattle.std.proofs.Common.{ℕ, ◌+◌, length, subst, sym, ap, arith}
 use Rattle.std.proofs.lemmas.List.{take_all}
 use Rattle.std.specs.Global.{Vec}
 use Rattle.journal.specs.Events.{count_of, is_depart}
-use Rattle.causes.specs.Waits.{AreThose, IsAbsent}
-use Rattle.causes.proofs.Standing.{those_next, those_other}
+use Rattle.causes.specs.Waits.{AreThose, WaitsForAbsent}
+use Rattle.causes.proofs.Waits.{cause_waits_those_next, cause_waits_those_others}
 use Rattle.causes.proofs.waiting.absent.Goals as goal
 use Rattle.causes.proofs.waiting.absent.Goals.{then-arrivals-departed+in_ok-push, else-arrivals-departed}
 
@@ -11,7 +11,7 @@ pub loop-processor-preserved : goal.loop-processor-preserved
 loop-processor-preserved c =
     let events = c.args.events.now in
     let n = c.loop-processor.processor in
-    let P : ℕ → Type 0 = IsAbsent events c.args.by in
+    let P : ℕ → Type 0 = WaitsForAbsent events c.args.by in
     let old = c.loop-processor.invariant in
     let absent = c.loop-processor.absent.items in
     let whole = ap (λ xs. count_of is_depart xs c.args.by) (take_all (length events) events (omega arith)) in
@@ -20,11 +20,11 @@ loop-processor-preserved c =
     elim c.if-arrivals-departed.branch [
       | then-arrivals-departed+in_ok-push w ↦
           (let le = w.if-arrivals-departed.true in
-          let now : IsAbsent events c.args.by n = omega arith in
+          let now : WaitsForAbsent events c.args.by n = omega arith in
           subst (λ (v : Vec ℕ). AreThose P (n + 1) v.items) (sym w.absent-is)
-          (subst (AreThose P (n + 1)) (sym w.in_ok-push.ensures.items) (those_next P n absent now old)))
+          (subst (AreThose P (n + 1)) (sym w.in_ok-push.ensures.items) (cause_waits_those_next P n absent now old)))
       | else-arrivals-departed w ↦
           (let lt = w.if-arrivals-departed.false in
-          let away : ¬ IsAbsent events c.args.by n = λ le. absurd (omega arith) in
-          subst (λ (v : Vec ℕ). AreThose P (n + 1) v.items) (sym w.absent-is) (those_other P n absent away old))
+          let away : ¬ WaitsForAbsent events c.args.by n = λ le. absurd (omega arith) in
+          subst (λ (v : Vec ℕ). AreThose P (n + 1) v.items) (sym w.absent-is) (cause_waits_those_others P n absent away old))
     ]

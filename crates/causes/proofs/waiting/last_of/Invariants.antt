@@ -1,5 +1,5 @@
-use Rattle.causes.proofs.Standing.{LastBelow}
+use Rattle.causes.proofs.Waits.{WaitLastBelow}
 use Rattle.causes.proofs.waiting.last_of.Given as goal
 
 abbrev pub invariant-loop-place : goal.invariant-loop-place
-invariant-loop-place l = LastBelow l.events l.by l.place l.last
+invariant-loop-place l = WaitLastBelow l.events l.by l.place l.last

@@ -3,7 +3,7 @@ use Rattle.std.specs.Global.{Vec}
 use Rattle.std.proofs.lemmas.Bool.{false≢true}
 use Rattle.journal.specs.WellFormed.{Holds}
 use Rattle.causes.specs.Waits.{AreThose}
-use Rattle.causes.proofs.Standing.{those_next, those_other}
+use Rattle.causes.proofs.Waits.{cause_waits_those_next, cause_waits_those_others}
 use Rattle.causes.proofs.waiting.locks_held.Goals as goal
 use Rattle.causes.proofs.waiting.locks_held.Goals.{then-holds+in_ok-push, else-holds}
 
@@ -17,8 +17,8 @@ loop-lock-preserved c =
       | then-holds+in_ok-push w ↦
           subst (λ (v : Vec ℕ). AreThose P (n + 1) v.items) (sym w.held-is)
           (subst (AreThose P (n + 1)) (sym w.in_ok-push.ensures.items)
-          (those_next P n held (w.if-holds.ensures.0 refl) old))
+          (cause_waits_those_next P n held (w.if-holds.ensures.0 refl) old))
       | else-holds w ↦
           subst (λ (v : Vec ℕ). AreThose P (n + 1) v.items) (sym w.held-is)
-          (those_other P n held (λ holds. false≢true (w.if-holds.ensures.1 holds)) old)
+          (cause_waits_those_others P n held (λ holds. false≢true (w.if-holds.ensures.1 holds)) old)
     ]

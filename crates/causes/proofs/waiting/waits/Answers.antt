@@ -1,6 +1,6 @@
 use Rattle.std.proofs.Common.{◌≡◌, length, subst, sym, arith}
 use Rattle.causes.specs.Waits.{AreWaits}
-use Rattle.causes.proofs.Standing.{waits_next}
+use Rattle.causes.proofs.Waits.{cause_waits_rows_next}
 use Rattle.causes.proofs.waiting.waits.Goals as goal
 
 pub loop-by-preserved : goal.loop-by-preserved
@@ -14,7 +14,7 @@ loop-by-preserved c =
       long = (let len = c.in_ok-push.ensures.len in let was = old.long in omega arith);
       waits =
           subst (AreWaits c.args.processors events) (sym c.in_ok-push.ensures.items)
-          (waits_next c.args.processors events waits.items by c.in_ok-wait_of.field-0 long old.waits
+          (cause_waits_rows_next c.args.processors events waits.items by c.in_ok-wait_of.field-0 long old.waits
           c.in_ok-wait_of.ensures);
     }
 

@@ -3,14 +3,14 @@ use Rattle.std.proofs.lemmas.Result.{IfOk-weaker}
 use Rattle.explore.specs.declared.guarded.WordUse.{WordUse}
 use Rattle.lrc_script.specs.Plan.{plan_of}
 use Rattle.explore.specs.Guarded.{AreGuarded}
-use Rattle.explore.proofs.locksets.Noted.{flags_of, each_few, guarded_word, rows_within}
+use Rattle.explore.proofs.locksets.Noted.{lockset_noted_flags_of, lockset_noted_each_few, lockset_noted_guarded_word, lockset_noted_rows_within}
 use Rattle.explore.proofs.guarded.guarded_words.Goals as goal
 
 pub uses-requires-clause-within : goal.uses-requires-clause-within
-uses-requires-clause-within c = rows_within (plan_of c.args.script.now) c.args.steps.now c.requires
+uses-requires-clause-within c = lockset_noted_rows_within (plan_of c.args.script.now) c.args.steps.now c.requires
 
 pub uses-requires-clause-few : goal.uses-requires-clause-few
-uses-requires-clause-few c = each_few (plan_of c.args.script.now) c.args.steps.now c.requires
+uses-requires-clause-few c = lockset_noted_each_few (plan_of c.args.script.now) c.args.steps.now c.requires
 
 pub returns-clause-guarded : goal.returns-clause-guarded
 returns-clause-guarded c =
@@ -18,6 +18,6 @@ returns-clause-guarded c =
     (λ v is w yes.
     let words = c.in_ok-words.words.items in
     let told = subst (λ bs. IsTrue (slice_index_or bs w false)) (is ∙ ap (map (λ (x : WordUse). x.is_guarded)) c.deref.ensures.value) yes in
-    let found = flags_of words w told in
-    guarded_word words c.args.steps.now w found.0 c.in_ok-words.ensures.noted c.in_ok-words.ensures.sound found.1 found.2)
+    let found = lockset_noted_flags_of words w told in
+    lockset_noted_guarded_word words c.args.steps.now w found.0 c.in_ok-words.ensures.noted c.in_ok-words.ensures.sound found.1 found.2)
     c.flags_of.ensures

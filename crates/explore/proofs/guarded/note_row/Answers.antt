@@ -1,16 +1,16 @@
 use Rattle.std.proofs.Common.{◌≡◌, length, refl, subst, arith}
 use Rattle.std.proofs.lemmas.Option.{slice_get-get_or}
 use Rattle.std.specs.Prelude.{vec_len}
-use Rattle.explore.specs.Users.{AreNoted}
-use Rattle.explore.specs.Guarded.{held_at}
-use Rattle.explore.proofs.locksets.Noted.{held_step, keeps_on, keeps_same, none_held, noted_kept, noted_more, phase_small, phase_step, used_phase, within_size}
+use Rattle.explore.specs.Users.{AreStepUsersNoted}
+use Rattle.explore.specs.Guarded.{guard_held_at}
+use Rattle.explore.proofs.locksets.Noted.{lockset_noted_held_step, lockset_noted_keeps_on, lockset_noted_keeps_same, lockset_noted_none_held, noted_kept, noted_more, lockset_noted_phase_small, lockset_noted_phase_step, lockset_noted_used_phase, lockset_noted_within_size}
 use Rattle.explore.proofs.guarded.note_row.Goals as goal
 
 pub loop-step-init : goal.loop-step-init
 loop-step-init c = record {
   phase = refl;
-  held = λ q. none_held 32 q;
-  keeps = keeps_same c.args.words.now.items;
+  held = λ q. lockset_noted_none_held 32 q;
+  keeps = lockset_noted_keeps_same c.args.words.now.items;
   noted = λ i w step lt. absurd (omega arith);
 }
 
@@ -22,13 +22,13 @@ loop-step-preserved c =
     let old = c.loop-step.invariant in
     let keeps = c.in_ok-note_step.ensures.keeps in
     record {
-      phase = phase_step row n _ _ _ c.phase_after-phase.ensures old.phase at;
-      held = λ q. held_step row n q _ _ _ (c.hold.ensures.held q) (old.held q) at;
-      keeps = keeps_on _ _ _ old.keeps keeps;
+      phase = lockset_noted_phase_step row n _ _ _ c.phase_after-phase.ensures old.phase at;
+      held = λ q. lockset_noted_held_step row n q _ _ _ (c.hold.ensures.held q) (old.held q) at;
+      keeps = lockset_noted_keeps_on _ _ _ old.keeps keeps;
       noted =
           noted_more _ _ row n _ at (noted_kept _ _ _ row n keeps old.noted)
-          (λ w address. used_phase _ w _ _ _ _ (held_at row n) old.phase
-          (c.in_ok-note_step.ensures.noted (held_at row n) old.held w address));
+          (λ w address. lockset_noted_used_phase _ w _ _ _ _ (guard_held_at row n) old.phase
+          (c.in_ok-note_step.ensures.noted (guard_held_at row n) old.held w address));
     }
 
 pub note_step-requires : goal.note_step-requires
@@ -39,7 +39,7 @@ note_step-requires c =
     let size = c.loop-step.words.ok.0 in
     let before = c.args.words.now.ok.0 in
     let same : vec_len c.args.words.now ≡ vec_len c.loop-step.words = omega arith in
-    within_size (vec_len c.args.words.now) (vec_len c.loop-step.words) _ same (c.requires.within n _ at)
+    lockset_noted_within_size (vec_len c.args.words.now) (vec_len c.loop-step.words) _ same (c.requires.within n _ at)
 
 pub hold-requires : goal.hold-requires
 hold-requires c =
@@ -50,7 +50,7 @@ hold-requires c =
 pub phase_after-phase-requires : goal.phase_after-phase-requires
 phase_after-phase-requires c =
     let lt = c.loop-step-test.true in
-    let small = phase_small c.args.row.now c.loop-step.step-index (omega arith) in
+    let small = lockset_noted_phase_small c.args.row.now c.loop-step.step-index (omega arith) in
     let is = c.loop-step.invariant.phase in
     let few = c.requires.few in
     omega (arith, small, is, few)
@@ -63,4 +63,4 @@ returns-clause-noted c =
     let over = c.loop-step-test.false in
     let top = c.loop-step.auto.step-index-end in
     let end : c.loop-step.step-index ≡ length c.args.row.now = omega arith in
-    subst (AreNoted c.loop-step.words.items c.args.processor c.args.row.now) end c.loop-step.invariant.noted
+    subst (AreStepUsersNoted c.loop-step.words.items c.args.processor c.args.row.now) end c.loop-step.invariant.noted

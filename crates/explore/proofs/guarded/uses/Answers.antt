@@ -1,8 +1,8 @@
 use Rattle.std.proofs.Common.{ℕ, ◌≡◌, ◌<◌, length, sym, subst, ◌∙◌, arith}
 use Rattle.std.specs.Prelude.{◌^◌, vec_len}
-use Rattle.explore.specs.Users.{AreNoted, AreRowsNoted, AreStepsWithin}
-use Rattle.explore.proofs.Machines.{read_at}
-use Rattle.explore.proofs.locksets.Noted.{rows_more}
+use Rattle.explore.specs.Users.{AreStepUsersNoted, AreUserRowsNoted, AreUserStepsWithin}
+use Rattle.explore.proofs.Machines.{machine_read_at}
+use Rattle.explore.proofs.locksets.Noted.{lockset_noted_rows_more}
 use Rattle.explore.proofs.guarded.uses.Goals as goal
 
 pub loop-processor-init : goal.loop-processor-init
@@ -16,18 +16,18 @@ pub note_row-requires-clause-within : goal.note_row-requires-clause-within
 note_row-requires-clause-within c =
     let p = c.loop-processor.processor in
     let row = c.index-steps-processor.result in
-    let at = read_at c.args.steps.now p row c.loop-processor-test.true c.index-steps-processor.is in
+    let at = machine_read_at c.args.steps.now p row c.loop-processor-test.true c.index-steps-processor.is in
     let long = c.loop-processor.invariant.long in
     let size = c.loop-processor.words.ok.0 in
     let same : c.args.size ≡ vec_len c.loop-processor.words = omega arith in
-    subst (λ xs. AreStepsWithin (vec_len c.loop-processor.words) xs) (sym c.deref.ensures.value)
-    (subst (λ n. AreStepsWithin n row.items) same (c.requires.within p row at))
+    subst (λ xs. AreUserStepsWithin (vec_len c.loop-processor.words) xs) (sym c.deref.ensures.value)
+    (subst (λ n. AreUserStepsWithin n row.items) same (c.requires.within p row at))
 
 pub note_row-requires-clause-few : goal.note_row-requires-clause-few
 note_row-requires-clause-few c =
     let p = c.loop-processor.processor in
     let row = c.index-steps-processor.result in
-    let at = read_at c.args.steps.now p row c.loop-processor-test.true c.index-steps-processor.is in
+    let at = machine_read_at c.args.steps.now p row c.loop-processor-test.true c.index-steps-processor.is in
     let few = c.requires.few p row at in
     subst (λ xs. length xs < 2 ^ 20) (sym c.deref.ensures.value) few
 
@@ -35,14 +35,14 @@ pub loop-processor-preserved : goal.loop-processor-preserved
 loop-processor-preserved c =
     let p = c.loop-processor.processor in
     let row = c.index-steps-processor.result in
-    let at = read_at c.args.steps.now p row c.loop-processor-test.true c.index-steps-processor.is in
+    let at = machine_read_at c.args.steps.now p row c.loop-processor-test.true c.index-steps-processor.is in
     let old = c.loop-processor.invariant in
     let keeps = c.in_ok-note_row.ensures.keeps in
-    let noted = subst (λ xs. AreNoted c.note_row.new.words.items p xs (length xs)) c.deref.ensures.value
+    let noted = subst (λ xs. AreStepUsersNoted c.note_row.new.words.items p xs (length xs)) c.deref.ensures.value
     c.in_ok-note_row.ensures.noted in
     record {
       long = keeps.long ∙ old.long;
-      noted = rows_more c.loop-processor.words.items c.note_row.new.words.items c.args.steps.now p row at keeps old.noted noted;
+      noted = lockset_noted_rows_more c.loop-processor.words.items c.note_row.new.words.items c.args.steps.now p row at keeps old.noted noted;
       sound = keeps.sound old.sound;
     }
 
@@ -51,4 +51,4 @@ returns-clause-noted c =
     let over = c.loop-processor-test.false in
     let top = c.loop-processor.auto.processor-end in
     let end : c.loop-processor.processor ≡ length c.args.steps.now = omega arith in
-    subst (AreRowsNoted c.loop-processor.words.items c.args.steps.now) end c.loop-processor.invariant.noted
+    subst (AreUserRowsNoted c.loop-processor.words.items c.args.steps.now) end c.loop-processor.invariant.noted

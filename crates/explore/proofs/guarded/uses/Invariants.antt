@@ -1,10 +1,10 @@
 use Rattle.std.proofs.Common.{◌≡◌, length}
-use Rattle.explore.specs.Users.{AreRowsNoted, AreSoundUses}
+use Rattle.explore.specs.Users.{AreUserRowsNoted, AllUsersSound}
 use Rattle.explore.proofs.guarded.uses.Given as goal
 
 abbrev pub invariant-loop-processor : goal.invariant-loop-processor
 invariant-loop-processor l = record {
   long : length l.words.items ≡ l.size;
-  noted : AreRowsNoted l.words.items l.steps l.processor;
-  sound : AreSoundUses l.words.items;
+  noted : AreUserRowsNoted l.words.items l.steps l.processor;
+  sound : AllUsersSound l.words.items;
 }

@@ -5,7 +5,7 @@ use Rattle.std.proofs.lemmas.Bool.{cases_eq, cases_lt}
 use Rattle.std.proofs.lemmas.Option.{none-some}
 use Rattle.journal.specs.DidEvent.{did}
 use Rattle.explore.specs.Prefixes.Beginnings.{IsFlatBeginning}
-use Rattle.explore.proofs.Machines.{next_within, rows_few, rows_many}
+use Rattle.explore.proofs.Machines.{machine_next_within, machine_rows_few, machine_rows_many}
 use Rattle.explore.proofs.neighbours.nexts_of.Goals as goal
 
 pub loop-processor-preserved : goal.loop-processor-preserved
@@ -15,7 +15,7 @@ loop-processor-preserved c =
     let o = c.next.result in
     let old = c.loop-processor.invariant in
     let long = old.long in
-    let few = rows_few c.requires.plan c.args.steps.now c.requires.lawful in
+    let few = machine_rows_few c.requires.plan c.args.steps.now c.requires.lawful in
     let lt = c.loop-processor-test.true in
     record {
       long = length-set xs n o ∙ old.long;
@@ -42,8 +42,8 @@ returns-clause-nexts c = λ s lawful g knows p k.
       | inr past ↦ (
         λ is. absurd (none-some k (sym (old.others p past) ∙ is)),
         λ h.
-            let within = next_within s g p k h in
-            let many = rows_many s c.args.steps.now lawful in
+            let within = machine_next_within s g p k h in
+            let many = machine_rows_many s c.args.steps.now lawful in
             let over = c.loop-processor-test.false in
             absurd (omega arith),
       )

@@ -5,13 +5,13 @@ use Rattle.journal.specs.declared.event.Kind.{Kind}
 use Rattle.journal.specs.DidEvent.{did}
 use Rattle.lrc_script.specs.Plan.{Plan}
 use Rattle.explore.specs.Prefixes.Beginnings.{IsFlatBeginning}
-use Rattle.explore.specs.Machines.{AreLawfulSteps, Knows}
+use Rattle.explore.specs.Machines.{AreLawfulMachineSteps, Knows}
 use Rattle.explore.proofs.neighbours.nexts_of.Given as goal
 
 abbrev pub invariant-loop-processor : goal.invariant-loop-processor
 invariant-loop-processor l = record {
   long : length l.nexts ≡ 16;
-  each : (s : Plan) (g : List Event) (p : ℕ) (k : Kind) → AreLawfulSteps s l.steps → Knows s g l.state
+  each : (s : Plan) (g : List Event) (p : ℕ) (k : Kind) → AreLawfulMachineSteps s l.steps → Knows s g l.state
       → p < l.processor → (slice_index_or l.nexts p None ≡ Some k) ↔ IsFlatBeginning s (did g p k);
   others : (p : ℕ) → l.processor ≤ p → slice_index_or l.nexts p None ≡ None;
 }

@@ -13,22 +13,22 @@ use Rattle.journal.proofs.Order.HappensBefore.{before_goes_forward, before_ends_
 use Rattle.base.proofs.SlicesAndCounts.{slice_get-take}
 use Rattle.lrc_script.specs.Plan.{Plan}
 use Rattle.explore.specs.Prefixes.Beginnings.{IsFlatBeginning}
-use Rattle.explore.proofs.prefixes.Beginnings.{front_begins}
-use Rattle.explore.proofs.prefixes.Removal.Places.{lift, lift_before, lowered}
-use Rattle.explore.proofs.prefixes.Removal.Order.{race_left}
-use Rattle.explore.proofs.prefixes.Removal.Removed.{IsRemovable, others_behind, removable, removed}
+use Rattle.explore.proofs.prefixes.Beginnings.{beginning_front}
+use Rattle.explore.proofs.prefixes.Removal.Places.{removal_lift, removal_lift_before, removal_place_lowered}
+use Rattle.explore.proofs.prefixes.Removal.Order.{removal_race_left}
+use Rattle.explore.proofs.prefixes.Removal.Removed.{MayBeRemoved, removed_others_behind, removed_without_race, removed}
 
 -- what holds of each list around the item x holds of a list where x stands
-pub around : {A : Type 0} (x : A) (P : List A → ℕ → Type 0) → ((a b : List A) → P (a ++ x ∷ b) (length a))
+pub last_race_around : {A : Type 0} (x : A) (P : List A → ℕ → Type 0) → ((a b : List A) → P (a ++ x ∷ b) (length a))
     → (xs : List A) (k : ℕ) → slice_get xs k ≡ Some x → P xs k
-around x P h [] k at = absurd (none-some x at)
-around x P h (y ∷ xs) zero at = subst (λ z. P (z ∷ xs) 0) (sym (same_Some y x at)) (h [] xs)
-around x P h (y ∷ xs) (suc k) at = around x (λ ys n. P (y ∷ ys) (suc n)) (λ a b. h (y ∷ a) b) xs k at
+last_race_around x P h [] k at = absurd (none-some x at)
+last_race_around x P h (y ∷ xs) zero at = subst (λ z. P (z ∷ xs) 0) (sym (same_Some y x at)) (h [] xs)
+last_race_around x P h (y ∷ xs) (suc k) at = last_race_around x (λ ys n. P (y ∷ ys) (suc n)) (λ a b. h (y ∷ a) b) xs k at
 
 -- a front is a beginning
-pub begins_take : (s : Plan) (g : List Event) (n : ℕ) → IsFlatBeginning s g → IsFlatBeginning s (take n g)
-begins_take s g n h =
-    front_begins s (take n g) (drop n g) (subst (IsFlatBeginning s) (sym (take-append-drop n g)) h)
+pub last_race_begins_take : (s : Plan) (g : List Event) (n : ℕ) → IsFlatBeginning s g → IsFlatBeginning s (take n g)
+last_race_begins_take s g n h =
+    beginning_front s (take n g) (drop n g) (subst (IsFlatBeginning s) (sym (take-append-drop n g)) h)
 
 -- and the front up to the second of two that race has their race
 pub race_take : (g : List Event) (i k : ℕ) → Race g i k → Race (take (suc k) g) i k
@@ -59,23 +59,23 @@ no_race_before : (s : Plan) (g : List Event) (i last m n : ℕ) → RacesLast s 
 no_race_before s g i last m n r lt race =
     let within = numbered_at_within g n race.second race.second_at in
     let long = length-take-le (suc n) g (omega arith) in
-    r.shorter (take (suc n) g) (omega arith) (begins_take s g (suc n) r.begins) m n (race_take g m n race)
+    r.shorter (take (suc n) g) (omega arith) (last_race_begins_take s g (suc n) r.begins) m n (race_take g m n race)
 
 -- an event between that is reached from i, and is the last such one, could be left out
-nearest : (s : Plan) (a b : List Event) (x : Event) (i last : ℕ) → RacesLast s (a ++ x ∷ b) i last → length a < last
+last_race_nearest : (s : Plan) (a b : List Event) (x : Event) (i last : ℕ) → RacesLast s (a ++ x ∷ b) i last → length a < last
     → HappensBefore (a ++ x ∷ b) i (length a)
     → ((m : ℕ) → length a < m → m < last → ¬ HappensBefore (a ++ x ∷ b) i m) → ⊥
-nearest s a b x i last r before reached none =
+last_race_nearest s a b x i last r before reached none =
     r.shorter (a ++ b) (omega (arith, short)) (removed s a b x free r.begins) i low.0
-    (race_left a b x (others_behind a b x unreached) i low.0
-    (subst (λ m. Race (a ++ x ∷ b) m (lift (length a) low.0)) (sym (lift_before (length a) i forward))
+    (removal_race_left a b x (removed_others_behind a b x last_race_unreached) i low.0
+    (subst (λ m. Race (a ++ x ∷ b) m (removal_lift (length a) low.0)) (sym (removal_lift_before (length a) i forward))
     (subst (Race (a ++ x ∷ b) i) (sym low.1) r.race)))
   where
     forward : i < length a
     forward = before_goes_forward (a ++ x ∷ b) reached
 
-    low : (k : ℕ) × (lift (length a) k ≡ last)
-    low = lowered (length a) last (λ is. absurd (omega arith))
+    low : (k : ℕ) × (removal_lift (length a) k ≡ last)
+    low = removal_place_lowered (length a) last (λ is. absurd (omega arith))
 
     short : length (a ++ b) ≡ last
     short =
@@ -85,7 +85,7 @@ nearest s a b x i last r before reached none =
         omega arith
 
     unreached : (m : ℕ) → ¬ HappensBefore (a ++ x ∷ b) (length a) m
-    unreached m h =
+    last_race_unreached m h =
         let ahead = before_goes_forward (a ++ x ∷ b) h in
         let within = before_ends_within (a ++ x ∷ b) h in
         let long = r.long in
@@ -107,35 +107,35 @@ nearest s a b x i last r before reached none =
           ]
         ]
 
-    free : IsRemovable a b x
-    free = removable a b x unreached unraced
+    free : MayBeRemoved a b x
+    free = removed_without_race a b x last_race_unreached unraced
 
 -- what is reached stands in the history
-reached_at : (j : List Event) {i m : ℕ} → HappensBefore j i m → (f : Event) × At j m f
-reached_at j (edge e) = (e.to, e.to_at)
-reached_at j (on h e) = (e.to, e.to_at)
+last_race_reached_at : (j : List Event) {i m : ℕ} → HappensBefore j i m → (f : Event) × At j m f
+last_race_reached_at j (edge e) = (e.to, e.to_at)
+last_race_reached_at j (on h e) = (e.to, e.to_at)
 
 -- so none between is reached from i
-unreached_between : (s : Plan) (g : List Event) (i last : ℕ) → RacesLast s g i last → (c m : ℕ) → m < last → last ≤ m + c
+last_race_unreached_between : (s : Plan) (g : List Event) (i last : ℕ) → RacesLast s g i last → (c m : ℕ) → m < last → last ≤ m + c
     → ¬ HappensBefore g i m
-unreached_between s g i last r zero m lt le h = absurd (omega arith)
-unreached_between s g i last r (suc c) m lt le h =
-    let there = reached_at g h in
-    around there.0
+last_race_unreached_between s g i last r zero m lt le h = absurd (omega arith)
+last_race_unreached_between s g i last r (suc c) m lt le h =
+    let there = last_race_reached_at g h in
+    last_race_around there.0
     (λ xs n. RacesLast s xs i last → n < last → HappensBefore xs i n
     → ((k : ℕ) → n < k → k < last → ¬ HappensBefore xs i k) → ⊥)
-    (λ a b. nearest s a b there.0 i last) g m there.1 r lt h
-    (λ k above below. unreached_between s g i last r c k below (omega arith))
+    (λ a b. last_race_nearest s a b there.0 i last) g m there.1 r lt h
+    (λ k above below. last_race_unreached_between s g i last r c k below (omega arith))
 
 -- and nothing at all
-pub unreached : (s : Plan) (g : List Event) (i last : ℕ) → RacesLast s g i last → (m : ℕ) → ¬ HappensBefore g i m
-unreached s g i last r m h =
+pub last_race_unreached : (s : Plan) (g : List Event) (i last : ℕ) → RacesLast s g i last → (m : ℕ) → ¬ HappensBefore g i m
+last_race_unreached s g i last r m h =
     let within = before_ends_within g h in
     let long = r.long in
     elim (cases_order m last) [
       | inl is ↦ r.race.unordered (subst (HappensBefore g i) is h)
       | inr apart ↦ elim apart [
-        | inl lt ↦ unreached_between s g i last r last m lt (omega arith) h
+        | inl lt ↦ last_race_unreached_between s g i last r last m lt (omega arith) h
         | inr lt ↦ absurd (omega arith)
       ]
     ]

@@ -15,33 +15,33 @@ use Rattle.journal.proofs.Order.CountedAndNumbered.{numbered_at_same, numbered_a
 use Rattle.journal.proofs.Order.HappensBefore.{before_goes_forward}
 use Rattle.base.proofs.SlicesAndCounts.{slice_push_cases}
 use Rattle.lrc_script.specs.Lawful.{plan_addresses}
-use Rattle.explore.specs.Prefixes.Laws.{MayComeNext, RacingLaw}
-use Rattle.explore.proofs.prefixes.Beginnings.{next_begins}
-use Rattle.explore.proofs.prefixes.Neighbours.Replies.{replied, replied_replyless, conflict_second, access_over}
+use Rattle.explore.specs.Prefixes.Laws.{MayComeNextByLaw, RacingLaw}
+use Rattle.explore.proofs.prefixes.Beginnings.{beginning_next}
+use Rattle.explore.proofs.prefixes.Neighbours.Replies.{replied, replied_replyless, neighbour_replied_conflict_second, neighbour_replied_access_over}
 
 -- an access lets nothing through
-lets_none : (j k : Kind) (w : ℕ) → address_of j ≡ Some w → ¬ LetsThrough j k
-lets_none (Release l) k w at h = none-some w at
-lets_none (Set f) k w at h = none-some w at
-lets_none _ _ w at h = h
+neighbour_racing_lets_none : (j k : Kind) (w : ℕ) → address_of j ≡ Some w → ¬ LetsThrough j k
+neighbour_racing_lets_none (Release l) k w at h = none-some w at
+neighbour_racing_lets_none (Set f) k w at h = none-some w at
+neighbour_racing_lets_none _ _ w at h = h
 
 -- nothing leads from an access to the next event, of another
-no_link : (j : List Event) (i k : ℕ) (e f : Event) (w : ℕ) → address_of e.kind ≡ Some w → e.processor ≢ f.processor
+neighbour_racing_no_link : (j : List Event) (i k : ℕ) (e f : Event) (w : ℕ) → address_of e.kind ≡ Some w → e.processor ≢ f.processor
     → ¬ Link j i k e f
-no_link j i k e f w at apart (same s) = apart s
-no_link j i k e f w at apart (lets l) = lets_none e.kind f.kind w at l
-no_link j i k e f w at apart (meets m) = none-some w (sym (ap address_of m.arrives) ∙ at)
+neighbour_racing_no_link j i k e f w at apart (same s) = apart s
+neighbour_racing_no_link j i k e f w at apart (lets l) = neighbour_racing_lets_none e.kind f.kind w at l
+neighbour_racing_no_link j i k e f w at apart (meets m) = none-some w (sym (ap address_of m.arrives) ∙ at)
 
-no_edge : (j : List Event) (i k : ℕ) (e f : Event) (w : ℕ) → At j i e → At j k f → address_of e.kind ≡ Some w
+neighbour_racing_no_edge : (j : List Event) (i k : ℕ) (e f : Event) (w : ℕ) → At j i e → At j k f → address_of e.kind ≡ Some w
     → e.processor ≢ f.processor → ¬ Edge j i k
-no_edge j i k e f w here there at apart d =
-    no_link j i k e f w at apart
+neighbour_racing_no_edge j i k e f w here there at apart d =
+    neighbour_racing_no_link j i k e f w at apart
     (subst (λ x. Link j i k x f) (numbered_at_same j i d.from e d.from_at here)
     (subst (λ y. Link j i k d.from y) (numbered_at_same j k d.to f d.to_at there) d.link))
 
 -- one event happens before the next by an edge alone
-no_order : (j : List Event) (i : ℕ) → ¬ Edge j i (i + 1) → ¬ HappensBefore j i (i + 1)
-no_order j i none h = go (i + 1) (omega arith) none h
+neighbour_racing_no_order : (j : List Event) (i : ℕ) → ¬ Edge j i (i + 1) → ¬ HappensBefore j i (i + 1)
+neighbour_racing_no_order j i none h = go (i + 1) (omega arith) none h
   where
     go : (k : ℕ) → k ≡ i + 1 → ¬ Edge j i k → ¬ HappensBefore j i k
     go k is without (edge d) = without d
@@ -51,7 +51,7 @@ pub racing : RacingLaw
 racing s g p q a b first second apart conflict = record {
   kind = kind;
   call = replied_replyless memory b;
-  beginning = (next_begins s (did g p a) q kind).1 (first, next);
+  beginning = (beginning_next s (did g p a) q kind).1 (first, next);
   race = record {
     before = omega arith;
     first = event p a;
@@ -60,8 +60,8 @@ racing s g p q a b first second apart conflict = record {
     second_at = there;
     apart = apart;
     conflict = conflicts;
-    unordered = no_order (did (did g p a) q kind) (length g)
-        (no_edge (did (did g p a) q kind) (length g) (length g + 1) (event p a) (event q kind) conflict.address here
+    unordered = neighbour_racing_no_order (did (did g p a) q kind) (length g)
+        (neighbour_racing_no_edge (did (did g p a) q kind) (length g) (length g + 1) (event p a) (event q kind) conflict.address here
         there conflict.first apart);
   };
 }
@@ -78,8 +78,8 @@ racing s g p q a b first second apart conflict = record {
       | inr new ↦ apart (ap (λ (e : Event). e.processor) new.1 ∙ is)
     ]
 
-    next : MayComeNext s (did g p a) q kind
-    next = access_over s g (event p a ∷ []) q b conflict.address conflict.second others ((next_begins s g q b).0 second).1
+    next : MayComeNextByLaw s (did g p a) q kind
+    next = neighbour_replied_access_over s g (event p a ∷ []) q b conflict.address conflict.second others ((beginning_next s g q b).0 second).1
 
     here : At (did (did g p a) q kind) (length g) (event p a)
     here = numbered_at_longer (did g p a) (event q kind ∷ []) (length g) (event p a) (numbered_at_last g (event p a))
@@ -89,4 +89,4 @@ racing s g p q a b first second apart conflict = record {
         (numbered_at_last (did g p a) (event q kind))
 
     conflicts : Conflict (event p a) (event q kind)
-    conflicts = conflict_second (event p a) q memory b conflict
+    conflicts = neighbour_replied_conflict_second (event p a) q memory b conflict

@@ -18,8 +18,8 @@ use Rattle.conformance.specs.Follows.{followed_plan_sizes, followed_calls, is_fo
 use Rattle.conformance.proofs.Calls.{followed_calls-append, calls_of_first-other}
 use Rattle.explore.specs.declared.prefixes.script_call.ScriptCall.{ScriptCall}
 use Rattle.explore.specs.declared.prefixes.script_call.ScriptCall.TheVariants.{Call, Adds}
-use Rattle.explore.specs.Prefixes.Calling.{replyless, last_reply, IsStep, IsCalledNext, section_steps, shown_by}
-use Rattle.explore.specs.Prefixes.Laws.{MayComeNext}
+use Rattle.explore.specs.Prefixes.Calling.{replyless_call, last_reply_of_calls, IsCallOfStep, IsCalledNext, prefix_calling_section_steps, prefix_calling_shown_by}
+use Rattle.explore.specs.Prefixes.Laws.{MayComeNextByLaw}
 
 -- the call, with the reply that a load of it has in this memory
 abbrev pub replied : List ℕ → Kind → Kind
@@ -27,7 +27,7 @@ replied memory (Load w v) = Load w (get_or memory w 0)
 replied memory k = k
 
 -- all but the reply is the same
-pub replied_replyless : (memory : List ℕ) (k : Kind) → replyless (replied memory k) ≡ replyless k
+pub replied_replyless : (memory : List ℕ) (k : Kind) → replyless_call (replied memory k) ≡ replyless_call k
 replied_replyless memory (Load w v) = refl
 replied_replyless memory _ = refl
 
@@ -44,18 +44,18 @@ replied_fetch memory (Load w v) = refl
 replied_fetch memory _ = refl
 
 -- what conflicts does so whatever the replies are
-pub conflict_first : (f : Event) (p : ℕ) (memory : List ℕ) (a : Kind) → Conflict (event p a) f
+pub neighbour_replied_conflict_first : (f : Event) (p : ℕ) (memory : List ℕ) (a : Kind) → Conflict (event p a) f
     → Conflict (event p (replied memory a)) f
-conflict_first f p memory a c = record {
+neighbour_replied_conflict_first f p memory a c = record {
   address = c.address;
   first = replied_address memory a ∙ c.first;
   second = c.second;
   stores = elim c.stores [ inl s ↦ inl (replied_store memory a ∙ s) | inr s ↦ inr s ];
 }
 
-pub conflict_second : (e : Event) (q : ℕ) (memory : List ℕ) (b : Kind) → Conflict e (event q b)
+pub neighbour_replied_conflict_second : (e : Event) (q : ℕ) (memory : List ℕ) (b : Kind) → Conflict e (event q b)
     → Conflict e (event q (replied memory b))
-conflict_second e q memory b c = record {
+neighbour_replied_conflict_second e q memory b c = record {
   address = c.address;
   first = c.first;
   second = replied_address memory b ∙ c.second;
@@ -63,11 +63,11 @@ conflict_second e q memory b c = record {
 }
 
 -- after a call that waits no load comes, whatever its reply is
-answers_any : (c : Kind) (w v u : ℕ) → AnswersCall c (Load w v) → AnswersCall c (Load w u)
-answers_any (Ask l) w v u h = absurd cc
-answers_any Arrive w v u h = absurd cc
-answers_any (Watch f) w v u h = absurd cc
-answers_any _ w v u h = h
+neighbour_replied_answers_any : (c : Kind) (w v u : ℕ) → AnswersCall c (Load w v) → AnswersCall c (Load w u)
+neighbour_replied_answers_any (Ask l) w v u h = absurd cc
+neighbour_replied_answers_any Arrive w v u h = absurd cc
+neighbour_replied_answers_any (Watch f) w v u h = absurd cc
+neighbour_replied_answers_any _ w v u h = h
 
 -- what may follow may do so with any reply
 follows_replied : (s : Sizes) (h : List Event) (q : ℕ) (k : Kind) (memory : List ℕ) → MayFollow s h (event q k)
@@ -75,30 +75,30 @@ follows_replied : (s : Sizes) (h : List Event) (q : ℕ) (k : Kind) (memory : Li
 follows_replied s h q (Load w v) memory may = record {
   processor = may.processor;
   in_range = may.in_range;
-  answers = λ i c last. answers_any c w v (get_or memory w 0) (may.answers i c last);
+  answers = λ i c last. neighbour_replied_answers_any c w v (get_or memory w 0) (may.answers i c last);
   allowed = tt;
 }
 follows_replied s h q _ memory may = may
 
 -- a step says its call whatever the reply is
-pub step_replied : (reply : ℕ) (step : ScriptCall) (k : Kind) (memory : List ℕ) → IsStep reply step k
-    → IsStep reply step (replied memory k)
+pub step_replied : (reply : ℕ) (step : ScriptCall) (k : Kind) (memory : List ℕ) → IsCallOfStep reply step k
+    → IsCallOfStep reply step (replied memory k)
 step_replied reply (Call c) k memory is = replied_replyless memory k ∙ is
 step_replied reply (Adds a v) k memory is = ap (replied memory) is
 
 -- after events that leave q's calls, its next call is the same but for the reply
 pub next_replied : (s : Plan) (g h : List Event) (q : ℕ) (k : Kind) → MayFollow (followed_plan_sizes s) h (event q k)
-    → followed_calls g q ≡ followed_calls h q → MayComeNext s g q k → MayComeNext s h q (replied (memory_after (replicate (plan_addresses s) 0) h) k)
+    → followed_calls g q ≡ followed_calls h q → MayComeNextByLaw s g q k → MayComeNextByLaw s h q (replied (memory_after (replicate (plan_addresses s) 0) h) k)
 next_replied s g h q k may same next = record {
   may_follow = follows_replied (followed_plan_sizes s) h q k memory may;
   calls = record {
     call = replied_fetch memory k ∙ next.calls.call;
     next = λ section at. (let is = next.calls.next section at in
-        subst (λ calls. IsCalledNext (section_steps section (shown_by s q)) calls (replied memory k)) same
+        subst (λ calls. IsCalledNext (prefix_calling_section_steps section (prefix_calling_shown_by s q)) calls (replied memory k)) same
         (record {
           step = is.step;
           at = is.at;
-          is = step_replied (last_reply (followed_calls g q)) is.step k memory is.is;
+          is = step_replied (last_reply_of_calls (followed_calls g q)) is.step k memory is.is;
         }));
   };
   answers = answers k next.answers;
@@ -118,28 +118,28 @@ next_replied s g h q k may same next = record {
     answers _ word = word
 
 -- events that are none of r's make no calls of r
-calls_away : (es : List Event) (r : ℕ) → ((m : ℕ) (f : Event) → At es m f → f.processor ≢ r) → followed_calls es r ≡ []
-calls_away [] r away = refl
-calls_away (e ∷ es) r away =
-    calls_of_first-other e.processor r e.kind es (away 0 e refl) ∙ calls_away es r (λ m. away (suc m))
+neighbour_replied_calls_away : (es : List Event) (r : ℕ) → ((m : ℕ) (f : Event) → At es m f → f.processor ≢ r) → followed_calls es r ≡ []
+neighbour_replied_calls_away [] r away = refl
+neighbour_replied_calls_away (e ∷ es) r away =
+    calls_of_first-other e.processor r e.kind es (away 0 e refl) ∙ neighbour_replied_calls_away es r (λ m. away (suc m))
 
 -- an access waits for nothing
-access_allowed : (s : Sizes) (j : List Event) (r : ℕ) (k : Kind) (w : ℕ) → address_of k ≡ Some w → Allowed s j r k
-access_allowed s j r (Load a v) w at = tt
-access_allowed s j r (Store a v) w at = tt
-access_allowed s j r _ w at = absurd (none-some w at)
+neighbour_replied_access_allowed : (s : Sizes) (j : List Event) (r : ℕ) (k : Kind) (w : ℕ) → address_of k ≡ Some w → Allowed s j r k
+neighbour_replied_access_allowed s j r (Load a v) w at = tt
+neighbour_replied_access_allowed s j r (Store a v) w at = tt
+neighbour_replied_access_allowed s j r _ w at = absurd (none-some w at)
 
 -- an access that may come next may do so after others' events
-pub access_over : (s : Plan) (g es : List Event) (q : ℕ) (k : Kind) (w : ℕ) → address_of k ≡ Some w
-    → ((m : ℕ) (f : Event) → At es m f → f.processor ≢ q) → MayComeNext s g q k
-    → MayComeNext s (g ++ es) q (replied (memory_after (replicate (plan_addresses s) 0) (g ++ es)) k)
-access_over s g es q k w at away next =
+pub neighbour_replied_access_over : (s : Plan) (g es : List Event) (q : ℕ) (k : Kind) (w : ℕ) → address_of k ≡ Some w
+    → ((m : ℕ) (f : Event) → At es m f → f.processor ≢ q) → MayComeNextByLaw s g q k
+    → MayComeNextByLaw s (g ++ es) q (replied (memory_after (replicate (plan_addresses s) 0) (g ++ es)) k)
+neighbour_replied_access_over s g es q k w at away next =
     next_replied s g (g ++ es) q k
     (record {
       processor = next.may_follow.processor;
       in_range = next.may_follow.in_range;
       answers = λ i c last. next.may_follow.answers i c (last_shorter g es q i c away last);
-      allowed = access_allowed (followed_plan_sizes s) (g ++ es) q k w at;
+      allowed = neighbour_replied_access_allowed (followed_plan_sizes s) (g ++ es) q k w at;
     })
-    (sym (append-nil (followed_calls g q)) ∙ ap (λ ks. followed_calls g q ++ ks) (sym (calls_away es q away))
+    (sym (append-nil (followed_calls g q)) ∙ ap (λ ks. followed_calls g q ++ ks) (sym (neighbour_replied_calls_away es q away))
     ∙ sym (followed_calls-append g es q)) next

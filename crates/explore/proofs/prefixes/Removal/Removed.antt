@@ -16,59 +16,59 @@ use Rattle.lrc_script.specs.Lawful.{plan_addresses}
 use Rattle.conformance.specs.Follows.{followed_plan_sizes, followed_calls}
 use Rattle.conformance.proofs.Calls.{followed_calls-append, calls_of_first-other}
 use Rattle.explore.specs.Prefixes.Beginnings.{IsFlatBeginning}
-use Rattle.explore.specs.Prefixes.Calling.{IsCalledNext, section_steps, shown_by}
-use Rattle.explore.specs.Prefixes.Laws.{MayComeNext}
-use Rattle.explore.proofs.prefixes.Beginnings.{front_begins, next_begins}
-use Rattle.explore.proofs.prefixes.Removal.Places.{item_out}
-use Rattle.explore.proofs.prefixes.Removal.Follows.{IsUnneeded, follows_left}
-use Rattle.explore.proofs.prefixes.Removal.Words.{answers_left}
+use Rattle.explore.specs.Prefixes.Calling.{IsCalledNext, prefix_calling_section_steps, prefix_calling_shown_by}
+use Rattle.explore.specs.Prefixes.Laws.{MayComeNextByLaw}
+use Rattle.explore.proofs.prefixes.Beginnings.{beginning_front, beginning_next}
+use Rattle.explore.proofs.prefixes.Removal.Places.{removal_item_out}
+use Rattle.explore.proofs.prefixes.Removal.Follows.{IsUnneededByRemoval, follows_left}
+use Rattle.explore.proofs.prefixes.Removal.Words.{removal_answers_left}
 
 -- nothing in b is reached from the event x before it, or conflicts with it
-pub record IsRemovable (a b : List Event) (x : Event) : Type 0 where
+pub record MayBeRemoved (a b : List Event) (x : Event) : Type 0 where
   pub unreached : (m : ℕ) → ¬ HappensBefore (a ++ x ∷ b) (length a) m
   pub unopposed : (m : ℕ) (f : Event) → At b m f → ¬ Conflict x f
 
 module _ (a b : List Event) (x : Event) (unreached : (m : ℕ) → ¬ HappensBefore (a ++ x ∷ b) (length a) m) where
   -- nothing leads from x to an event behind it
-  pub no_link : (m : ℕ) (f : Event) → At b m f → ¬ Link (a ++ x ∷ b) (length a) (length a + suc m) x f
-  no_link m f at link =
+  pub removed_no_link : (m : ℕ) (f : Event) → At b m f → ¬ Link (a ++ x ∷ b) (length a) (length a + suc m) x f
+  removed_no_link m f at link =
       unreached (length a + suc m)
       (edge (record {
         before = omega arith;
         from = x;
         to = f;
-        from_at = item_out a b x;
+        from_at = removal_item_out a b x;
         to_at = numbered_at_behind a (x ∷ b) (suc m) f at;
         link = link;
       }))
 
   -- so the events behind it are others'
-  pub others_behind : (m : ℕ) (f : Event) → At b m f → f.processor ≢ x.processor
-  others_behind m f at is = no_link m f at (same (sym is))
+  pub removed_others_behind : (m : ℕ) (f : Event) → At b m f → f.processor ≢ x.processor
+  removed_others_behind m f at is = removed_no_link m f at (same (sym is))
 
   -- and where it doesn't race with any of them, it may be left out
-  pub removable : ((m : ℕ) → ¬ Race (a ++ x ∷ b) (length a) m) → IsRemovable a b x
-  removable free = record {
+  pub removed_without_race : ((m : ℕ) → ¬ Race (a ++ x ∷ b) (length a) m) → MayBeRemoved a b x
+  removed_without_race free = record {
     unreached = unreached;
     unopposed = λ m f at conflict. free (length a + suc m) (record {
       before = omega arith;
       first = x;
       second = f;
-      first_at = item_out a b x;
+      first_at = removal_item_out a b x;
       second_at = numbered_at_behind a (x ∷ b) (suc m) f at;
-      apart = λ is. no_link m f at (same is);
+      apart = λ is. removed_no_link m f at (same is);
       conflict = conflict;
       unordered = unreached (length a + suc m);
     });
   }
 
 -- the last event behind it doesn't need it
-pub unneeded : (s : Plan) (a b : List Event) (x e : Event)
+pub removed_is_unneeded : (s : Plan) (a b : List Event) (x e : Event)
     → ((m : ℕ) → ¬ HappensBefore (a ++ x ∷ (b ++ e ∷ [])) (length a) m) → MayFollow (followed_plan_sizes s) a x
-    → IsUnneeded (followed_plan_sizes s) a b x e
-unneeded s a b x e unreached may = record {
+    → IsUnneededByRemoval (followed_plan_sizes s) a b x e
+removed_is_unneeded s a b x e unreached may = record {
   follows = may;
-  away = λ m f at. others_behind a (b ++ e ∷ []) x unreached m f (numbered_at_longer b (e ∷ []) m f at);
+  away = λ m f at. removed_others_behind a (b ++ e ∷ []) x unreached m f (numbered_at_longer b (e ∷ []) m f at);
   apart = λ is. none (same is);
   lets = λ l. none (lets l);
   meets = λ arrives departs is. none (meets (record { arrives = arrives; departs = departs; episode = counts is }));
@@ -78,7 +78,7 @@ unneeded s a b x e unreached may = record {
     whole = a ++ x ∷ (b ++ e ∷ [])
 
     none : ¬ Link whole (length a) (length a + suc (length b)) x e
-    none = no_link a (b ++ e ∷ []) x unreached (length b) e (numbered_at_last b e)
+    none = removed_no_link a (b ++ e ∷ []) x unreached (length b) e (numbered_at_last b e)
 
     front : take (length a + suc (length b)) whole ≡ a ++ x ∷ b
     front =
@@ -93,56 +93,56 @@ unneeded s a b x e unreached may = record {
         ∙ ap (λ (es : List Event). count_of is_depart es e.processor) (sym front)
 
 -- others' calls are the same without it
-pub calls_left : (a b : List Event) (x : Event) (r : ℕ) → x.processor ≢ r → followed_calls (a ++ x ∷ b) r ≡ followed_calls (a ++ b) r
-calls_left a b x r apart =
+pub removed_calls_left : (a b : List Event) (x : Event) (r : ℕ) → x.processor ≢ r → followed_calls (a ++ x ∷ b) r ≡ followed_calls (a ++ b) r
+removed_calls_left a b x r apart =
     followed_calls-append a (x ∷ b) r ∙ ap (λ ks. followed_calls a r ++ ks) (calls_of_first-other x.processor r x.kind b apart)
     ∙ sym (followed_calls-append a b r)
 
 -- so what comes next may do so without it
-next_left : (s : Plan) (a b : List Event) (x e : Event) → IsUnneeded (followed_plan_sizes s) a b x e → ¬ Conflict x e
-    → MayComeNext s (a ++ x ∷ b) e.processor e.kind → MayComeNext s (a ++ b) e.processor e.kind
-next_left s a b x e u apart next = record {
+removed_next_left : (s : Plan) (a b : List Event) (x e : Event) → IsUnneededByRemoval (followed_plan_sizes s) a b x e → ¬ Conflict x e
+    → MayComeNextByLaw s (a ++ x ∷ b) e.processor e.kind → MayComeNextByLaw s (a ++ b) e.processor e.kind
+removed_next_left s a b x e u apart next = record {
   may_follow = follows_left (followed_plan_sizes s) a b x e u next.may_follow;
   calls = record {
     call = next.calls.call;
     next = λ section at. subst
-        (λ calls. IsCalledNext (section_steps section (shown_by s e.processor)) calls e.kind)
-        (calls_left a b x e.processor u.apart) (next.calls.next section at);
+        (λ calls. IsCalledNext (prefix_calling_section_steps section (prefix_calling_shown_by s e.processor)) calls e.kind)
+        (removed_calls_left a b x e.processor u.apart) (next.calls.next section at);
   };
-  answers = answers_left (replicate (plan_addresses s) 0) a b x e.processor e.kind apart next.answers;
+  answers = removal_answers_left (replicate (plan_addresses s) 0) a b x e.processor e.kind apart next.answers;
 }
 
 -- an event in a beginning may come next after what is before it
-pub follows_front : (s : Plan) (a b : List Event) (x : Event) → IsFlatBeginning s (a ++ x ∷ b)
-    → MayComeNext s a x.processor x.kind
-follows_front s a b x h =
-    ((next_begins s a x.processor x.kind).0
-    (front_begins s (a ++ x ∷ []) b (subst (IsFlatBeginning s) (sym (append_assoc a (x ∷ []) b)) h))).1
+pub removed_follows_front : (s : Plan) (a b : List Event) (x : Event) → IsFlatBeginning s (a ++ x ∷ b)
+    → MayComeNextByLaw s a x.processor x.kind
+removed_follows_front s a b x h =
+    ((beginning_next s a x.processor x.kind).0
+    (beginning_front s (a ++ x ∷ []) b (subst (IsFlatBeginning s) (sym (append_assoc a (x ∷ []) b)) h))).1
 
 -- a front behind x doesn't need it either
-removable_front : (a b : List Event) (x e : Event) → IsRemovable a (b ++ e ∷ []) x → IsRemovable a b x
-removable_front a b x e r = record {
+removed_front : (a b : List Event) (x e : Event) → MayBeRemoved a (b ++ e ∷ []) x → MayBeRemoved a b x
+removed_front a b x e r = record {
   unreached = λ m h. r.unreached m (subst (λ es. HappensBefore es (length a) m) (append_assoc a (x ∷ b) (e ∷ []))
       (before_longer (a ++ x ∷ b) (e ∷ []) h));
   unopposed = λ m f at. r.unopposed m f (numbered_at_longer b (e ∷ []) m f at);
 }
 
 -- a beginning stays one without it
-pub removed : (s : Plan) (a b : List Event) (x : Event) → IsRemovable a b x → IsFlatBeginning s (a ++ x ∷ b)
+pub removed : (s : Plan) (a b : List Event) (x : Event) → MayBeRemoved a b x → IsFlatBeginning s (a ++ x ∷ b)
     → IsFlatBeginning s (a ++ b)
 removed s a b x =
-    slice_push_induction (λ es. IsRemovable a es x → IsFlatBeginning s (a ++ x ∷ es) → IsFlatBeginning s (a ++ es))
-    (λ r h. subst (IsFlatBeginning s) (sym (append-nil a)) (front_begins s a (x ∷ []) h)) step b
+    slice_push_induction (λ es. MayBeRemoved a es x → IsFlatBeginning s (a ++ x ∷ es) → IsFlatBeginning s (a ++ es))
+    (λ r h. subst (IsFlatBeginning s) (sym (append-nil a)) (beginning_front s a (x ∷ []) h)) step b
   where
     step : (es : List Event) (e : Event)
-        → (IsRemovable a es x → IsFlatBeginning s (a ++ x ∷ es) → IsFlatBeginning s (a ++ es))
-        → IsRemovable a (es ++ e ∷ []) x → IsFlatBeginning s (a ++ x ∷ (es ++ e ∷ []))
+        → (MayBeRemoved a es x → IsFlatBeginning s (a ++ x ∷ es) → IsFlatBeginning s (a ++ es))
+        → MayBeRemoved a (es ++ e ∷ []) x → IsFlatBeginning s (a ++ x ∷ (es ++ e ∷ []))
         → IsFlatBeginning s (a ++ (es ++ e ∷ []))
     step es e ih r h =
         let both =
-        (next_begins s (a ++ x ∷ es) e.processor e.kind).0
+        (beginning_next s (a ++ x ∷ es) e.processor e.kind).0
         (subst (IsFlatBeginning s) (sym (append_assoc a (x ∷ es) (e ∷ []))) h) in
-        let u = unneeded s a es x e r.unreached (follows_front s a (es ++ e ∷ []) x h).may_follow in
+        let u = removed_is_unneeded s a es x e r.unreached (removed_follows_front s a (es ++ e ∷ []) x h).may_follow in
         subst (IsFlatBeginning s) (append_assoc a es (e ∷ []))
-        ((next_begins s (a ++ es) e.processor e.kind).1
-        (ih (removable_front a es x e r) both.0, next_left s a es x e u (r.unopposed (length es) e (numbered_at_last es e)) both.1))
+        ((beginning_next s (a ++ es) e.processor e.kind).1
+        (ih (removed_front a es x e r) both.0, removed_next_left s a es x e u (r.unopposed (length es) e (numbered_at_last es e)) both.1))

@@ -15,10 +15,10 @@ use Rattle.journal.specs.FlatMemory.{flat_write, memory_after, AnswersFlatWord}
 use Rattle.journal.proofs.Flat.StoresUnordered.{flat_store}
 
 -- words that agree at a place still do after the same write
-wrote_agree : (m n : List ℕ) (p : Option (ℕ × ℕ)) (o : ℕ) → o < length m → length m ≡ length n
+removal_wrote_agree : (m n : List ℕ) (p : Option (ℕ × ℕ)) (o : ℕ) → o < length m → length m ≡ length n
     → slice_get m o ≡ slice_get n o → slice_get (wrote m p) o ≡ slice_get (wrote n p) o
-wrote_agree m n None o lt long same = same
-wrote_agree m n (Some p) o lt long same = elim (cases_eq o p.0) [
+removal_wrote_agree m n None o lt long same = same
+removal_wrote_agree m n (Some p) o lt long same = elim (cases_eq o p.0) [
   | inl is ↦
       (let in_m : p.0 < length m = omega arith in
       let in_n : p.0 < length n = omega arith in
@@ -28,41 +28,41 @@ wrote_agree m n (Some p) o lt long same = elim (cases_eq o p.0) [
 ]
 
 -- and after the same writes
-written_agree : {A : Type 0} (f : A → Option (ℕ × ℕ)) (m n : List ℕ) (xs : List A) (o : ℕ) → o < length m
+removal_written_agree : {A : Type 0} (f : A → Option (ℕ × ℕ)) (m n : List ℕ) (xs : List A) (o : ℕ) → o < length m
     → length m ≡ length n → slice_get m o ≡ slice_get n o
     → slice_get (written f m xs) o ≡ slice_get (written f n xs) o
-written_agree f m n [] o lt long same = same
-written_agree f m n (x ∷ xs) o lt long same =
+removal_written_agree f m n [] o lt long same = same
+removal_written_agree f m n (x ∷ xs) o lt long same =
     let long_m = length-written f m (x ∷ []) in
     let long_n = length-written f n (x ∷ []) in
-    written_agree f (wrote m (f x)) (wrote n (f x)) xs o (omega arith) (omega arith)
-    (wrote_agree m n (f x) o lt long same)
+    removal_written_agree f (wrote m (f x)) (wrote n (f x)) xs o (omega arith) (omega arith)
+    (removal_wrote_agree m n (f x) o lt long same)
 
 -- a write elsewhere leaves the place
-wrote_other : (m : List ℕ) (p : Option (ℕ × ℕ)) (o : ℕ) → ((u : ℕ) → p ≢ Some (o, u))
+removal_wrote_others : (m : List ℕ) (p : Option (ℕ × ℕ)) (o : ℕ) → ((u : ℕ) → p ≢ Some (o, u))
     → slice_get (wrote m p) o ≡ slice_get m o
-wrote_other m None o h = refl
-wrote_other m (Some p) o h = slice_get-set_other m p.0 o p.1 (λ is. h p.1 (ap (λ (a : ℕ). Some (a, p.1)) (sym is)))
+removal_wrote_others m None o h = refl
+removal_wrote_others m (Some p) o h = slice_get-set_other m p.0 o p.1 (λ is. h p.1 (ap (λ (a : ℕ). Some (a, p.1)) (sym is)))
 
 -- so without it the same stands there in the end
-written_left : {A : Type 0} (f : A → Option (ℕ × ℕ)) (m : List ℕ) (xs ys : List A) (x : A) (o : ℕ) → o < length m
+removal_written_left : {A : Type 0} (f : A → Option (ℕ × ℕ)) (m : List ℕ) (xs ys : List A) (x : A) (o : ℕ) → o < length m
     → ((u : ℕ) → f x ≢ Some (o, u)) → slice_get (written f m (xs ++ x ∷ ys)) o ≡ slice_get (written f m (xs ++ ys)) o
-written_left f m xs ys x o lt h =
+removal_written_left f m xs ys x o lt h =
     let before : List ℕ = written f m xs in
     let long_before = length-written f m xs in
     let long_more = length-written f before (x ∷ []) in
     ap (λ ws. slice_get ws o) (written-append f m xs (x ∷ ys))
-    ∙ written_agree f (wrote before (f x)) before ys o (omega arith) long_more (wrote_other before (f x) o h)
+    ∙ removal_written_agree f (wrote before (f x)) before ys o (omega arith) long_more (removal_wrote_others before (f x) o h)
     ∙ ap (λ ws. slice_get ws o) (sym (written-append f m xs ys))
 
 -- a load that doesn't conflict with the event answers the same without it
-pub answers_left : (memory : List ℕ) (a b : List Event) (x : Event) (q : ℕ) (k : Kind) → ¬ Conflict x (event q k)
+pub removal_answers_left : (memory : List ℕ) (a b : List Event) (x : Event) (q : ℕ) (k : Kind) → ¬ Conflict x (event q k)
     → AnswersFlatWord (memory_after memory (a ++ x ∷ b)) k → AnswersFlatWord (memory_after memory (a ++ b)) k
-answers_left memory a b x q (Load w v) apart h =
+removal_answers_left memory a b x q (Load w v) apart h =
     let f : Event → Option (ℕ × ℕ) = λ e. flat_write e.kind in
     let long = length-written f memory (a ++ x ∷ b) in
     let within = slice_get_within (memory_after memory (a ++ x ∷ b)) w v h in
-    sym (written_left f memory a b x w (omega arith) (λ u writes.
+    sym (removal_written_left f memory a b x w (omega arith) (λ u writes.
     (let is = flat_store x.kind w u writes in
     apart (record { address = w; first = ap address_of is; second = refl; stores = inl (ap is_store is) })))) ∙ h
-answers_left memory a b x q _ apart h = h
+removal_answers_left memory a b x q _ apart h = h

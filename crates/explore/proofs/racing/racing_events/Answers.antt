@@ -8,20 +8,20 @@ use Rattle.journal.specs.DidEvent.{did, event}
 use Rattle.lrc_script.specs.Plan.{Plan}
 use Rattle.explore.specs.declared.prefixes.script_call.ScriptCall.{ScriptCall}
 use Rattle.explore.specs.Prefixes.Beginnings.{IsFlatBeginning}
-use Rattle.explore.specs.Prefixes.Laws.{RacesAfter}
+use Rattle.explore.specs.Prefixes.Laws.{LawRacesAfter}
 use Rattle.explore.proofs.prefixes.Neighbours.Racing.{racing}
 use Rattle.explore.specs.declared.states.States.{States}
 use Rattle.explore.specs.declared.flat_state.FlatState.{FlatState}
 use Rattle.explore.specs.declared.neighbours.Neighbours.{Neighbours}
-use Rattle.explore.specs.Found.{states_of}
+use Rattle.explore.specs.Found.{states_found}
 use Rattle.explore.specs.Machines.{Knows}
 use Rattle.explore.specs.Racing.{AreRacing, IsRacingBeginning}
 use Rattle.explore.proofs.Likes.{knows_like}
-use Rattle.explore.proofs.Machines.{next_within, rows_many}
+use Rattle.explore.proofs.Machines.{machine_next_within, machine_rows_many}
 use Rattle.explore.proofs.racing.racing_events.Goals as goal
 
 module _ (s : Plan) (x : States) (steps : List (Vec ScriptCall)) (ns : Neighbours) (are : AreRacing s x steps ns) (f : FlatState)
-    (at : slice_get (states_of x) ns.place ≡ Some f) (g : List Event) (knows : Knows s g f) where
+    (at : slice_get (states_found x) ns.place ≡ Some f) (g : List Event) (knows : Knows s g f) where
   first_next : IsFlatBeginning s (did g ns.first.processor ns.first.kind)
   first_next = are.are.first f at g knows
 
@@ -30,24 +30,24 @@ module _ (s : Plan) (x : States) (steps : List (Vec ScriptCall)) (ns : Neighbour
 
   first_small : ns.first.processor < 16
   first_small =
-      let within = next_within s g ns.first.processor ns.first.kind first_next in
+      let within = machine_next_within s g ns.first.processor ns.first.kind first_next in
       let most = are.lawful.lawful.but_uneven.sizes.most_processors in
       omega arith
 
   second_row : ns.second.processor < length steps
   second_row =
-      let within = next_within s g ns.second.processor ns.second.kind second_next in
-      let many = rows_many s steps are.lawful in
+      let within = machine_next_within s g ns.second.processor ns.second.kind second_next in
+      let many = machine_rows_many s steps are.lawful in
       omega arith
 
-  races : RacesAfter s g ns.first.processor ns.second.processor ns.first.kind ns.second.kind
+  races : LawRacesAfter s g ns.first.processor ns.second.processor ns.first.kind ns.second.kind
   races =
       racing s g ns.first.processor ns.second.processor ns.first.kind ns.second.kind first_next second_next are.are.apart
       are.are.conflict
 
 -- some events come to the state
 some_events : (s : Plan) (x : States) (steps : List (Vec ScriptCall)) (ns : Neighbours) → AreRacing s x steps ns → (f : FlatState)
-    → slice_get (states_of x) ns.place ≡ Some f → (g : List Event) × Knows s g f
+    → slice_get (states_found x) ns.place ≡ Some f → (g : List Event) × Knows s g f
 some_events s x steps ns are f at = are.found.known ns.place f at
 
 pub step-requires : goal.step-requires

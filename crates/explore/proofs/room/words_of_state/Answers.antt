@@ -4,17 +4,17 @@ use Rattle.std.proofs.lemmas.Option.{same_Some, slice_get-get_or, slice_get_with
 use Rattle.std.proofs.lemmas.List.Sums.{count_by-le-length, sum_by_more}
 use Rattle.lrc_script.specs.Plan.{Plan, plan_of}
 use Rattle.lrc_script.specs.Lawful.{IsLawful, IsLawfulSection}
-use Rattle.explore.specs.Room.{is_loading, loads_in}
-use Rattle.explore.proofs.prefixes.Steps.{section_at}
-use Rattle.explore.proofs.Machines.{read_at}
+use Rattle.explore.specs.Room.{room_is_loading, room_loads_in}
+use Rattle.explore.proofs.prefixes.Steps.{prefix_steps_section_at}
+use Rattle.explore.proofs.Machines.{machine_read_at}
 use Rattle.explore.proofs.room.words_of_state.Goals as goal
 
 -- no section loads more than it has instructions
-loads_few : (s : Plan) (n : ℕ) → IsLawful s → n < length s.sections → loads_in (slice_index_or s.sections n []) ≤ 10000
+loads_few : (s : Plan) (n : ℕ) → IsLawful s → n < length s.sections → room_loads_in (slice_index_or s.sections n []) ≤ 10000
 loads_few s n lawful lt =
     let is = All-get_or (IsLawfulSection s) s.sections n [] lt lawful.but_uneven.sections in
     let most = is.most in
-    let within = count_by-le-length is_loading (slice_index_or s.sections n []) in
+    let within = count_by-le-length room_is_loading (slice_index_or s.sections n []) in
     omega arith
 
 pub loop-section-preserved : goal.loop-section-preserved
@@ -22,15 +22,15 @@ loop-section-preserved c =
     let s = plan_of c.args.script.now in
     let n = c.loop-section.section-index in
     let section = c.section-item.result in
-    let here = read_at c.args.script.now.sections.items n section (subst (λ xs. n < length xs) c.deref-section-items.ensures.value c.loop-section-test.true)
+    let here = machine_read_at c.args.script.now.sections.items n section (subst (λ xs. n < length xs) c.deref-section-items.ensures.value c.loop-section-test.true)
     (subst (λ xs. section ≡ slice_index_or xs n section) c.deref-section-items.ensures.value c.section-item.is) in
-    let at = section_at c.args.script.now.sections.items n section here in
+    let at = prefix_steps_section_at c.args.script.now.sections.items n section here in
     let within = slice_get_within s.sections n section.items at in
     let same : slice_index_or s.sections n [] ≡ section.items =
     same_Some _ _ (sym (slice_get-get_or s.sections n [] within) ∙ at) in
-    let loads : c.loads_in-words.result ≡ loads_in (slice_index_or s.sections n []) =
-    c.loads_in-words.ensures ∙ ap loads_in (c.deref.ensures.value ∙ sym same) in
-    let more = sum_by_more loads_in s.sections n [] within in
+    let loads : c.loads_in-words.result ≡ room_loads_in (slice_index_or s.sections n []) =
+    c.loads_in-words.ensures ∙ ap room_loads_in (c.deref.ensures.value ∙ sym same) in
+    let more = sum_by_more room_loads_in s.sections n [] within in
     let few = loads_few s n c.requires within in
     let was = c.loop-section.invariant.is in
     let under = c.loop-section.invariant.few in

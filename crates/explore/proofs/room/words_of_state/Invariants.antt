@@ -2,12 +2,12 @@ use Rattle.std.proofs.Common.{◌≡◌, ◌+◌, ◌*◌, ◌≤◌, length, ta
 use Rattle.std.specs.Prelude.{sum_by}
 use Rattle.lrc_script.specs.Plan.{plan_of}
 use Rattle.lrc_script.specs.Lawful.{plan_addresses}
-use Rattle.explore.specs.Room.{loads_in}
+use Rattle.explore.specs.Room.{room_loads_in}
 use Rattle.explore.proofs.room.words_of_state.Given as goal
 
 abbrev pub invariant-loop-section : goal.invariant-loop-section
 invariant-loop-section l = record {
   is : l.words ≡ plan_addresses (plan_of l.script) + length l.script.shown.items
-      + sum_by loads_in (take l.section-index (plan_of l.script).sections);
+      + sum_by room_loads_in (take l.section-index (plan_of l.script).sections);
   few : l.words ≤ 4160 + l.section-index * 10000;
 }

@@ -8,11 +8,11 @@ use Rattle.journal.specs.Events.{At}
 use Rattle.journal.specs.Sizes.{Sizes}
 use Rattle.journal.proofs.Passes.NextClocks.{front_next}
 use Rattle.judge.specs.declared.why.Why.{Why}
-use Rattle.judge.specs.Lax.{MayFollowIn}
+use Rattle.judge.specs.Lax.{MayFollowOrLax}
 use Rattle.judge.specs.Sizes.{sizes_of}
-use Rattle.judge.specs.Tells.{IsFrontOf}
-use Rattle.judge.specs.Why.{IsFirstIllFormed, IsFirstWhy}
-use Rattle.judge.proofs.Fronts.{MayAll, may_lax_in, may_next, well_before, well_whole}
+use Rattle.judge.specs.FrontTells.{FrontTellsHistory}
+use Rattle.judge.specs.Why.{IsFirstIllFormed, IsFirstTrueWhy}
+use Rattle.judge.proofs.Fronts.{FrontMayFollow, front_may_lax_in, front_may_next, front_well_before, front_well_whole}
 use Rattle.judge.proofs.Refusing.{why_law}
 use Rattle.judge.proofs.judge.first_ill_formed.Goals as goal
 
@@ -21,12 +21,12 @@ abbrev here : List Event → ℕ → Event
 here events place = slice_index_or events place (event 0 (Load 0 0))
 
 -- the first reason why the event at this place may not stand there
-ill_formed : (lax : Bool) (s : Sizes) (j : List Event) (k : ℕ) (e : Event) (w : Why) → At j k e → MayAll lax s j k
-    → IsFirstWhy lax s (take k j) e w → IsFirstIllFormed lax s j (record { place = k; why = w })
+ill_formed : (lax : Bool) (s : Sizes) (j : List Event) (k : ℕ) (e : Event) (w : Why) → At j k e → FrontMayFollow lax s j k
+    → IsFirstTrueWhy lax s (take k j) e w → IsFirstIllFormed lax s j (record { place = k; why = w })
 ill_formed lax s j k e w at all why = record {
   event = e;
   at = at;
-  before = well_before lax s j k all;
+  before = front_well_before lax s j k all;
   refused = why_law lax s (take k j) e w why.is_true;
   why = why;
 }
@@ -45,7 +45,7 @@ note-requires-clause-may_follow c =
     let front = take c.loop-place.place c.args.events.now in
     let tells = c.loop-place.invariant.tells in
     let e = here c.args.events.now c.loop-place.place in
-    let may = may_lax_in c.args.lax (sizes_of c.loop-place.front.sizes) front e (c.in_default.ensures front tells) in
+    let may = front_may_lax_in c.args.lax (sizes_of c.loop-place.front.sizes) front e (c.in_default.ensures front tells) in
     (front, tells, may)
 
 pub returns-in-Some : goal.returns-in-Some
@@ -56,7 +56,7 @@ returns-in-Some c =
     let at = slice_get-get_or events k (event 0 (Load 0 0)) c.loop-place-test.true in
     let old = c.loop-place.invariant in
     ill_formed c.args.lax (sizes_of c.args.sizes) events k e c.in-Some.why at old.well
-    (subst (λ s. IsFirstWhy c.args.lax (sizes_of s) (take k events) e c.in-Some.why) old.sizes
+    (subst (λ s. IsFirstTrueWhy c.args.lax (sizes_of s) (take k events) e c.in-Some.why) old.sizes
     (c.in-Some.ensures (take k events) old.tells))
 
 pub loop-place-preserved : goal.loop-place-preserved
@@ -68,12 +68,12 @@ loop-place-preserved c =
     let old = c.loop-place.invariant in
     let s = sizes_of c.loop-place.front.sizes in
     let may = c.in_default.ensures (take k events) old.tells in
-    let told = c.note.ensures.tells (take k events) old.tells (may_lax_in c.args.lax s (take k events) e may) in
+    let told = c.note.ensures.tells (take k events) old.tells (front_may_lax_in c.args.lax s (take k events) e may) in
     record {
-      tells = subst (λ xs. IsFrontOf xs c.note.new.self) (sym (front_next events k e at)) told;
+      tells = subst (λ xs. FrontTellsHistory xs c.note.new.self) (sym (front_next events k e at)) told;
       sizes = c.note.ensures.sizes ∙ old.sizes;
-      well = may_next c.args.lax (sizes_of c.args.sizes) events k e at old.well
-          (subst (λ x. MayFollowIn c.args.lax (sizes_of x) (take k events) e) old.sizes may);
+      well = front_may_next c.args.lax (sizes_of c.args.sizes) events k e at old.well
+          (subst (λ x. MayFollowOrLax c.args.lax (sizes_of x) (take k events) e) old.sizes may);
     }
 
 pub loop-place-init : goal.loop-place-init
@@ -87,4 +87,4 @@ pub returns : goal.returns
 returns c =
     let over = c.loop-place-test.false in
     let well = c.loop-place.invariant.well in
-    well_whole c.args.lax (sizes_of c.args.sizes) c.args.events.now c.loop-place.place over well
+    front_well_whole c.args.lax (sizes_of c.args.sizes) c.args.events.now c.loop-place.place over well

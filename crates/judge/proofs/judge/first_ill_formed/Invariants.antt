@@ -1,12 +1,12 @@
 use Rattle.std.proofs.Common.{◌≡◌, take}
 use Rattle.judge.specs.Sizes.{sizes_of}
-use Rattle.judge.specs.Tells.{IsFrontOf}
-use Rattle.judge.proofs.Fronts.{MayAll}
+use Rattle.judge.specs.FrontTells.{FrontTellsHistory}
+use Rattle.judge.proofs.Fronts.{FrontMayFollow}
 use Rattle.judge.proofs.judge.first_ill_formed.Given as goal
 
 abbrev pub invariant-loop-place : goal.invariant-loop-place
 invariant-loop-place l = record {
-  tells : IsFrontOf (take l.place l.events) l.front;
+  tells : FrontTellsHistory (take l.place l.events) l.front;
   sizes : l.front.sizes ≡ l.fn.sizes;
-  well : MayAll l.lax (sizes_of l.fn.sizes) l.events l.place;
+  well : FrontMayFollow l.lax (sizes_of l.fn.sizes) l.events l.place;
 }

@@ -8,7 +8,7 @@ use Rattle.journal.specs.PageImages.{GapCounts, StoredInGapOfImage}
 use Rattle.judge.specs.declared.gaps.CountedGap.{CountedGap}
 use Rattle.judge.specs.Sizes.{sizes_of}
 use Rattle.judge.proofs.Counts.{count_unique}
-use Rattle.judge.proofs.Parts.{Records, Writes}
+use Rattle.judge.proofs.GapParts.{GapPartRecords, GapPartWrites}
 use Rattle.judge.proofs.miscounted.miscount.Goals as goal
 
 abbrev made : ℕ → ℕ → ℕ → CountedGap
@@ -19,8 +19,8 @@ unique : (s : Sizes) (j : List Event) (p n w r d : ℕ) (due : CountedGap)
     → GapCounts s j p n due.writers due.records due.words → GapCounts s j p n w r d
     → due ≡ record { writers = w; records = r; words = d }
 unique s j p n w r d due is other =
-    let first = count_unique (Writes s j p n) due.writers w is.writers_are other.writers_are in
-    let second = count_unique (Records s j p n) due.records r is.records_are other.records_are in
+    let first = count_unique (GapPartWrites s j p n) due.writers w is.writers_are other.writers_are in
+    let second = count_unique (GapPartRecords s j p n) due.records r is.records_are other.records_are in
     let third = count_unique (StoredInGapOfImage s j p n) due.words d is.words_are other.words_are in
     ap (λ x. made x due.records due.words) first ∙ ap (λ x. made w x due.words) second ∙ ap (made w r) third
 

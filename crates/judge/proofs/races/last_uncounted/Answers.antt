@@ -1,7 +1,7 @@
 use Rattle.std.proofs.Common.{◌≡◌, ◌+◌, slice_index, subst, sym, ◌∙◌, arith}
 use Rattle.std.proofs.lemmas.Option.{none-some}
-use Rattle.judge.specs.NearestRaces.{IsLastUncounted}
-use Rattle.judge.proofs.Racing.{uncounted_none, uncounted_some}
+use Rattle.judge.specs.NearestRaces.{IsLastUncountedByRaces}
+use Rattle.judge.proofs.NearestRaces.{nearest_race_uncounted_none, nearest_race_uncounted_some}
 use Rattle.judge.proofs.races.last_uncounted.Goals as goal
 use Rattle.judge.proofs.races.last_uncounted.Goals.{in-Some, in_default}
 
@@ -18,12 +18,12 @@ loop-by-preserved c =
     elim c.match-uncounted.branch [
       | in-Some w ↦
           (let here = (c.uncounted.ensures w.in-Some.place).0 w.in-Some.is in
-          subst (IsLastUncounted rows row t p (by + 1)) (sym w.nearest-is)
-          (uncounted_some rows row t p by w.in-Some.place w.later.result c.loop-by.nearest c.loop-by.invariant here
+          subst (IsLastUncountedByRaces rows row t p (by + 1)) (sym w.nearest-is)
+          (nearest_race_uncounted_some rows row t p by w.in-Some.place w.later.result c.loop-by.nearest c.loop-by.invariant here
           w.later.ensures.place w.later.ensures.nearest w.later.ensures.one))
       | in_default w ↦
-          subst (IsLastUncounted rows row t p (by + 1)) (sym w.nearest-is)
-          (uncounted_none rows row t p by c.loop-by.nearest c.loop-by.invariant
+          subst (IsLastUncountedByRaces rows row t p (by + 1)) (sym w.nearest-is)
+          (nearest_race_uncounted_none rows row t p by c.loop-by.nearest c.loop-by.invariant
           (λ i x. none-some i (sym w.in_default.is ∙ (c.uncounted.ensures i).1 x)))
     ]
 
@@ -32,5 +32,5 @@ returns c =
     let over = c.loop-by-test.false in
     let end = c.loop-by.auto.by-end in
     let is : c.loop-by.by ≡ c.args.count = omega arith in
-    subst (λ n. IsLastUncounted c.args.rows.now c.args.row (slice_index c.args.time.now) c.args.processor n c.loop-by.nearest)
+    subst (λ n. IsLastUncountedByRaces c.args.rows.now c.args.row (slice_index c.args.time.now) c.args.processor n c.loop-by.nearest)
     is c.loop-by.invariant

@@ -2,7 +2,7 @@ use Rattle.std.proofs.Common.{◌≡◌, ℕ, ◌-◌, ◌<◌, ◌≤◌, inl, 
 use Rattle.std.proofs.lemmas.Bool.{cases_eq, lt-ltb}
 use Rattle.std.proofs.lemmas.Option.{slice_get-get_or, slice_get_within, get_or_from_slice_get}
 use Rattle.base.specs.InOrderOnce.{InOrder}
-use Rattle.judge.proofs.Rows.{count_point}
+use Rattle.judge.proofs.GapTallyRows.{gap_tally_count_point}
 use Rattle.judge.proofs.tally.below.Goals as goal
 
 -- none of the numbers is above the last one
@@ -22,7 +22,7 @@ to_last row n k d up at =
 all_below : (row : List ℕ) (limit d : ℕ) → InOrder (λ (x y : ℕ). x ≤ y) row
     → slice_index_or row (length row - 1) d < limit → length row ≡ count_by (λ k. nat_lt k limit) row
 all_below row limit d up less =
-    sym (count_point row limit (length row) (omega arith)
+    sym (gap_tally_count_point row limit (length row) (omega arith)
     (λ n k lt at. lt-ltb k limit (let le = to_last row n k d up at in omega arith))
     (λ n k le at. absurd (let within = slice_get_within row n k at in omega arith)))
 

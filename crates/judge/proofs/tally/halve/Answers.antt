@@ -4,7 +4,7 @@ use Rattle.std.proofs.lemmas.Option.{slice_get-get_or, slice_get_within, get_or_
 use Rattle.std.proofs.lemmas.List.Sorted.{IsPartitionPoint-from_clause, IsPartitionedBy-ltb}
 use Rattle.std.specs.List.Sorted.{IsNonDecreasingBy, IsPartitionPoint}
 use Rattle.base.specs.InOrderOnce.{InOrder}
-use Rattle.judge.proofs.Rows.{count_point}
+use Rattle.judge.proofs.GapTallyRows.{gap_tally_count_point}
 use Rattle.judge.proofs.tally.halve.Goals as goal
 
 -- the numbers do not fall
@@ -39,5 +39,5 @@ returns c =
     let parted = IsPartitionedBy-ltb (λ (k : ℕ). k) row limit (rises row c.requires) in
     let point = IsPartitionPoint-from_clause (λ (k : ℕ). nat_lt k limit) _ _
     c.partition_point.ensures.partitioned parted (λ a r q k. search rules) in
-    sym (count_point row limit c.partition_point.result c.partition_point.ensures.bound
+    sym (gap_tally_count_point row limit c.partition_point.result c.partition_point.ensures.bound
     (low row limit c.partition_point.result point) (high row limit c.partition_point.result point))

@@ -7,10 +7,10 @@ use Rattle.journal.specs.declared.event.Kind.TheVariants.{Load}
 use Rattle.journal.specs.DidEvent.{event}
 use Rattle.journal.proofs.Passes.NextClocks.{front_next}
 use Rattle.judge.specs.Sizes.{sizes_of}
-use Rattle.lrc_check.specs.Checked.{IsChecked, IsRaceOf, raced}
+use Rattle.lrc_check.specs.Checked.{IsChecked, IsRaceOf, checked_for_race}
 use Rattle.lrc_check.specs.Judged.{IsJudged}
 use Rattle.lrc_check.specs.declared.checked.TraceVerdict.TheVariants as verdict
-use Rattle.lrc_check.proofs.CheckedHistories.{accepted_by, checked_faithful, checked_lie, checked_racy, lie_by, race_read, unraced_free}
+use Rattle.lrc_check.proofs.CheckedHistories.{checked_accepted_by, checked_faithful, checked_lie, checked_racy, checked_lie_by, checked_race_read, checked_unraced_free}
 use Rattle.lrc_check.proofs.judging.judge_history.Goals as goal
 use Rattle.lrc_check.proofs.judging.judge_history.Goals.{then-ends+in_default, else-ends}
 
@@ -45,12 +45,12 @@ returns-in-Some c =
     let judge = c.loop-place.judge in
     let lt = c.loop-place-test.true in
     let old = c.loop-place.invariant in
-    let free = unraced_free (take place events) judge (old.unraced c.if-ends.true) old.judged in
-    let nearest = race_read judge.model judge.lax (sizes_of judge.sizes) events place c.read.new.self c.in_ok-lie.lie
+    let free = checked_unraced_free (take place events) judge (old.unraced c.if-ends.true) old.judged in
+    let nearest = checked_race_read judge.model judge.lax (sizes_of judge.sizes) events place c.read.new.self c.in_ok-lie.lie
     c.in-Some.race lt free c.in_ok-lie.ensures.judged (sym c.race-so_far.ensures ∙ c.in-Some.is) in
     subst (IsChecked r (sizes_of t) events) (sym c.ended.ensures)
     (checked_racy r (sizes_of t) events place c.in-Some.race (here events place) lt (next_events events place lt)
-    (accepted_by r t (take place events) judge old.model old.lax old.sizes old.judged) free nearest)
+    (checked_accepted_by r t (take place events) judge old.model old.lax old.sizes old.judged) free nearest)
 
 pub returns-in-Some-lie : goal.returns-in-Some-lie
 returns-in-Some-lie c =
@@ -63,8 +63,8 @@ returns-in-Some-lie c =
     let old = c.loop-place.invariant in
     let told = rw c.in-Some-lie.is at c.in_ok-lie.ensures.judged in
     checked_lie r (sizes_of t) events place c.race-so_far.result c.in-Some-lie.lie lt
-    (lie_by r t (take (place + 1) events) judge c.in-Some-lie.lie old.model old.lax old.sizes told.0)
-    (subst (IsRaceOf (raced c.in-Some-lie.lie (take (place + 1) events))) (sym c.race-so_far.ensures) told.1)
+    (checked_lie_by r t (take (place + 1) events) judge c.in-Some-lie.lie old.model old.lax old.sizes told.0)
+    (subst (IsRaceOf (checked_for_race c.in-Some-lie.lie (take (place + 1) events))) (sym c.race-so_far.ensures) told.1)
 
 pub loop-place-preserved : goal.loop-place-preserved
 loop-place-preserved c =
@@ -93,5 +93,5 @@ returns c =
     let judged = subst (λ xs. IsJudged xs judge) all old.judged in
     checked_faithful r (sizes_of t) events c.race-whole.result c.faithful.result c.faithful.ensures.count
     c.faithful.ensures.race c.faithful.ensures.verdict
-    (accepted_by r t events judge old.model old.lax old.sizes judged)
+    (checked_accepted_by r t events judge old.model old.lax old.sizes judged)
     (subst (IsRaceOf events) (sym c.race-whole.ensures) judged.race)

@@ -1,13 +1,13 @@
 use Rattle.std.specs.Prelude.{vec_len}
-use Rattle.lrc_explore.specs.Texts.{outcomes_line, states_line}
-use Rattle.lrc_explore.proofs.Lines.{added_five}
+use Rattle.lrc_explore.specs.Texts.{explore_text_outcomes_line, explore_text_states_line}
+use Rattle.lrc_explore.proofs.Lines.{lines_added_five}
 use Rattle.lrc_explore.proofs.rendering.put_quiet.Goals as goal
 
 pub returns : goal.returns
 returns c =
     let explored = c.args.explored.now in
-    added_five c.args.text.now.items c.args.verdict.now (outcomes_line (vec_len explored.outcomes) explored.are_all)
-    c.args.outcomes.now c.args.hangs.now (states_line explored.states) c.extend_from_slice.new.self.items
+    lines_added_five c.args.text.now.items c.args.verdict.now (explore_text_outcomes_line (vec_len explored.outcomes) explored.are_all)
+    c.args.outcomes.now c.args.hangs.now (explore_text_states_line explored.states) c.extend_from_slice.new.self.items
     c.put_count.new.text.items c.extend_from_slice-2.new.self.items c.extend_from_slice-3.new.self.items
     c.put_states.new.text.items c.in_ok-extend_from_slice.ensures.items (rw c.len.ensures at c.in_ok-put_count.ensures)
     c.in_ok-extend_from_slice-2.ensures.items c.in_ok-extend_from_slice-3.ensures.items c.in_ok-put_states.ensures

@@ -1,12 +1,12 @@
 use Rattle.std.proofs.Common.{codes}
-use Rattle.lrc_explore.specs.Texts.{racy_lines, states_line}
-use Rattle.lrc_explore.proofs.Lines.{added_four}
+use Rattle.lrc_explore.specs.Texts.{explore_text_racy_lines, explore_text_states_line}
+use Rattle.lrc_explore.proofs.Lines.{lines_added_four}
 use Rattle.lrc_explore.proofs.rendering.put_racy.Goals as goal
 
 pub returns : goal.returns
 returns c =
     let racy = c.args.racy.now in
-    added_four c.args.text.now.items (codes "verdict racy\n") (racy_lines racy.events.items racy.first) c.args.hang.now
-    (states_line c.args.states) c.extend_from_slice.new.self.items c.put_race.new.text.items
+    lines_added_four c.args.text.now.items (codes "verdict racy\n") (explore_text_racy_lines racy.events.items racy.first) c.args.hang.now
+    (explore_text_states_line c.args.states) c.extend_from_slice.new.self.items c.put_race.new.text.items
     c.extend_from_slice-2.new.self.items c.put_states.new.text.items c.in_ok-extend_from_slice.ensures.items
     (rw c.deref.ensures.value at c.in_ok-put_race.ensures) c.in_ok-extend_from_slice-2.ensures.items c.in_ok-put_states.ensures

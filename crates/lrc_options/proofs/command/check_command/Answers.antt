@@ -1,8 +1,8 @@
 use Rattle.std.proofs.Common.{codes}
 use Rattle.clap.specs.Words.{with_rule}
 use Rattle.clap.specs.declared.builder.value_parser.ValueParser.TheVariants as vp
-use Rattle.lrc_options.specs.CommandLine.{file_rules, lax_rule, model_rule}
-use Rattle.lrc_options.proofs.CommandLine.{with_option_rule}
+use Rattle.lrc_options.specs.OptionRules.{file_rules, lax_rule, model_rule}
+use Rattle.lrc_options.proofs.OptionRules.{with_option_rule}
 use Rattle.lrc_options.proofs.command.check_command.Goals as goal
 
 pub returns : goal.returns

@@ -1,6 +1,6 @@
 use Rattle.std.proofs.Common.{codes}
-use Rattle.lrc_options.specs.CommandLine.{file_rules}
-use Rattle.lrc_options.proofs.CommandLine.{with_option_rule}
+use Rattle.lrc_options.specs.OptionRules.{file_rules}
+use Rattle.lrc_options.proofs.OptionRules.{with_option_rule}
 use Rattle.lrc_options.proofs.command.explore_command.Goals as goal
 
 pub returns : goal.returns

@@ -4,7 +4,7 @@ use Rattle.clap.specs.Simple.{app_of_fields}
 use Rattle.clap.specs.declared.builder.command.Command.{Command}
 use Rattle.clap.specs.declared.builder.command.Command.TheOpen.{Command-F}
 use Rattle.clap.specs.declared.builder.command.Command.TheViews.{out-Command}
-use Rattle.lrc_options.proofs.CommandLine.{if_ok_map, still_local}
+use Rattle.lrc_options.proofs.OptionRules.{option_if_ok_map, option_still_local}
 use Rattle.lrc_options.proofs.command.file_command.Goals as goal
 
 pub returns : goal.returns
@@ -17,7 +17,7 @@ returns c =
     ap (λ (f : Command-F Command). f.has_globals) c.about.ensures ∙ c.new-2.ensures.local in
     let local : (out-Command c.after_help.result).has_globals ≡ false =
     ap (λ (f : Command-F Command). f.has_globals) c.after_help.ensures ∙ about_local in
-    if_ok_map c.arg.result (λ made adds. record {
+    option_if_ok_map c.arg.result (λ made adds. record {
       shape = adds.shape file_own ∙ ap₂ with_rule (start ∙ about ∙ c.new-2.ensures.app) file_is;
-      local = still_local _ _ _ adds.globals local file_own;
+      local = option_still_local _ _ _ adds.globals local file_own;
     }) c.arg.ensures

@@ -1,7 +1,7 @@
 use Rattle.clap.specs.Words.{rule_of}
 use Rattle.clap.specs.declared.builder.value_parser.ValueParser.TheVariants as vp
-use Rattle.lrc_options.specs.CommandLine.{script_rules}
-use Rattle.lrc_options.proofs.CommandLine.{with_option_rule}
+use Rattle.lrc_options.specs.OptionRules.{script_rules}
+use Rattle.lrc_options.proofs.OptionRules.{with_option_rule}
 use Rattle.lrc_options.proofs.command.flagged_command.Goals as goal
 
 pub returns : goal.returns

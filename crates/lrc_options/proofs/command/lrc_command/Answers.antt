@@ -1,6 +1,6 @@
 use Rattle.std.proofs.Common.{ap}
 use Rattle.clap.specs.Words.{App}
-use Rattle.lrc_options.proofs.CommandLine.{if_ok_map}
+use Rattle.lrc_options.proofs.OptionRules.{option_if_ok_map}
 use Rattle.lrc_options.proofs.command.lrc_command.Goals as goal
 
 pub returns-clause-command : goal.returns-clause-command
@@ -14,5 +14,5 @@ returns-clause-command c =
 
 pub returns-clause-wants : goal.returns-clause-wants
 returns-clause-wants c =
-    if_ok_map c.with_command.result (λ made is. ap (λ (a : App). a.top.subcommand_required) is.shape)
+    option_if_ok_map c.with_command.result (λ made is. ap (λ (a : App). a.top.subcommand_required) is.shape)
     (returns-clause-command c)

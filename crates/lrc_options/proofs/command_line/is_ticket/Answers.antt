@@ -1,6 +1,6 @@
 use Rattle.std.proofs.Common.{codes}
 use Rattle.clap.specs.Words.{found_of}
-use Rattle.lrc_options.proofs.CommandLine.{word_option_read, no_word_option}
+use Rattle.lrc_options.proofs.OptionRules.{word_option_read, no_word_option}
 use Rattle.lrc_options.proofs.command_line.is_ticket.Goals as goal
 
 pub returns-in-Some : goal.returns-in-Some

@@ -1,6 +1,6 @@
 use Rattle.std.specs.Str.Parse.{ParsesUnsigned, ExplainsUnsignedError, HasUnsignedDigitsIfOk}
 use Rattle.clap.specs.Words.{found_of}
-use Rattle.lrc_options.proofs.CommandLine.{option_number_read}
+use Rattle.lrc_options.proofs.OptionRules.{option_number_read}
 use Rattle.lrc_options.proofs.command_line.number_of.Goals as goal
 
 pub returns : goal.returns

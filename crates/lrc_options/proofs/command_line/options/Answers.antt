@@ -1,9 +1,9 @@
 use Rattle.std.proofs.Common.{◌≡◌, ◌∙◌, inl, [], ◌∷◌, sym, ap, subst, codes, map, rules, string_bytes}
 use Rattle.clap.specs.Words.{App, HasKind, fault_of, found_of, is_simple, is_simple_and_free, rows_of, subcommand_of, subcommand_rows_of}
 use Rattle.clap.specs.declared.builder.value_parser.ValueParser.TheVariants as vp
-use Rattle.lrc_options.specs.CommandLine.{lrc_rules}
+use Rattle.lrc_options.specs.OptionRules.{lrc_rules}
 use Rattle.std.proofs.lemmas.Result.{err_from_is_err_and}
-use Rattle.lrc_options.proofs.CommandLine.{given_by, if_err_map, is_fault, named_option_rows, no_fault, out_of_memory, refused_by, same_kind}
+use Rattle.lrc_options.proofs.OptionRules.{options_given_by, option_if_err_map, option_is_fault, named_option_rows, option_no_fault, options_out_of_memory, options_refused_by, option_fault_same_kind}
 use Rattle.lrc_options.proofs.command_line.options.Goals as goal
 
 -- what is read of the command that is given
@@ -14,8 +14,8 @@ returns-in-Some-clause-given c =
     let locks_are : map (λ s. s.now) c.as_slice.result.now ≡ codes "array" ∷ codes "ticket" ∷ [] = search rules in
     let entered : subcommand_rows_of c.in-Ok.matches ≡ subcommand_of (lrc_rules (vp.Names c.as_slice.result) (vp.Names c.as_slice-2.result)) words =
     (c.in-Ok.ensures.matches (ap is_simple app)).1 ∙ ap (λ (a : App). subcommand_of a words) app in
-    let faults = no_fault _ _ _ c.in-Ok.is (c.try_get_matches_from.ensures.kinds (ap is_simple_and_free app)) in
-    given_by (vp.Names c.as_slice.result) (vp.Names c.as_slice-2.result) words c.in-Some.name.now (rows_of (found_of c.in-Some.given.now)) c.answer_of.result
+    let faults = option_no_fault _ _ _ c.in-Ok.is (c.try_get_matches_from.ensures.kinds (ap is_simple_and_free app)) in
+    options_given_by (vp.Names c.as_slice.result) (vp.Names c.as_slice-2.result) words c.in-Some.name.now (rows_of (found_of c.in-Some.given.now)) c.answer_of.result
     locks_are (search rules) (sym (ap (λ (a : App). fault_of a words) app) ∙ faults)
     (sym entered ∙ named_option_rows _ _ _ _ _ c.in-Some.ensures.name c.in-Some.ensures.rows) c.answer_of.ensures.one
     c.answer_of.ensures.asked
@@ -28,26 +28,26 @@ returns-in-Some-clause-refused c =
     let entered : subcommand_rows_of c.in-Ok.matches ≡ subcommand_of (lrc_rules (vp.Names c.as_slice.result) (vp.Names c.as_slice-2.result)) words =
     (c.in-Ok.ensures.matches (ap is_simple app)).1 ∙ ap (λ (a : App). subcommand_of a words) app in
     let command = sym entered ∙ named_option_rows _ _ _ _ _ c.in-Some.ensures.name c.in-Some.ensures.rows in
-    if_err_map c.answer_of.result (λ e unanswered. refused_by (vp.Names c.as_slice.result) (vp.Names c.as_slice-2.result) words c.in-Some.name.now
+    option_if_err_map c.answer_of.result (λ e unanswered. options_refused_by (vp.Names c.as_slice.result) (vp.Names c.as_slice-2.result) words c.in-Some.name.now
     (rows_of (found_of c.in-Some.given.now)) e locks_are (search rules) command unanswered) c.answer_of.ensures.unanswered
 
 pub returns-in_err-lrc_command-clause-refused : goal.returns-in_err-lrc_command-clause-refused
 returns-in_err-lrc_command-clause-refused c =
     let answer = err_from_is_err_and c.from_residual.result c.from_residual.ensures.1 in
-    rw answer.1 (out_of_memory (vp.Names c.as_slice.result) (vp.Names c.as_slice-2.result) _ _ (search rules) (search rules) answer.2)
+    rw answer.1 (options_out_of_memory (vp.Names c.as_slice.result) (vp.Names c.as_slice-2.result) _ _ (search rules) (search rules) answer.2)
 
 pub returns-in_ok-with_tip-in-Err-clause-refused : goal.returns-in_ok-with_tip-in-Err-clause-refused
 returns-in_ok-with_tip-in-Err-clause-refused c =
     let words = map (λ w. string_bytes w) c.args.words.now in
     let app = c.in_ok-lrc_command.ensures.command.shape in
     let fault = c.in-Err.fault in
-    let fails = is_fault _ _ fault c.in-Err.is (c.try_get_matches_from.ensures.kinds (ap is_simple_and_free app)) in
+    let fails = option_is_fault _ _ fault c.in-Err.is (c.try_get_matches_from.ensures.kinds (ap is_simple_and_free app)) in
     record {
       locks = vp.Names c.as_slice.result;
       locks_are = search rules;
       models = vp.Names c.as_slice-2.result;
       models_are = search rules;
-      kind = inl (same_kind _ fault c.in_ok-with_tip-in-Err.field-0 c.in_ok-with_tip-in-Err.ensures
+      kind = inl (option_fault_same_kind _ fault c.in_ok-with_tip-in-Err.field-0 c.in_ok-with_tip-in-Err.ensures
           (subst (λ (a : App). HasKind (fault_of a words) fault) app fails));
     }
 
@@ -56,4 +56,4 @@ returns-in_err-with_tip-in-Err-clause-refused c =
     let answer =
     err_from_is_err_and c.from_residual-in_err-with_tip-in-Err.result
     c.from_residual-in_err-with_tip-in-Err.ensures.1 in
-    rw answer.1 (out_of_memory (vp.Names c.as_slice.result) (vp.Names c.as_slice-2.result) _ _ (search rules) (search rules) answer.2)
+    rw answer.1 (options_out_of_memory (vp.Names c.as_slice.result) (vp.Names c.as_slice-2.result) _ _ (search rules) (search rules) answer.2)

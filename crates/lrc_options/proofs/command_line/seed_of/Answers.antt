@@ -1,5 +1,5 @@
 use Rattle.std.proofs.Common.{arith}
-use Rattle.lrc_options.proofs.CommandLine.{seed_option_in, seed_option_out, seed_option_none}
+use Rattle.lrc_options.proofs.OptionRules.{seed_option_in, seed_option_out, seed_option_none}
 use Rattle.lrc_options.proofs.command_line.seed_of.Goals as goal
 
 pub returns-in-Some : goal.returns-in-Some

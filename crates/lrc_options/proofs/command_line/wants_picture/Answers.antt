@@ -1,6 +1,6 @@
 use Rattle.std.proofs.Common.{codes}
 use Rattle.clap.specs.Words.{found_of}
-use Rattle.lrc_options.proofs.CommandLine.{flag_option_read}
+use Rattle.lrc_options.proofs.OptionRules.{flag_option_read}
 use Rattle.lrc_options.proofs.command_line.wants_picture.Goals as goal
 
 pub returns : goal.returns

@@ -1,30 +1,30 @@
 use Rattle.std.proofs.Common.{◌≡◌, ◌+◌, sym, subst, arith}
 use Rattle.lrc_script.specs.Plan.{plan_of}
-use Rattle.lrc_sample.specs.Samples.{IsMade, IsSampleOf}
-use Rattle.lrc_sample.proofs.Samples.{made_few, made_none, sample_of}
+use Rattle.lrc_sample.specs.Samples.{IsSampleMade, IsSampleOf}
+use Rattle.lrc_sample.proofs.Samples.{sample_made_few, sample_made_none, sample_of}
 use Rattle.lrc_sample.proofs.sampling.sample.Goals as goal
 
 pub run_once-requires-clause-made : goal.run_once-requires-clause-made
 run_once-requires-clause-made g c =
-    subst (IsMade (plan_of c.args.script.now) 0) (sym c.new-lines.ensures.items)
-    (made_none (plan_of c.args.script.now))
+    subst (IsSampleMade (plan_of c.args.script.now) 0) (sym c.new-lines.ensures.items)
+    (sample_made_none (plan_of c.args.script.now))
 
 pub loop-seed-init : goal.loop-seed-init
 loop-seed-init g c = c.in_ok-run_once.ensures
 
 pub run_once-requires-in-loop-seed-clause-made : goal.run_once-requires-in-loop-seed-clause-made
 run_once-requires-in-loop-seed-clause-made g c =
-    subst (λ n. IsMade (plan_of c.args.script.now) (n + 1) c.loop-seed.lines.items) (sym c.from.ensures)
+    subst (λ n. IsSampleMade (plan_of c.args.script.now) (n + 1) c.loop-seed.lines.items) (sym c.from.ensures)
     c.loop-seed.invariant
 
 pub loop-seed-preserved : goal.loop-seed-preserved
 loop-seed-preserved g c =
-    subst (λ n. IsMade (plan_of c.args.script.now) (n + 1 + 1) c.run_once-in-loop-seed.new.lines.items)
+    subst (λ n. IsSampleMade (plan_of c.args.script.now) (n + 1 + 1) c.run_once-in-loop-seed.new.lines.items)
     c.from.ensures c.in_ok-run_once-2.ensures
 
 pub sort-requires : goal.sort-requires
 sort-requires g c =
-    made_few (plan_of c.args.script.now) (c.loop-seed.seed + 1) c.loop-seed.lines.items
+    sample_made_few (plan_of c.args.script.now) (c.loop-seed.seed + 1) c.loop-seed.lines.items
     (omega (arith, c.loop-seed.auto.seed-end, c.ranges.seeds.fits)) c.loop-seed.invariant
 
 pub returns-in-Ok : goal.returns-in-Ok

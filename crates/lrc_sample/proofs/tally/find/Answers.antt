@@ -1,6 +1,6 @@
 use Rattle.std.proofs.Common.{length, refl, arith}
 use Rattle.std.proofs.lemmas.Option.{slice_get_read, slice_get_within}
-use Rattle.lrc_sample.proofs.Tallies.{none_more}
+use Rattle.lrc_sample.proofs.TallyLines.{tally_none_more}
 use Rattle.lrc_sample.proofs.tally.find.Goals as goal
 
 pub loop-place-preserved : goal.loop-place-preserved
@@ -9,7 +9,7 @@ loop-place-preserved c =
     let n = c.loop-place.place in
     let item = c.index-lines-place.result in
     let at = slice_get_read xs (length xs) n item refl c.loop-place-test.true c.index-lines-place.is in
-    none_more xs c.args.outcome.now n item c.loop-place.invariant at
+    tally_none_more xs c.args.outcome.now n item c.loop-place.invariant at
     (λ e. let yes = c.is_same.ensures.1 e in let isnt = c.if-is_same.false in absurd (cc))
 
 pub returns-then-is_same : goal.returns-then-is_same

@@ -1,36 +1,36 @@
 use Rattle.std.proofs.Common.{◌++◌, ◌∷◌, [], subst, sym, arith}
-use Rattle.lrc_sample.specs.Order.{TallyStarted}
-use Rattle.lrc_sample.specs.Samples.{Shows}
+use Rattle.lrc_sample.specs.Order.{TallyOrderStarted}
+use Rattle.lrc_sample.specs.Samples.{SampleShows}
 use Rattle.lrc_sample.specs.Tally.{AreLinesShown}
-use Rattle.lrc_sample.proofs.Tallies.{again_at, few_at, new_at, shown_again, shown_new}
+use Rattle.lrc_sample.proofs.TallyLines.{tally_again_at, tally_few_at, tally_new_at, tally_shown_again, tally_shown_new}
 use Rattle.lrc_sample.proofs.tally.note.Goals as goal
 
 pub overflow_add-index_mut : goal.overflow_add-index_mut
 overflow_add-index_mut c =
     let found = rw c.deref.ensures.value at c.in-Some.ensures in
-    let few = few_at c.args.lines.now.items c.args.outcome c.in-Some.place _ c.index_mut.result.now
+    let few = tally_few_at c.args.lines.now.items c.args.outcome c.in-Some.place _ c.index_mut.result.now
     c.index_mut.ensures.value found in
     omega (arith, few, c.requires)
 
 pub returns-in-Some-clause-shown : goal.returns-in-Some-clause-shown
 returns-in-Some-clause-shown c = λ s shown new.
     let found = rw c.deref.ensures.value at c.in-Some.ensures in
-    shown_again (Shows s) c.args.lines.now.items c.args.outcome c.in-Some.place _ c.index_mut.result.now
+    tally_shown_again (SampleShows s) c.args.lines.now.items c.args.outcome c.in-Some.place _ c.index_mut.result.now
     c.index_mut.ensures.value found shown
 
 pub returns-in-Some-clause-tally : goal.returns-in-Some-clause-tally
 returns-in-Some-clause-tally c = λ outcomes is place.
     let found = rw c.deref.ensures.value at c.in-Some.ensures in
-    again_at outcomes c.args.lines.now.items c.args.outcome c.in-Some.place _ c.index_mut.result.now
+    tally_again_at outcomes c.args.lines.now.items c.args.outcome c.in-Some.place _ c.index_mut.result.now
     c.index_mut.ensures.value found is
 
 pub returns-in_ok-push-in-None-clause-shown : goal.returns-in_ok-push-in-None-clause-shown
 returns-in_ok-push-in-None-clause-shown c = λ s shown new.
-    subst (AreLinesShown (Shows s)) (sym c.in_ok-push-in-None.ensures.items)
-    (shown_new (Shows s) c.args.lines.now.items c.args.outcome c.args.seed c.args.schedule shown new)
+    subst (AreLinesShown (SampleShows s)) (sym c.in_ok-push-in-None.ensures.items)
+    (tally_shown_new (SampleShows s) c.args.lines.now.items c.args.outcome c.args.seed c.args.schedule shown new)
 
 pub returns-in_ok-push-in-None-clause-tally : goal.returns-in_ok-push-in-None-clause-tally
 returns-in_ok-push-in-None-clause-tally c = λ outcomes is place.
     let none = rw c.deref.ensures.value at c.in-None.ensures in
-    subst (TallyStarted (outcomes ++ c.args.outcome ∷ [])) (sym c.in_ok-push-in-None.ensures.items)
-    (new_at outcomes c.args.lines.now.items c.args.outcome c.args.seed c.args.schedule none place is)
+    subst (TallyOrderStarted (outcomes ++ c.args.outcome ∷ [])) (sym c.in_ok-push-in-None.ensures.items)
+    (tally_new_at outcomes c.args.lines.now.items c.args.outcome c.args.seed c.args.schedule none place is)

@@ -1,6 +1,6 @@
 use Rattle.std.proofs.Common.{subst, sym}
 use Rattle.causes.specs.Paths.{IsWay}
-use Rattle.causes.proofs.Reached.{way_on}
+use Rattle.causes.proofs.ReachedPaths.{path_way_longer}
 use Rattle.causes.proofs.paths.Ways.+lead.Goals as goal
 
 pub returns : goal.returns
@@ -9,4 +9,4 @@ returns t c =
     let i = c.args.from in
     let k = c.args.to in
     subst (IsWay events i k) (sym c.in_ok-push.ensures.items)
-    (way_on events i c.in-Some.before k c.in_ok-places.places.items c.in_ok-places.ensures c.in-Some.ensures.0)
+    (path_way_longer events i c.in-Some.before k c.in_ok-places.places.items c.in_ok-places.ensures c.in-Some.ensures.0)

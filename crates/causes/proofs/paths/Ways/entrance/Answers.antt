@@ -6,12 +6,12 @@ use Rattle.journal.specs.declared.event.Event.{Event}
 use Rattle.journal.specs.Pasts.{UpTo}
 use Rattle.causes.specs.declared.paths.Ways.{Ways}
 use Rattle.causes.specs.HandOvers.{AreHandOvers}
-use Rattle.causes.specs.Paths.{AreWays}
-use Rattle.causes.proofs.Reached.{up_to_on}
+use Rattle.causes.specs.Paths.{ArePathWays}
+use Rattle.causes.proofs.ReachedPaths.{reached_up_to_longer}
 use Rattle.causes.proofs.paths.Ways.entrance.Goals as goal
 
 -- the row that is read has the event's entrances
-row_read : (j : List Event) (x : Ways) (k : ℕ) (row : Vec ℕ) (places : List ℕ) → AreWays j x → k < length j
+row_read : (j : List Event) (x : Ways) (k : ℕ) (row : Vec ℕ) (places : List ℕ) → ArePathWays j x → k < length j
     → row ≡ slice_index_or x.hand_overs.items k row → places ≡ row.items → AreHandOvers j k places
 row_read j x k row places tells lt read is =
     let long = tells.hand_overs.long in
@@ -70,4 +70,4 @@ returns c = λ i news up.
     let x = are.all i news in
     let end = c.loop-entrance-test.false in
     let lt = slice_get_within places x.1.0 x.0 x.1.1 in
-    c.loop-entrance.invariant x.1.0 x.0 (omega arith) x.1.1 (up_to_on events c.args.from i x.0 up x.2)
+    c.loop-entrance.invariant x.1.0 x.0 (omega arith) x.1.1 (reached_up_to_longer events c.args.from i x.0 up x.2)

@@ -9,15 +9,15 @@ use Rattle.journal.specs.Pasts.{UpTo}
 use Rattle.journal.proofs.Order.CountedAndNumbered.{numbered_does_at}
 use Rattle.causes.specs.Edges.{EdgeFromOther}
 use Rattle.causes.specs.News.{IsNews}
-use Rattle.causes.specs.Paths.{IsFirstReached}
-use Rattle.causes.proofs.Reached.{none_enters, reached_from}
+use Rattle.causes.specs.Paths.{IsFirstReachedByPath}
+use Rattle.causes.proofs.ReachedPaths.{reached_path_none_enters, reached_from}
 use Rattle.causes.proofs.paths.Ways.step_back.Goals as goal
 
 -- the first event that is reached is entered, or it is the one that reaches it
-entered : (j : List Event) (q i k : ℕ) (o : Option ℕ) → IsFirstReached j i q k
+entered : (j : List Event) (q i k : ℕ) (o : Option ℕ) → IsFirstReachedByPath j i q k
     → MatchOption o ((n : ℕ) → IsNews j n k → ¬ UpTo j n i) (λ n. EdgeFromOther j n k × UpTo j n i)
     → MatchOption o (k ≡ i) (λ n. Edge j n k × UpTo j n i)
-entered j q i k None first none = none_enters j q i k first none
+entered j q i k None first none = reached_path_none_enters j q i k first none
 entered j q i k (Some n) first enters = (enters.0.edge, enters.1)
 
 pub returns : goal.returns
@@ -32,5 +32,5 @@ returns c =
     let up : m ≤ k = (reached_from events e.processor i m k e.kind first does).1 c.requires.reached in
     let end = c.if-first-to.false in
     let is : m ≡ k = omega arith in
-    entered events e.processor i k c.entrance.result (subst (IsFirstReached events i e.processor) is first)
+    entered events e.processor i k c.entrance.result (subst (IsFirstReachedByPath events i e.processor) is first)
     c.entrance.ensures

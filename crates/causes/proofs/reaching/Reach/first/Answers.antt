@@ -11,13 +11,13 @@ use Rattle.journal.specs.WellFormed.{Does}
 use Rattle.journal.proofs.Order.CountedAndNumbered.{numbered_at_within, numbered_does_at}
 use Rattle.causes.specs.declared.takings.Taking.{Taking}
 use Rattle.causes.specs.declared.reaching.Reach.{Reach}
-use Rattle.causes.specs.Takings.{AreTakings, IsFirstAbove, NoneAbove}
-use Rattle.causes.specs.Paths.{FirstReached, IsReach}
-use Rattle.causes.proofs.Reached.{first_own, first_reached, none_reached, parted}
+use Rattle.causes.specs.Takings.{AreTakings, IsFirstTakingAbove, NoTakingAbove}
+use Rattle.causes.specs.Paths.{PathFirstReached, IsPathReach}
+use Rattle.causes.proofs.ReachedPaths.{first_reached_own, first_reached, none_reached, reached_path_parted}
 use Rattle.causes.proofs.reaching.Reach.first.Goals as goal
 
 -- the row that is read has the processor's events that take
-row_read : (j : List Event) (x : Reach) (q : ℕ) (row : Vec Taking) (takings : List Taking) → IsReach j x → q < 16
+row_read : (j : List Event) (x : Reach) (q : ℕ) (row : Vec Taking) (takings : List Taking) → IsPathReach j x → q < 16
     → row ≡ slice_index_or x.takings.items q row → takings ≡ row.items → AreTakings j q (length j) takings
 row_read j x q row takings tells lt read is =
     let long = tells.takings.long in
@@ -26,7 +26,7 @@ row_read j x q row takings tells lt read is =
     (slice_get_read x.takings.items (length x.takings.items) q row refl (omega arith) read))
 
 -- and the number that is read is the interval's
-number_read : (j : List Event) (x : Reach) (i n : ℕ) (e : Event) → IsReach j x → At j i e
+number_read : (j : List Event) (x : Reach) (i n : ℕ) (e : Event) → IsPathReach j x → At j i e
     → n ≡ slice_index_or x.numbers.items i n → n ≡ interval_at j e.processor i
 number_read j x i n e tells at read =
     let long = tells.numbers.long in
@@ -38,7 +38,7 @@ number_read j x i n e tells at read =
 -- the first of these timestamps that counts it is that after the first event that it reaches
 found : (j : List Event) (p q i number : ℕ) (a : Kind) (takings : List Taking) (o : Option ℕ) → Does j i p a → p ≢ q
     → number ≡ interval_at j p i → AreTakings j q (length j) takings
-    → MatchOption o (NoneAbove takings p number) (IsFirstAbove takings p number) → FirstReached j i q o
+    → MatchOption o (NoTakingAbove takings p number) (IsFirstTakingAbove takings p number) → PathFirstReached j i q o
 found j p q i number a takings None does apart is are none = none_reached j p q i number a takings does apart is are none
 found j p q i number a takings (Some m) does apart is are first =
     first_reached j p q i m number a takings does apart is are first
@@ -56,7 +56,7 @@ first_above-requires-clause-parted c =
     let e = here events i in
     let tells = c.requires.tells in
     let at = slice_get-get_or events i (event 0 (Load 0 0)) c.requires.from in
-    parted events e.processor q i (length events) c.index-2.result.now e.kind c.deref.result.now
+    reached_path_parted events e.processor q i (length events) c.index-2.result.now e.kind c.deref.result.now
     (numbered_does_at events i e.processor e at refl) c.if-by-processor.false
     (number_read events x i c.index-2.result.now e tells at c.index-2.ensures)
     (row_read events x q c.index.result.now c.deref.result.now tells c.requires.processor c.index.ensures
@@ -67,7 +67,7 @@ returns-then-by-processor c =
     let events = c.args.events.now in
     let i = c.args.from in
     let e = here events i in
-    first_own events c.args.processor i e.kind
+    first_reached_own events c.args.processor i e.kind
     (numbered_does_at events i c.args.processor e (slice_get-get_or events i (event 0 (Load 0 0)) c.requires.from)
     c.if-by-processor.true)
 

@@ -5,7 +5,7 @@ use Rattle.journal.specs.declared.event.Event.{Event}
 use Rattle.journal.specs.declared.event.Kind.TheVariants.{Load}
 use Rattle.journal.specs.DidEvent.{event}
 use Rattle.journal.proofs.Order.CountedAndNumbered.{numbered_does_at}
-use Rattle.causes.proofs.Reached.{reached_from}
+use Rattle.causes.proofs.ReachedPaths.{reached_from}
 use Rattle.causes.proofs.reaching.Reach.reaches.Goals as goal
 
 -- the event at this place

@@ -5,7 +5,7 @@ use Rattle.journal.specs.declared.event.Kind.TheVariants.{Load, Store}
 use Rattle.journal.specs.DidEvent.{event}
 use Rattle.journal.specs.Events.{At, interval_at}
 use Rattle.journal.specs.InRange.{AddressInRange, AddressesInRange}
-use Rattle.judge.specs.Tallies.{row_index}
+use Rattle.judge.specs.GapTally.{gap_tally_row_index}
 use Rattle.causes.specs.declared.stores.NumberedStore.{NumberedStore}
 use Rattle.causes.proofs.StoreRows.{store_rows_quiet, store_rows_stored}
 use Rattle.causes.proofs.stores.StoreRows.add.Goals as goal
@@ -73,7 +73,7 @@ returns-clause-rows c =
     address_low events k x.addresses a c.in-Store.field-1 c.requires.place c.requires.addresses c.in-Store.is in
     let by = c.requires.processors k e at in
     let long = c.requires.so_far.long in
-    let row = slice_get_read x.rows.items (length x.rows.items) (row_index a e.processor) c.index_mut.result.now refl
+    let row = slice_get_read x.rows.items (length x.rows.items) (gap_tally_row_index a e.processor) c.index_mut.result.now refl
     (omega (arith, x.rows.ok.0)) c.index_mut.ensures.value in
     let number : slice_index c.args.numbers.now k ≡ interval_at events e.processor k = c.requires.numbers.each k e at in
     let store : NumberedStore = record { place = k; interval = slice_index c.args.numbers.now k } in
@@ -81,6 +81,6 @@ returns-clause-rows c =
       long = long;
       each =
           store_rows_stored events k a c.in-Store.field-1 e store x c.index_mut.result.now c.push.new.self
-          (slice_set x.rows.items (row_index a e.processor) c.push.new.self) at c.in-Store.is by refl number row
+          (slice_set x.rows.items (gap_tally_row_index a e.processor) c.push.new.self) at c.in-Store.is by refl number row
           c.in_ok-push.ensures.items refl c.requires.so_far;
     }

@@ -1,10 +1,10 @@
 use Rattle.std.proofs.Common.{◌≤◌, MatchOption, length, subst, sym, refl, arith}
 use Rattle.std.proofs.lemmas.Option.{slice_get_read}
 use Rattle.base.specs.InOrderOnce.{InOrder}
-use Rattle.judge.specs.Tallies.{row_index}
+use Rattle.judge.specs.GapTally.{gap_tally_row_index}
 use Rattle.causes.specs.declared.stores.NumberedStore.{NumberedStore}
-use Rattle.causes.specs.Stores.{IsLastUnder, NoneUnder}
-use Rattle.causes.proofs.StoreRows.{intervals_rise}
+use Rattle.causes.specs.Stores.{IsLastStoredUnder, NoneStoredUnder}
+use Rattle.causes.proofs.StoreRows.{store_intervals_rise}
 use Rattle.causes.proofs.stores.StoreRows.last.Goals as goal
 
 pub last_under-requires : goal.last_under-requires
@@ -18,9 +18,9 @@ last_under-requires c =
     let long = are.long in
     let low = c.requires.address in
     let by = c.requires.processor in
-    let there = slice_get_read rows (length rows) (row_index a q) row refl (omega (arith, c.args.self.now.rows.ok.0)) c.index.ensures in
+    let there = slice_get_read rows (length rows) (gap_tally_row_index a q) row refl (omega (arith, c.args.self.now.rows.ok.0)) c.index.ensures in
     subst (InOrder (λ (x y : NumberedStore). x.interval ≤ y.interval)) (sym c.deref.ensures.value)
-    (intervals_rise j a q (length j) row.items (are.each a q row by there))
+    (store_intervals_rise j a q (length j) row.items (are.each a q row by there))
 
 pub returns : goal.returns
 returns c =
@@ -33,8 +33,8 @@ returns c =
     let low = c.requires.address in
     let by = c.requires.processor in (
       row,
-      slice_get_read rows (length rows) (row_index a q) row refl (omega (arith, c.args.self.now.rows.ok.0)) c.index.ensures,
+      slice_get_read rows (length rows) (gap_tally_row_index a q) row refl (omega (arith, c.args.self.now.rows.ok.0)) c.index.ensures,
       subst
-          (λ xs. MatchOption c.last_under.result (NoneUnder xs c.args.limit) (IsLastUnder xs c.args.limit))
+          (λ xs. MatchOption c.last_under.result (NoneStoredUnder xs c.args.limit) (IsLastStoredUnder xs c.args.limit))
           c.deref.ensures.value c.last_under.ensures,
     )

@@ -2,8 +2,8 @@ use Rattle.std.proofs.Common.{ℕ, zero, suc, ◌≡◌, ◌<◌, [], List, Some
 use Rattle.std.proofs.lemmas.List.{length-replicate}
 use Rattle.base.proofs.SliceSets.{index-zeros}
 use Rattle.lrc_script.specs.Plan.{plan_of}
-use Rattle.explore.proofs.prefixes.Beginnings.{empty_begins}
-use Rattle.explore.specs.Outcomes.{AreReplies}
+use Rattle.explore.proofs.prefixes.Beginnings.{beginning_empty}
+use Rattle.explore.specs.Outcomes.{AreOutcomeReplies}
 use Rattle.explore.proofs.flat_state.FlatState.new.Goals as goal
 
 -- so many of one item have it at each place
@@ -16,10 +16,10 @@ pub returns : goal.returns
 returns c =
     let s = plan_of c.args.script.now in
     record {
-      beginning = empty_begins s;
+      beginning = beginning_empty s;
       long = refl;
       done = λ p lt. index-zeros 16 p;
-      replies = subst (AreReplies s []) (sym c.in_ok-no_replies.ensures) (record {
+      replies = subst (AreOutcomeReplies s []) (sym c.in_ok-no_replies.ensures) (record {
         long = length-replicate s.processors [];
         each = always_empty s.processors;
       });

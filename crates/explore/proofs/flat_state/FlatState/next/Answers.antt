@@ -11,25 +11,25 @@ use Rattle.lrc_script.specs.Plan.{Plan}
 use Rattle.conformance.specs.Follows.{followed_calls, followed_plan_sizes}
 use Rattle.explore.specs.declared.prefixes.script_call.ScriptCall.{ScriptCall}
 use Rattle.explore.specs.Prefixes.Beginnings.{IsFlatBeginning}
-use Rattle.explore.specs.Prefixes.Calling.{IsStep, last_reply}
+use Rattle.explore.specs.Prefixes.Calling.{IsCallOfStep, last_reply_of_calls}
 use Rattle.explore.specs.declared.flat_state.FlatState.{FlatState}
-use Rattle.explore.specs.Machines.{AreLawfulSteps, Knows}
-use Rattle.explore.proofs.Machines.{at_step, memory_long, past_steps, read_at, row_steps, row_proper, rows_few, rows_many, sizes_small, step_range, step_word}
+use Rattle.explore.specs.Machines.{AreLawfulMachineSteps, Knows}
+use Rattle.explore.proofs.Machines.{machine_at_step, machine_memory_long, machine_past_steps, machine_read_at, machine_row_steps, machine_row_proper, machine_rows_few, machine_rows_many, machine_sizes_small, machine_step_range, machine_step_word}
 use Rattle.explore.proofs.flat_state.FlatState.next.Goals as goal
 
 pub returns-then-done-len : goal.returns-then-done-len
 returns-then-done-len c = λ s g steps knows k.
     let p = c.args.processor in
-    let few = rows_few s c.args.steps.now steps in
+    let few = machine_rows_few s c.args.steps.now steps in
     let lt = c.requires.processor in
     let row = c.index-steps-processor.result in
-    let at = read_at c.args.steps.now p row lt c.index-steps-processor.is in
-    let of = row_steps s c.args.steps.now p row steps.are at in
+    let at = machine_read_at c.args.steps.now p row lt c.index-steps-processor.is in
+    let of = machine_row_steps s c.args.steps.now p row steps.are at in
     let long = c.len.ensures in
     let over = c.if-done-len.true in
     let past : length row.items ≤ slice_index c.args.self.now.done p = omega arith in (
       λ none. absurd (none-some k none),
-      λ h. absurd (past_steps s g c.args.self.now p row steps.lawful of (omega arith) knows past k h),
+      λ h. absurd (machine_past_steps s g c.args.self.now p row steps.lawful of (omega arith) knows past k h),
     )
 
 pub call_of-kind-requires : goal.call_of-kind-requires
@@ -38,34 +38,34 @@ call_of-kind-requires c =
     let m = c.args.self.now in
     let p = c.args.processor in
     let row = c.index-steps-processor.result in
-    let at = read_at c.args.steps.now p row c.requires.processor c.index-steps-processor.is in
-    let of = row_steps run.plan c.args.steps.now p row run.lawful.are at in
+    let at = machine_read_at c.args.steps.now p row c.requires.processor c.index-steps-processor.is in
+    let of = machine_row_steps run.plan c.args.steps.now p row run.lawful.are at in
     let long = c.len.ensures in
     let under = c.if-done-len.false in
     let n = slice_index m.done p in
-    let here = read_at row.items n c.index.result.now (omega arith) c.index.ensures in
-    step_word run.plan c.index.result.now (length c.deref.result.now)
-    (ap (λ (ws : List ℕ). length ws) c.deref.ensures.value ∙ memory_long run.plan run.events m run.knows)
-    (row_proper run.plan p row n c.index.result.now run.lawful.lawful of here)
+    let here = machine_read_at row.items n c.index.result.now (omega arith) c.index.ensures in
+    machine_step_word run.plan c.index.result.now (length c.deref.result.now)
+    (ap (λ (ws : List ℕ). length ws) c.deref.ensures.value ∙ machine_memory_long run.plan run.events m run.knows)
+    (machine_row_proper run.plan p row n c.index.result.now run.lawful.lawful of here)
 
 -- what the call is, by the words of the machine
 module _ (s : Plan) (g : List Event) (m : FlatState) (steps : List (Vec ScriptCall)) (p : ℕ) (row : Vec ScriptCall)
-    (lawful : AreLawfulSteps s steps) (knows : Knows s g m) (lt : p < length steps) (at : slice_get steps p ≡ Some row)
+    (lawful : AreLawfulMachineSteps s steps) (knows : Knows s g m) (lt : p < length steps) (at : slice_get steps p ≡ Some row)
     (x : ScriptCall) (here : slice_get row.items (slice_index m.done p) ≡ Some x) (reply : ℕ) (words : List ℕ)
-    (told : (t : Plan) (h : List Event) → Knows t h m → reply ≡ last_reply (followed_calls h p))
+    (told : (t : Plan) (h : List Event) → Knows t h m → reply ≡ last_reply_of_calls (followed_calls h p))
     (are : words ≡ m.memory.items) (c : Kind)
-    (says : (k : Kind) → (c ≡ k) ↔ (IsStep reply x k × AnswersFlatWord words k)) where
+    (says : (k : Kind) → (c ≡ k) ↔ (IsCallOfStep reply x k × AnswersFlatWord words k)) where
   in_range : KindInRange (followed_plan_sizes s) c
   in_range =
-      step_range s reply x c
-      (row_proper s p row (slice_index m.done p) x lawful.lawful (row_steps s steps p row lawful.are at) here)
+      machine_step_range s reply x c
+      (machine_row_proper s p row (slice_index m.done p) x lawful.lawful (machine_row_steps s steps p row lawful.are at) here)
       ((says c).0 refl).0
 
   goes : (k : Kind) → IsFlatBeginning s (did g p k) ↔ (MayFollow (followed_plan_sizes s) g (event p c) × (c ≡ k))
   goes =
-      let few = rows_few s steps lawful in
-      at_step s g m p row lawful.lawful (row_steps s steps p row lawful.are at) (omega arith) knows reply (told s g knows) x
-      here c (subst (λ ws. (k : Kind) → (c ≡ k) ↔ (IsStep reply x k × AnswersFlatWord ws k)) are says)
+      let few = machine_rows_few s steps lawful in
+      machine_at_step s g m p row lawful.lawful (machine_row_steps s steps p row lawful.are at) (omega arith) knows reply (told s g knows) x
+      here c (subst (λ ws. (k : Kind) → (c ≡ k) ↔ (IsCallOfStep reply x k × AnswersFlatWord ws k)) are says)
 
 pub may_follow-requires : goal.may_follow-requires
 may_follow-requires c =
@@ -74,14 +74,14 @@ may_follow-requires c =
     let p = c.args.processor in
     let row = c.index-steps-processor.result in
     let lt = c.requires.processor in
-    let at = read_at c.args.steps.now p row lt c.index-steps-processor.is in
+    let at = machine_read_at c.args.steps.now p row lt c.index-steps-processor.is in
     let long = c.len.ensures in
     let under = c.if-done-len.false in
-    let here = read_at row.items (slice_index m.done p) c.index.result.now (omega arith) c.index.ensures in
+    let here = machine_read_at row.items (slice_index m.done p) c.index.result.now (omega arith) c.index.ensures in
     record {
       sizes = followed_plan_sizes run.plan;
-      small = sizes_small run.plan run.lawful.lawful;
-      processors_are = rows_many run.plan c.args.steps.now run.lawful;
+      small = machine_sizes_small run.plan run.lawful.lawful;
+      processors_are = machine_rows_many run.plan c.args.steps.now run.lawful;
       processor = lt;
       in_range =
           in_range run.plan run.events m c.args.steps.now p row run.lawful run.knows lt at c.index.result.now here
@@ -97,15 +97,15 @@ returns-then-may_follow c = λ s g lawful knows k.
     let p = c.args.processor in
     let row = c.index-steps-processor.result in
     let lt = c.requires.processor in
-    let at = read_at c.args.steps.now p row lt c.index-steps-processor.is in
+    let at = machine_read_at c.args.steps.now p row lt c.index-steps-processor.is in
     let long = c.len.ensures in
     let under = c.if-done-len.false in
-    let here = read_at row.items (slice_index m.done p) c.index.result.now (omega arith) c.index.ensures in
+    let here = machine_read_at row.items (slice_index m.done p) c.index.result.now (omega arith) c.index.ensures in
     let goes_on = goes s g m c.args.steps.now p row lawful knows lt at c.index.result.now here c.reply_before.result
     c.deref.result.now c.reply_before.ensures c.deref.ensures.value c.call_of-kind.result c.call_of-kind.ensures k in
     let range = in_range s g m c.args.steps.now p row lawful knows lt at c.index.result.now here c.reply_before.result
     c.deref.result.now c.reply_before.ensures c.deref.ensures.value c.call_of-kind.result c.call_of-kind.ensures in
-    let may = c.may_follow.ensures (followed_plan_sizes s) g (rows_many s c.args.steps.now lawful) range knows.waiting in (
+    let may = c.may_follow.ensures (followed_plan_sizes s) g (machine_rows_many s c.args.steps.now lawful) range knows.waiting in (
       λ is. goes_on.1 (may.0 c.if-may_follow.true, same_Some c.call_of-kind.result k is),
       λ h. ap Some (goes_on.0 h).1,
     )
@@ -116,15 +116,15 @@ returns-else-may_follow c = λ s g lawful knows k.
     let p = c.args.processor in
     let row = c.index-steps-processor.result in
     let lt = c.requires.processor in
-    let at = read_at c.args.steps.now p row lt c.index-steps-processor.is in
+    let at = machine_read_at c.args.steps.now p row lt c.index-steps-processor.is in
     let long = c.len.ensures in
     let under = c.if-done-len.false in
-    let here = read_at row.items (slice_index m.done p) c.index.result.now (omega arith) c.index.ensures in
+    let here = machine_read_at row.items (slice_index m.done p) c.index.result.now (omega arith) c.index.ensures in
     let goes_on = goes s g m c.args.steps.now p row lawful knows lt at c.index.result.now here c.reply_before.result
     c.deref.result.now c.reply_before.ensures c.deref.ensures.value c.call_of-kind.result c.call_of-kind.ensures k in
     let range = in_range s g m c.args.steps.now p row lawful knows lt at c.index.result.now here c.reply_before.result
     c.deref.result.now c.reply_before.ensures c.deref.ensures.value c.call_of-kind.result c.call_of-kind.ensures in
-    let may = c.may_follow.ensures (followed_plan_sizes s) g (rows_many s c.args.steps.now lawful) range knows.waiting in (
+    let may = c.may_follow.ensures (followed_plan_sizes s) g (machine_rows_many s c.args.steps.now lawful) range knows.waiting in (
       λ none. absurd (none-some k none),
       λ h. absurd (false≢true (sym c.if-may_follow.false ∙ may.1 (goes_on.0 h).0)),
     )

@@ -1,7 +1,7 @@
 use Rattle.std.proofs.Common.{◌<◌, ap, ◌∙◌, arith}
-use Rattle.explore.specs.Machines.{last_or}
-use Rattle.explore.proofs.Machines.{read_at}
-use Rattle.explore.proofs.Replies.{last_told, length-items_of}
+use Rattle.explore.specs.Machines.{machine_last_or}
+use Rattle.explore.proofs.Machines.{machine_read_at}
+use Rattle.explore.proofs.Replies.{replies_last_told, length-machine_rows}
 use Rattle.explore.proofs.flat_state.FlatState.reply_before.Goals as goal
 
 pub returns : goal.returns
@@ -9,8 +9,8 @@ returns c = λ s g knows.
     let vs = c.args.self.now.replies.items in
     let p = c.args.processor in
     let long = knows.replies.long in
-    let many = length-items_of vs in
+    let many = length-machine_rows vs in
     let lt = c.requires in
     let within : p < s.processors = omega arith in
-    last_told s g p vs c.index.result.now within (read_at vs p c.index.result.now lt c.index.ensures) knows.replies
-    c.last_of.result (c.last_of.ensures ∙ ap (last_or 0) c.deref.ensures.value)
+    replies_last_told s g p vs c.index.result.now within (machine_read_at vs p c.index.result.now lt c.index.ensures) knows.replies
+    c.last_of.result (c.last_of.ensures ∙ ap (machine_last_or 0) c.deref.ensures.value)

@@ -1,5 +1,5 @@
-use Rattle.explore.proofs.prefixes.Beginnings.{next_begins}
+use Rattle.explore.proofs.prefixes.Beginnings.{beginning_next}
 use Rattle.explore.proofs.prefixes.laws.next_law.Goals as goal
 
 pub returns : goal.returns
-returns c = next_begins
+returns c = beginning_next

@@ -6,30 +6,30 @@ use Rattle.lrc_script.specs.Plan.{Plan, plan_of}
 use Rattle.explore.specs.declared.neighbours.Neighbours.{Neighbours}
 use Rattle.explore.specs.declared.prefixes.script_call.ScriptCall.{ScriptCall}
 use Rattle.explore.specs.declared.search.Search.{Search}
-use Rattle.explore.specs.Explored.{AreAllOutcomes, AreOutcomes, is_settled, outcome_replies}
-use Rattle.explore.specs.Found.{states_of}
+use Rattle.explore.specs.Explored.{AreAllOutcomesExplored, AreExploredOutcomes, is_settled, explored_outcome}
+use Rattle.explore.specs.Found.{states_found}
 use Rattle.explore.specs.Guarded.{AreGuarded}
-use Rattle.explore.specs.Machines.{AreLawfulSteps}
-use Rattle.explore.specs.Prefixes.Beginnings.{IsFlatRaceFree}
+use Rattle.explore.specs.Machines.{AreLawfulMachineSteps}
+use Rattle.explore.specs.Prefixes.Beginnings.{IsRaceFreeBeginning}
 use Rattle.explore.specs.Racing.{AreRacing}
 use Rattle.lrc_script.specs.Lawful.{plan_addresses}
 use Rattle.explore.proofs.locksets.Law.{guarded_law}
-use Rattle.explore.proofs.locksets.Noted.{address_within, rows_within, unused_guarded}
+use Rattle.explore.proofs.locksets.Noted.{lockset_noted_address_within, lockset_noted_rows_within, lockset_noted_unused_guarded}
 use Rattle.explore.proofs.prefixes.Neighbours.Law.{neighbours}
-use Rattle.explore.specs.Searched.{IsLookedThrough, IsSearched, VisitedUpTo}
-use Rattle.explore.proofs.Searched.{all_outcomes, no_neighbours, open_only, some_outcomes}
+use Rattle.explore.specs.Searched.{IsSearchedThrough, IsSearched, SearchedUpTo}
+use Rattle.explore.proofs.Searched.{searched_all_outcomes, searched_no_neighbours, search_open_only, searched_some_outcomes}
 use Rattle.explore.proofs.search.Search.answer.Goals as goal
 
 -- where a search came through, all was looked at
 searched : (s : Plan) (x : Search) (steps : List (Vec ScriptCall)) (most states : ℕ) (o : Option Neighbours) (through : Bool)
-    → IsLookedThrough s x steps most o → states ≡ length (states_of x.found)
+    → IsSearchedThrough s x steps most o → states ≡ length (states_found x.found)
     → IsTrue through ↔ ((o ≡ None) × (states ≤ most)) → IsSearched s x steps through
 searched s x steps most states o through looked count tells = record {
   some = looked.some;
   all = λ yes.
       let both = tells.0 yes in
-      let few : length (states_of x.found) ≤ most = (let le = both.1 in omega arith) in
-      subst (λ n. MatchOption n (length (states_of x.found) ≤ most → VisitedUpTo s x steps (length (states_of x.found)))
+      let few : length (states_found x.found) ≤ most = (let le = both.1 in omega arith) in
+      subst (λ n. MatchOption n (length (states_found x.found) ≤ most → SearchedUpTo s x steps (length (states_found x.found)))
       (AreRacing s x.found steps)) both.0 looked.end few;
 }
 
@@ -47,16 +47,16 @@ past most states o through tells none isnt = elim (cases_lt most states) [
 
 -- where the text or the search shows it, no beginning races
 race_free : (s : Plan) (x : Search) (steps : List (Vec ScriptCall)) (words : List Bool) (through all : Bool)
-    → AreLawfulSteps s steps → IsSearched s x steps through → AreGuarded steps words → length words ≡ plan_addresses s
+    → AreLawfulMachineSteps s steps → IsSearched s x steps through → AreGuarded steps words → length words ≡ plan_addresses s
     → (IsTrue all → (w : ℕ) → w < length words → IsTrue (slice_index_or words w false)) → IsTrue (through || all)
-    → IsFlatRaceFree s
+    → IsRaceFreeBeginning s
 race_free s x steps words true all lawful looked guarded long each shown =
-    neighbours s (no_neighbours s x steps lawful (looked.all refl))
+    neighbours s (searched_no_neighbours s x steps lawful (looked.all refl))
 race_free s x steps words false all lawful looked guarded long each shown =
     guarded_law s steps lawful (λ w. elim (cases_lt w (length words)) [
       | inl lt ↦ guarded w (each shown w lt)
-      | inr past ↦ unused_guarded steps w (λ p row i step row_at at address.
-          let within = address_within (plan_addresses s) w step (rows_within s steps lawful p row row_at i step at) address in
+      | inr past ↦ lockset_noted_unused_guarded steps w (λ p row i step row_at at address.
+          let within = lockset_noted_address_within (plan_addresses s) w step (lockset_noted_rows_within s steps lawful p row row_at i step at) address in
           omega arith)
     ])
 
@@ -110,11 +110,11 @@ returns g c =
           omega (arith, found, count, most));
       verdict = c.in_ok-verdict.ensures.verdict;
       hanging = c.in_ok-hanging.ensures.hanging;
-      outcomes = subst (λ os. AreOutcomes s (map outcome_replies os)) keys (some_outcomes s x steps through.some.0 through.some.1);
+      outcomes = subst (λ os. AreExploredOutcomes s (map explored_outcome os)) keys (searched_some_outcomes s x steps through.some.0 through.some.1);
       all = λ yes.
-          subst (λ os. AreAllOutcomes s (map outcome_replies os)) keys (all_outcomes s x steps c.requires.steps (all.all yes));
+          subst (λ os. AreAllOutcomesExplored s (map explored_outcome os)) keys (searched_all_outcomes s x steps c.requires.steps (all.all yes));
       given_up = λ opens.
-          let both = open_only c.in_ok-neighbours.neighbours (c.is_through-through.result || c.are_all.result)
+          let both = search_open_only c.in_ok-neighbours.neighbours (c.is_through-through.result || c.are_all.result)
           c.is_through-through.result c.in_ok-verdict.verdict c.in_ok-hanging.hanging c.in_ok-verdict.ensures.opens
           c.in_ok-hanging.ensures.opens (neither c.is_through-through.result c.are_all.result) opens in
           let more = past c.states_to_look_at-most.result c.len-states.result c.in_ok-neighbours.neighbours

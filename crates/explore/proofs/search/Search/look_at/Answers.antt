@@ -3,12 +3,12 @@ use Rattle.std.proofs.lemmas.Bool.{false≢true}
 use Rattle.std.proofs.lemmas.Option.{same_Some}
 use Rattle.explore.specs.declared.flat_state.FlatState.{FlatState}
 use Rattle.explore.specs.declared.search.Search.{Search}
-use Rattle.explore.specs.Found.{states_of}
+use Rattle.explore.specs.Found.{states_found}
 use Rattle.explore.specs.Followed.{AreFollowed, MayFollowAll}
 use Rattle.explore.specs.Machines.{Knows}
 use Rattle.explore.specs.Nexts.{AreNexts}
-use Rattle.explore.specs.Searched.{OutcomesNoted}
-use Rattle.explore.proofs.Searched.{looked, noted_kept, noted_skips}
+use Rattle.explore.specs.Searched.{SearchOutcomesNoted}
+use Rattle.explore.proofs.Searched.{looked, search_noted_kept, search_noted_skips}
 use Rattle.explore.proofs.search.Search.look_at.Goals.{then-is_over+in_ok-note_end, else-is_over}
 use Rattle.explore.proofs.search.Search.look_at.Goals as goal
 
@@ -120,7 +120,7 @@ returns-clause-looked c = λ s may.
       | then-is_over+in_ok-note_end w ↦ ap (λ (z : Search). z.found) w.self-is ∙ w.in_ok-note_end.ensures.found
       | else-is_over w ↦ ap (λ (z : Search). z.found) w.self-is
     ] in
-    let each : (m : FlatState) → slice_get (states_of x.found) place ≡ Some m → AreNexts s m nexts =
+    let each : (m : FlatState) → slice_get (states_found x.found) place ≡ Some m → AreNexts s m nexts =
     (λ m at. subst (λ y. AreNexts s y nexts) (same_Some f m (sym c.at.ensures ∙ at)) are) in
     let may_follow : MayFollowAll s x.found place chosen = record {
       lawful = may.lawful.lawful;
@@ -131,9 +131,9 @@ returns-clause-looked c = λ s may.
     let followed =
     subst (λ y. AreFollowed s y new place chosen (length chosen)) same
     (c.in_ok-follow_all.ensures s (subst (λ y. MayFollowAll s y place chosen) (sym same) may_follow)) in
-    let noted : OutcomesNoted s c.if-is_over.self (place + 1) = elim c.if-is_over.branch [
+    let noted : SearchOutcomesNoted s c.if-is_over.self (place + 1) = elim c.if-is_over.branch [
       | then-is_over+in_ok-note_end w ↦
-          subst (λ z. OutcomesNoted s z (place + 1)) (sym w.self-is) (w.in_ok-note_end.ensures.noted s (record {
+          subst (λ z. SearchOutcomesNoted s z (place + 1)) (sym w.self-is) (w.in_ok-note_end.ensures.noted s (record {
             lawful = may.lawful;
             found = may.searched.found;
             within = may.more;
@@ -143,8 +143,8 @@ returns-clause-looked c = λ s may.
             noted = may.searched.noted;
           }))
       | else-is_over w ↦
-          subst (λ z. OutcomesNoted s z (place + 1)) (sym w.self-is)
-          (noted_skips s (states_of x.found) place f c.at.ensures may.lawful.lawful.but_uneven.one_each
+          subst (λ z. SearchOutcomesNoted s z (place + 1)) (sym w.self-is)
+          (search_noted_skips s (states_found x.found) place f c.at.ensures may.lawful.lawful.but_uneven.one_each
           (λ g knows none.
           false≢true (sym w.if-is_over.false ∙ c.is_over.ensures.1 (λ p k is. none p k ((are g knows p k).0 is)))) x refl
           may.searched.noted)
@@ -153,5 +153,5 @@ returns-clause-looked c = λ s may.
     let more = may.more in
     looked s x z c.args.steps.now place nexts chosen may each c.in_default.ensures
     (c.to_follow.ensures.choice c.args.steps.now c.requires.guarded) followed
-    (noted_kept s (states_of x.found) (states_of new) (place + 1) followed.keeps (omega arith) c.if-is_over.self z
-    (ap states_of same) refl refl refl noted)
+    (search_noted_kept s (states_found x.found) (states_found new) (place + 1) followed.keeps (omega arith) c.if-is_over.self z
+    (ap states_found same) refl refl refl noted)

@@ -1,8 +1,8 @@
 use Rattle.std.proofs.Common.{ℕ, ◌≡◌, ◌+◌, ◌<◌, ◌≤◌, ◌↔◌, inl, inr, Bool, false, IsTrue, length, subst, sym, ◌∙◌, arith}
 use Rattle.std.proofs.lemmas.Bool.{cases_lt, false≢true}
-use Rattle.explore.specs.Found.{states_of}
-use Rattle.explore.specs.Searched.{IsLookedAt, VisitedUpTo}
-use Rattle.explore.proofs.Machines.{none_of}
+use Rattle.explore.specs.Found.{states_found}
+use Rattle.explore.specs.Searched.{IsSearchedAt, SearchedUpTo}
+use Rattle.explore.proofs.Machines.{machine_none_of}
 use Rattle.explore.proofs.search.Search.look_at_all.Goals as goal
 
 -- the states are no more than these
@@ -22,7 +22,7 @@ pub returns-then-place-states-clause-looked : goal.returns-then-place-states-cla
 returns-then-place-states-clause-looked g c = λ s lawful searched. record {
   some = (c.loop-place.place, c.loop-place.invariant.searched s lawful searched);
   end = λ few.
-      subst (VisitedUpTo s c.loop-place.self c.args.steps.now) (c.if-place-states.true ∙ c.len-states.ensures.count)
+      subst (SearchedUpTo s c.loop-place.self c.args.steps.now) (c.if-place-states.true ∙ c.len-states.ensures.count)
       (c.loop-place.invariant.searched s lawful searched);
 }
 
@@ -45,7 +45,7 @@ look_at-requires-clause-unvisited g c =
     let within = searched.within in
     let is = c.len-states.ensures.count in
     let isnt = c.if-place-states.false in
-    let lt : c.loop-place.place < length (states_of c.loop-place.self.found) = omega arith in
+    let lt : c.loop-place.place < length (states_found c.loop-place.self.found) = omega arith in
     (s, record { lawful = c.requires.searched.1; searched = searched; more = lt })
 
 pub loop-place-preserved : goal.loop-place-preserved
@@ -55,16 +55,16 @@ loop-place-preserved g c = record {
       let within = old.within in
       let is = c.len-states.ensures.count in
       let isnt = c.if-place-states.false in
-      let lt : c.loop-place.place < length (states_of c.loop-place.self.found) = omega (arith, within, is, isnt) in
-      subst (λ o. IsLookedAt s c.look_at.new.self c.args.steps.now c.loop-place.place o)
-      (none_of c.in_ok-neighbours.field-0 c.in_default.not-Some)
+      let lt : c.loop-place.place < length (states_found c.loop-place.self.found) = omega (arith, within, is, isnt) in
+      subst (λ o. IsSearchedAt s c.look_at.new.self c.args.steps.now c.loop-place.place o)
+      (machine_none_of c.in_ok-neighbours.field-0 c.in_default.not-Some)
       (c.in_ok-neighbours.ensures.looked s (record { lawful = lawful; searched = old; more = lt }));
   few = λ s lawful searched one.
       let old = c.loop-place.invariant.searched s lawful searched in
       let within = old.within in
       let is = c.len-states.ensures.count in
       let isnt = c.if-place-states.false in
-      let lt : c.loop-place.place < length (states_of c.loop-place.self.found) = omega (arith, within, is, isnt) in
+      let lt : c.loop-place.place < length (states_found c.loop-place.self.found) = omega (arith, within, is, isnt) in
       let under = not_past c.args.most c.len-states.result c.is_past.result c.is_past.ensures c.if-is_past.false in
       let more = c.in_ok-neighbours.ensures.few s (record { lawful = lawful; searched = old; more = lt }) in
       omega (arith, more, under, is);
@@ -76,9 +76,9 @@ returns-in-Some-clause-looked g c = λ s lawful searched.
     let within = old.within in
     let is = c.len-states.ensures.count in
     let isnt = c.if-place-states.false in
-    let lt : c.loop-place.place < length (states_of c.loop-place.self.found) = omega (arith, within, is, isnt) in
+    let lt : c.loop-place.place < length (states_found c.loop-place.self.found) = omega (arith, within, is, isnt) in
     let both =
-    subst (λ o. IsLookedAt s c.look_at.new.self c.args.steps.now c.loop-place.place o) c.in-Some.is
+    subst (λ o. IsSearchedAt s c.look_at.new.self c.args.steps.now c.loop-place.place o) c.in-Some.is
     (c.in_ok-neighbours.ensures.looked s (record { lawful = lawful; searched = old; more = lt })) in
     record { some = (c.loop-place.place, both.0); end = both.1 }
 
@@ -88,7 +88,7 @@ returns-in-Some-clause-few g c = λ s lawful searched one.
     let within = old.within in
     let is = c.len-states.ensures.count in
     let isnt = c.if-place-states.false in
-    let lt : c.loop-place.place < length (states_of c.loop-place.self.found) = omega (arith, within, is, isnt) in
+    let lt : c.loop-place.place < length (states_found c.loop-place.self.found) = omega (arith, within, is, isnt) in
     let under = not_past c.args.most c.len-states.result c.is_past.result c.is_past.ensures c.if-is_past.false in
     let more = c.in_ok-neighbours.ensures.few s (record { lawful = lawful; searched = old; more = lt }) in
     omega (arith, more, under, is)
@@ -101,8 +101,8 @@ returns-clause-looked g c = λ s lawful searched.
       end = λ few.
           let within = old.within in
           let over = c.loop-place-test.false in
-          let end : c.loop-place.place ≡ length (states_of c.loop-place.self.found) = omega arith in
-          subst (VisitedUpTo s c.loop-place.self c.args.steps.now) end old;
+          let end : c.loop-place.place ≡ length (states_found c.loop-place.self.found) = omega arith in
+          subst (SearchedUpTo s c.loop-place.self c.args.steps.now) end old;
     }
 
 pub returns-clause-few : goal.returns-clause-few

@@ -6,15 +6,15 @@ use Rattle.lrc_script.specs.Plan.{Plan}
 use Rattle.explore.specs.declared.states.States.{States}
 use Rattle.explore.specs.declared.states.Origin.{Origin}
 use Rattle.explore.specs.declared.flat_state.FlatState.{FlatState}
-use Rattle.explore.specs.Found.{AreFound, ComesFrom, states_of}
+use Rattle.explore.specs.Found.{AreFound, FoundComesFrom, states_found}
 use Rattle.explore.specs.Machines.{Knows}
-use Rattle.explore.proofs.Machines.{read_at, some_at}
+use Rattle.explore.proofs.Machines.{machine_read_at, machine_some_at}
 use Rattle.explore.proofs.states.States.events_to.Goals as goal
 
 -- where the state at a place comes from
-comes : (s : Plan) (x : States) (place : ℕ) (f : FlatState) (o p : Option Origin) → AreFound s x → place < length (states_of x)
+comes : (s : Plan) (x : States) (place : ℕ) (f : FlatState) (o p : Option Origin) → AreFound s x → place < length (states_found x)
     → (place < length x.origins.items → slice_get x.origins.items place ≡ Some o) → o ≡ p
-    → slice_get (states_of x) place ≡ Some f → ComesFrom s (states_of x) place f p
+    → slice_get (states_found x) place ≡ Some f → FoundComesFrom s (states_found x) place f p
 comes s x place f o p found lt read is at =
     let long = found.long in
     found.come place f p at (read (omega arith) ∙ ap Some is)
@@ -27,9 +27,9 @@ pub loop-origin-smaller : goal.loop-origin-smaller
 loop-origin-smaller c =
     let x = c.args.self.now in
     let place = c.loop-origin.place in
-    let f = some_at (states_of x) place c.loop-origin.invariant.within in
+    let f = machine_some_at (states_found x) place c.loop-origin.invariant.within in
     (comes c.requires.found.0 x place f.0 c.index.result.now (Some c.in-Some.origin) c.requires.found.1
-    c.loop-origin.invariant.within (λ lt. read_at x.origins.items place c.index.result.now lt c.index.ensures)
+    c.loop-origin.invariant.within (λ lt. machine_read_at x.origins.items place c.index.result.now lt c.index.ensures)
     c.in-Some.is f.1).earlier
 
 pub loop-origin-preserved : goal.loop-origin-preserved
@@ -38,8 +38,8 @@ loop-origin-preserved c =
     let place = c.loop-origin.place in
     let o = c.in-Some.origin in
     let within = c.loop-origin.invariant.within in
-    let read = λ (lt : place < length x.origins.items). read_at x.origins.items place c.index.result.now lt c.index.ensures in
-    let f = some_at (states_of x) place within in
+    let read = λ (lt : place < length x.origins.items). machine_read_at x.origins.items place c.index.result.now lt c.index.ensures in
+    let f = machine_some_at (states_found x) place within in
     record {
       within = (
           let less = (comes c.requires.found.0 x place f.0 c.index.result.now (Some o) c.requires.found.1 within read
@@ -60,8 +60,8 @@ returns c = λ s found m at.
     let x = c.args.self.now in
     let place = c.loop-origin.place in
     let within = c.loop-origin.invariant.within in
-    let read = λ (lt : place < length x.origins.items). read_at x.origins.items place c.index.result.now lt c.index.ensures in
-    let f = some_at (states_of x) place within in
+    let read = λ (lt : place < length x.origins.items). machine_read_at x.origins.items place c.index.result.now lt c.index.ensures in
+    let f = machine_some_at (states_found x) place within in
     let from = comes s x place f.0 c.index.result.now None found within read (none_of c.index.result.now c.in_default.not-Some) f.1 in
     subst (λ es. Knows s es m) (sym c.reverse.ensures.items)
     (c.loop-origin.invariant.rest s [] m f.0 found at f.1 from)

@@ -1,6 +1,6 @@
 use Rattle.std.proofs.Common.{◌+◌, sym, subst}
 use Rattle.explore.specs.Followed.{AreFollowed}
-use Rattle.explore.proofs.FollowedAll.{goes_on, may_step, nobody_followed, none_followed, one_followed, small_still, within_still}
+use Rattle.explore.proofs.FollowedAll.{followed_all_goes_on, followed_all_may_step, nobody_followed, none_followed, one_followed, followed_all_small, followed_all_within}
 use Rattle.explore.proofs.states.States.follow_all.Goals.{in-Some+in_ok-follow, in_default}
 use Rattle.explore.proofs.states.States.follow_all.Goals as goal
 
@@ -16,8 +16,8 @@ follow-requires c =
     let n = c.loop-processor.processor in
     let old = c.loop-processor.invariant s may in
     record {
-      place = within_still s x y c.args.place c.args.nexts.now may n old;
-      step = may_step s x y c.args.place c.args.nexts.now may n old c.in-Some.kind c.in-Some.is;
+      place = followed_all_within s x y c.args.place c.args.nexts.now may n old;
+      step = followed_all_may_step s x y c.args.place c.args.nexts.now may n old c.in-Some.kind c.in-Some.is;
     }
 
 pub loop-processor-preserved : goal.loop-processor-preserved
@@ -32,8 +32,8 @@ loop-processor-preserved c = λ s may.
       | in-Some+in_ok-follow w ↦
           (let k = w.in-Some.kind in
           let here = w.in-Some.is in
-          let followed = w.in_ok-follow.ensures s old.found (small_still s x y place nexts may n old k here)
-          (goes_on s x y place nexts may n old k here) in
+          let followed = w.in_ok-follow.ensures s old.found (followed_all_small s x y place nexts may n old k here)
+          (followed_all_goes_on s x y place nexts may n old k here) in
           subst (λ z. AreFollowed s x z place nexts (n + 1)) (sym w.self-is)
           (one_followed s x y place nexts may n old k here w.follow.new.self followed))
       | in_default w ↦

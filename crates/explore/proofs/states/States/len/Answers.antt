@@ -1,9 +1,9 @@
 use Rattle.std.proofs.Common.{rules, sym, subst}
 use Rattle.explore.specs.States.{HasStates}
-use Rattle.explore.proofs.Counted.{has_states}
+use Rattle.explore.proofs.CountedStates.{has_counted_states}
 use Rattle.explore.proofs.states.States.len.Goals as goal
 
 pub returns-clause-states : goal.returns-clause-states
 returns-clause-states c = λ s found.
     subst (HasStates s) (sym c.len.ensures.len)
-    (has_states _ _ (λ w. search rules) (λ t. search rules) s c.args.self.now found c.len.ensures.unique)
+    (has_counted_states _ _ (λ w. search rules) (λ t. search rules) s c.args.self.now found c.len.ensures.unique)

@@ -1,8 +1,8 @@
 use Rattle.std.proofs.Common.{ℕ, ◌<◌, All, subst, sym}
 use Rattle.std.proofs.lemmas.Bool.{eq-eqb, eqb-true, false≢true}
 use Rattle.base.specs.InOrderOnce.{Has}
-use Rattle.explore.specs.Waiting.{AwaitsLock, IsFirstOf}
-use Rattle.explore.proofs.Asked.{asked_small, first_may, nobody_asked, somebody_holds}
+use Rattle.explore.specs.Waiting.{IsWaitingForLock, IsFirstWaiting}
+use Rattle.explore.proofs.Asked.{asked_small, first_asked_may, nobody_asked, asked_somebody_holds}
 use Rattle.explore.proofs.waiting.Waiting.may_acquire.Goals as goal
 
 pub first_of-requires : goal.first_of-requires
@@ -16,7 +16,7 @@ first_of-requires c = record {
 pub returns-in-Some : goal.returns-in-Some
 returns-in-Some c = λ j tells i last. (
   λ yes. absurd (false≢true yes),
-  λ may. absurd (somebody_holds j c.args.self.now c.args.lock _ i tells c.in-Some.is may),
+  λ may. absurd (asked_somebody_holds j c.args.self.now c.args.lock _ i tells c.in-Some.is may),
 )
 
 pub returns-in-Some-first_of : goal.returns-in-Some-first_of
@@ -25,13 +25,13 @@ returns-in-Some-first_of c = λ j tells i last.
     let p = c.args.processor in
     let l = c.args.lock in
     let q = c.in-Some-first_of.first in
-    let found = subst (λ asked. IsFirstOf asked x.waits l q) c.deref.ensures.value c.in-Some-first_of.ensures in
-    let is = first_may j x p i l q tells last c.in_default.is found in
+    let found = subst (λ asked. IsFirstWaiting asked x.waits l q) c.deref.ensures.value c.in-Some-first_of.ensures in
+    let is = first_asked_may j x p i l q tells last c.in_default.is found in
     ((λ yes. is.0 (eqb-true q p yes)), (λ may. eq-eqb q p (is.1 may)))
 
 pub returns-in-None : goal.returns-in-None
 returns-in-None c = λ j tells i last.
     let x = c.args.self.now in
     let l = c.args.lock in
-    let none = subst (λ asked. (q : ℕ) → Has asked q → ¬ AwaitsLock x.waits q l) c.deref.ensures.value c.in-None.ensures in
+    let none = subst (λ asked. (q : ℕ) → Has asked q → ¬ IsWaitingForLock x.waits q l) c.deref.ensures.value c.in-None.ensures in
     absurd (nobody_asked j x c.args.processor i l tells last none)

@@ -4,17 +4,17 @@ use Rattle.std.proofs.lemmas.Bool.{false≢true}
 use Rattle.journal.specs.declared.event.Event.{Event}
 use Rattle.journal.specs.declared.event.Kind.TheVariants.{Depart}
 use Rattle.journal.specs.Events.{count_of, is_depart}
-use Rattle.judge.specs.Why.{WaitsFor}
+use Rattle.judge.specs.Why.{WhyWaitsFor}
 use Rattle.explore.specs.declared.waiting.Waiting.{Waiting}
 use Rattle.explore.specs.Waiting.{TellsWaiting}
-use Rattle.explore.proofs.Waits.{open_barrier}
+use Rattle.explore.proofs.Waits.{wait_code_open_barrier}
 use Rattle.explore.proofs.waiting.Waiting.may_depart.Goals as goal
 
 -- who waits at the barrier has arrived once more than it has departed
-arrived : (j : List Event) (x : Waiting) (p : ℕ) → TellsWaiting j x → WaitsFor j p Depart
+arrived : (j : List Event) (x : Waiting) (p : ℕ) → TellsWaiting j x → WhyWaitsFor j p Depart
     → slice_index x.arrivals p ≡ count_of is_depart j p + 1
 arrived j x p tells waits =
-    let one = open_barrier (slice_index_or x.waits p None) ((tells.waits p Depart).1 waits) in
+    let one = wait_code_open_barrier (slice_index_or x.waits p None) ((tells.waits p Depart).1 waits) in
     let departed = tells.departures p in
     let arrivals = tells.arrivals p in
     omega (arith, one, departed, arrivals)

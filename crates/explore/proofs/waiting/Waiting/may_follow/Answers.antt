@@ -2,8 +2,8 @@ use Rattle.std.proofs.Common.{◌<◌, refl, subst, sym, ◌∙◌}
 use Rattle.std.proofs.lemmas.Bool.{false≢true}
 use Rattle.std.proofs.lemmas.Option.{none-some}
 use Rattle.journal.specs.declared.event.Kind.{Kind}
-use Rattle.judge.specs.Why.{WaitsFor}
-use Rattle.explore.proofs.Following.{idle_follows, waiting_follows, waits_only}
+use Rattle.judge.specs.Why.{WhyWaitsFor}
+use Rattle.explore.proofs.Following.{idle_follows, waiting_follows, waits_only_following}
 use Rattle.explore.proofs.waiting.Waiting.may_follow.Goals as goal
 
 pub returns-then-is_same : goal.returns-then-is_same
@@ -11,7 +11,7 @@ returns-then-is_same c = λ s j many range tells.
     let p = c.args.processor in
     let k = c.args.kind in
     let waits =
-    subst (WaitsFor j p) (c.if-is_same.ensures.0 refl) ((c.of.ensures j tells c.in-Some.awaited).0 c.in-Some.is) in
+    subst (WhyWaitsFor j p) (c.if-is_same.ensures.0 refl) ((c.of.ensures j tells c.in-Some.awaited).0 c.in-Some.is) in
     let within = subst (λ n. p < n) (sym many) c.requires.processor in
     let come = c.has_come.ensures s j many tells waits in
     let follows = waiting_follows s j p k within range waits in
@@ -21,14 +21,14 @@ pub returns-else-is_same : goal.returns-else-is_same
 returns-else-is_same c = λ s j many range tells. (
   λ yes. absurd (false≢true (sym c.if-is_same.false ∙ yes)),
   λ may. c.is_same.ensures.1
-      (waits_only s j c.args.processor c.in-Some.awaited c.args.kind
+      (waits_only_following s j c.args.processor c.in-Some.awaited c.args.kind
       ((c.of.ensures j tells c.in-Some.awaited).0 c.in-Some.is) may),
 )
 
 pub returns-in-None : goal.returns-in-None
 returns-in-None c = λ s j many range tells.
     let p = c.args.processor in
-    let idle : (b : Kind) → ¬ WaitsFor j p b = λ b waits. none-some b (sym c.in-None.is ∙ (c.of.ensures j tells b).1 waits) in
+    let idle : (b : Kind) → ¬ WhyWaitsFor j p b = λ b waits. none-some b (sym c.in-None.is ∙ (c.of.ensures j tells b).1 waits) in
     let within = subst (λ n. p < n) (sym many) c.requires.processor in
     let begins = c.may_begin.ensures s j tells idle in
     let follows = idle_follows s j p c.args.kind within range idle in

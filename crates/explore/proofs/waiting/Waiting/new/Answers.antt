@@ -3,11 +3,11 @@ use Rattle.std.specs.Prelude.{None}
 use Rattle.std.proofs.lemmas.Bool.{false≢true}
 use Rattle.std.proofs.lemmas.Option.{none-some}
 use Rattle.journal.specs.WellFormed.{Holds}
-use Rattle.judge.specs.Tells.{IsSet}
+use Rattle.judge.specs.FrontTells.{TellsFlagSet}
 use Rattle.base.proofs.Joined.{has-nil, in_order-nil}
 use Rattle.base.proofs.SliceSets.{index-zeros}
-use Rattle.explore.specs.Waiting.{AreAsked}
-use Rattle.explore.specs.Waits.{AwaitedAreKept, arrivals_open, ending, seated}
+use Rattle.explore.specs.Waiting.{AreAskedWaiting}
+use Rattle.explore.specs.Waits.{WaitsAreKept, wait_code_arrivals_open, wait_code_ending, wait_code_seated}
 use Rattle.explore.proofs.waiting.Waiting.new.Goals as goal
 
 -- a list of one item over and over, with that past its end
@@ -16,22 +16,22 @@ always zero p d = refl
 always (suc n) zero d = refl
 always (suc n) (suc p) d = always n p d
 
-no_wait : AwaitedAreKept [] (replicate 16 None)
+no_wait : WaitsAreKept [] (replicate 16 None)
 no_wait p k = (
-  λ is. absurd (none-some k (sym (ap ending (always 16 p None)) ∙ is)),
+  λ is. absurd (none-some k (sym (ap wait_code_ending (always 16 p None)) ∙ is)),
   λ waits. absurd (none-some _ waits.last.does),
 )
 
-no_holder : (l q : ℕ) → (seated (slice_index_or (replicate 32 None) l None) ≡ Some q) ↔ Holds [] q l
+no_holder : (l q : ℕ) → (wait_code_seated (slice_index_or (replicate 32 None) l None) ≡ Some q) ↔ Holds [] q l
 no_holder l q = (
-  λ is. absurd (none-some q (sym (ap seated (always 32 l None)) ∙ is)),
+  λ is. absurd (none-some q (sym (ap wait_code_seated (always 32 l None)) ∙ is)),
   λ holds. absurd (none-some _ holds.acquires),
 )
 
-no_flag : (f : ℕ) → IsTrue (slice_index_or (replicate 32 false) f false) ↔ IsSet [] f
+no_flag : (f : ℕ) → IsTrue (slice_index_or (replicate 32 false) f false) ↔ TellsFlagSet [] f
 no_flag f = ((λ is. absurd (false≢true (sym (always 32 f false) ∙ is))), (λ set. absurd (none-some _ set.2)))
 
-none_asked : AreAsked [] []
+none_asked : AreAskedWaiting [] []
 none_asked = record {
   each = λ p. ((λ has. absurd (has-nil p has)), (λ asks. absurd (none-some _ asks.1.1.does)));
   order = in_order-nil _;
@@ -46,8 +46,8 @@ returns c = record {
   flags_long = refl;
   waits = no_wait;
   arrivals = index-zeros 16;
-  departures = λ p. ap (λ o. 0 + arrivals_open o) (always 16 p None);
+  departures = λ p. ap (λ o. 0 + wait_code_arrivals_open o) (always 16 p None);
   holders = no_holder;
   flags = no_flag;
-  asked = subst (AreAsked []) (sym c.new.ensures.items) none_asked;
+  asked = subst (AreAskedWaiting []) (sym c.new.ensures.items) none_asked;
 }

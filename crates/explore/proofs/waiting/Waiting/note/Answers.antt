@@ -5,49 +5,49 @@ use Rattle.journal.specs.declared.event.Event.{Event}
 use Rattle.journal.specs.DidEvent.{did, event}
 use Rattle.journal.specs.Events.{is_arrive}
 use Rattle.journal.specs.WellFormed.{Holds}
-use Rattle.judge.specs.Tells.{IsSet}
-use Rattle.judge.proofs.Noting.{count_small, counts_next, holders_next, sets_next}
-use Rattle.judge.proofs.Refusing.{lax_allowed}
-use Rattle.explore.specs.Waiting.{IsEnabled}
-use Rattle.explore.specs.Waits.{seated}
-use Rattle.explore.proofs.Asked.{waits_next}
-use Rattle.explore.proofs.Following.{taking_waits, waits_only}
-use Rattle.explore.proofs.Waits.{departures_next}
-use Rattle.explore.proofs.Queued.{asked_next}
+use Rattle.judge.specs.FrontTells.{TellsFlagSet}
+use Rattle.judge.proofs.FrontNoting.{front_noting_count_small, front_noting_counts_next, front_noting_holders_next, front_noting_sets_next}
+use Rattle.judge.proofs.Refusing.{refusing_lax_allowed}
+use Rattle.explore.specs.Waiting.{IsEnabledByWaiting}
+use Rattle.explore.specs.Waits.{wait_code_seated}
+use Rattle.explore.proofs.Asked.{asked_waits_next}
+use Rattle.explore.proofs.Following.{taking_waits_following, waits_only_following}
+use Rattle.explore.proofs.Waits.{wait_code_departures_next}
+use Rattle.explore.proofs.Queued.{queued_next}
 use Rattle.explore.specs.declared.waiting.Waiting.{Waiting}
 use Rattle.explore.specs.declared.wait.Seat.{Seat}
 use Rattle.journal.specs.declared.event.Kind.TheVariants.{Depart}
 use Rattle.journal.specs.Sizes.{Sizes}
 use Rattle.journal.specs.WellFormed.{MayFollow}
-use Rattle.judge.specs.Why.{WaitsFor}
+use Rattle.judge.specs.Why.{WhyWaitsFor}
 use Rattle.journal.specs.declared.event.Kind.{Kind}
 use Rattle.explore.proofs.waiting.Waiting.note.Goals as goal
 
-due_small : (x : Waiting) (p : ℕ) (k : Kind) → IsEnabled x p k → p < 16
+due_small : (x : Waiting) (p : ℕ) (k : Kind) → IsEnabledByWaiting x p k → p < 16
 due_small x p k due = let few = due.small.processors in let lt = due.may_follow.processor in omega arith
 
 -- counts are below the number of events
-arrivals_small : (x : Waiting) (p q : ℕ) (k : Kind) → IsEnabled x p k → slice_index x.arrivals q < 2 ^ 22
+arrivals_small : (x : Waiting) (p q : ℕ) (k : Kind) → IsEnabledByWaiting x p k → slice_index x.arrivals q < 2 ^ 22
 arrivals_small x p q k due =
     let is = due.tells.arrivals q in
-    let le = count_small is_arrive due.events q in
+    let le = front_noting_count_small is_arrive due.events q in
     let few = due.few in
     omega arith
 
 -- who departs has waited for that
 departs_waits : (s : Sizes) (j : List Event) (p : ℕ) (k : Kind) → MayFollow s j (event p k) → k ≡ Depart
-    → WaitsFor j p Depart
-departs_waits s j p Depart may is = taking_waits s j p Depart refl may.allowed
+    → WhyWaitsFor j p Depart
+departs_waits s j p Depart may is = taking_waits_following s j p Depart refl may.allowed
 departs_waits s j p k may is = absurd cc
 
 -- what is read is what the lemmas speak of
-holder_is : (h : List Event) (l q : ℕ) (new : List (Option Seat)) (o : Option ℕ) → seated (slice_index_or new l None) ≡ o
-    → (o ≡ Some q) ↔ Holds h q l → (seated (slice_index_or new l None) ≡ Some q) ↔ Holds h q l
+holder_is : (h : List Event) (l q : ℕ) (new : List (Option Seat)) (o : Option ℕ) → wait_code_seated (slice_index_or new l None) ≡ o
+    → (o ≡ Some q) ↔ Holds h q l → (wait_code_seated (slice_index_or new l None) ≡ Some q) ↔ Holds h q l
 holder_is h l q new o is tells = subst (λ x. (x ≡ Some q) ↔ Holds h q l) (sym is) tells
 
 flag_is : (h : List Event) (f : ℕ) (new : List Bool) (b : Bool) → slice_index_or new f false ≡ b
-    → IsTrue b ↔ IsSet h f → IsTrue (slice_index_or new f false) ↔ IsSet h f
-flag_is h f new b is tells = subst (λ x. IsTrue x ↔ IsSet h f) (sym is) tells
+    → IsTrue b ↔ TellsFlagSet h f → IsTrue (slice_index_or new f false) ↔ TellsFlagSet h f
+flag_is h f new b is tells = subst (λ x. IsTrue x ↔ TellsFlagSet h f) (sym is) tells
 
 pub count-requires : goal.count-requires
 count-requires c =
@@ -84,14 +84,14 @@ returns c = λ s j tells may small.
       arrivals_long = c.count.ensures.long ∙ tells.arrivals_long;
       holders_long = c.hold.ensures.long ∙ tells.holders_long;
       flags_long = c.set.ensures.long ∙ tells.flags_long;
-      waits = waits_next j p k x.waits c.after.result (omega arith) c.after.ensures tells.waits;
-      arrivals = counts_next is_arrive j (event p k) x.arrivals c.count.new.arrivals c.count.ensures.arrivals tells.arrivals;
+      waits = asked_waits_next j p k x.waits c.after.result (omega arith) c.after.ensures tells.waits;
+      arrivals = front_noting_counts_next is_arrive j (event p k) x.arrivals c.count.new.arrivals c.count.ensures.arrivals tells.arrivals;
       departures =
-          departures_next j p k x.waits c.after.result (omega arith) c.after.ensures
-          (λ b waits. waits_only s j p b k waits may) (departs_waits s j p k may) tells.waits tells.departures;
+          wait_code_departures_next j p k x.waits c.after.result (omega arith) c.after.ensures
+          (λ b waits. waits_only_following s j p b k waits may) (departs_waits s j p k may) tells.waits tells.departures;
       holders = λ l q.
           holder_is (did j p k) l q c.hold.new.holders _ (c.hold.ensures.holders l)
-          (holders_next s j p k l _ (lax_allowed s j p k may.allowed) (tells.holders l) q);
-      flags = λ f. flag_is (did j p k) f c.set.new.flags _ (c.set.ensures.flags f) (sets_next j p k f _ (tells.flags f));
-      asked = asked_next s j p k x.asked.items c.queue.new.asked.items may small tells.asked c.in_ok-queue.ensures;
+          (front_noting_holders_next s j p k l _ (refusing_lax_allowed s j p k may.allowed) (tells.holders l) q);
+      flags = λ f. flag_is (did j p k) f c.set.new.flags _ (c.set.ensures.flags f) (front_noting_sets_next j p k f _ (tells.flags f));
+      asked = queued_next s j p k x.asked.items c.queue.new.asked.items may small tells.asked c.in_ok-queue.ensures;
     }

@@ -8,8 +8,8 @@ use Rattle.journal.specs.declared.event.Kind.TheVariants.{Store}
 use Rattle.journal.specs.DidEvent.{did, event}
 use Rattle.journal.specs.FlatMemory.{flat_write, memory_after}
 use Rattle.judge.specs.declared.flat_memory.FlatMemory.{FlatMemory}
-use Rattle.judge.specs.FlatMemory.{IsLastStoreTo, IsMemoryAfter}
-use Rattle.judge.proofs.Flattening.{last_store_other, last_stores_next, memory_next, no_write}
+use Rattle.judge.specs.FlatMemory.{IsLastFlatStoreTo, IsMemoryAfter}
+use Rattle.judge.proofs.Flattening.{flattened_last_store_others, flattened_last_stores_next, flattened_memory_next, flattened_no_write}
 use Rattle.judge.proofs.flat_memory.FlatMemory.note.Goals as goal
 
 -- after a store
@@ -19,8 +19,8 @@ stored : (j : List Event) (n p a v : ℕ) (x : FlatMemory) → IsMemoryAfter j n
       stores = with_item x.stores a (Some (length j));
     })
 stored j n p a v x is = record {
-  words = ap (λ ws. slice_set ws a v) is.words ∙ sym (memory_next (replicate n 0) j (event p (Store a v)));
-  stores = last_stores_next j p a v x.stores.items is.stores;
+  words = ap (λ ws. slice_set ws a v) is.words ∙ sym (flattened_memory_next (replicate n 0) j (event p (Store a v)));
+  stores = flattened_last_stores_next j p a v x.stores.items is.stores;
   words_long = is.words_long;
   stores_long = is.stores_long;
 }
@@ -45,8 +45,8 @@ returns-in_default c = λ j n is range long.
     let x = c.args.self.now in
     let e = c.args.event in
     record {
-      words = is.words ∙ sym (memory_next (replicate n 0) j e ∙ ap (wrote (memory_after (replicate n 0) j)) (no_write e.kind c.in_default.not-Store));
-      stores = λ a o at. last_store_other j e a o (λ v. c.in_default.not-Store a v) (is.stores a o at);
+      words = is.words ∙ sym (flattened_memory_next (replicate n 0) j e ∙ ap (wrote (memory_after (replicate n 0) j)) (flattened_no_write e.kind c.in_default.not-Store));
+      stores = λ a o at. flattened_last_store_others j e a o (λ v. c.in_default.not-Store a v) (is.stores a o at);
       words_long = is.words_long;
       stores_long = is.stores_long;
     }

@@ -4,19 +4,19 @@ use Rattle.std.proofs.lemmas.Option.{none-some}
 use Rattle.journal.specs.declared.event.Event.{Event}
 use Rattle.judge.specs.declared.front.Frontier.{Frontier}
 use Rattle.judge.specs.declared.front.LastEvent.{LastEvent}
-use Rattle.judge.specs.Tells.{IsFirstAsk, NobodyAsks, IsFrontOf}
-use Rattle.judge.proofs.Asking.{AreFrom, AsksAt, IsFound, first_found, from_lower, from_same, none_found}
+use Rattle.judge.specs.FrontTells.{TellsFirstAsk, TellsNobodyAsks, FrontTellsHistory}
+use Rattle.judge.proofs.FrontAsking.{AreAskingFrom, AsksAt, IsAskingFound, front_asking_first_found, front_asking_from_lower, front_asking_from_same, front_asking_none_found}
 use Rattle.judge.proofs.front.Frontier.first_ask.Goals as goal
 use Rattle.judge.proofs.front.Frontier.first_ask.Goals.{in-Some+then-place-limit, in-Some+else-place-limit, in_default}
 
 -- what is found by the end is the first ask
-answer : (j : List Event) (x : Frontier) (l limit : ℕ) (found : Option (ℕ × ℕ)) → IsFrontOf j x
-    → IsFound x.last x.place l found limit → AreFrom x.last l limit 16
-    → MatchOption found (NobodyAsks j l) (λ (a : ℕ × ℕ). IsFirstAsk j l a.0 a.1)
-answer j x l limit None tells is from = none_found j x.last l limit tells.lasts from tells.long (is ∙ tells.place)
+answer : (j : List Event) (x : Frontier) (l limit : ℕ) (found : Option (ℕ × ℕ)) → FrontTellsHistory j x
+    → IsAskingFound x.last x.place l found limit → AreAskingFrom x.last l limit 16
+    → MatchOption found (TellsNobodyAsks j l) (λ (a : ℕ × ℕ). TellsFirstAsk j l a.0 a.1)
+answer j x l limit None tells is from = front_asking_none_found j x.last l limit tells.lasts from tells.long (is ∙ tells.place)
 answer j x l limit (Some a) tells is from =
-    subst (IsFirstAsk j l a.0) (sym is.0)
-    (first_found j x.last l limit tells.lasts from tells.long a.0 (subst (AsksAt x.last l a.0) is.0 is.1))
+    subst (TellsFirstAsk j l a.0) (sym is.0)
+    (front_asking_first_found j x.last l limit tells.lasts from tells.long a.0 (subst (AsksAt x.last l a.0) is.0 is.1))
 
 pub returns : goal.returns
 returns c = λ j tells.
@@ -30,11 +30,11 @@ loop-processor-init c = record { found = refl; least = λ q i lt asks. absurd (o
 
 -- what is kept, by another name
 found_is : (last : List (Option LastEvent)) (end l a b : ℕ) (x y : Option (ℕ × ℕ)) → x ≡ y → a ≡ b
-    → IsFound last end l y b → IsFound last end l x a
+    → IsAskingFound last end l y b → IsAskingFound last end l x a
 found_is last end l a b x y same equal is =
-    subst (λ o. IsFound last end l o a) (sym same) (subst (IsFound last end l y) (sym equal) is)
+    subst (λ o. IsAskingFound last end l o a) (sym same) (subst (IsAskingFound last end l y) (sym equal) is)
 
-from_is : (last : List (Option LastEvent)) (l a b n : ℕ) → a ≡ b → AreFrom last l b n → AreFrom last l a n
+from_is : (last : List (Option LastEvent)) (l a b n : ℕ) → a ≡ b → AreAskingFrom last l b n → AreAskingFrom last l a n
 from_is last l a b n equal from q i lt asks = let le = from q i lt asks in omega arith
 
 pub loop-processor-preserved : goal.loop-processor-preserved
@@ -53,13 +53,13 @@ loop-processor-preserved c =
           record {
             found = found_is last end l now.limit w.in-Some.place now.first _ w.first-is w.limit-is (refl, asks);
             least = from_is last l now.limit w.in-Some.place (n + 1) w.limit-is
-                (from_lower last l limit n w.in-Some.place asks w.if-place-limit.true old.least);
+                (front_asking_from_lower last l limit n w.in-Some.place asks w.if-place-limit.true old.least);
           })
       | in-Some+else-place-limit w ↦
           (record {
             found = found_is last end l now.limit limit now.first first w.first-is w.limit-is old.found;
             least = from_is last l now.limit limit (n + 1) w.limit-is
-                (from_same last l limit n
+                (front_asking_from_same last l limit n
                 (λ i asks. at_or_after w.in-Some.place i limit
                 (sym w.in-Some.is ∙ (c.asked_at.ensures i).1 asks) w.if-place-limit.false) old.least);
           })
@@ -67,7 +67,7 @@ loop-processor-preserved c =
           (record {
             found = found_is last end l now.limit limit now.first first w.first-is w.limit-is old.found;
             least = from_is last l now.limit limit (n + 1) w.limit-is
-                (from_same last l limit n
+                (front_asking_from_same last l limit n
                 (λ i asks. absurd (none-some i (sym w.in_default.is ∙ (c.asked_at.ensures i).1 asks))) old.least);
           })
     ]

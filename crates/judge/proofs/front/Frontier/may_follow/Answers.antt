@@ -2,22 +2,22 @@ use Rattle.std.proofs.Common.{sym, refl, subst}
 use Rattle.std.proofs.lemmas.Bool.{false≢true}
 use Rattle.std.proofs.lemmas.Option.{none-some}
 use Rattle.judge.specs.Sizes.{sizes_of}
-use Rattle.judge.specs.Why.{WaitsFor}
-use Rattle.judge.proofs.Verdicts.{no_processor, out_of_range, turn_for, turn_idle, waits_for_other}
+use Rattle.judge.specs.Why.{WhyWaitsFor}
+use Rattle.judge.proofs.Verdicts.{verdict_no_processor, verdict_out_of_range, verdict_turn_for, verdict_turn_idle, verdict_waits_for_other}
 use Rattle.judge.proofs.front.Frontier.may_follow.Goals as goal
 
 pub returns-then-event-self : goal.returns-then-event-self
 returns-then-event-self c = λ j tells.
-    no_processor c.args.lax (sizes_of c.args.self.now.sizes) j c.args.event c.if-event-self.true
+    verdict_no_processor c.args.lax (sizes_of c.args.self.now.sizes) j c.args.event c.if-event-self.true
 
 pub returns-then-not-have : goal.returns-then-not-have
 returns-then-not-have c = λ j tells.
-    out_of_range c.args.lax (sizes_of c.args.self.now.sizes) j c.args.event c.if-event-self.false
+    verdict_out_of_range c.args.lax (sizes_of c.args.self.now.sizes) j c.args.event c.if-event-self.false
     (λ range. false≢true (c.if-not-have.ensures.1 range))
 
 pub returns-else-is_same : goal.returns-else-is_same
 returns-else-is_same c = λ j tells.
-    waits_for_other c.args.lax (sizes_of c.args.self.now.sizes) j c.args.event c.in-Some.kind c.if-event-self.false
+    verdict_waits_for_other c.args.lax (sizes_of c.args.self.now.sizes) j c.args.event c.in-Some.kind c.if-event-self.false
     (c.if-not-have.ensures.0 refl) ((c.in-Some.ensures j tells c.in-Some.kind).0 refl)
     (λ same. false≢true (c.if-is_same.ensures.1 same))
 
@@ -26,7 +26,7 @@ not_let_on-requires c =
     let j = c.requires.0 in
     let tells = c.requires.1 in
     let waits = (c.in-Some.ensures j tells c.in-Some.kind).0 refl in
-    let turn = turn_for (sizes_of c.args.self.now.sizes) j c.args.event c.in-Some.kind c.if-event-self.false
+    let turn = verdict_turn_for (sizes_of c.args.self.now.sizes) j c.args.event c.in-Some.kind c.if-event-self.false
     (c.if-not-have.ensures.0 refl) waits (c.if-is_same.ensures.0 refl) in
     (j, tells, turn)
 
@@ -35,21 +35,21 @@ returns-then-is_same c = λ j tells.
     let e = c.args.event in
     let same = c.if-is_same.ensures.0 refl in
     let waits = (c.in-Some.ensures j tells c.in-Some.kind).0 refl in
-    let turn = turn_for (sizes_of c.args.self.now.sizes) j e c.in-Some.kind c.if-event-self.false
+    let turn = verdict_turn_for (sizes_of c.args.self.now.sizes) j e c.in-Some.kind c.if-event-self.false
     (c.if-not-have.ensures.0 refl) waits same in
-    c.not_let_on.ensures j tells turn (subst (WaitsFor j e.processor) (sym same) waits)
+    c.not_let_on.ensures j tells turn (subst (WhyWaitsFor j e.processor) (sym same) waits)
 
 pub not_free-requires : goal.not_free-requires
 not_free-requires c =
     let j = c.requires.0 in
     let tells = c.requires.1 in
-    let turn = turn_idle (sizes_of c.args.self.now.sizes) j c.args.event c.if-event-self.false
+    let turn = verdict_turn_idle (sizes_of c.args.self.now.sizes) j c.args.event c.if-event-self.false
     (c.if-not-have.ensures.0 refl) (λ k waits. none-some k ((c.in-None.ensures j tells k).1 waits)) in
     (j, tells, turn)
 
 pub returns-in-None : goal.returns-in-None
 returns-in-None c = λ j tells.
-    let turn = turn_idle (sizes_of c.args.self.now.sizes) j c.args.event c.if-event-self.false
+    let turn = verdict_turn_idle (sizes_of c.args.self.now.sizes) j c.args.event c.if-event-self.false
     (c.if-not-have.ensures.0 refl) (λ k waits. none-some k ((c.in-None.ensures j tells k).1 waits)) in
     c.not_free.ensures j tells turn
     (λ waits. none-some c.args.event.kind ((c.in-None.ensures j tells c.args.event.kind).1 waits)) c.args.lax

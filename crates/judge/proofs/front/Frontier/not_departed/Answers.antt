@@ -1,6 +1,6 @@
 use Rattle.std.proofs.Common.{arith}
 use Rattle.judge.specs.Sizes.{sizes_of}
-use Rattle.judge.proofs.Verdicts.{departs, not_arrived}
+use Rattle.judge.proofs.Verdicts.{verdict_departs, verdict_not_arrived}
 use Rattle.judge.proofs.front.Frontier.not_departed.Goals as goal
 
 pub returns-then-self-other : goal.returns-then-self-other
@@ -10,7 +10,7 @@ returns-then-self-other c = λ j tells turn waits lax.
     let q = c.loop-other.other in
     let mine = tells.departures p in
     let theirs = tells.arrivals q in
-    not_arrived lax s j p q turn waits c.loop-other-test.true (omega arith)
+    verdict_not_arrived lax s j p q turn waits c.loop-other-test.true (omega arith)
     (λ r lt. (let past = c.loop-other.invariant r lt in let arrived = tells.arrivals r in omega arith))
 
 pub returns : goal.returns
@@ -18,5 +18,5 @@ returns c = λ j tells turn waits lax.
     let p = c.args.processor in
     let mine = tells.departures p in
     let over = c.loop-other-test.false in
-    departs lax (sizes_of c.args.self.now.sizes) j p turn waits
+    verdict_departs lax (sizes_of c.args.self.now.sizes) j p turn waits
     (λ r lt. (let past = c.loop-other.invariant r (omega arith) in let arrived = tells.arrivals r in omega arith))

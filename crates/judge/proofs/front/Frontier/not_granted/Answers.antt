@@ -7,21 +7,21 @@ use Rattle.journal.specs.DidEvent.{event}
 use Rattle.journal.specs.WellFormed.{Holds}
 use Rattle.judge.specs.declared.front.Frontier.{Frontier}
 use Rattle.judge.specs.declared.why.Why.TheVariants.{AskedEarlier}
-use Rattle.judge.specs.Lax.{MayFollowIn}
+use Rattle.judge.specs.Lax.{MayFollowOrLax}
 use Rattle.judge.specs.Sizes.{sizes_of}
-use Rattle.judge.specs.Tells.{IsFirstAsk, IsFrontOf}
-use Rattle.judge.specs.Why.{IsFirstWhy}
-use Rattle.judge.proofs.Verdicts.{behind, granted, granted_lax, held_by, some_ask}
+use Rattle.judge.specs.FrontTells.{TellsFirstAsk, FrontTellsHistory}
+use Rattle.judge.specs.Why.{IsFirstTrueWhy}
+use Rattle.judge.proofs.Verdicts.{behind, granted, verdict_granted_lax, verdict_held_by, verdict_some_ask}
 use Rattle.judge.proofs.front.Frontier.not_granted.Goals as goal
 
 -- nobody holds a lock of which no holder is kept
-nobody : (j : List Event) (x : Frontier) (l : ℕ) → IsFrontOf j x → slice_index_or x.holders l None ≡ None
+nobody : (j : List Event) (x : Frontier) (l : ℕ) → FrontTellsHistory j x → slice_index_or x.holders l None ≡ None
     → (q : ℕ) → ¬ Holds j q l
 nobody j x l tells none q holds = none-some q (sym none ∙ (tells.holders l q).1 holds)
 
 pub returns-in-Some : goal.returns-in-Some
 returns-in-Some c = λ j tells turn waits.
-    held_by c.args.lax (sizes_of c.args.self.now.sizes) j c.args.processor c.args.lock c.in-Some.holder turn waits
+    verdict_held_by c.args.lax (sizes_of c.args.self.now.sizes) j c.args.processor c.args.lock c.in-Some.holder turn waits
     ((tells.holders c.args.lock c.in-Some.holder).0 c.in-Some.is)
 
 pub returns-then-lax : goal.returns-then-lax
@@ -29,15 +29,15 @@ returns-then-lax c = λ j tells turn waits.
     let s = sizes_of c.args.self.now.sizes in
     let p = c.args.processor in
     let l = c.args.lock in
-    subst (λ b. MayFollowIn b s j (event p (Acquire l))) (sym c.if-lax.true)
-    (granted_lax s j p l turn waits (nobody j c.args.self.now l tells c.in_default.is))
+    subst (λ b. MayFollowOrLax b s j (event p (Acquire l))) (sym c.if-lax.true)
+    (verdict_granted_lax s j p l turn waits (nobody j c.args.self.now l tells c.in_default.is))
 
 pub returns-in_err-first : goal.returns-in_err-first
 returns-in_err-first c = λ j tells turn waits.
     let s = sizes_of c.args.self.now.sizes in
     let p = c.args.processor in
     let l = c.args.lock in
-    absurd (some_ask s j p l turn waits (nobody j c.args.self.now l tells c.in_default.is)
+    absurd (verdict_some_ask s j p l turn waits (nobody j c.args.self.now l tells c.in_default.is)
     (c.in_err-first.ensures j tells))
 
 pub returns-then-first-processor : goal.returns-then-first-processor
@@ -46,9 +46,9 @@ returns-then-first-processor c = λ j tells turn waits.
     let p = c.args.processor in
     let l = c.args.lock in
     let first = c.in_ok-first.ensures j tells in
-    subst (λ b. MayFollowIn b s j (event p (Acquire l))) (sym c.if-lax.false)
+    subst (λ b. MayFollowOrLax b s j (event p (Acquire l))) (sym c.if-lax.false)
     (granted s j p l turn waits (nobody j c.args.self.now l tells c.in_default.is) c.in_ok-first.place
-    (subst (λ q. IsFirstAsk j l q c.in_ok-first.place) c.if-first-processor.true first))
+    (subst (λ q. TellsFirstAsk j l q c.in_ok-first.place) c.if-first-processor.true first))
 
 pub returns-else-first-processor : goal.returns-else-first-processor
 returns-else-first-processor c = λ j tells turn waits.
@@ -57,6 +57,6 @@ returns-else-first-processor c = λ j tells turn waits.
     let l = c.args.lock in
     let q = c.in_ok-first.first in
     let i = c.in_ok-first.place in
-    subst (λ b. IsFirstWhy b s j (event p (Acquire l)) (AskedEarlier q i)) (sym c.if-lax.false)
+    subst (λ b. IsFirstTrueWhy b s j (event p (Acquire l)) (AskedEarlier q i)) (sym c.if-lax.false)
     (behind s j p l turn waits (nobody j c.args.self.now l tells c.in_default.is) q i c.if-first-processor.false
     (c.in_ok-first.ensures j tells))

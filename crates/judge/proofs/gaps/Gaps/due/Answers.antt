@@ -2,21 +2,21 @@ use Rattle.std.proofs.Common.{◌+◌, ◌<◌, subst, sym, arith}
 use Rattle.journal.specs.InRange.{ProcessorsInRange}
 use Rattle.judge.specs.declared.gaps.CountedGap.{CountedGap}
 use Rattle.judge.specs.Sizes.{sizes_of}
-use Rattle.judge.specs.Gaps.{AreFew, CountsAmong}
-use Rattle.judge.proofs.Parts.{counts_all, counts_among_next, counts_start}
+use Rattle.judge.specs.Gaps.{AreGapCountsFew, GapCountsAmong}
+use Rattle.judge.proofs.GapParts.{gap_part_counts_all, gap_part_counts_next, gap_part_counts_start}
 use Rattle.judge.proofs.gaps.Gaps.due.Goals as goal
 
 pub loop-by-init : goal.loop-by-init
 loop-by-init c = record {
   present = c.requires.tells.1.long.sizes.processors;
   few = (let none = c.none-due.ensures in
-      let P : CountedGap → Type 0 = λ x. AreFew 0 x in
+      let P : CountedGap → Type 0 = λ x. AreGapCountsFew 0 x in
       subst P (sym none) (record { writers = omega arith; records = omega arith; words = omega arith }));
   counts = λ j tells.
       (let s = sizes_of c.args.self.now.sizes in
       let P : CountedGap → Type 0 =
-      λ x. CountsAmong s j c.args.processor c.args.page (λ q. q < 0) x.writers x.records x.words in
-      subst P (sym c.none-due.ensures) (counts_start s j c.args.processor c.args.page));
+      λ x. GapCountsAmong s j c.args.processor c.args.page (λ q. q < 0) x.writers x.records x.words in
+      subst P (sym c.none-due.ensures) (gap_part_counts_start s j c.args.processor c.args.page));
 }
 
 pub loop-by-preserved : goal.loop-by-preserved
@@ -28,9 +28,9 @@ loop-by-preserved c = record {
       let old = c.loop-by.due in
       let now = c.part.result in
       let P : CountedGap → Type 0 =
-      λ x. CountsAmong s j c.args.processor c.args.page (λ q. q < c.loop-by.by + 1) x.writers x.records x.words in
+      λ x. GapCountsAmong s j c.args.processor c.args.page (λ q. q < c.loop-by.by + 1) x.writers x.records x.words in
       subst P (sym c.and-due.ensures.sum)
-      (counts_among_next s j c.args.processor c.args.page c.loop-by.by old.writers old.records old.words now.writers
+      (gap_part_counts_next s j c.args.processor c.args.page c.loop-by.by old.writers old.records old.words now.writers
       now.records now.words (c.loop-by.invariant.counts j tells) (c.part.ensures.counts j tells)));
 }
 
@@ -42,5 +42,5 @@ returns c = λ j tells.
     let small = tells.long.sizes.processors in
     let range : ProcessorsInRange c.loop-by.by j =
     λ i e at. (let lt = tells.processors i e at in omega arith) in
-    counts_all s j c.args.processor c.args.page c.loop-by.by due.writers due.records due.words range
+    gap_part_counts_all s j c.args.processor c.args.page c.loop-by.by due.writers due.records due.words range
     (c.loop-by.invariant.counts j tells)

@@ -1,10 +1,10 @@
 use Rattle.std.proofs.Common.{refl, ap}
 use Rattle.journal.specs.declared.event.Event.{Event}
 use Rattle.judge.specs.Sizes.{sizes_of}
-use Rattle.judge.specs.Tallies.{row_index}
+use Rattle.judge.specs.GapTally.{gap_tally_row_index}
 use Rattle.journal.specs.ClockEntry.{entry}
-use Rattle.judge.proofs.InGaps.{fetched_other}
-use Rattle.judge.proofs.Keeping.{gaps_kept}
+use Rattle.judge.proofs.InGaps.{fetched_others_in_gap}
+use Rattle.judge.proofs.Keeping.{keeping_gaps}
 use Rattle.judge.proofs.gaps.Gaps.keep.Goals as goal
 
 pub returns-in_default : goal.returns-in_default
@@ -15,8 +15,8 @@ returns-in_default c = record {
   kept = λ j tells.
       (let g = c.args.self.now in
       let e = c.args.event in
-      gaps_kept j e g g.fetched (λ q a v is. c.in_default.not-Store a v (ap (λ (x : Event). x.kind) is))
-      (λ n p lt. fetched_other (sizes_of g.sizes) j e p n (entry g.fetched.items (row_index n p))
+      keeping_gaps j e g g.fetched (λ q a v is. c.in_default.not-Store a v (ap (λ (x : Event). x.kind) is))
+      (λ n p lt. fetched_others_in_gap (sizes_of g.sizes) j e p n (entry g.fetched.items (gap_tally_row_index n p))
       (λ w r d is. c.in_default.not-Fetch w n r d (ap (λ (x : Event). x.kind) is)) (tells.are.fetched n p lt))
       tells.are);
 }

@@ -6,13 +6,13 @@ use Rattle.journal.specs.declared.event.Kind.TheVariants.{Store}
 use Rattle.journal.specs.DidEvent.{event}
 use Rattle.journal.specs.ClockEntry.{entry}
 use Rattle.judge.specs.Sizes.{sizes_of}
-use Rattle.judge.specs.Gaps.{StoresAt, StoresInPage, StoresWord}
-use Rattle.judge.specs.Tallies.{row_index}
-use Rattle.judge.proofs.InGaps.{fetched_none}
-use Rattle.judge.proofs.Rows.{tally_none}
+use Rattle.judge.specs.Gaps.{GapStoresAt, GapStoresInPage, GapStoresWord}
+use Rattle.judge.specs.GapTally.{gap_tally_row_index}
+use Rattle.judge.proofs.InGaps.{fetched_none_in_gap}
+use Rattle.judge.proofs.GapTallyRows.{tally_none}
 use Rattle.judge.proofs.gaps.Gaps.new.Goals as goal
 
-nothing : (a q k : ℕ) → ¬ StoresAt [] a q k
+nothing : (a q k : ℕ) → ¬ GapStoresAt [] a q k
 nothing a q k x = none-some (event q (Store a x.1)) x.2
 
 pub returns-clause-tells : goal.returns-clause-tells
@@ -33,13 +33,13 @@ returns-clause-tells c =
         words_marks = c.in_ok-new-3.ensures.marks;
       };
       are = record {
-        fetched = λ n p lt. fetched_none s p n (entry c.in_ok-vec.field-0.items (row_index n p)) (λ q. zeros (row_index n p) q);
+        fetched = λ n p lt. fetched_none_in_gap s p n (entry c.in_ok-vec.field-0.items (gap_tally_row_index n p)) (λ q. zeros (gap_tally_row_index n p) q);
         intervals =
-            tally_none (StoresInPage s []) (λ z. z) (StoresInPage s []) 0 c.in_ok-new-2.field-0
+            tally_none (GapStoresInPage s []) (λ z. z) (GapStoresInPage s []) 0 c.in_ok-new-2.field-0
             c.in_ok-new-2.ensures.empty c.in_ok-new-2.ensures.unmarked (λ m r z h. nothing h.0 r z h.1.0)
             (λ m r z h. nothing h.0 r z h.1.0);
         words =
-            tally_none (StoresWord s []) (λ z. z.0) (StoresAt []) 0 c.in_ok-new-3.field-0
+            tally_none (GapStoresWord s []) (λ z. z.0) (GapStoresAt []) 0 c.in_ok-new-3.field-0
             c.in_ok-new-3.ensures.empty c.in_ok-new-3.ensures.unmarked (λ m r z h. nothing z.1 r z.0 h.0)
             nothing;
       };

@@ -10,7 +10,7 @@ use Rattle.journal.specs.InRange.{ProcessorsInRange}
 use Rattle.journal.specs.Clocks.{AreClocks}
 use Rattle.journal.proofs.Passes.NextClocks.{front_next}
 use Rattle.judge.specs.declared.gaps.Gaps.{Gaps}
-use Rattle.judge.specs.Gaps.{AreGapsOf, AreLong, TellsGaps}
+use Rattle.judge.specs.Gaps.{AreGapsOf, AreGapsLong, TellsGaps}
 use Rattle.judge.proofs.gaps.Gaps.note.Goals as goal
 
 -- what two facts of success give, success gives
@@ -19,7 +19,7 @@ both (Ok x) f p q = f p q
 both (Err e) f p q = tt
 
 -- with the timestamps, what is kept tells the history
-told : (j : List Event) (g : Gaps) (clocks : Clocks) → ProcessorsInRange g.sizes.processors j → AreLong g
+told : (j : List Event) (g : Gaps) (clocks : Clocks) → ProcessorsInRange g.sizes.processors j → AreGapsLong g
     → AreGapsOf j g → AreClocks j clocks → clocks.present ≡ g.sizes.processors
     → TellsGaps j (record g { clocks = clocks })
 told j g clocks range long kept are present = record {

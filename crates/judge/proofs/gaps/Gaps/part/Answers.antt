@@ -4,16 +4,16 @@ use Rattle.std.proofs.lemmas.Option.{slice_get_read, get_or_from_slice_get}
 use Rattle.journal.specs.ClockEntry.{entry}
 use Rattle.judge.specs.declared.gaps.CountedGap.{CountedGap}
 use Rattle.judge.specs.Sizes.{sizes_of}
-use Rattle.judge.specs.Gaps.{CountsAmong}
-use Rattle.judge.specs.Tallies.{is_between, numbers, row_index}
-use Rattle.judge.proofs.Parts.{counts_own, counts_part}
+use Rattle.judge.specs.Gaps.{GapCountsAmong}
+use Rattle.judge.specs.GapTally.{is_gap_tally_between, gap_tally_numbers, gap_tally_row_index}
+use Rattle.judge.proofs.GapParts.{gap_part_counts_own, counts_part}
 use Rattle.judge.proofs.gaps.Gaps.part.Goals as goal
 
 pub returns-then-by-processor-clause-counts : goal.returns-then-by-processor-clause-counts
 returns-then-by-processor-clause-counts c = λ j tells.
     let s = sizes_of c.args.self.now.sizes in
-    let P : CountedGap → Type 0 = λ x. CountsAmong s j c.args.processor c.args.page (λ q. q ≡ c.args.by) x.writers x.records x.words in
-    subst P (sym c.none.ensures) (counts_own s j c.args.processor c.args.page c.args.by c.if-by-processor.true)
+    let P : CountedGap → Type 0 = λ x. GapCountsAmong s j c.args.processor c.args.page (λ q. q ≡ c.args.by) x.writers x.records x.words in
+    subst P (sym c.none.ensures) (gap_part_counts_own s j c.args.processor c.args.page c.args.by c.if-by-processor.true)
 
 -- the processor's timestamp at its last fetch of the page, as it is read
 read : (times : List (List ℕ)) (n q : ℕ) (time : List ℕ) → n < length times → time ≡ slice_index_or times n time
@@ -25,11 +25,11 @@ read times n q time lt is =
 -- what is counted lies between the timestamps
 in_row : (c : goal.After-writers_of) → vec_len c.args.self.now.fetched ≡ c.args.self.now.sizes.pages * 16
     → (rows : List (Vec ℕ))
-    → count_by (is_between (slice_index c.index.result.now c.args.by) (slice_index c.of.result.now c.args.by))
-    (numbers rows c.row_at-row.result)
-    ≡ count_by (is_between (entry c.args.self.now.fetched.items (row_index c.args.page c.args.processor) c.args.by)
+    → count_by (is_gap_tally_between (slice_index c.index.result.now c.args.by) (slice_index c.of.result.now c.args.by))
+    (gap_tally_numbers rows c.row_at-row.result)
+    ≡ count_by (is_gap_tally_between (entry c.args.self.now.fetched.items (gap_tally_row_index c.args.page c.args.processor) c.args.by)
     (entry c.args.self.now.clocks.processors.items c.args.processor c.args.by))
-    (numbers rows (row_index c.args.page c.args.by))
+    (gap_tally_numbers rows (gap_tally_row_index c.args.page c.args.by))
 in_row c long rows =
     let g = c.args.self.now in
     let from = slice_index c.index.result.now c.args.by in
@@ -38,11 +38,11 @@ in_row c long rows =
     let page = c.requires.page in
     let processor = c.requires.processor in
     let within : c.row_at.result < length g.fetched.items = omega (arith, row, page, processor, long, g.fetched.ok.0) in
-    let first : from ≡ entry g.fetched.items (row_index c.args.page c.args.processor) c.args.by =
+    let first : from ≡ entry g.fetched.items (gap_tally_row_index c.args.page c.args.processor) c.args.by =
     read g.fetched.items c.row_at.result c.args.by c.index.result.now within c.index.ensures
     ∙ ap (λ n. entry g.fetched.items n c.args.by) row in
-    ap (λ r. count_by (is_between from to) (numbers rows r)) c.row_at-row.ensures
-    ∙ ap₂ (λ f t. count_by (is_between f t) (numbers rows (row_index c.args.page c.args.by))) first
+    ap (λ r. count_by (is_gap_tally_between from to) (gap_tally_numbers rows r)) c.row_at-row.ensures
+    ∙ ap₂ (λ f t. count_by (is_gap_tally_between f t) (gap_tally_numbers rows (gap_tally_row_index c.args.page c.args.by))) first
     (c.of.ensures c.args.by)
 
 pub returns-clause-counts : goal.returns-clause-counts
@@ -50,7 +50,7 @@ returns-clause-counts c = λ j tells.
     let g = c.args.self.now in
     let p = c.args.processor in
     let t = entry g.clocks.processors.items p in
-    let m = entry g.fetched.items (row_index c.args.page p) in
+    let m = entry g.fetched.items (gap_tally_row_index c.args.page p) in
     counts_part (sizes_of g.sizes) j p c.args.page c.args.by m t _ _ c.writers_of.result c.count-records.result
     c.count-words.result c.if-by-processor.false (tells.are.fetched c.args.page p c.requires.processor)
     (tells.clocks.times p c.requires.processor) (tells.are.intervals.rows c.args.page c.args.by c.requires.by)

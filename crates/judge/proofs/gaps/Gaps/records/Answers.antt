@@ -1,9 +1,9 @@
 use Rattle.std.proofs.Common.{ℕ, ◌≤◌, ◌<◌, subst, sym, ap, ◌∙◌, count_by}
 use Rattle.journal.specs.PageImages.{HasImageCount}
-use Rattle.judge.specs.Gaps.{StoresInPage}
+use Rattle.judge.specs.Gaps.{GapStoresInPage}
 use Rattle.judge.specs.Sizes.{sizes_of}
-use Rattle.judge.specs.Tallies.{is_between, numbers, row_index}
-use Rattle.judge.proofs.Rows.{row_counts}
+use Rattle.judge.specs.GapTally.{is_gap_tally_between, gap_tally_numbers, gap_tally_row_index}
+use Rattle.judge.proofs.GapTallyRows.{row_counts}
 use Rattle.judge.proofs.gaps.Gaps.records.Goals as goal
 
 pub returns : goal.returns
@@ -12,10 +12,10 @@ returns c = λ j tells.
     let s = sizes_of g.sizes in
     let n = c.args.page in
     let q = c.args.by in
-    let In : ℕ → Type 0 = λ k. StoresInPage s j n q k × (c.args.from ≤ k) × (k < c.args.to) in
+    let In : ℕ → Type 0 = λ k. GapStoresInPage s j n q k × (c.args.from ≤ k) × (k < c.args.to) in
     let count =
     c.count.ensures
-    ∙ ap (λ r. count_by (is_between c.args.from c.args.to) (numbers g.intervals.rows.items r)) c.row_at.ensures in
+    ∙ ap (λ r. count_by (is_gap_tally_between c.args.from c.args.to) (gap_tally_numbers g.intervals.rows.items r)) c.row_at.ensures in
     subst (HasImageCount In) (sym count)
-    (row_counts (StoresInPage s j n q) (λ k. k) (numbers g.intervals.rows.items (row_index n q)) c.args.from c.args.to
+    (row_counts (GapStoresInPage s j n q) (λ k. k) (gap_tally_numbers g.intervals.rows.items (gap_tally_row_index n q)) c.args.from c.args.to
     (tells.are.intervals.rows n q c.requires.by))

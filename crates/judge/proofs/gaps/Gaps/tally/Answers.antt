@@ -11,10 +11,10 @@ use Rattle.journal.proofs.Times.PushesCovered.{own_time_entry}
 use Rattle.judge.specs.declared.gaps.Gaps.{Gaps}
 use Rattle.judge.specs.declared.tally.Tally.{Tally}
 use Rattle.judge.specs.Sizes.{sizes_of}
-use Rattle.judge.specs.Gaps.{AreGapsOf, TellsGaps, StoresAt, StoresInPage, StoresWord}
-use Rattle.judge.specs.Tallies.{Adds, IsTallyOf, row_index}
-use Rattle.judge.proofs.Rows.{tally_next}
-use Rattle.judge.proofs.InGaps.{fetched_other, pages_next, stores_bound, stores_next, words_next}
+use Rattle.judge.specs.Gaps.{AreGapsOf, TellsGaps, GapStoresAt, GapStoresInPage, GapStoresWord}
+use Rattle.judge.specs.GapTally.{AddsToGapTally, IsGapTallyOfValues, gap_tally_row_index}
+use Rattle.judge.proofs.GapTallyRows.{tally_next}
+use Rattle.judge.proofs.InGaps.{fetched_others_in_gap, pages_next_in_gap, stores_bound_in_gap, stores_next_in_gap, words_next_in_gap}
 use Rattle.judge.proofs.gaps.Gaps.tally.Goals as goal
 
 not_fetch : (q a v p n w r d : ℕ) → event q (Store a v) ≡ event p (Fetch w n r d) → ⊥
@@ -27,27 +27,27 @@ own_few j p = count_by-le-length (λ (e : Event). (e.processor == p) && is_closi
 -- what both tallies add is what is kept after the store
 stored : (g : Gaps) (j : List Event) (q a v k n : ℕ) (intervals words : Tally) → TellsGaps j g → q < 16
     → k ≡ count_of is_closing j q → n ≡ a / g.sizes.words
-    → Adds g.intervals intervals (row_index n q) (row_index n q) k → Adds g.words words (row_index n q) (row_index a q) k
+    → AddsToGapTally g.intervals intervals (gap_tally_row_index n q) (gap_tally_row_index n q) k → AddsToGapTally g.words words (gap_tally_row_index n q) (gap_tally_row_index a q) k
     → AreGapsOf (did j q (Store a v)) (record g { intervals = intervals; words = words })
 stored g j q a v k n intervals words tells lt is page first second = record {
-  fetched = λ m p within. fetched_other s j (event q (Store a v)) p m (entry g.fetched.items (row_index m p))
+  fetched = λ m p within. fetched_others_in_gap s j (event q (Store a v)) p m (entry g.fetched.items (gap_tally_row_index m p))
       (λ w r d. not_fetch q a v p m w r d) (tells.are.fetched m p within);
   intervals =
-      subst (λ x. IsTallyOf (StoresInPage s after) (λ z. z) (StoresInPage s after) x intervals) (sym long)
-      (tally_next (StoresInPage s j) (StoresInPage s after) (λ z. z) (StoresInPage s j) (StoresInPage s after) (length j)
-      g.intervals intervals (a / s.words) (a / s.words) q (count_of is_closing j q) lt (pages_next s j q a v)
-      (pages_next s j q a v) (λ h. h, λ h. h) (λ z h. stores_bound j h.0 q z h.1.0)
-      (λ z h. stores_bound j h.0 q z h.1.0)
-      (subst (λ x. Adds g.intervals intervals (row_index x q) (row_index x q) (count_of is_closing j q)) page
-      (subst (Adds g.intervals intervals (row_index n q) (row_index n q)) is first)) tells.are.intervals);
+      subst (λ x. IsGapTallyOfValues (GapStoresInPage s after) (λ z. z) (GapStoresInPage s after) x intervals) (sym long)
+      (tally_next (GapStoresInPage s j) (GapStoresInPage s after) (λ z. z) (GapStoresInPage s j) (GapStoresInPage s after) (length j)
+      g.intervals intervals (a / s.words) (a / s.words) q (count_of is_closing j q) lt (pages_next_in_gap s j q a v)
+      (pages_next_in_gap s j q a v) (λ h. h, λ h. h) (λ z h. stores_bound_in_gap j h.0 q z h.1.0)
+      (λ z h. stores_bound_in_gap j h.0 q z h.1.0)
+      (subst (λ x. AddsToGapTally g.intervals intervals (gap_tally_row_index x q) (gap_tally_row_index x q) (count_of is_closing j q)) page
+      (subst (AddsToGapTally g.intervals intervals (gap_tally_row_index n q) (gap_tally_row_index n q)) is first)) tells.are.intervals);
   words =
-      subst (λ x. IsTallyOf (StoresWord s after) (λ z. z.0) (StoresAt after) x words) (sym long)
-      (tally_next (StoresWord s j) (StoresWord s after) (λ z. z.0) (StoresAt j) (StoresAt after) (length j)
-      g.words words (a / s.words) a q (count_of is_closing j q, a) lt (words_next s j q a v)
-      (stores_next j q a v) (λ h. h.0, λ h. (h, refl)) (λ z h. stores_bound j z.1 q z.0 h.0)
-      (λ z h. stores_bound j a q z h)
-      (subst (λ x. Adds g.words words (row_index x q) (row_index a q) (count_of is_closing j q)) page
-      (subst (Adds g.words words (row_index n q) (row_index a q)) is second)) tells.are.words);
+      subst (λ x. IsGapTallyOfValues (GapStoresWord s after) (λ z. z.0) (GapStoresAt after) x words) (sym long)
+      (tally_next (GapStoresWord s j) (GapStoresWord s after) (λ z. z.0) (GapStoresAt j) (GapStoresAt after) (length j)
+      g.words words (a / s.words) a q (count_of is_closing j q, a) lt (words_next_in_gap s j q a v)
+      (stores_next_in_gap j q a v) (λ h. h.0, λ h. (h, refl)) (λ z h. stores_bound_in_gap j z.1 q z.0 h.0)
+      (λ z h. stores_bound_in_gap j a q z h)
+      (subst (λ x. AddsToGapTally g.words words (gap_tally_row_index x q) (gap_tally_row_index a q) (count_of is_closing j q)) page
+      (subst (AddsToGapTally g.words words (gap_tally_row_index n q) (gap_tally_row_index a q)) is second)) tells.are.words);
 }
   where
     s : Sizes
@@ -98,9 +98,9 @@ returns-clause-kept c =
     then c.add-2.result
     (λ second j tells v.
     let lt = sixteen j g q tells c.requires.processor in
-    let first = subst (λ r. Adds g.intervals c.add.new.self r r interval) c.row_at-row.ensures c.in_ok-add.ensures.adds in
-    let both = subst (λ r. Adds g.words c.add-2.new.self r (row_index a q) interval) c.row_at-row.ensures
-    (subst (λ r. Adds g.words c.add-2.new.self c.row_at-row.result r interval) c.row_at.ensures second) in
+    let first = subst (λ r. AddsToGapTally g.intervals c.add.new.self r r interval) c.row_at-row.ensures c.in_ok-add.ensures.adds in
+    let both = subst (λ r. AddsToGapTally g.words c.add-2.new.self r (gap_tally_row_index a q) interval) c.row_at-row.ensures
+    (subst (λ r. AddsToGapTally g.words c.add-2.new.self c.row_at-row.result r interval) c.row_at.ensures second) in
     stored g j q a v interval n c.add.new.self c.add-2.new.self tells lt (own j g q c.of.result.now tells lt c.of.ensures)
     refl first both)
     c.add-2.ensures.adds

@@ -13,9 +13,9 @@ use Rattle.journal.proofs.Times.Times.{time_equal}
 use Rattle.journal.proofs.Times.PushesCovered.{own_time_entry}
 use Rattle.judge.specs.declared.races.Access.{Access}
 use Rattle.judge.specs.declared.races.Races.{Races}
-use Rattle.judge.specs.NearestRaces.{AccessesAreKept, AreLastAccesses, AreRacesOf, accesses_to, stores_to}
-use Rattle.judge.specs.Sources.Tells.{row_of}
-use Rattle.judge.proofs.Racing.{accesses_to_one, rows_kept, rows_left, stores_to_one}
+use Rattle.judge.specs.NearestRaces.{RaceAccessesAreKept, AreLastRacingAccesses, AreRacesOf, races_with_access_to, races_with_store_to}
+use Rattle.judge.specs.Sources.Tells.{source_row_of}
+use Rattle.judge.proofs.NearestRaces.{race_accesses_to_one, nearest_race_rows_kept, nearest_race_rows_left, race_stores_to_one}
 use Rattle.judge.proofs.races.Races.keep.Goals as goal
 
 -- the entry that was read is how many intervals the processor has closed
@@ -40,10 +40,10 @@ returns-in-Load-clause-kept c = λ j tells long.
     let access : Access = record { place = c.args.place; interval = slice_index c.of.result.now p } in
     let interval = closed j s p c.of.result.now tells c.requires.processor c.of.ensures in
     let few = sixteen_of j s p tells c.requires.processor in
-    subst (λ x. AccessesAreKept (j ++ event p x ∷ []) (record s { accesses = with_item s.accesses (row_of a p) (Some access) })) (sym c.in-Load.is) (record {
-      stores = rows_left j (event p k) stores_to s.stores.items (λ b yes_is. absurd cc) tells.kept.stores;
-      accesses = rows_kept j p a k accesses_to s.accesses.items access few (eq-eqb a a refl)
-          (λ b yes_is. accesses_to_one k a b refl yes_is) (sym long) interval tells.kept.accesses;
+    subst (λ x. RaceAccessesAreKept (j ++ event p x ∷ []) (record s { accesses = with_item s.accesses (source_row_of a p) (Some access) })) (sym c.in-Load.is) (record {
+      stores = nearest_race_rows_left j (event p k) races_with_store_to s.stores.items (λ b yes_is. absurd cc) tells.kept.stores;
+      accesses = nearest_race_rows_kept j p a k races_with_access_to s.accesses.items access few (eq-eqb a a refl)
+          (λ b yes_is. race_accesses_to_one k a b refl yes_is) (sym long) interval tells.kept.accesses;
       stores_long = tells.kept.stores_long;
       accesses_long = tells.kept.accesses_long;
     })
@@ -57,24 +57,24 @@ returns-in-Store-clause-kept c = λ j tells long.
     let access : Access = record { place = c.args.place; interval = slice_index c.of.result.now p } in
     let interval = closed j s p c.of.result.now tells c.requires.processor c.of.ensures in
     let few = sixteen_of j s p tells c.requires.processor in
-    subst (λ x. AccessesAreKept (j ++ event p x ∷ []) (record s {
-      stores = with_item s.stores (row_of a p) (Some access);
-      accesses = with_item s.accesses (row_of a p) (Some access);
+    subst (λ x. RaceAccessesAreKept (j ++ event p x ∷ []) (record s {
+      stores = with_item s.stores (source_row_of a p) (Some access);
+      accesses = with_item s.accesses (source_row_of a p) (Some access);
     })) (sym c.in-Store.is) (record {
-      stores = rows_kept j p a k stores_to s.stores.items access few (eq-eqb a a refl)
-          (λ b yes_is. stores_to_one a c.in-Store.field-1 b yes_is) (sym long) interval tells.kept.stores;
-      accesses = rows_kept j p a k accesses_to s.accesses.items access few (eq-eqb a a refl)
-          (λ b yes_is. accesses_to_one k a b refl yes_is) (sym long) interval tells.kept.accesses;
+      stores = nearest_race_rows_kept j p a k races_with_store_to s.stores.items access few (eq-eqb a a refl)
+          (λ b yes_is. race_stores_to_one a c.in-Store.field-1 b yes_is) (sym long) interval tells.kept.stores;
+      accesses = nearest_race_rows_kept j p a k races_with_access_to s.accesses.items access few (eq-eqb a a refl)
+          (λ b yes_is. race_accesses_to_one k a b refl yes_is) (sym long) interval tells.kept.accesses;
       stores_long = tells.kept.stores_long;
       accesses_long = tells.kept.accesses_long;
     })
 
-not_stores : (k : Kind) (a : ℕ) → ((b v : ℕ) → k ≡ Store b v → ⊥) → stores_to a k ≡ true → ⊥
+not_stores : (k : Kind) (a : ℕ) → ((b v : ℕ) → k ≡ Store b v → ⊥) → races_with_store_to a k ≡ true → ⊥
 not_stores (Store b v) a none yes_is = none b v refl
 not_stores _ a none yes_is = absurd cc
 
 not_accesses : (k : Kind) (a : ℕ) → ((b v : ℕ) → k ≡ Load b v → ⊥) → ((b v : ℕ) → k ≡ Store b v → ⊥)
-    → accesses_to a k ≡ true → ⊥
+    → races_with_access_to a k ≡ true → ⊥
 not_accesses (Load b v) a none not yes_is = none b v refl
 not_accesses (Store b v) a none not yes_is = not b v refl
 not_accesses _ a none not yes_is = absurd cc
@@ -87,8 +87,8 @@ returns-in_default c = record {
   kept = λ j tells long.
       (let s = c.args.self.now in
       let e = c.args.event in record {
-        stores = rows_left j e stores_to s.stores.items (λ a yes_is. not_stores e.kind a c.in_default.not-Store yes_is) tells.kept.stores;
-        accesses = rows_left j e accesses_to s.accesses.items
+        stores = nearest_race_rows_left j e races_with_store_to s.stores.items (λ a yes_is. not_stores e.kind a c.in_default.not-Store yes_is) tells.kept.stores;
+        accesses = nearest_race_rows_left j e races_with_access_to s.accesses.items
             (λ a yes_is. not_accesses e.kind a c.in_default.not-Load c.in_default.not-Store yes_is) tells.kept.accesses;
         stores_long = tells.kept.stores_long;
         accesses_long = tells.kept.accesses_long;

@@ -14,8 +14,8 @@ use Rattle.journal.proofs.Order.CountedAndNumbered.{numbered_at_last}
 use Rattle.journal.proofs.Times.Times.{time_equal}
 use Rattle.journal.proofs.Passes.ReachedNextRaces.{no_race_other}
 use Rattle.judge.specs.declared.races.Races.{Races}
-use Rattle.judge.specs.NearestRaces.{AreRacesOf, accesses_to, stores_to}
-use Rattle.judge.proofs.Racing.{IsRowFor, load_conflicts, nearest_is, store_conflicts_all}
+use Rattle.judge.specs.NearestRaces.{AreRacesOf, races_with_access_to, races_with_store_to}
+use Rattle.judge.proofs.NearestRaces.{IsRaceRowFor, nearest_race_load_conflicts, nearest_race_is, race_store_conflicts_all}
 use Rattle.judge.proofs.races.Races.nearest.Goals as goal
 
 -- the processor's timestamp, as it was read
@@ -31,14 +31,14 @@ time_of j x p t tells lt is =
 -- the rows of a load and of a store
 load_row : (j : List Event) (x : Races) (e : Event) (a v : ℕ) (t : List ℕ) → AreRacesOf j x → e.kind ≡ Load a v
     → a < x.addresses → IsTimeOf j e.processor (slice_index t)
-    → IsRowFor j e (stores_to a) (slice_index t) x.stores.items (a * 16) x.processors
+    → IsRaceRowFor j e (races_with_store_to a) (slice_index t) x.stores.items (a * 16) x.processors
 load_row j x e a v t tells is lt time =
     let few = tells.clocks.few in
     let present = tells.present in
     let long = tells.kept.stores_long in
     record {
-      conflicts = λ f. subst (λ k. Conflict f (event e.processor k) ↔ IsTrue (stores_to a f.kind)) (sym is)
-          (load_conflicts f e.processor a v);
+      conflicts = λ f. subst (λ k. Conflict f (event e.processor k) ↔ IsTrue (races_with_store_to a f.kind)) (sym is)
+          (nearest_race_load_conflicts f e.processor a v);
       range = tells.processors;
       time = time;
       last = λ q o within at. tells.kept.stores a q o (omega arith) at;
@@ -47,14 +47,14 @@ load_row j x e a v t tells is lt time =
 
 store_row : (j : List Event) (x : Races) (e : Event) (a v : ℕ) (t : List ℕ) → AreRacesOf j x → e.kind ≡ Store a v
     → a < x.addresses → IsTimeOf j e.processor (slice_index t)
-    → IsRowFor j e (accesses_to a) (slice_index t) x.accesses.items (a * 16) x.processors
+    → IsRaceRowFor j e (races_with_access_to a) (slice_index t) x.accesses.items (a * 16) x.processors
 store_row j x e a v t tells is lt time =
     let few = tells.clocks.few in
     let present = tells.present in
     let long = tells.kept.accesses_long in
     record {
-      conflicts = λ f. subst (λ k. Conflict f (event e.processor k) ↔ IsTrue (accesses_to a f.kind)) (sym is)
-          (store_conflicts_all f e.processor a v);
+      conflicts = λ f. subst (λ k. Conflict f (event e.processor k) ↔ IsTrue (races_with_access_to a f.kind)) (sym is)
+          (race_store_conflicts_all f e.processor a v);
       range = tells.processors;
       time = time;
       last = λ q o within at. tells.kept.accesses a q o (omega arith) at;
@@ -75,7 +75,7 @@ returns-in-Load c = λ j tells.
     let t = c.of-time.result.now in
     let lt = subst (AddressInRange x.addresses) c.in-Load.is c.requires.address in
     let last = rw c.deref.ensures.value at c.last_uncounted.ensures in
-    nearest_is j e (stores_to a) (slice_index t) x.stores.items (a * 16) x.processors c.last_uncounted.result
+    nearest_race_is j e (races_with_store_to a) (slice_index t) x.stores.items (a * 16) x.processors c.last_uncounted.result
     (load_row j x e a c.in-Load.field-1 t tells c.in-Load.is lt (time_of j x e.processor t tells c.requires.processor c.of-time.ensures))
     last
 
@@ -87,7 +87,7 @@ returns-in-Store c = λ j tells.
     let t = c.of-time.result.now in
     let lt = subst (AddressInRange x.addresses) c.in-Store.is c.requires.address in
     let last = rw c.deref-in-Store.ensures.value at c.last_uncounted-in-Store.ensures in
-    nearest_is j e (accesses_to a) (slice_index t) x.accesses.items (a * 16) x.processors c.last_uncounted-in-Store.result
+    nearest_race_is j e (races_with_access_to a) (slice_index t) x.accesses.items (a * 16) x.processors c.last_uncounted-in-Store.result
     (store_row j x e a c.in-Store.field-1 t tells c.in-Store.is lt (time_of j x e.processor t tells c.requires.processor c.of-time.ensures))
     last
 

@@ -2,8 +2,8 @@ use Rattle.std.proofs.Common.{◌≡◌, ℕ, ◌*◌, Option, Some, sym, ap, �
 use Rattle.std.specs.Prelude.{None, SomeIff}
 use Rattle.std.specs.Result.{result_ok}
 use Rattle.std.proofs.lemmas.Option.{none-some, same_Some}
-use Rattle.judge.specs.NearestRaces.{accesses_to, stores_to}
-use Rattle.judge.proofs.Racing.{rows_start}
+use Rattle.judge.specs.NearestRaces.{races_with_access_to, races_with_store_to}
+use Rattle.judge.proofs.NearestRaces.{nearest_race_rows_start}
 use Rattle.judge.proofs.races.Races.new.Goals as goal
 
 -- a result that is there is the value
@@ -20,8 +20,8 @@ returns-clause-tells c =
       present = c.in_ok-new.ensures.present;
       processors = λ i e at. absurd (none-some e at);
       kept = record {
-        stores = rows_start stores_to c.in_ok-no_accesses.field-0.items c.in_ok-no_accesses.ensures.none;
-        accesses = rows_start accesses_to c.in_ok-no_accesses-2.field-0.items c.in_ok-no_accesses-2.ensures.none;
+        stores = nearest_race_rows_start races_with_store_to c.in_ok-no_accesses.field-0.items c.in_ok-no_accesses.ensures.none;
+        accesses = nearest_race_rows_start races_with_access_to c.in_ok-no_accesses-2.field-0.items c.in_ok-no_accesses-2.ensures.none;
         stores_long = c.in_ok-no_accesses.ensures.long ∙ rows;
         accesses_long = c.in_ok-no_accesses-2.ensures.long ∙ rows;
       };

@@ -11,7 +11,7 @@ use Rattle.journal.specs.InRange.{ProcessorsInRange}
 use Rattle.journal.specs.Clocks.{AreClocks}
 use Rattle.journal.proofs.Passes.NextClocks.{front_next}
 use Rattle.judge.specs.declared.races.Races.{Races}
-use Rattle.judge.specs.NearestRaces.{AccessesAreKept, AreRacesOf}
+use Rattle.judge.specs.NearestRaces.{RaceAccessesAreKept, AreRacesOf}
 use Rattle.judge.proofs.races.Races.note.Goals as goal
 
 -- what two facts of success give, success gives
@@ -20,7 +20,7 @@ both (Ok x) f p q = f p q
 both (Err e) f p q = tt
 
 -- with the timestamps, what is kept tells the history
-told : (j : List Event) (x : Races) (clocks : Clocks) → ProcessorsInRange x.processors j → AccessesAreKept j x
+told : (j : List Event) (x : Races) (clocks : Clocks) → ProcessorsInRange x.processors j → RaceAccessesAreKept j x
     → AreClocks j clocks → clocks.present ≡ x.processors → AreRacesOf j (record x { clocks = clocks })
 told j x clocks range kept are present = record {
   clocks = are;
@@ -42,8 +42,8 @@ returns-clause-tells c =
     let x = c.keep.new.self in
     let next = front_next events place e (slice_get-get_or events place (event 0 (Load 0 0)) c.requires.place) in
     let long = length-take-le place events (omega arith) in
-    let kept : AccessesAreKept (take (place + 1) events) x =
-    subst (λ xs. AccessesAreKept xs x) (sym next) (c.keep.ensures.kept (take place events) c.requires.so_far long) in
+    let kept : RaceAccessesAreKept (take (place + 1) events) x =
+    subst (λ xs. RaceAccessesAreKept xs x) (sym next) (c.keep.ensures.kept (take place events) c.requires.so_far long) in
     let same = c.keep.ensures.processors in
     let range : ProcessorsInRange x.processors (take (place + 1) events) =
     λ i f at. subst (λ n. f.processor < n) (sym same)

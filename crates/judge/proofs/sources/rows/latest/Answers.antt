@@ -6,7 +6,7 @@ use Rattle.journal.specs.declared.event.Event.{Event}
 use Rattle.journal.specs.declared.event.Kind.TheVariants.{Load}
 use Rattle.journal.specs.DidEvent.{event}
 use Rattle.journal.specs.InRange.{AddressInRange, AddressesInRange, ProcessorsInRange}
-use Rattle.judge.specs.Sources.Latest.{AreReadableRows, IsReadableRow}
+use Rattle.judge.specs.Sources.Latest.{AreLatestRows, IsLatestRow}
 use Rattle.judge.proofs.sources.InRows.{row_in}
 use Rattle.judge.proofs.sources.rows.latest.Goals as goal
 
@@ -16,12 +16,12 @@ here events place = slice_index_or events place (event 0 (Load 0 0))
 
 -- a row more
 rows_next : (events : List Event) (rows : List (Vec ℕ)) (place : ℕ) (row : Vec ℕ) → length rows ≡ place
-    → AreReadableRows events rows → IsReadableRow events place row.items → AreReadableRows events (rows ++ row ∷ [])
+    → AreLatestRows events rows → IsLatestRow events place row.items → AreLatestRows events (rows ++ row ∷ [])
 rows_next events rows place row long are now k other at = elim (slice_push_cases rows row k other at) [
   | inl old ↦ are k other old.1
   | inr new ↦
       (let is : place ≡ k = omega (arith, new.0) in
-      subst (λ (v : Vec ℕ). IsReadableRow events k v.items) new.1 (subst (λ n. IsReadableRow events n row.items) is now))
+      subst (λ (v : Vec ℕ). IsLatestRow events k v.items) new.1 (subst (λ n. IsLatestRow events n row.items) is now))
 ]
 
 pub row-requires-clause-processor : goal.row-requires-clause-processor
@@ -59,7 +59,7 @@ loop-place-preserved c =
       addresses = c.note.ensures.addresses ∙ old.addresses;
       long = (let len = c.in_ok-push.ensures.len in let was = old.long in omega arith);
       rows =
-          subst (AreReadableRows events) (sym c.in_ok-push.ensures.items)
+          subst (AreLatestRows events) (sym c.in_ok-push.ensures.items)
           (rows_next events rows.items place c.in_ok-row.row long old.rows row);
     }
 

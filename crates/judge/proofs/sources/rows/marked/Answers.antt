@@ -2,8 +2,8 @@ use Rattle.std.proofs.Common.{◌≡◌, ℕ, ◌+◌, ◌<◌, List, [], ◌∷
 use Rattle.std.specs.Prelude.{None}
 use Rattle.std.proofs.lemmas.Option.{slice_get-get_or}
 use Rattle.base.proofs.SlicesAndCounts.{take-suc_at}
-use Rattle.judge.specs.Sources.Latest.{AreMarked}
-use Rattle.judge.proofs.sources.InRows.{marked_next, marked_none}
+use Rattle.judge.specs.Sources.Latest.{AreLatestMarked}
+use Rattle.judge.proofs.sources.InRows.{latest_row_marked_next, latest_row_marked_none}
 use Rattle.judge.proofs.sources.rows.marked.Goals as goal
 use Rattle.judge.proofs.sources.rows.marked.Goals.{in-Some+in_ok-push, in_default}
 
@@ -23,14 +23,14 @@ loop-mark-preserved c =
     elim c.match-mark.branch [
       | in-Some+in_ok-push w ↦
           (let is : slice_index_or marks i None ≡ Some w.in-Some.place = w.in-Some.is in
-          subst (λ v. AreMarked (take (i + 1) marks) v.items) (sym w.places-is)
-          (subst (AreMarked (take (i + 1) marks)) (sym w.in_ok-push.ensures.items)
-          (subst (λ xs. AreMarked xs (kept ++ w.in-Some.place ∷ []))
+          subst (λ v. AreLatestMarked (take (i + 1) marks) v.items) (sym w.places-is)
+          (subst (AreLatestMarked (take (i + 1) marks)) (sym w.in_ok-push.ensures.items)
+          (subst (λ xs. AreLatestMarked xs (kept ++ w.in-Some.place ∷ []))
           (sym (next ∙ ap (λ m. take i marks ++ m ∷ []) is))
-          (marked_next (take i marks) kept w.in-Some.place c.loop-mark.invariant))))
+          (latest_row_marked_next (take i marks) kept w.in-Some.place c.loop-mark.invariant))))
       | in_default w ↦
           (let is : slice_index_or marks i None ≡ None = w.in_default.is in
-          subst (λ v. AreMarked (take (i + 1) marks) v.items) (sym w.places-is)
-          (subst (λ xs. AreMarked xs kept) (sym (next ∙ ap (λ m. take i marks ++ m ∷ []) is))
-          (marked_none (take i marks) kept c.loop-mark.invariant)))
+          subst (λ v. AreLatestMarked (take (i + 1) marks) v.items) (sym w.places-is)
+          (subst (λ xs. AreLatestMarked xs kept) (sym (next ∙ ap (λ m. take i marks ++ m ∷ []) is))
+          (latest_row_marked_none (take i marks) kept c.loop-mark.invariant)))
     ]

@@ -3,8 +3,8 @@ use Rattle.std.specs.Global.{Vec}
 use Rattle.std.proofs.lemmas.Result.{IfOk-weaker}
 use Rattle.journal.specs.declared.event.Event.{Event}
 use Rattle.journal.specs.DidEvent.{event}
-use Rattle.judge.specs.Sources.Latest.{AreMarked, IsReadableRow}
-use Rattle.judge.specs.Sources.Tells.{AreStoresOf}
+use Rattle.judge.specs.Sources.Latest.{AreLatestMarked, IsLatestRow}
+use Rattle.judge.specs.Sources.Tells.{AreSourceStoresOf}
 use Rattle.judge.proofs.sources.InRows.{row_marked, row_other}
 use Rattle.judge.proofs.sources.rows.row.Goals as goal
 
@@ -12,13 +12,13 @@ pub returns-in-Load : goal.returns-in-Load
 returns-in-Load c =
     let e = c.args.event in
     let marks = c.before-in-Load.result in
-    IfOk-weaker c.marked.result (λ (v : Vec ℕ). AreMarked marks v.items)
-    (λ (v : Vec ℕ). (j : List Event) → AreStoresOf j c.args.sources.now → IsReadableRow (j ++ e ∷ []) (length j) v.items)
-    (λ v are j tells. subst (λ k. IsReadableRow (j ++ event e.processor k ∷ []) (length j) v.items) (sym c.in-Load.is)
+    IfOk-weaker c.marked.result (λ (v : Vec ℕ). AreLatestMarked marks v.items)
+    (λ (v : Vec ℕ). (j : List Event) → AreSourceStoresOf j c.args.sources.now → IsLatestRow (j ++ e ∷ []) (length j) v.items)
+    (λ v are j tells. subst (λ k. IsLatestRow (j ++ event e.processor k ∷ []) (length j) v.items) (sym c.in-Load.is)
     (row_marked j e.processor c.in-Load.address c.in-Load.field-1 marks v.items
     (c.before-in-Load.ensures j tells c.in-Load.field-1) are)) c.marked.ensures
 
 pub returns-in_default : goal.returns-in_default
 returns-in_default c = λ j tells.
-    subst (IsReadableRow (j ++ c.args.event ∷ []) (length j)) (sym c.new.ensures.items)
+    subst (IsLatestRow (j ++ c.args.event ∷ []) (length j)) (sym c.new.ensures.items)
     (row_other j c.args.event c.in_default.not-Load)

@@ -2,12 +2,12 @@ use Rattle.std.proofs.Common.{◌≡◌, ◌<◌, ℕ, take}
 use Rattle.journal.specs.declared.event.Kind.TheVariants.{Load}
 use Rattle.journal.specs.WellFormed.{Does}
 use Rattle.journal.specs.ExplainedAnswers.{IsAnswer}
-use Rattle.judge.specs.Sources.Tells.{AreStoresOf}
+use Rattle.judge.specs.Sources.Tells.{AreSourceStoresOf}
 use Rattle.judge.proofs.sources.unexplained.first_unexplained.Given as goal
 
 abbrev pub invariant-loop-place : goal.invariant-loop-place
 invariant-loop-place l = record {
-  tells : AreStoresOf (take l.place l.events) l.sources;
+  tells : AreSourceStoresOf (take l.place l.events) l.sources;
   processors : l.sources.processors ≡ l.processors;
   addresses : l.sources.addresses ≡ l.addresses;
   explained : (m p a v : ℕ) → m < l.place → Does l.events m p (Load a v) → IsAnswer l.events m a v;

@@ -4,18 +4,18 @@ use Rattle.std.proofs.lemmas.Option.{same_Some, slice_get-get_or, slice_get_with
 use Rattle.base.specs.InOrderOnce.{Has}
 use Rattle.base.proofs.SlicesAndCounts.{slice_push_cases, slice_get-append_left, slice_get-last}
 use Rattle.judge.specs.declared.sources.stored.Stored.{Stored}
-use Rattle.judge.specs.Sources.Unordered.{IsPlaceWithin}
+use Rattle.judge.specs.Sources.Unordered.{IsUnorderedWithin}
 use Rattle.judge.proofs.sources.unordered.add_places.Goals as goal
 
 abbrev IsAdded : List ℕ → List ℕ → List Stored → ℕ → ℕ → Type 0
-IsAdded now old stores from to = (i : ℕ) → Has now i ↔ (Has old i ⊎ IsPlaceWithin stores from to i)
+IsAdded now old stores from to = (i : ℕ) → Has now i ↔ (Has old i ⊎ IsUnorderedWithin stores from to i)
 
 -- one store more
 added_next : (now old : List ℕ) (stores : List Stored) (from n : ℕ) (s : Stored) → from ≤ n → slice_get stores n ≡ Some s
     → IsAdded now old stores from n → IsAdded (now ++ s.place ∷ []) old stores from (n + 1)
 added_next now old stores from n s le at before i = (there, back)
   where
-    there : Has (now ++ s.place ∷ []) i → Has old i ⊎ IsPlaceWithin stores from (n + 1) i
+    there : Has (now ++ s.place ∷ []) i → Has old i ⊎ IsUnorderedWithin stores from (n + 1) i
     there h = elim (slice_push_cases now s.place h.0 i h.1) [
       | inl first ↦ elim ((before i).0 (h.0, first.1)) [
         | inl was ↦ inl was
@@ -41,7 +41,7 @@ added_next now old stores from n s le at before i = (there, back)
     kept : Has now i → Has (now ++ s.place ∷ []) i
     kept h = (h.0, slice_get-append_left now (s.place ∷ []) h.0 (slice_get_within now h.0 i h.1) ∙ h.1)
 
-    back : Has old i ⊎ IsPlaceWithin stores from (n + 1) i → Has (now ++ s.place ∷ []) i
+    back : Has old i ⊎ IsUnorderedWithin stores from (n + 1) i → Has (now ++ s.place ∷ []) i
     back (inl was) = kept ((before i).1 (inl was))
     back (inr x) = elim (cases_eq x.index n) [
       | inl same ↦
@@ -78,5 +78,5 @@ returns c = λ i.
     let over = c.loop-index-test.false in
     let end = c.loop-index.auto.index-end in
     let is : c.loop-index.index ≡ length c.args.stores.now = omega (arith, c.requires) in
-    subst (λ n. Has c.loop-index.places.items i ↔ (Has c.args.places.now.items i ⊎ IsPlaceWithin c.args.stores.now c.args.from n i)) is
+    subst (λ n. Has c.loop-index.places.items i ↔ (Has c.args.places.now.items i ⊎ IsUnorderedWithin c.args.stores.now c.args.from n i)) is
     (c.loop-index.invariant i)

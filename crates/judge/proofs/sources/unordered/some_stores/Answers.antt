@@ -6,7 +6,7 @@ use Rattle.journal.specs.declared.event.Kind.TheVariants.{Load, Store}
 use Rattle.journal.specs.DidEvent.{event}
 use Rattle.journal.specs.Events.{At}
 use Rattle.judge.specs.declared.sources.stored.Stored.{Stored}
-use Rattle.judge.specs.Sources.Unordered.{SomeStores}
+use Rattle.judge.specs.Sources.Unordered.{SomeUnorderedStores}
 use Rattle.judge.proofs.sources.unordered.some_stores.Goals as goal
 
 -- the store of this index

@@ -7,18 +7,18 @@ use Rattle.journal.specs.DidEvent.{event}
 use Rattle.journal.specs.Events.{At}
 use Rattle.journal.proofs.Passes.NextClocks.{front_next}
 use Rattle.judge.specs.Gaps.{TellsGaps}
-use Rattle.judge.specs.Lax.{MayFollowLax}
-use Rattle.judge.specs.Miscounted.{IsWithin}
+use Rattle.judge.specs.Lax.{LaxMayFollow}
+use Rattle.judge.specs.Miscounted.{IsMiscountWithin}
 use Rattle.judge.specs.NearestRaces.{AreRacesOf}
 use Rattle.judge.specs.Owed.{AreOwedBy}
 use Rattle.judge.specs.Sizes.{sizes_of}
-use Rattle.judge.specs.Tells.{IsFrontOf}
-use Rattle.judge.proofs.Fronts.{may_lax_in}
+use Rattle.judge.specs.FrontTells.{FrontTellsHistory}
+use Rattle.judge.proofs.Fronts.{front_may_lax_in}
 use Rattle.lrc_check.specs.declared.judging.TraceJudge.{TraceJudge}
-use Rattle.lrc_check.specs.Faithful.{IsAccepted}
-use Rattle.lrc_check.specs.Judged.{AreGapsFor, IsJudged}
+use Rattle.lrc_check.specs.Faithful.{IsFaithfulAndCounted}
+use Rattle.lrc_check.specs.Judged.{AreGapsJudged, IsJudged}
 use Rattle.lrc_check.proofs.Accepting.{each_accepted}
-use Rattle.lrc_check.proofs.Lying.{may_within}
+use Rattle.lrc_check.proofs.LyingTraces.{lying_may_within}
 use Rattle.lrc_check.proofs.judging.TraceJudge.keep.Goals as goal
 
 -- the event at this place
@@ -39,19 +39,19 @@ split_events events place last =
 
 -- the last event may follow, in the lax sense
 follows : (x : TraceJudge) (events : List Event) (place : ℕ) → length events ≡ place + 1
-    → IsJudged (take place events) x → IsAccepted x.model x.lax (sizes_of x.sizes) events
-    → MayFollowLax (sizes_of x.front.sizes) (take place events) (here events place)
+    → IsJudged (take place events) x → IsFaithfulAndCounted x.model x.lax (sizes_of x.sizes) events
+    → LaxMayFollow (sizes_of x.front.sizes) (take place events) (here events place)
 follows x events place last judged accepted =
     let e = here events place in
     let may = each_accepted x.lax (sizes_of x.sizes) events accepted.well_formed place e (here_at events place last) in
-    subst (λ s. MayFollowLax (sizes_of s) (take place events) e) (sym judged.front_sizes)
-    (may_lax_in x.lax (sizes_of x.sizes) (take place events) e may)
+    subst (λ s. LaxMayFollow (sizes_of s) (take place events) e) (sym judged.front_sizes)
+    (front_may_lax_in x.lax (sizes_of x.sizes) (take place events) e may)
 
 -- each event is within the sizes
-all_within : (x : TraceJudge) (events : List Event) → IsAccepted x.model x.lax (sizes_of x.sizes) events
-    → (k : ℕ) (e : Event) → At events k e → IsWithin (sizes_of x.sizes) e
+all_within : (x : TraceJudge) (events : List Event) → IsFaithfulAndCounted x.model x.lax (sizes_of x.sizes) events
+    → (k : ℕ) (e : Event) → At events k e → IsMiscountWithin (sizes_of x.sizes) e
 all_within x events accepted k e at =
-    may_within x.lax (sizes_of x.sizes) (take k events) e
+    lying_may_within x.lax (sizes_of x.sizes) (take k events) e
     (each_accepted x.lax (sizes_of x.sizes) events accepted.well_formed k e at)
 
 pub note-requires-clause-may_follow : goal.note-requires-clause-may_follow
@@ -78,11 +78,11 @@ returns-in_ok-note-3-clause-judged c =
     let last = c.requires.last in
     let judged = c.requires.judged in
     let all = all_events events place last in
-    let g = subst (AreGapsFor x.model x.lax x.sizes j) c.in-Some.is judged.gaps in
+    let g = subst (AreGapsJudged x.model x.lax x.sizes j) c.in-Some.is judged.gaps in
     record {
       faithful = c.requires.accepted;
       race = c.requires.race;
-      front = subst (λ xs. IsFrontOf xs c.note.new.self) (sym (split_events events place last))
+      front = subst (λ xs. FrontTellsHistory xs c.note.new.self) (sym (split_events events place last))
           (c.note.ensures.tells j judged.front (follows x events place last judged c.requires.accepted));
       front_sizes = c.note.ensures.sizes ∙ judged.front_sizes;
       races = subst (λ xs. AreRacesOf xs c.note-2.new.self) all c.in_ok-note.ensures.tells;
@@ -107,11 +107,11 @@ returns-in_default-clause-judged c =
     let last = c.requires.last in
     let judged = c.requires.judged in
     let all = all_events events place last in
-    let none = subst (AreGapsFor x.model x.lax x.sizes j) c.in_default.is judged.gaps in
+    let none = subst (AreGapsJudged x.model x.lax x.sizes j) c.in_default.is judged.gaps in
     record {
       faithful = c.requires.accepted;
       race = c.requires.race;
-      front = subst (λ xs. IsFrontOf xs c.note.new.self) (sym (split_events events place last))
+      front = subst (λ xs. FrontTellsHistory xs c.note.new.self) (sym (split_events events place last))
           (c.note.ensures.tells j judged.front (follows x events place last judged c.requires.accepted));
       front_sizes = c.note.ensures.sizes ∙ judged.front_sizes;
       races = subst (λ xs. AreRacesOf xs c.note-2.new.self) all c.in_ok-note.ensures.tells;
@@ -119,5 +119,5 @@ returns-in_default-clause-judged c =
       addresses = c.note-2.ensures.addresses ∙ judged.addresses;
       owed = subst (λ xs. AreOwedBy x.model (sizes_of x.sizes) xs c.note-3.new.self) all
           (c.in_ok-note-2.ensures x.model (sizes_of x.sizes) judged.owed (all_within x events c.requires.accepted));
-      gaps = subst (AreGapsFor x.model x.lax x.sizes events) (sym c.in_default.is) none;
+      gaps = subst (AreGapsJudged x.model x.lax x.sizes events) (sym c.in_default.is) none;
     }

@@ -7,14 +7,14 @@ use Rattle.journal.specs.DidEvent.{event}
 use Rattle.journal.specs.Events.{At}
 use Rattle.journal.proofs.Passes.NextClocks.{front_next}
 use Rattle.judge.specs.declared.judge.IllFormed.{IllFormed}
-use Rattle.judge.specs.Lax.{MayFollowIn}
+use Rattle.judge.specs.Lax.{MayFollowOrLax}
 use Rattle.judge.specs.Sizes.{sizes_of}
-use Rattle.judge.specs.Why.{IsFirstWhy}
-use Rattle.lrc_check.specs.Checked.{IsLie, IsRaceOf, raced}
+use Rattle.judge.specs.Why.{IsFirstTrueWhy}
+use Rattle.lrc_check.specs.Checked.{IsLie, IsRaceOf, checked_for_race}
 use Rattle.lrc_check.specs.declared.checked.Lie.TheVariants as lie
 use Rattle.lrc_check.specs.Judged.{IsJudged}
-use Rattle.lrc_check.proofs.Judged.{racy_with}
-use Rattle.lrc_check.proofs.Lying.{lie_ill_formed, may_within}
+use Rattle.lrc_check.proofs.Judged.{judged_racy_with}
+use Rattle.lrc_check.proofs.LyingTraces.{lying_ill_formed, lying_may_within}
 use Rattle.lrc_check.proofs.judging.TraceJudge.read.Goals as goal
 
 -- the event at this place
@@ -46,11 +46,11 @@ returns-in-Some-clause-judged c =
     let j = take place events in
     let e = here events place in
     let judged = c.requires.judged in
-    let why = subst (λ t. IsFirstWhy x.lax (sizes_of t) j e c.in-Some.why) judged.front_sizes
+    let why = subst (λ t. IsFirstTrueWhy x.lax (sizes_of t) j e c.in-Some.why) judged.front_sizes
     (c.in-Some.ensures j judged.front) in
     let told : IllFormed = record { place = place; why = c.in-Some.why } in (
       subst (λ xs. IsLie x.model x.lax s xs (lie.IllFormed told)) (sym (next_events events place lt))
-          (lie_ill_formed x.model x.lax s j e told judged.faithful (sym (long_front events place lt)) why),
+          (lying_ill_formed x.model x.lax s j e told judged.faithful (sym (long_front events place lt)) why),
       subst (λ xs. IsRaceOf xs x.race) (sym (front_events events place)) judged.race,
     )
 
@@ -62,15 +62,15 @@ race_with-race-requires-clause-within c =
     let j = take place events in
     let e = here events place in
     let judged = c.requires.judged in
-    may_within x.lax (sizes_of x.sizes) j e
-    (subst (λ t. MayFollowIn x.lax (sizes_of t) j e) judged.front_sizes (c.in_default.ensures j judged.front))
+    lying_may_within x.lax (sizes_of x.sizes) j e
+    (subst (λ t. MayFollowOrLax x.lax (sizes_of t) j e) judged.front_sizes (c.in_default.ensures j judged.front))
 
 pub lie-requires-clause-racy : goal.lie-requires-clause-racy
 lie-requires-clause-racy c =
     let events = c.args.events.now in
     let place = c.args.place in
     let j = take place events in
-    racy_with j (here events place) c.race_with-race.result c.is_some.result c.is_some.ensures
+    judged_racy_with j (here events place) c.race_with-race.result c.is_some.result c.is_some.ensures
     (c.race_with-race.ensures j c.requires.judged (long_front events place c.requires.place))
 
 pub keep-requires-clause-judged : goal.keep-requires-clause-judged
@@ -98,6 +98,6 @@ returns-in-Some-lie-clause-judged c =
     let race = c.race_with-race.ensures j c.requires.judged (long_front events place lt) in
     let next = next_events events place lt in (
       subst (λ xs. IsLie x.model x.lax s xs c.in-Some-lie.lie) (sym next) told.0,
-      subst (λ xs. IsRaceOf (raced c.in-Some-lie.lie xs) c.race_with-race.result) (sym next)
+      subst (λ xs. IsRaceOf (checked_for_race c.in-Some-lie.lie xs) c.race_with-race.result) (sym next)
           (subst (λ xs. IsRaceOf xs c.race_with-race.result) (sym told.1) race),
     )

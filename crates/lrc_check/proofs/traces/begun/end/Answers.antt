@@ -5,20 +5,20 @@ use Rattle.lrc_check.specs.declared.traces.fault.TraceFault.{TraceFault}
 use Rattle.lrc_check.specs.declared.traces.fault.TraceFault.TheVariants.{Truncated, NoMemory}
 use Rattle.lrc_check.specs.declared.traces.trace.Trace.{Trace}
 use Rattle.lrc_check.specs.Traces.Begun.{IsTraceBegun, begun_text}
-use Rattle.lrc_check.specs.Traces.Lawful.{IsNoOther}
+use Rattle.lrc_check.specs.Traces.Lawful.{IsNoOtherTrace}
 use Rattle.lrc_check.specs.Traces.Sizes.{sizes_of}
 use Rattle.lrc_check.specs.Traces.Text.{trace_text}
-use Rattle.lrc_check.proofs.traces.Places.{fault_only, rest_fault}
-use Rattle.lrc_check.proofs.traces.Texts.{no_other}
+use Rattle.lrc_check.proofs.traces.Places.{trace_fault_only, trace_rest_fault}
+use Rattle.lrc_check.proofs.traces.Texts.{no_other_trace_text}
 use Rattle.lrc_check.proofs.traces.begun.end.Goals as goal
 
 -- the trace that the lines are is the only one with their text
 alone : (begun : Option Trace) (rest : List ℕ) (e : ℕ × TraceFault) → IsTraceBegun begun → length rest ≡ 0
-    → IfOk (ok_or begun e) (λ t. IsNoOther (begun_text begun ++ rest) (sizes_of t.sizes) t.events.items)
+    → IfOk (ok_or begun e) (λ t. IsNoOtherTrace (begun_text begun ++ rest) (sizes_of t.sizes) t.events.items)
 alone None rest e h none = tt
 alone (Some t) [] e h none =
     let whole = trace_text (sizes_of t.sizes) t.events.items in
-    no_other (sizes_of t.sizes) t.events.items (whole ++ []) h (append-nil whole)
+    no_other_trace_text (sizes_of t.sizes) t.events.items (whole ++ []) h (append-nil whole)
 alone (Some t) (b ∷ rest) e h none = absurd (omega arith)
 
 pub returns-then-is_empty-clause-again : goal.returns-then-is_empty-clause-again
@@ -30,4 +30,4 @@ pub returns-else-is_empty-clause-only : goal.returns-else-is_empty-clause-only
 returns-else-is_empty-clause-only c =
     let ne : Truncated ≢ NoMemory = λ h. absurd cc in
     let some : 0 < length c.args.rest.now = grind (arith, common_steps) in
-    fault_only Truncated _ _ (rest_fault c.args.begun c.args.rest.now c.requires.begun c.requires.rest some) ne
+    trace_fault_only Truncated _ _ (trace_rest_fault c.args.begun c.args.rest.now c.requires.begun c.requires.rest some) ne

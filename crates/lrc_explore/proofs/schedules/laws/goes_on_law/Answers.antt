@@ -1,5 +1,5 @@
-use Rattle.lrc_explore.proofs.schedules.Going.{goes_on}
+use Rattle.lrc_explore.proofs.schedules.Going.{going_longer_by_call}
 use Rattle.lrc_explore.proofs.schedules.laws.goes_on_law.Goals as goal
 
 pub returns : goal.returns
-returns c = goes_on
+returns c = going_longer_by_call

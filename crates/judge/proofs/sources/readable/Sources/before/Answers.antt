@@ -5,7 +5,7 @@ use Rattle.std.proofs.lemmas.Option.{none-some}
 use Rattle.base.proofs.SliceSets.{slice_get-replicate_found, slice_get-set_other}
 use Rattle.journal.specs.declared.event.Kind.TheVariants.{Store}
 use Rattle.journal.specs.DidEvent.{event}
-use Rattle.judge.proofs.sources.Choosing.{IsGiven, few_processors, marks_next, unfollowed_latest, latest_unfollowed}
+use Rattle.judge.proofs.sources.Choosing.{IsGivenForChoosing, choosing_source_few_processors, choosing_source_marks_next, choosing_source_unfollowed_latest, choosing_source_latest_unfollowed}
 use Rattle.judge.proofs.sources.readable.Sources.before.Goals as goal
 
 pub joined-joined-requires : goal.joined-joined-requires
@@ -36,7 +36,7 @@ loop-by-preserved c = record {
   marks =
       (let long = c.loop-by.invariant.long in
       let few = c.loop-by.invariant.few in
-      marks_next c.args.self.now.known.times.items c.last_stores-last.result c.loop-by.latest c.loop-by.by
+      choosing_source_marks_next c.args.self.now.known.times.items c.last_stores-last.result c.loop-by.latest c.loop-by.by
       c.unfollowed.result (omega arith) c.loop-by.invariant.marks
       (c.unfollowed.ensures c.args.self.now.known.times.items (c.joined-joined.ensures c.loop-by.by)));
 }
@@ -47,21 +47,21 @@ returns c = λ j tells v q i.
     let last = c.last_stores-last.result in
     let long = c.loop-by.invariant.long in
     let over = c.loop-by-test.false in
-    let given : IsGiven j times c.args.processor c.args.address last = record {
-      range = few_processors j c.args.self.now tells;
+    let given : IsGivenForChoosing j times c.args.processor c.args.address last = record {
+      range = choosing_source_few_processors j c.args.self.now tells;
       long = omega arith;
       are = c.last_stores-last.ensures j tells;
     } in (
       λ at. elim (cases_lt q c.args.self.now.processors) [
         | inl lt ↦
-            unfollowed_latest j times c.args.processor c.args.address v q i last given
+            choosing_source_unfollowed_latest j times c.args.processor c.args.address v q i last given
             ((c.loop-by.invariant.marks q i (omega arith)).0 at)
         | inr le ↦
             (let end = c.loop-by.auto.by-end in
             absurd (none-some i (sym (c.loop-by.invariant.rest q (Some i) (omega arith) at))))
       ],
       λ x.
-          let u = latest_unfollowed j times c.args.processor c.args.address v q i last given x in
+          let u = choosing_source_latest_unfollowed j times c.args.processor c.args.address v q i last given x in
           let mine = (c.last_stores-last.ensures j tells q (Some u.store) u.at).stored in
           let lt = tells.processors u.store.place (event q (Store c.args.address mine.value)) mine.does in
           (c.loop-by.invariant.marks q i (omega arith)).1 u,

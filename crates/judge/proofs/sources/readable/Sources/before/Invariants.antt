@@ -1,6 +1,6 @@
 use Rattle.std.proofs.Common.{◌≡◌, ◌↔◌, ℕ, ◌<◌, ◌≤◌, Option, Some, length, slice_get}
 use Rattle.std.specs.Prelude.{None}
-use Rattle.judge.specs.Sources.Last.{IsUnfollowed}
+use Rattle.judge.specs.Sources.Last.{IsLastUnfollowed}
 use Rattle.judge.proofs.sources.readable.Sources.before.Given as goal
 
 abbrev pub invariant-loop-by : goal.invariant-loop-by
@@ -9,5 +9,5 @@ invariant-loop-by l = record {
   few : l.self.processors ≤ 16;
   rest : (q : ℕ) (o : Option ℕ) → l.by ≤ q → slice_get l.latest q ≡ Some o → o ≡ None;
   marks : (q i : ℕ) → q < l.by
-      → (slice_get l.latest q ≡ Some (Some i)) ↔ IsUnfollowed l.self.known.times.items l.last q i;
+      → (slice_get l.latest q ≡ Some (Some i)) ↔ IsLastUnfollowed l.self.known.times.items l.last q i;
 }

@@ -3,8 +3,8 @@ use Rattle.std.proofs.lemmas.Bool.{cases_eq, cases_lt, false≢true}
 use Rattle.journal.specs.declared.event.Event.{Event}
 use Rattle.journal.specs.declared.event.Kind.TheVariants.{Load, Store}
 use Rattle.journal.specs.DidEvent.{did, event}
-use Rattle.judge.specs.Models.{UnorderedStore}
-use Rattle.judge.proofs.sources.Unordering.{some_unordered, store_before_load, unordered_apart, unordered_some}
+use Rattle.judge.specs.Models.{ModelUnorderedStore}
+use Rattle.judge.proofs.sources.Unordering.{some_unordered, unordered_store_before_load, unordered_apart, unordered_some}
 use Rattle.judge.proofs.sources.readable.Sources.has_unordered.Goals as goal
 use Rattle.judge.proofs.sources.readable.Sources.has_unordered.Goals.{then-by-processor+else-some_stores, else-by-processor}
 
@@ -48,7 +48,7 @@ pub returns : goal.returns
 returns c = (
   λ wrong. absurd (false≢true wrong),
   λ x. (let j = c.args.events.now in
-      let old = store_before_load j c.args.processor c.args.address c.args.value x.place x.by c.args.address c.args.value
+      let old = unordered_store_before_load j c.args.processor c.args.address c.args.value x.place x.by c.args.address c.args.value
       x.stores in
       let lt = c.requires.tells.processors x.place (event x.by (Store c.args.address c.args.value)) old in
       let over = c.loop-by-test.false in

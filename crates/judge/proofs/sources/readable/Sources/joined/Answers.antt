@@ -5,7 +5,7 @@ use Rattle.std.proofs.lemmas.Option.{none-some, same_Some, slice_get_within}
 use Rattle.base.proofs.SliceSets.{index-zeros}
 use Rattle.journal.specs.ClockEntry.{entry}
 use Rattle.judge.specs.declared.sources.stored.Stored.{Stored}
-use Rattle.judge.proofs.sources.Reading.{entry_read, option_at}
+use Rattle.judge.proofs.sources.Reading.{entry_read, reading_option_at}
 use Rattle.judge.proofs.sources.readable.Sources.joined.Goals as goal
 use Rattle.judge.proofs.sources.readable.Sources.joined.Goals.{in-Some, in_default}
 
@@ -13,7 +13,7 @@ pub index-requires : goal.index-requires
 index-requires c =
     let within : c.loop-store.store-index < length c.args.last.now = omega arith in
     c.requires c.loop-store.store-index c.in-Some.store
-    (option_at c.args.last.now c.loop-store.store-index (Some c.in-Some.store) within c.in-Some.is)
+    (reading_option_at c.args.last.now c.loop-store.store-index (Some c.in-Some.store) within c.in-Some.is)
 
 pub loop-store-init : goal.loop-store-init
 loop-store-init c = record {
@@ -30,7 +30,7 @@ loop-store-preserved c =
     let within : n < length last = omega arith in
     elim c.match-store.branch [
       | in-Some w ↦
-          (let there = option_at last n (Some w.in-Some.store) within w.in-Some.is in
+          (let there = reading_option_at last n (Some w.in-Some.store) within w.in-Some.is in
           let inside = c.requires n w.in-Some.store there in
           let read = λ (q : ℕ). entry_read times.items w.in-Some.store.time q w.index.result.now
           (omega (arith, times.ok.0)) w.index.ensures in
@@ -56,7 +56,7 @@ loop-store-preserved c =
                 ]);
           })
       | in_default w ↦
-          (let there = option_at last n None within w.in_default.is in
+          (let there = reading_option_at last n None within w.in_default.is in
           record {
             counts = λ q s lt. old.counts q s (subst (λ (x : List ℕ). s.interval < slice_index x q) w.joined-is lt);
             all = λ r q s lt at. subst (λ (x : List ℕ). entry times.items s.time q ≤ slice_index x q) (sym w.joined-is)

@@ -4,19 +4,19 @@ use Rattle.journal.specs.declared.event.Kind.{Kind}
 use Rattle.journal.specs.declared.event.Kind.TheVariants.{Load, Store, Fetch}
 use Rattle.journal.specs.Events.{is_closing, is_taking}
 use Rattle.judge.specs.declared.sources.readable.Sources.{Sources}
-use Rattle.judge.specs.Sources.Tells.{StoresAreKept}
-use Rattle.judge.proofs.sources.Keeping.{AreRowsOf, rows_other, known_forgot, known_quiet}
+use Rattle.judge.specs.Sources.Tells.{SourceStoresAreKept}
+use Rattle.judge.proofs.sources.Keeping.{AreRowsForKeeping, keeping_stored_rows_others, keeping_stored_known_forgot, keeping_stored_known_quiet}
 use Rattle.judge.proofs.sources.readable.Sources.keep.Goals as goal
 
 -- an event that is no store, and neither takes nor closes, changes nothing
 still : (j : List Event) (e : Event) (s : Sources) (k : Kind) → e.kind ≡ k → is_taking k ≡ false
-    → is_closing k ≡ false → ((a v : ℕ) → k ≢ Store a v) → StoresAreKept j s → StoresAreKept (j ++ e ∷ []) s
+    → is_closing k ≡ false → ((a v : ℕ) → k ≢ Store a v) → SourceStoresAreKept j s → SourceStoresAreKept (j ++ e ∷ []) s
 still j e s k is quiet inner away kept = record {
-  known = known_quiet j e s.known (ap is_taking is ∙ quiet) (ap is_closing is ∙ inner) kept.known;
+  known = keeping_stored_known_quiet j e s.known (ap is_taking is ∙ quiet) (ap is_closing is ∙ inner) kept.known;
   few = (let one = length-append j (e ∷ []) in let few = kept.few in omega arith);
   long = kept.long;
   stores =
-      rows_other j e s.known.times.items s.stores.items (λ a v same. away a v (sym is ∙ same)) kept.stores;
+      keeping_stored_rows_others j e s.known.times.items s.stores.items (λ a v same. away a v (sym is ∙ same)) kept.stores;
 }
 
 load_apart : (a v b w : ℕ) → Load a v ≡ Store b w → ⊥
@@ -47,12 +47,12 @@ returns-in_default c = record {
       let times = c.forget.ensures.times in
       let same = ap (λ v. vec_len v) times in
       record {
-        known = known_forgot j e s.known c.forget.new.self times c.forget.ensures.changed c.forget.ensures.same
+        known = keeping_stored_known_forgot j e s.known c.forget.new.self times c.forget.ensures.changed c.forget.ensures.same
             tells.kept.known;
         few = omega arith;
         long = tells.kept.long;
         stores =
-            subst (λ v. AreRowsOf (j ++ e ∷ []) v.items s.stores.items) (sym times)
-            (rows_other j e s.known.times.items s.stores.items c.in_default.not-Store tells.kept.stores);
+            subst (λ v. AreRowsForKeeping (j ++ e ∷ []) v.items s.stores.items) (sym times)
+            (keeping_stored_rows_others j e s.known.times.items s.stores.items c.in_default.not-Store tells.kept.stores);
       });
 }

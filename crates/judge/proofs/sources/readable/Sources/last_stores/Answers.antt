@@ -10,14 +10,14 @@ use Rattle.journal.specs.DidEvent.{event}
 use Rattle.journal.specs.ClockEntry.{entry}
 use Rattle.judge.specs.declared.sources.stored.Stored.{Stored}
 use Rattle.judge.specs.declared.sources.readable.Sources.{Sources}
-use Rattle.judge.specs.Sources.Last.{HasNone, IsLastOf}
+use Rattle.judge.specs.Sources.Last.{HasNoLastStore, IsLastOf}
 use Rattle.judge.specs.Sources.Stored.{AreStored}
-use Rattle.judge.specs.Sources.Tells.{AreStoresOf}
-use Rattle.judge.proofs.sources.Lasts.{intervals_rise, last_of, last_next}
+use Rattle.judge.specs.Sources.Tells.{AreSourceStoresOf}
+use Rattle.judge.proofs.sources.Lasts.{last_intervals_rise, last_of, last_next}
 use Rattle.judge.proofs.sources.readable.Sources.last_stores.Goals as goal
 
 -- the row that is read has the stores of a processor to the address
-row_stored : (j : List Event) (s : Sources) (a q : ℕ) (row : Vec Stored) (xs : List Stored) → AreStoresOf j s
+row_stored : (j : List Event) (s : Sources) (a q : ℕ) (row : Vec Stored) (xs : List Stored) → AreSourceStoresOf j s
     → a < s.addresses → q < 16 → row ≡ slice_index_or s.stores.items (a * 16 + q) row → xs ≡ row.items
     → AreStored j s.known.times.items a q xs
 row_stored j s a q row xs tells lt few is same =
@@ -28,7 +28,7 @@ row_stored j s a q row xs tells lt few is same =
     (slice_get_read s.stores.items (length s.stores.items) (a * 16 + q) row refl within is))
 
 -- a processor that is none of the history's has no store
-none_of : (j : List Event) (s : Sources) (p a q : ℕ) → AreStoresOf j s → s.processors ≤ q → HasNone j p a q
+none_of : (j : List Event) (s : Sources) (p a q : ℕ) → AreSourceStoresOf j s → s.processors ≤ q → HasNoLastStore j p a q
 none_of j s p a q tells le i v does past =
     let lt = tells.processors i (event q (Store a v)) does in
     absurd (omega arith)
@@ -54,7 +54,7 @@ last_below-requires c =
     let are =
     row_stored j s c.args.address c.loop-by.by c.index-stores.result.now c.deref.result.now c.requires.tells.1
     c.requires.address within c.index-stores.ensures c.deref.ensures.value in
-    intervals_rise j s.known.times.items c.args.address c.loop-by.by c.deref.result.now are
+    last_intervals_rise j s.known.times.items c.args.address c.loop-by.by c.deref.result.now are
 
 pub loop-by-preserved : goal.loop-by-preserved
 loop-by-preserved c = record {

@@ -3,14 +3,14 @@ use Rattle.std.specs.Prelude.{None}
 use Rattle.journal.specs.declared.event.Event.{Event}
 use Rattle.judge.specs.declared.sources.stored.Stored.{Stored}
 use Rattle.judge.specs.Sources.Last.{IsLastOf}
-use Rattle.judge.specs.Sources.Tells.{AreStoresOf}
+use Rattle.judge.specs.Sources.Tells.{AreSourceStoresOf}
 use Rattle.judge.proofs.sources.readable.Sources.last_stores.Given as goal
 
 abbrev pub invariant-loop-by : goal.invariant-loop-by
 invariant-loop-by l = record {
   long : length l.last ≡ 16;
   few : l.self.processors ≤ 16;
-  last : (j : List Event) → AreStoresOf j l.self → (q : ℕ) (o : Option Stored) → q < l.by → slice_get l.last q ≡ Some o
+  last : (j : List Event) → AreSourceStoresOf j l.self → (q : ℕ) (o : Option Stored) → q < l.by → slice_get l.last q ≡ Some o
       → IsLastOf j l.self.known.times.items l.processor l.address q o;
   rest : (q : ℕ) (o : Option Stored) → l.by ≤ q → slice_get l.last q ≡ Some o → o ≡ None;
 }

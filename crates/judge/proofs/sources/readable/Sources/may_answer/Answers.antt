@@ -7,11 +7,11 @@ use Rattle.journal.specs.DidEvent.{did, event}
 use Rattle.journal.specs.Events.{At}
 use Rattle.judge.specs.declared.sources.readable.Sources.{Sources}
 use Rattle.judge.specs.declared.sources.stored.Stored.{Stored}
-use Rattle.judge.specs.Sources.Last.{AreLast, IsUnfollowed}
+use Rattle.judge.specs.Sources.Last.{AreLast, IsLastUnfollowed}
 use Rattle.judge.specs.Sources.Latest.{IsLatest}
-use Rattle.judge.specs.Sources.Tells.{AreStoresOf}
-use Rattle.judge.proofs.sources.Choosing.{IsGiven, few_processors, unfollowed_latest, latest_unfollowed}
-use Rattle.judge.proofs.sources.Answering.{marked_within, marked_answer, other_answer, free_answer}
+use Rattle.judge.specs.Sources.Tells.{AreSourceStoresOf}
+use Rattle.judge.proofs.sources.Choosing.{IsGivenForChoosing, choosing_source_few_processors, choosing_source_unfollowed_latest, choosing_source_latest_unfollowed}
+use Rattle.judge.proofs.sources.Answering.{answering_marked_within, marked_answer, other_answer, free_answer}
 use Rattle.judge.proofs.sources.readable.Sources.may_answer.Goals as goal
 use Rattle.judge.proofs.sources.readable.Sources.may_answer.Goals.{in-Some+else-is_store_of, in_default}
 
@@ -20,19 +20,19 @@ abbrev here : List Event → ℕ → Event
 here events place = slice_index_or events place (event 0 (Load 0 0))
 
 -- the stores that none follows are the latest ones
-latest : (j : List Event) (s : Sources) (p a v : ℕ) (last : List (Option Stored)) → AreStoresOf j s → length last ≡ 16
+latest : (j : List Event) (s : Sources) (p a v : ℕ) (last : List (Option Stored)) → AreSourceStoresOf j s → length last ≡ 16
     → AreLast j s.known.times.items p a last → (q i : ℕ)
-    → IsUnfollowed s.known.times.items last q i ↔ IsLatest (did j p (Load a v)) (length j) a q i
+    → IsLastUnfollowed s.known.times.items last q i ↔ IsLatest (did j p (Load a v)) (length j) a q i
 latest j s p a v last tells long are q i =
-    let given : IsGiven j s.known.times.items p a last =
-    record { range = few_processors j s tells; long = long; are = are } in (
-      unfollowed_latest j s.known.times.items p a v q i last given,
-      latest_unfollowed j s.known.times.items p a v q i last given,
+    let given : IsGivenForChoosing j s.known.times.items p a last =
+    record { range = choosing_source_few_processors j s tells; long = long; are = are } in (
+      choosing_source_unfollowed_latest j s.known.times.items p a v q i last given,
+      choosing_source_latest_unfollowed j s.known.times.items p a v q i last given,
     )
 
 -- they are of processors that there are
-within : (j : List Event) (s : Sources) (p a : ℕ) (last : List (Option Stored)) → AreStoresOf j s
-    → AreLast j s.known.times.items p a last → (q i : ℕ) → IsUnfollowed s.known.times.items last q i
+within : (j : List Event) (s : Sources) (p a : ℕ) (last : List (Option Stored)) → AreSourceStoresOf j s
+    → AreLast j s.known.times.items p a last → (q i : ℕ) → IsLastUnfollowed s.known.times.items last q i
     → q < s.processors
 within j s p a last tells are q i u =
     let mine = (are q (Some u.store) u.at).stored in
@@ -64,7 +64,7 @@ bounds-events-place c =
     let tells = latest events c.args.self.now c.args.processor c.args.address c.args.value last c.requires.tells
     (omega arith) (c.last_stores-last.ensures events c.requires.tells) in
     let found = c.unfollowed.ensures times (c.joined-joined.ensures c.loop-by.by) in
-    marked_within events c.args.processor c.args.address c.args.value (IsUnfollowed times last) tells c.loop-by.by c.in-Some.place
+    answering_marked_within events c.args.processor c.args.address c.args.value (IsLastUnfollowed times last) tells c.loop-by.by c.in-Some.place
     ((found c.in-Some.place).0 c.in-Some.is)
 
 pub offset_bounds-events-place : goal.offset_bounds-events-place
@@ -76,7 +76,7 @@ offset_bounds-events-place c =
     (omega arith) (c.last_stores-last.ensures events c.requires.tells) in
     let found = c.unfollowed.ensures times (c.joined-joined.ensures c.loop-by.by) in
     let inside =
-    marked_within events c.args.processor c.args.address c.args.value (IsUnfollowed times last) tells c.loop-by.by c.in-Some.place
+    answering_marked_within events c.args.processor c.args.address c.args.value (IsLastUnfollowed times last) tells c.loop-by.by c.in-Some.place
     ((found c.in-Some.place).0 c.in-Some.is) in
     omega arith
 
@@ -91,10 +91,10 @@ returns-then-is_store_of c =
     let q = c.loop-by.by in
     let place = c.in-Some.place in
     let mark = (found place).0 c.in-Some.is in
-    let inside = marked_within events c.args.processor c.args.address c.args.value (IsUnfollowed times last) tells q place mark in
+    let inside = answering_marked_within events c.args.processor c.args.address c.args.value (IsLastUnfollowed times last) tells q place mark in
     let there = slice_get-get_or events place (event 0 (Load 0 0)) inside in
     let stores = c.if-is_store_of.ensures.0 refl in (
-      λ _. marked_answer events c.args.processor c.args.address c.args.value (IsUnfollowed times last) tells q place stores.0
+      λ _. marked_answer events c.args.processor c.args.address c.args.value (IsLastUnfollowed times last) tells q place stores.0
           (here events place) mark there stores.1,
       λ _. refl,
     )
@@ -116,7 +116,7 @@ loop-by-preserved c =
             some = λ taken. (n, w.in-Some.place, mark);
             others = λ q i e lt to there a is. elim (cases_eq q n) [
               | inl same ↦
-                  (let result = (found i).1 (subst (λ x. IsUnfollowed times last x i) same to) in
+                  (let result = (found i).1 (subst (λ x. IsLastUnfollowed times last x i) same to) in
                   let one : w.in-Some.place ≡ i =
                   same_Some w.in-Some.place i (sym w.in-Some.is ∙ result) in
                   let read = get_or_from_slice_get events w.in-Some.place e (event 0 (Load 0 0))
@@ -127,8 +127,8 @@ loop-by-preserved c =
             ];
           })
       | in_default w ↦
-          (let no_mark = λ (q i : ℕ) (same : q ≡ n) (to : IsUnfollowed times last q i).
-          none-some i (sym w.in_default.is ∙ (found i).1 (subst (λ x. IsUnfollowed times last x i) same to)) in
+          (let no_mark = λ (q i : ℕ) (same : q ≡ n) (to : IsLastUnfollowed times last q i).
+          none-some i (sym w.in_default.is ∙ (found i).1 (subst (λ x. IsLastUnfollowed times last x i) same to)) in
           record {
             few = old.few;
             none = λ free q i lt to. elim (cases_eq q n) [
@@ -151,10 +151,10 @@ returns-then-is_free c =
     let tells = latest events c.args.self.now c.args.processor c.args.address c.args.value last c.requires.tells
     (omega arith) (c.last_stores-last.ensures events c.requires.tells) in
     let over = c.loop-by-test.false in
-    let none = λ (q i : ℕ) (u : IsUnfollowed times last q i).
+    let none = λ (q i : ℕ) (u : IsLastUnfollowed times last q i).
     c.loop-by.invariant.none c.if-is_free.true q i (let lt = within events c.args.self.now c.args.processor c.args.address last c.requires.tells
     (c.last_stores-last.ensures events c.requires.tells) q i u in omega arith) u in
-    let free = free_answer events c.args.processor c.args.address c.args.value (IsUnfollowed times last) tells none in
+    let free = free_answer events c.args.processor c.args.address c.args.value (IsLastUnfollowed times last) tells none in
     ((λ is. free.1 (eqb-true c.args.value 0 is)), (λ answer. eq-eqb c.args.value 0 (free.0 answer)))
 
 pub returns-else-is_free : goal.returns-else-is_free
@@ -166,10 +166,10 @@ returns-else-is_free c =
     (omega arith) (c.last_stores-last.ensures events c.requires.tells) in
     let over = c.loop-by-test.false in
     let some = c.loop-by.invariant.some c.if-is_free.false in
-    let others = λ (r k : ℕ) (e : Event) (u : IsUnfollowed times last r k) (there : At events k e).
+    let others = λ (r k : ℕ) (e : Event) (u : IsLastUnfollowed times last r k) (there : At events k e).
     c.loop-by.invariant.others r k e (let lt = within events c.args.self.now c.args.processor c.args.address last c.requires.tells
     (c.last_stores-last.ensures events c.requires.tells) r k u in omega arith) u there in (
       λ wrong. absurd (false≢true (sym c.if-is_free.false ∙ wrong)),
-      λ answer. absurd (other_answer events c.args.processor c.args.address c.args.value (IsUnfollowed times last) tells some.0
+      λ answer. absurd (other_answer events c.args.processor c.args.address c.args.value (IsLastUnfollowed times last) tells some.0
           some.1 some.2 others answer),
     )

@@ -2,7 +2,7 @@ use Rattle.std.proofs.Common.{◌≡◌, ℕ, ◌*◌, Option, Some, sym, ap, �
 use Rattle.std.specs.Prelude.{None, SomeIff}
 use Rattle.std.specs.Result.{result_ok}
 use Rattle.std.proofs.lemmas.Option.{none-some, same_Some}
-use Rattle.judge.proofs.sources.Keeping.{rows_first}
+use Rattle.judge.proofs.sources.Keeping.{keeping_stored_rows_first}
 use Rattle.judge.proofs.sources.readable.Sources.new.Goals as goal
 
 -- a result that is there is the value
@@ -22,6 +22,6 @@ returns-clause-tells c =
         known = c.new-2.ensures.known;
         few = (let none = c.new-2.ensures.none in omega arith);
         long = c.in_ok-no_stores.ensures.long ∙ rows;
-        stores = rows_first c.new-2.result.times.items c.in_ok-no_stores.field-0.items c.in_ok-no_stores.ensures.empty;
+        stores = keeping_stored_rows_first c.new-2.result.times.items c.in_ok-no_stores.field-0.items c.in_ok-no_stores.ensures.empty;
       };
     }

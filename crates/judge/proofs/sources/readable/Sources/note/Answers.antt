@@ -11,7 +11,7 @@ use Rattle.journal.specs.InRange.{ProcessorsInRange}
 use Rattle.journal.specs.Clocks.{AreClocks}
 use Rattle.journal.proofs.Passes.NextClocks.{front_next}
 use Rattle.judge.specs.declared.sources.readable.Sources.{Sources}
-use Rattle.judge.specs.Sources.Tells.{StoresAreKept, AreStoresOf}
+use Rattle.judge.specs.Sources.Tells.{SourceStoresAreKept, AreSourceStoresOf}
 use Rattle.judge.proofs.sources.readable.Sources.note.Goals as goal
 
 -- what two facts of success give, success gives
@@ -20,8 +20,8 @@ both (Ok x) f p q = f p q
 both (Err e) f p q = tt
 
 -- with the timestamps, what is kept tells the history
-told : (j : List Event) (s : Sources) (clocks : Clocks) → ProcessorsInRange s.processors j → StoresAreKept j s
-    → AreClocks j clocks → clocks.present ≡ s.processors → AreStoresOf j (record s { clocks = clocks })
+told : (j : List Event) (s : Sources) (clocks : Clocks) → ProcessorsInRange s.processors j → SourceStoresAreKept j s
+    → AreClocks j clocks → clocks.present ≡ s.processors → AreSourceStoresOf j (record s { clocks = clocks })
 told j s clocks range kept are present = record {
   clocks = are;
   present = present;
@@ -37,8 +37,8 @@ returns-clause-tells c =
     let s = c.keep.new.self in
     let next = front_next events place e (slice_get-get_or events place (event 0 (Load 0 0)) c.requires.place) in
     let long = length-take-le place events (omega arith) in
-    let kept : StoresAreKept (take (place + 1) events) s =
-    subst (λ xs. StoresAreKept xs s) (sym next) (c.in_ok-keep.ensures.kept (take place events) c.requires.so_far long) in
+    let kept : SourceStoresAreKept (take (place + 1) events) s =
+    subst (λ xs. SourceStoresAreKept xs s) (sym next) (c.in_ok-keep.ensures.kept (take place events) c.requires.so_far long) in
     let same = c.keep.ensures.processors in
     let range : ProcessorsInRange s.processors (take (place + 1) events) =
     λ i f at. subst (λ n. f.processor < n) (sym same)

@@ -8,8 +8,8 @@ use Rattle.journal.specs.ClockEntry.{entry}
 use Rattle.journal.proofs.Times.Times.{time_equal}
 use Rattle.journal.proofs.Times.PushesCovered.{own_time_entry}
 use Rattle.judge.specs.declared.sources.stored.Stored.{Stored}
-use Rattle.judge.specs.Sources.Tells.{row_of}
-use Rattle.judge.proofs.sources.Keeping.{AreMore, rows_next, known_quiet}
+use Rattle.judge.specs.Sources.Tells.{source_row_of}
+use Rattle.judge.proofs.sources.Keeping.{AreMoreTimesForKeeping, keeping_stored_rows_next, keeping_stored_known_quiet}
 use Rattle.judge.proofs.sources.readable.Sources.note_store.Goals as goal
 
 pub returns-clause-kept : goal.returns-clause-kept
@@ -25,13 +25,13 @@ returns-clause-kept c = λ j tells long v.
     let placed = c.in_ok-time.ensures.placed j tells.kept.known time in
     let old = s.known.times in
     let new = c.place_of.new.self.times in
-    let more : AreMore old.items new.items = record {
+    let more : AreMoreTimesForKeeping old.items new.items = record {
       more = omega (arith, c.place_of.ensures.more, old.ok.0, new.ok.0);
       same = λ n q lt. c.place_of.ensures.same n q (omega (arith, old.ok.0));
     } in
     let wide = tells.kept.long in
-    let inside : row_of c.args.address p < length s.stores.items = omega (arith, s.stores.ok.0) in
-    let there = slice_get_read s.stores.items (length s.stores.items) (row_of c.args.address p)
+    let inside : source_row_of c.args.address p < length s.stores.items = omega (arith, s.stores.ok.0) in
+    let there = slice_get_read s.stores.items (length s.stores.items) (source_row_of c.args.address p)
     c.index_mut.result.now refl inside c.index_mut.ensures.value in
     let store : Stored = record {
       place = c.args.place;
@@ -40,11 +40,11 @@ returns-clause-kept c = λ j tells long v.
     } in
     let one = length-append j (event p (Store c.args.address v) ∷ []) in
     record {
-      known = known_quiet j (event p (Store c.args.address v)) c.place_of.new.self refl refl placed.0;
+      known = keeping_stored_known_quiet j (event p (Store c.args.address v)) c.place_of.new.self refl refl placed.0;
       few = (let a = c.place_of.ensures.few in let b = tells.kept.few in omega arith);
       long = tells.kept.long;
       stores =
-          rows_next j old.items new.items s.stores.items c.args.address p v c.index_mut.result.now c.push.new.self
+          keeping_stored_rows_next j old.items new.items s.stores.items c.args.address p v c.index_mut.result.now c.push.new.self
           store more sixteen there c.in_ok-push.ensures.items (sym long) (own_time_entry j p
           (slice_index c.of-time.result.now) time) (omega (arith, placed.1, new.ok.0)) placed.2
           tells.kept.stores;

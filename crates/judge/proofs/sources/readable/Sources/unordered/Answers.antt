@@ -9,9 +9,9 @@ use Rattle.journal.specs.DidEvent.{did, event}
 use Rattle.journal.specs.WellFormed.{Does}
 use Rattle.journal.proofs.Order.CountedAndNumbered.{numbered_at_longer, numbered_at_within}
 use Rattle.judge.specs.declared.sources.stored.Stored.{Stored}
-use Rattle.judge.specs.Models.{UnorderedStore}
-use Rattle.judge.specs.Sources.Unordered.{AreUnorderedFrom, IsPlaceWithin, IsUnorderedAt}
-use Rattle.judge.proofs.sources.Unordering.{store_before_load, unordered_apart}
+use Rattle.judge.specs.Models.{ModelUnorderedStore}
+use Rattle.judge.specs.Sources.Unordered.{AreUnorderedFrom, IsUnorderedWithin, IsUnorderedAt}
+use Rattle.judge.proofs.sources.Unordering.{unordered_store_before_load, unordered_apart}
 use Rattle.judge.proofs.sources.readable.Sources.unordered.Goals as goal
 use Rattle.judge.proofs.sources.readable.Sources.unordered.Goals.{then-by-processor+in_ok-add_places, else-by-processor}
 
@@ -22,10 +22,10 @@ IsFound j p a w n i = (x : IsUnorderedAt (did j p (Load a w)) (length j) a i) ×
 -- these places are of one more processor
 found_next : (j : List Event) (p a w q from i : ℕ) (stores : List Stored) → AreUnorderedFrom j p a q stores from
     → (old : Type 0) → (old ↔ IsFound j p a w q i)
-    → (old ⊎ IsPlaceWithin stores from (length stores) i) ↔ IsFound j p a w (q + 1) i
+    → (old ⊎ IsUnorderedWithin stores from (length stores) i) ↔ IsFound j p a w (q + 1) i
 found_next j p a w q from i stores are old before = (there, back)
   where
-    there : old ⊎ IsPlaceWithin stores from (length stores) i → IsFound j p a w (q + 1) i
+    there : old ⊎ IsUnorderedWithin stores from (length stores) i → IsFound j p a w (q + 1) i
     there (inl o) = let x = before.0 o in (x.0, (let lt = x.1 in omega arith))
     there (inr x) =
         let found = are.sound x.index x.store x.from_on x.at in (
@@ -43,11 +43,11 @@ found_next j p a w q from i stores are old before = (there, back)
           omega arith,
         )
 
-    back : IsFound j p a w (q + 1) i → old ⊎ IsPlaceWithin stores from (length stores) i
+    back : IsFound j p a w (q + 1) i → old ⊎ IsUnorderedWithin stores from (length stores) i
     back x = elim (cases_eq x.0.store.by q) [
       | inl is ↦
           (let u = x.0.store in
-          let does = subst (λ r. Does j u.place r (Store a x.0.value)) is (store_before_load j p a w u.place u.by a x.0.value u.stores) in
+          let does = subst (λ r. Does j u.place r (Store a x.0.value)) is (unordered_store_before_load j p a w u.place u.by a x.0.value u.stores) in
           let found = are.complete u.place x.0.value w does u.unordered in
           inr (record {
             index = found.0;
@@ -111,7 +111,7 @@ returns c = λ j tells w i.
       λ x. has.1 (
         x,
         (let u = x.store in
-            let old = store_before_load j c.args.processor c.args.address w u.place u.by c.args.address x.value u.stores in
+            let old = unordered_store_before_load j c.args.processor c.args.address w u.place u.by c.args.address x.value u.stores in
             let lt = tells.processors u.place (event u.by (Store c.args.address x.value)) old in
             omega arith),
       ),

@@ -9,13 +9,13 @@ use Rattle.journal.proofs.Times.Times.{time_equal}
 use Rattle.judge.specs.declared.sources.stored.Stored.{Stored}
 use Rattle.judge.specs.declared.sources.readable.Sources.{Sources}
 use Rattle.judge.specs.Sources.Stored.{AreStored}
-use Rattle.judge.specs.Sources.Tells.{AreStoresOf}
-use Rattle.judge.proofs.sources.Lasts.{intervals_rise}
+use Rattle.judge.specs.Sources.Tells.{AreSourceStoresOf}
+use Rattle.judge.proofs.sources.Lasts.{last_intervals_rise}
 use Rattle.judge.proofs.sources.Unordering.{unordered_from}
 use Rattle.judge.proofs.sources.readable.Sources.unordered_by.Goals as goal
 
 -- the row that is read has the stores of a processor to the address
-row_stored : (j : List Event) (s : Sources) (a q : ℕ) (row : Vec Stored) (xs : List Stored) → AreStoresOf j s
+row_stored : (j : List Event) (s : Sources) (a q : ℕ) (row : Vec Stored) (xs : List Stored) → AreSourceStoresOf j s
     → a < s.addresses → q < 16 → row ≡ slice_index_or s.stores.items (a * 16 + q) row → xs ≡ row.items
     → AreStored j s.known.times.items a q xs
 row_stored j s a q row xs tells lt few is same =
@@ -25,7 +25,7 @@ row_stored j s a q row xs tells lt few is same =
     (tells.kept.stores a q row few
     (slice_get_read s.stores.items (length s.stores.items) (a * 16 + q) row refl within is))
 
-sixteen_of : (j : List Event) (x : Sources) (p : ℕ) → AreStoresOf j x → p < x.processors → p < 16
+sixteen_of : (j : List Event) (x : Sources) (p : ℕ) → AreSourceStoresOf j x → p < x.processors → p < 16
 sixteen_of j x p tells lt = let few = tells.clocks.few in let present = tells.present in omega arith
 
 pub first_from-requires : goal.first_from-requires
@@ -35,7 +35,7 @@ first_from-requires c =
     let tells = c.requires.tells.1 in
     let are = row_stored j s c.args.address c.args.by c.index.result.now c.as_slice-stores.result.now tells
     c.requires.address (sixteen_of j s c.args.by tells c.requires.by) c.index.ensures c.as_slice-stores.ensures.value in
-    intervals_rise j s.known.times.items c.args.address c.args.by c.as_slice-stores.result.now are
+    last_intervals_rise j s.known.times.items c.args.address c.args.by c.as_slice-stores.result.now are
 
 pub returns : goal.returns
 returns c = λ j tells apart.

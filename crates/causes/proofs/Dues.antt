@@ -1,0 +1,451 @@
+-- What copies lack, by intervals. What a fetch brings lies between the timestamps of the last fetch and now (`in_fetch`). What
+-- an event that takes adds lies between its timestamps before and after (`in_taken`): such an interval was in no gap before,
+-- for the processor's past didn't have it. Any other event adds nothing (`quiet_dues`).
+use Rattle.std.proofs.Common.{◌≡◌, ◌≢◌, ℕ, ◌+◌, ◌*◌, ◌/◌, ◌<◌, ◌≤◌, ◌↔◌, inl, inr, false, true, List, [], ◌∷◌, ◌++◌, Option, Some, MatchOption, length, slice_index, take, subst, sym, refl, ap, ◌∙◌, true≢false, le_of_lt, arith}
+use Rattle.std.specs.Prelude.{None, Result, Ok, Err, IfOk}
+use Rattle.std.specs.Global.{Vec}
+use Rattle.std.proofs.lemmas.Bool.{cases_eq, cases_lt}
+use Rattle.std.proofs.lemmas.Nat.{div_below}
+use Rattle.std.proofs.lemmas.Option.{none-some, slice_get_within}
+use Rattle.base.specs.InOrderOnce.{Has, InOrder}
+use Rattle.base.proofs.SlicesAndCounts.{slice_push_cases, slice_get-append_left, slice_get-from_take, slice_get-last}
+use Rattle.journal.specs.declared.event.Event.{Event}
+use Rattle.journal.specs.declared.event.Kind.{Kind}
+use Rattle.journal.specs.declared.event.Kind.TheVariants.{Fetch, Store}
+use Rattle.journal.specs.Blocks.{IsBlock}
+use Rattle.journal.specs.PageImages.{HasImageCount, StoredInGapOfImage}
+use Rattle.journal.specs.DidEvent.{event}
+use Rattle.journal.specs.Events.{At, interval_at, is_closing, is_taking}
+use Rattle.journal.specs.InRange.{ProcessorsInRange}
+use Rattle.journal.specs.Sizes.{Sizes}
+use Rattle.journal.specs.Times.{IsTimeOf}
+use Rattle.journal.specs.WellFormed.{Does}
+use Rattle.journal.proofs.CopyOfPage.CompleteBlocks.{gap_block}
+use Rattle.journal.proofs.CopyOfPage.Stores.{store_same}
+use Rattle.journal.proofs.Missing.Counted.{count_of_same}
+use Rattle.journal.proofs.Missing.GapsTaken.{gap_taken, gap_stored_longer}
+use Rattle.journal.proofs.Order.CountedAndNumbered.{numbered_at_within, count_of-front}
+use Rattle.journal.proofs.Passes.NextClocks.{front_next}
+use Rattle.journal.proofs.Times.PushesCovered.{covered}
+use Rattle.judge.specs.Gaps.{GapFetchedUpTo, GapStoresInPage}
+use Rattle.judge.specs.Miscounted.{IsMiscountWithin}
+use Rattle.judge.specs.GapTally.{gap_tally_row_index}
+use Rattle.judge.proofs.Counts.{count_some, count_unique}
+use Rattle.judge.proofs.InGaps.{own_none_in_gap, stored_is_in_gap}
+use Rattle.causes.specs.declared.missing.Due.{Due}
+use Rattle.causes.specs.declared.missing.Span.{Span}
+use Rattle.causes.specs.Dues.{AreAllDues, DuesBelow, AreDues, DueComesToLack, DuesByPageAndWriter, IsDueRecord, IsDueInSpan, IsOneOfDues, IsDueToldBy, DueLacks}
+
+-- the intervals of q that the span of these timestamps has, where they store in the page
+abbrev pub DueBetween : Sizes → List Event → ℕ → ℕ → (ℕ → ℕ) → (ℕ → ℕ) → ℕ → Type 0
+DueBetween s j n q f t m = GapStoresInPage s j n q m × (f q ≤ m) × (m < t q)
+
+-- what another's copy lacks of q lies between its last fetch and now
+due_lacks_is : (s : Sizes) (j : List Event) (p n q m : ℕ) (f t : ℕ → ℕ) → q ≢ p → GapFetchedUpTo s j p n f → IsTimeOf j p t
+    → DueLacks s j p n q m ↔ DueBetween s j n q f t m
+due_lacks_is s j p n q m f t apart fetched time = (
+  λ g. (let h = (stored_is_in_gap s j p n q m g.0 f t fetched time apart).0 g.1 in ((g.0, h.0), h.1, h.2)),
+  λ h. (h.0.0, (stored_is_in_gap s j p n q m h.0.0 f t fetched time apart).1 (h.0.1, h.1, h.2)),
+)
+
+-- nobody lacks what it stored itself
+due_lacks_own : (s : Sizes) (j : List Event) (p n q m : ℕ) → DueLacks s j p n q m → q ≢ p
+due_lacks_own s j p n q m g is =
+    own_none_in_gap s j p n m g.0 (subst (λ x. StoredInGapOfImage s j p n (x, m, g.0)) is g.1)
+
+-- who stored it is a processor
+due_lacks_low : (s : Sizes) (j : List Event) (p n q m : ℕ) → ProcessorsInRange 16 j → DueLacks s j p n q m → q < 16
+due_lacks_low s j p n q m low g = low g.1.0 (event q (Store g.0 g.1.1)) g.1.2
+
+-- what p comes to lack of q by an event that takes lies between its timestamps before and after it
+due_comes_is : (s : Sizes) (j : List Event) (p n q m : ℕ) (k : Kind) (f t : ℕ → ℕ) → is_taking k ≡ true → IsTimeOf j p f
+    → IsTimeOf (j ++ event p k ∷ []) p t → q ≢ p
+    → (DueLacks s (j ++ event p k ∷ []) p n q m × (¬ DueLacks s j p n q m)) ↔ DueBetween s (j ++ event p k ∷ []) n q f t m
+due_comes_is s j p n q m k f t takes before after apart = (there, back)
+  where
+    e : Event
+    e = event p k
+
+    -- a store of the history up to the event is one of before
+    old : (i a v : ℕ) → Does (j ++ e ∷ []) i q (Store a v) → Does j i q (Store a v)
+    old i a v does = elim (slice_push_cases j e i (event q (Store a v)) does) [
+      | inl was ↦ was.1
+      | inr new ↦ absurd (apart (sym (ap (λ (x : Event). x.processor) new.1)))
+    ]
+
+    number : (i a v : ℕ) → Does j i q (Store a v) → interval_at (j ++ e ∷ []) q i ≡ interval_at j q i
+    number i a v does = count_of-front is_closing j (e ∷ []) i q (le_of_lt (numbered_at_within j i (event q (Store a v)) does))
+
+    there : DueLacks s (j ++ e ∷ []) p n q m × (¬ DueLacks s j p n q m) → DueBetween s (j ++ e ∷ []) n q f t m
+    there h =
+        let a = h.0.0 in
+        let i = h.0.1.0 in
+        let v = h.0.1.1 in
+        let does = h.0.1.2 in
+        let gap = h.0.1.3 in
+        let is = h.0.1.4 in
+        let was = old i a v does in
+        let same = number i a v was in
+        let x = gap.store in
+        let address = (store_same (j ++ e ∷ []) i q x.by a x.address v x.value does x.does).1 in
+        let page : a / s.words ≡ n = ap (λ (b : ℕ). b / s.words) address ∙ x.in_page in
+        elim ((gap_taken s j p n q i a v k f t takes before after was page apart).0 gap) [
+          | inl known ↦ absurd (h.1 (a, (i, v, was, known, sym same ∙ is)))
+          | inr range ↦ (let le = range.0 in let lt = range.1 in ((a, ((i, v, does, is), page)), omega arith, omega arith))
+        ]
+
+    back : DueBetween s (j ++ e ∷ []) n q f t m → DueLacks s (j ++ e ∷ []) p n q m × (¬ DueLacks s j p n q m)
+    back h =
+        let a = h.0.0 in
+        let x = h.0.1.0 in
+        let page = h.0.1.1 in
+        let i = x.0 in
+        let v = x.1 in
+        let does = x.2 in
+        let is = x.3 in
+        let le = h.1 in
+        let lt = h.2 in
+        let was = old i a v does in
+        let same = number i a v was in
+        let gap =
+        (gap_taken s j p n q i a v k f t takes before after was page apart).1 (inr (omega arith, omega arith)) in (
+          (a, (i, v, does, gap, is)),
+          λ g.
+              (let less = (covered j p q g.1.0 (Store g.0 g.1.1) f before g.1.2 apart).0 g.1.3.past in
+              let at = g.1.4 in
+              omega arith),
+        )
+
+-- an event that is no fetch tells of what a copy comes to lack
+due_told_is : (s : Sizes) (j : List Event) (k p : ℕ) (kind : Kind) (n q m : ℕ)
+    → ((w l r d : ℕ) → kind ≢ Fetch w l r d) → IsDueToldBy s j k p kind n q m ↔ DueComesToLack s j k p n q m
+due_told_is s j k p (Fetch w l r d) n q m none = absurd (none w l r d refl)
+due_told_is s j k p _ n q m none = ((λ h. h), λ h. h)
+
+due_not_fetch : (k : Kind) → is_taking k ≡ true → (w l r d : ℕ) → k ≢ Fetch w l r d
+due_not_fetch k takes w l r d is = true≢false (sym takes ∙ ap is_taking is)
+
+due_positive : (n : ℕ) → n ≢ 0 → 0 < n
+due_positive n some = elim (cases_lt 0 n) [ inl lt ↦ lt | inr le ↦ absurd (some (omega arith)) ]
+
+-- what there is in the span of a fetch's timestamps is what the fetch tells of
+pub due_in_fetch : (s : Sizes) (j : List Event) (k : ℕ) (e : Event) (w n r d : ℕ) (span : Span) → e.kind ≡ Fetch w n r d
+    → span.reader ≡ e.processor → span.first ≡ n → span.end ≡ n + 1 → ProcessorsInRange 16 (take k j)
+    → GapFetchedUpTo s (take k j) e.processor n (slice_index span.from)
+    → IsTimeOf (take k j) e.processor (slice_index span.to) → (x : Due)
+    → IsDueInSpan s (take k j) span x ↔ IsDueRecord s j k e x
+due_in_fetch s j k e w n r d span kind reader first end low fetched time x = (there, back)
+  where
+    p : ℕ
+    p = e.processor
+
+    h : List Event
+    h = take k j
+
+    Told : ℕ → Type 0
+    Told m = (n ≡ x.page) × DueLacks s h p x.page x.writer m
+
+    In : ℕ → Type 0
+    In m = DueBetween s h x.page x.writer (slice_index span.from) (slice_index span.to) m
+
+    is : n ≡ x.page → x.writer ≢ p → (m : ℕ) → In m ↔ Told m
+    is page apart m =
+        let here : GapFetchedUpTo s h p x.page (slice_index span.from) =
+        subst (λ l. GapFetchedUpTo s h p l (slice_index span.from)) page fetched in
+        let same = due_lacks_is s h p x.page x.writer m (slice_index span.from) (slice_index span.to) apart here time in
+        ((λ g. (page, same.1 g)), λ g. same.0 g.1)
+
+    there : IsDueInSpan s h span x → IsDueRecord s j k e x
+    there y =
+        let low_page = y.from in
+        let high_page = y.to in
+        let page : n ≡ x.page = omega arith in
+        record {
+          some = y.some;
+          count =
+              subst (λ c. HasImageCount (IsDueToldBy s j k p c x.page x.writer) x.records) (sym kind)
+              (count_of_same In Told x.records (is page (λ same. y.apart (same ∙ sym reader))) y.count);
+        }
+
+    back : IsDueRecord s j k e x → IsDueInSpan s h span x
+    back y =
+        let told : HasImageCount Told x.records =
+        subst (λ c. HasImageCount (IsDueToldBy s j k p c x.page x.writer) x.records) kind y.count in
+        let one = count_some Told x.records told (due_positive x.records y.some) in
+        let page = one.1.0 in
+        let apart = due_lacks_own s h p x.page x.writer one.0 one.1.1 in
+        record {
+          low = due_lacks_low s h p x.page x.writer one.0 low one.1.1;
+          apart = λ same. apart (same ∙ reader);
+          from = omega arith;
+          to = omega arith;
+          some = y.some;
+          count = count_of_same Told In x.records (λ m. ((is page apart m).1, (is page apart m).0)) told;
+        }
+
+-- what there is in the span of the timestamps round an event that takes is what it tells of
+pub due_in_taken : (s : Sizes) (j : List Event) (k : ℕ) (e : Event) (span : Span) → At j k e → is_taking e.kind ≡ true
+    → span.reader ≡ e.processor → span.first ≡ 0 → span.end ≡ s.pages → ProcessorsInRange 16 (take (k + 1) j)
+    → ((n q m : ℕ) → GapStoresInPage s (take (k + 1) j) n q m → n < s.pages)
+    → IsTimeOf (take k j) e.processor (slice_index span.from)
+    → IsTimeOf (take (k + 1) j) e.processor (slice_index span.to) → (x : Due)
+    → IsDueInSpan s (take (k + 1) j) span x ↔ IsDueRecord s j k e x
+due_in_taken s j k e span at takes reader first end low pages before after x = (there, back)
+  where
+    p : ℕ
+    p = e.processor
+
+    Told : ℕ → Type 0
+    Told m = IsDueToldBy s j k p e.kind x.page x.writer m
+
+    In : ℕ → Type 0
+    In m = DueBetween s (take (k + 1) j) x.page x.writer (slice_index span.from) (slice_index span.to) m
+
+    Range : List Event → ℕ → Type 0
+    Range h m =
+        (DueLacks s h p x.page x.writer m × (¬ DueLacks s (take k j) p x.page x.writer m))
+        ↔ DueBetween s h x.page x.writer (slice_index span.from) (slice_index span.to) m
+
+    comes : x.writer ≢ p → (m : ℕ) → Range (take (k + 1) j) m
+    comes apart m =
+        let next : take (k + 1) j ≡ take k j ++ e ∷ [] = front_next j k e at in
+        let later : IsTimeOf (take k j ++ e ∷ []) p (slice_index span.to) =
+        subst (λ h. IsTimeOf h p (slice_index span.to)) next after in
+        subst (λ h. Range h m) (sym next)
+        (due_comes_is s (take k j) p x.page x.writer m e.kind (slice_index span.from) (slice_index span.to) takes before
+        later apart)
+
+    is : x.writer ≢ p → (m : ℕ) → In m ↔ Told m
+    is apart m =
+        let told = due_told_is s j k p e.kind x.page x.writer m (due_not_fetch e.kind takes) in
+        let both = comes apart m in
+        ((λ h. told.1 (both.1 h)), λ h. both.0 (told.0 h))
+
+    there : IsDueInSpan s (take (k + 1) j) span x → IsDueRecord s j k e x
+    there y =
+        record {
+          some = y.some;
+          count = count_of_same In Told x.records (is (λ same. y.apart (same ∙ sym reader))) y.count;
+        }
+
+    back : IsDueRecord s j k e x → IsDueInSpan s (take (k + 1) j) span x
+    back y =
+        let one = count_some Told x.records y.count (due_positive x.records y.some) in
+        let told = (due_told_is s j k p e.kind x.page x.writer one.0 (due_not_fetch e.kind takes)).0 one.1 in
+        let apart = due_lacks_own s (take (k + 1) j) p x.page x.writer one.0 told.0 in
+        let in_page = (comes apart one.0).0 told in
+        let page = pages x.page x.writer one.0 in_page.0 in
+        record {
+          low = due_lacks_low s (take (k + 1) j) p x.page x.writer one.0 low told.0;
+          apart = λ same. apart (same ∙ reader);
+          from = omega arith;
+          to = omega arith;
+          some = y.some;
+          count = count_of_same Told In x.records (λ m. ((is apart m).1, (is apart m).0)) y.count;
+        }
+
+-- an event that neither takes nor fetches tells of nothing
+pub dues_quiet : (s : Sizes) (j : List Event) (k : ℕ) (e : Event) → At j k e → is_taking e.kind ≡ false
+    → ((w l r d : ℕ) → e.kind ≢ Fetch w l r d) → AreDues s j k e []
+dues_quiet s j k e at quiet none = record {
+  has = λ x. ((λ h. absurd (none-some x h.1)), λ y. absurd (nothing x y));
+  order = λ m n x y lt to. absurd (none-some x to);
+}
+  where
+    p : ℕ
+    p = e.processor
+
+    next : take (k + 1) j ≡ take k j ++ e ∷ []
+    next = front_next j k e at
+
+    block : IsBlock p (e ∷ [])
+    block m f here = elim (slice_push_cases [] e m f here) [
+      | inl old ↦ absurd (let lt = old.0 in omega arith)
+      | inr new ↦ (sym (ap (λ (x : Event). x.processor) new.1), sym (ap (λ (x : Event). is_taking x.kind) new.1) ∙ quiet)
+    ]
+
+    away : (n m w r d : ℕ) → ¬ Does (e ∷ []) m p (Fetch w n r d)
+    away n m w r d here = elim (slice_push_cases [] e m (event p (Fetch w n r d)) here) [
+      | inl old ↦ (let lt = old.0 in omega arith)
+      | inr new ↦ none w n r d (ap (λ (x : Event). x.kind) new.1)
+    ]
+
+    same : (n q m : ℕ) → DueLacks s (take k j ++ e ∷ []) p n q m → DueLacks s (take k j) p n q m
+    same n q m g = (
+      g.0,
+      (gap_stored_longer s (take k j) (e ∷ []) p n
+          (λ i. gap_block s (take k j) (e ∷ []) p n i block (λ m w r d. away n m w r d)) (q, m, g.0)).0 g.1,
+    )
+
+    nothing : (x : Due) → IsDueRecord s j k e x → ⊥
+    nothing x y =
+        let one = count_some (IsDueToldBy s j k p e.kind x.page x.writer) x.records y.count (due_positive x.records y.some) in
+        let told = (due_told_is s j k p e.kind x.page x.writer one.0 none).0 one.1 in
+        told.1 (same x.page x.writer one.0 (subst (λ h. DueLacks s h p x.page x.writer one.0) next told.0))
+
+-- what there is below the span's end is all of it
+pub all_dues_below : (s : Sizes) (j h : List Event) (k : ℕ) (e : Event) (span : Span) (dues : List Due)
+    → ((x : Due) → IsDueInSpan s h span x ↔ IsDueRecord s j k e x) → DuesBelow s h span (span.end * 16) dues
+    → AreDues s j k e dues
+all_dues_below s j h k e span dues is are = record { has = λ x. (there x, back x); order = order }
+  where
+    there : (x : Due) → Has dues x → IsDueRecord s j k e x
+    there x at = (is x).0 ((are.has x).0 at).0
+
+    back : (x : Due) → IsDueRecord s j k e x → Has dues x
+    back x due =
+        let y = (is x).1 due in
+        let low = y.low in
+        let page = y.to in
+        (are.has x).1 (y, omega arith)
+
+    order : InOrder DuesByPageAndWriter dues
+    order m n x y lt at to =
+        let rows = are.order m n x y lt at to in
+        let first = ((are.has x).0 (m, at)).0.low in
+        let second = ((are.has y).0 (n, to)).0.low in
+        elim (cases_lt x.page y.page) [ inl less ↦ inl less | inr more ↦ inr (omega arith, omega arith) ]
+
+abbrev due_with_records : ℕ → ℕ → ℕ → Due
+due_with_records n q r = record { page = n; writer = q; records = r }
+
+-- of one page and writer there is one
+due_same : (s : Sizes) (j : List Event) (span : Span) (x y : Due) → x.page ≡ y.page → x.writer ≡ y.writer
+    → IsDueInSpan s j span x → IsDueInSpan s j span y → x ≡ y
+due_same s j span x y page writer one two =
+    due_of x y page writer
+    (count_unique (DueBetween s j x.page x.writer (slice_index span.from) (slice_index span.to)) x.records y.records one.count
+    (subst (λ q. HasImageCount (DueBetween s j x.page q (slice_index span.from) (slice_index span.to)) y.records) (sym writer)
+    (subst (λ n. HasImageCount (DueBetween s j n y.writer (slice_index span.from) (slice_index span.to)) y.records) (sym page)
+    two.count)))
+  where
+    due_of : (a b : Due) → a.page ≡ b.page → a.writer ≡ b.writer → a.records ≡ b.records → a ≡ b
+    due_of a b first second third =
+        ap (λ (n : ℕ). due_with_records n a.writer a.records) first ∙ ap (λ (q : ℕ). due_with_records b.page q a.records) second
+        ∙ ap (λ (r : ℕ). due_with_records b.page b.writer r) third
+
+-- the span has nothing of a writer of which it has no interval
+pub due_none_between : (s : Sizes) (j : List Event) (span : Span) (x : Due) (q : ℕ) → IsDueInSpan s j span x → x.writer ≡ q
+    → slice_index span.to q ≤ slice_index span.from q → ⊥
+due_none_between s j span x q y is le =
+    let one =
+    count_some (DueBetween s j x.page x.writer (slice_index span.from) (slice_index span.to)) x.records y.count
+    (due_positive x.records y.some) in
+    let from = ap (slice_index span.from) is in
+    let to = ap (slice_index span.to) is in
+    let low = one.1.1 in
+    let high = one.1.2 in
+    omega arith
+
+-- and nothing where nothing is counted
+pub due_none_counted : (s : Sizes) (j : List Event) (span : Span) (x : Due) (n q r : ℕ) → IsDueInSpan s j span x → x.page ≡ n
+    → x.writer ≡ q → HasImageCount (DueBetween s j n q (slice_index span.from) (slice_index span.to)) r → r ≡ 0 → ⊥
+due_none_counted s j span x n q r y page writer count none =
+    y.some
+    (count_unique (DueBetween s j x.page x.writer (slice_index span.from) (slice_index span.to)) x.records r y.count
+    (subst (λ l. HasImageCount (DueBetween s j l x.writer (slice_index span.from) (slice_index span.to)) r) (sym page)
+    (subst (λ w. HasImageCount (DueBetween s j n w (slice_index span.from) (slice_index span.to)) r) (sym writer) count))
+    ∙ none)
+
+-- a page that somebody stores in is one of the pages
+pub due_pages_within : (s : Sizes) (j : List Event) (k : ℕ) → ((i : ℕ) (e : Event) → At j i e → IsMiscountWithin s e)
+    → (n q m : ℕ) → GapStoresInPage s (take k j) n q m → n < s.pages
+due_pages_within s j k within n q m x =
+    let a = x.0 in
+    let store = x.1.0 in
+    let page = x.1.1 in
+    let e : Event = event q (Store a store.1) in
+    let at = slice_get-from_take j k store.0 e store.2 in
+    let low : a < s.pages * s.words = (within store.0 e at).kind in
+    elim (cases_lt 0 s.words) [
+      | inl some ↦ (let under = div_below a s.words s.pages some low in omega arith)
+      | inr none ↦
+          (let zero : s.words ≡ 0 = omega arith in
+          absurd (let lt : a < s.pages * 0 = subst (λ w. a < s.pages * w) zero low in omega arith))
+    ]
+
+-- below the first row there is nothing
+pub dues_below_none : (s : Sizes) (j : List Event) (span : Span) (row : ℕ) (dues : List Due) → row ≡ span.first * 16
+    → dues ≡ [] → DuesBelow s j span row dues
+dues_below_none s j span row dues is none = subst (DuesBelow s j span row) (sym none) (record {
+  has = λ x. (
+    λ h. absurd (none-some x h.1),
+    λ y. absurd (let page = y.0.from in let lt = y.1 in omega arith),
+  );
+  order = λ m n x y lt at. absurd (none-some x at);
+})
+
+-- a row more, of which there is this
+pub dues_below_next : (s : Sizes) (j : List Event) (span : Span) (n q : ℕ) (o : Option Due) (dues new : List Due)
+    → q < 16 → IsOneOfDues s j span n q o → MatchOption o (new ≡ dues) (λ x. new ≡ dues ++ x ∷ [])
+    → DuesBelow s j span (gap_tally_row_index n q) dues → DuesBelow s j span (gap_tally_row_index n q + 1) new
+dues_below_next s j span n q None dues new lt none same are = subst (DuesBelow s j span (gap_tally_row_index n q + 1)) (sym same) (record {
+  has = λ x. (
+    λ h. (let y = (are.has x).0 h in let less = y.1 in (y.0, omega arith)),
+    λ y. elim (cases_eq (gap_tally_row_index x.page x.writer) (gap_tally_row_index n q)) [
+      | inl is ↦
+          absurd (let low = y.0.low in
+          let page : x.page ≡ n = omega arith in
+          let writer : x.writer ≡ q = omega arith in
+          none x y.0 page writer)
+      | inr isnt ↦ (let less = y.1 in (are.has x).1 (y.0, omega arith))
+    ],
+  );
+  order = are.order;
+})
+dues_below_next s j span n q (Some d) dues new lt one more are =
+    subst (DuesBelow s j span (gap_tally_row_index n q + 1)) (sym more) (record { has = λ x. (there x, back x); order = order })
+  where
+    row : gap_tally_row_index d.page d.writer ≡ gap_tally_row_index n q
+    row = let page = one.1 in let writer = one.2 in omega arith
+
+    there : (x : Due) → Has (dues ++ d ∷ []) x → IsDueInSpan s j span x × (gap_tally_row_index x.page x.writer < gap_tally_row_index n q + 1)
+    there x at = elim (slice_push_cases dues d at.0 x at.1) [
+      | inl old ↦ (let y = (are.has x).0 (at.0, old.1) in let less = y.1 in (y.0, omega arith))
+      | inr now ↦
+          (let here = row in
+          subst (λ y. IsDueInSpan s j span y × (gap_tally_row_index y.page y.writer < gap_tally_row_index n q + 1)) now.1 (one.0, omega arith))
+    ]
+
+    back : (x : Due) → IsDueInSpan s j span x × (gap_tally_row_index x.page x.writer < gap_tally_row_index n q + 1) → Has (dues ++ d ∷ []) x
+    back x y = elim (cases_eq (gap_tally_row_index x.page x.writer) (gap_tally_row_index n q)) [
+      | inl is ↦
+          (let low = y.0.low in
+          let page : x.page ≡ d.page = (let first = one.1 in let second = one.2 in omega arith) in
+          let writer : x.writer ≡ d.writer = (let first = one.1 in let second = one.2 in omega arith) in
+          (length dues, slice_get-last dues d ∙ ap (λ z. Some z) (sym (due_same s j span x d page writer y.0 one.0))))
+      | inr isnt ↦
+          (let less = y.1 in
+          let at = (are.has x).1 (y.0, omega arith) in
+          (at.0, slice_get-append_left dues (d ∷ []) at.0 (slice_get_within dues at.0 x at.1) ∙ at.1))
+    ]
+
+    order : InOrder (λ (x y : Due). gap_tally_row_index x.page x.writer < gap_tally_row_index y.page y.writer) (dues ++ d ∷ [])
+    order m l x y less at to = elim (slice_push_cases dues d l y to) [
+      | inl old ↦
+          (let inside = old.0 in
+          are.order m l x y less (sym (slice_get-append_left dues (d ∷ []) m (omega arith)) ∙ at) old.1)
+      | inr now ↦
+          (let last = now.0 in
+          let under =
+          ((are.has x).0 (m, sym (slice_get-append_left dues (d ∷ []) m (omega arith)) ∙ at)).1 in
+          let here = row in
+          let end = ap (λ (z : Due). gap_tally_row_index z.page z.writer) now.1 in
+          omega arith)
+    ]
+
+-- a row of dues more
+pub dues_rows_next : (s : Sizes) (j : List Event) (rows : List (Vec Due)) (n : ℕ) (row : Vec Due) → length rows ≡ n
+    → AreAllDues s j rows → ((e : Event) → At j n e → AreDues s j n e row.items) → AreAllDues s j (rows ++ row ∷ [])
+dues_rows_next s j rows n row long are now k e new here at = elim (slice_push_cases rows row k new at) [
+  | inl old ↦ are k e new here old.1
+  | inr last ↦
+      (let is : n ≡ k = omega (arith, last.0) in
+      subst (λ (v : Vec Due). AreDues s j k e v.items) last.1
+      (subst (λ m. AreDues s j m e row.items) is (now e (subst (λ m. At j m e) (sym is) here))))
+]
+
+-- what of a result follows from what is known of it
+pub due_if_ok : {A E : Type 0} (r : Result A E) (P Q : A → Type 0) → ((x : A) → P x → Q x) → IfOk r P → IfOk r Q
+due_if_ok (Ok x) P Q f p = f x p
+due_if_ok (Err e) P Q f p = tt

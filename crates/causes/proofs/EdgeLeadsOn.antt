@@ -1,0 +1,166 @@
+-- The events of other processors with an edge to an event.
+use Rattle.std.proofs.Common.{◌≡◌, ◌≢◌, ℕ, ◌+◌, ◌<◌, ◌≤◌, ◌==◌, ◌&&◌, Bool, true, false, cond, inl, inr, List, [], ◌∷◌, ◌++◌, Some, length, take, slice_index, slice_set, subst, sym, refl, ap, ◌∙◌, arith}
+use Rattle.std.proofs.lemmas.Bool.{cases_eq, eq-eqb, ne_eqb}
+use Rattle.std.proofs.lemmas.List.{length-take-le, get_or-set_same, get_or-set_other}
+use Rattle.std.proofs.lemmas.List.Sums.{count_by-le-length}
+use Rattle.std.proofs.lemmas.Option.{none-some, slice_get_within}
+use Rattle.base.specs.InOrderOnce.{Has, InOrder}
+use Rattle.base.proofs.SlicesAndCounts.{slice_push_cases, slice_get-append_left, slice_get-last}
+use Rattle.journal.specs.declared.event.Event.{Event}
+use Rattle.journal.specs.declared.event.Kind.{Kind}
+use Rattle.journal.specs.declared.event.Kind.TheVariants.{Acquire, Release, Depart, Set, Await}
+use Rattle.journal.specs.Events.{At, count_of, is_arrive, is_depart}
+use Rattle.journal.specs.HappensBeforeEdges.{LetsThrough, Link, same, lets, meets}
+use Rattle.journal.proofs.Order.CountedAndNumbered.{numbered_at_same}
+use Rattle.journal.proofs.Passes.ReachedNextRaces.{count_next}
+use Rattle.causes.specs.Edges.{AreEdges, EdgeFromOther, EdgeLeadsOn}
+
+edge_leads_lets_through : (a b : Kind) (n m : ℕ) → LetsThrough a b → EdgeLeadsOn a n b m
+edge_leads_lets_through (Release l) (Acquire k) n m is = ap (λ x. Release x) is
+edge_leads_lets_through (Set f) (Await g) n m is = ap (λ x. Set x) is
+edge_leads_lets_through _ _ n m is = absurd is
+
+edge_leads_on_link : (j : List Event) (i k : ℕ) (e f : Event) (b : Kind) → f.kind ≡ b
+    → EdgeLeadsOn e.kind (count_of is_arrive (take i j) e.processor) b (count_of is_depart (take k j) f.processor)
+    → Link j i k e f
+edge_leads_on_link j i k e f (Acquire l) is on = lets (subst (λ a. LetsThrough a f.kind) (sym on) (subst (λ b. LetsThrough (Release l) b) (sym is) refl))
+edge_leads_on_link j i k e f (Await g) is on = lets (subst (λ a. LetsThrough a f.kind) (sym on) (subst (λ b. LetsThrough (Set g) b) (sym is) refl))
+edge_leads_on_link j i k e f Depart is on = meets (record { arrives = on.0; departs = is; episode = on.1 })
+edge_leads_on_link j i k e f _ is on = absurd on
+
+edge_leads_link_on : (j : List Event) (i k : ℕ) (e f : Event) → e.processor ≢ f.processor → Link j i k e f
+    → EdgeLeadsOn e.kind (count_of is_arrive (take i j) e.processor) f.kind (count_of is_depart (take k j) f.processor)
+edge_leads_link_on j i k e f apart (same is) = absurd (apart is)
+edge_leads_link_on j i k e f apart (lets is) =
+    edge_leads_lets_through e.kind f.kind (count_of is_arrive (take i j) e.processor) (count_of is_depart (take k j) f.processor) is
+edge_leads_link_on j i k e f apart (meets m) =
+    subst (λ b. EdgeLeadsOn e.kind (count_of is_arrive (take i j) e.processor) b (count_of is_depart (take k j) f.processor))
+    (sym m.departs) (m.arrives, m.episode)
+
+-- the event e at place i has an edge to another processor's event f at place k
+abbrev pub LeadsTo : List Event → ℕ → ℕ → Event → Event → Type 0
+LeadsTo j i k e f =
+    (e.processor ≢ f.processor)
+    × EdgeLeadsOn e.kind (count_of is_arrive (take i j) e.processor) f.kind (count_of is_depart (take k j) f.processor)
+
+pub leads : (j : List Event) (i k : ℕ) (e f : Event) → i < k → At j i e → At j k f → LeadsTo j i k e f
+    → EdgeFromOther j i k
+leads j i k e f lt at to x = record {
+  edge = record {
+    before = lt;
+    from = e;
+    to = f;
+    from_at = at;
+    to_at = to;
+    link = edge_leads_on_link j i k e f f.kind refl x.1;
+  };
+  apart = x.0;
+}
+
+pub edge_leads_led : (j : List Event) (i k : ℕ) (e f : Event) → At j i e → At j k f → EdgeFromOther j i k → LeadsTo j i k e f
+edge_leads_led j i k e f at to x =
+    let from = numbered_at_same j i x.edge.from e x.edge.from_at at in
+    let into = numbered_at_same j k x.edge.to f x.edge.to_at to in
+    subst (λ (y : Event). LeadsTo j i k y f) from (subst (λ (y : Event). LeadsTo j i k x.edge.from y) into
+    (x.apart, edge_leads_link_on j i k x.edge.from x.edge.to x.apart x.edge.link))
+
+-- these are the places below n with such an edge to place k, rising
+pub record AreLeadingEdgesBelow (j : List Event) (k n : ℕ) (places : List ℕ) : Type 0 where
+  pub all : (i : ℕ) → i < n → EdgeFromOther j i k → Has places i
+  pub each : (i : ℕ) → Has places i → (i < n) × EdgeFromOther j i k
+  pub order : InOrder (λ i m. i < m) places
+
+-- at first there are none
+pub edges_start : (j : List Event) (k : ℕ) → AreLeadingEdgesBelow j k 0 []
+edges_start j k = record {
+  all = λ i lt x. absurd (omega arith);
+  each = λ i at. absurd (none-some i at.1);
+  order = λ m n i l lt at to. absurd (none-some i at);
+}
+
+-- a place more that has no edge
+pub edges_others : (j : List Event) (k n : ℕ) (places : List ℕ) → ¬ EdgeFromOther j n k → AreLeadingEdgesBelow j k n places
+    → AreLeadingEdgesBelow j k (n + 1) places
+edges_others j k n places away old = record {
+  all = λ i lt x. elim (cases_eq i n) [
+    | inl is ↦ absurd (away (subst (λ m. EdgeFromOther j m k) is x))
+    | inr isnt ↦ old.all i (omega arith) x
+  ];
+  each = λ i at. (let x = old.each i at in let lt = x.0 in (omega arith, x.1));
+  order = old.order;
+}
+
+-- and one that has
+pub edges_below_next : (j : List Event) (k n : ℕ) (places : List ℕ) → EdgeFromOther j n k → AreLeadingEdgesBelow j k n places
+    → AreLeadingEdgesBelow j k (n + 1) (places ++ n ∷ [])
+edges_below_next j k n places now old = record { all = all; each = each; order = order }
+  where
+    older : (i : ℕ) → Has places i → Has (places ++ n ∷ []) i
+    older i at = (at.0, slice_get-append_left places (n ∷ []) at.0 (slice_get_within places at.0 i at.1) ∙ at.1)
+
+    all : (i : ℕ) → i < n + 1 → EdgeFromOther j i k → Has (places ++ n ∷ []) i
+    all i lt x = elim (cases_eq i n) [
+      | inl is ↦ (length places, slice_get-last places n ∙ ap (λ m. Some m) (sym is))
+      | inr isnt ↦ older i (old.all i (omega arith) x)
+    ]
+
+    each : (i : ℕ) → Has (places ++ n ∷ []) i → (i < n + 1) × EdgeFromOther j i k
+    each i at = elim (slice_push_cases places n at.0 i at.1) [
+      | inl was ↦ (let x = old.each i (at.0, was.1) in let lt = x.0 in (omega arith, x.1))
+      | inr new ↦ (omega (arith, new.1), subst (λ m. EdgeFromOther j m k) new.1 now)
+    ]
+
+    order : InOrder (λ i m. i < m) (places ++ n ∷ [])
+    order m l i h lt at to = elim (slice_push_cases places n l h to) [
+      | inl was ↦ elim (slice_push_cases places n m i at) [
+        | inl first ↦ old.order m l i h lt first.1 was.1
+        | inr new ↦ absurd (omega (arith, was.0, new.0, lt))
+      ]
+      | inr new ↦ elim (slice_push_cases places n m i at) [
+        | inl first ↦ (let x = (old.each i (m, first.1)).0 in omega (arith, new.1))
+        | inr later ↦ absurd (omega (arith, later.0, new.0, lt))
+      ]
+    ]
+
+-- an edge leads forward
+pub edges_below_all : (j : List Event) (k n : ℕ) (places : List ℕ) → k ≡ n → AreLeadingEdgesBelow j k n places → AreEdges j k places
+edges_below_all j k n places is old = record {
+  has = λ i. ((λ at. (old.each i at).1), λ x. (let lt = x.edge.before in old.all i (omega arith) x));
+  order = old.order;
+}
+
+-- no count of a journal's front is past its place
+pub edge_leads_count_within : (is : Kind → Bool) (j : List Event) (i p : ℕ) → i ≤ length j → count_of is (take i j) p ≤ i
+edge_leads_count_within is j i p le =
+    let all = count_by-le-length (λ (e : Event). (e.processor == p) && is e.kind) (take i j) in
+    let long = length-take-le i j le in
+    omega arith
+
+-- one or none is at most one
+pub edge_one_or_none : (b : Bool) → cond b 1 0 ≤ 1
+edge_one_or_none true = omega arith
+edge_one_or_none false = omega arith
+
+-- counts of some kind one place on
+pub edge_leads_counts_next : (is : Kind → Bool) (j : List Event) (i : ℕ) (e : Event) (counts : List ℕ) (now : ℕ) → At j i e → length counts ≡ 16
+    → ((q : ℕ) → q < 16 → slice_index counts q ≡ count_of is (take i j) q)
+    → now ≡ slice_index counts e.processor + cond (is e.kind) 1 0
+    → (q : ℕ) → q < 16 → slice_index (slice_set counts e.processor now) q ≡ count_of is (take (i + 1) j) q
+edge_leads_counts_next is j i e counts now at long old set_now q lt = elim (cases_eq q e.processor) [
+  | inl mine ↦
+      (let next = count_next is j i q e at in
+      let set = get_or-set_same counts e.processor now 0 (omega arith) in
+      let read = ap (λ n. slice_index (slice_set counts e.processor now) n) mine in
+      let was = old q lt in
+      let same = ap (slice_index counts) mine in
+      let one : cond {A = ℕ} ((e.processor == q) && is e.kind) 1 0 ≡ cond (is e.kind) 1 0 =
+      rw (eq-eqb e.processor q (sym mine)) in
+      omega arith)
+  | inr other ↦
+      (let next = count_next is j i q e at in
+      let set = get_or-set_other counts e.processor q now 0 other in
+      let was = old q lt in
+      let none : cond {A = ℕ} ((e.processor == q) && is e.kind) 1 0 ≡ 0 =
+      rw (ne_eqb e.processor q (λ x. other (sym x))) in
+      omega arith)
+]

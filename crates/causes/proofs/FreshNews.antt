@@ -1,0 +1,443 @@
+-- What each event brings its processor news of.
+use Rattle.std.proofs.Common.{◌≡◌, ◌≢◌, ℕ, ◌+◌, ◌<◌, ◌≤◌, ◌⊎◌, ◌↔◌, ◌==◌, Bool, false, IsTrue, inl, inr, List, [], ◌∷◌, ◌++◌, Some, length, take, drop, slice_index, slice_index_or, subst, sym, refl, ap, ◌∙◌, take-append-drop, take-take, arith}
+use Rattle.std.specs.List.{Contains}
+use Rattle.std.specs.List.Sorted.{IsNonDecreasing, IsPermutation, IsStrictlyIncreasing}
+use Rattle.std.specs.Global.{Vec}
+use Rattle.std.proofs.lemmas.Bool.{cases_eq, cases_lt, eq-eqb, ne_eqb}
+use Rattle.std.proofs.lemmas.List.{length-take-le}
+use Rattle.std.proofs.lemmas.List.Kept.{AllPairs-from_increasing}
+use Rattle.std.proofs.lemmas.List.Sorted.{Contains-permutation, IsPermutation-sym}
+use Rattle.std.proofs.lemmas.Map.Keys.{IsDistinct-from_apart, IsDistinct-IsPermutation, IsStrictlyIncreasing-from_distinct}
+use Rattle.std.proofs.lemmas.Option.{none-some, same_Some, slice_get-get_or, slice_get_read, slice_get_within}
+use Rattle.base.specs.InOrderOnce.{Has, InOrder, IsOnce}
+use Rattle.base.proofs.SlicesAndCounts.{slice_push_cases, slice_get-append_left, slice_get-last, slice_get-take}
+use Rattle.journal.specs.declared.event.Event.{Event}
+use Rattle.journal.specs.declared.event.Kind.{Kind}
+use Rattle.journal.specs.declared.event.Kind.TheVariants.{Acquire, Depart, Await}
+use Rattle.journal.specs.Events.{At, count_of, interval_at, is_arrive, is_closing, is_depart}
+use Rattle.journal.specs.InRange.{ProcessorsInRange}
+use Rattle.journal.specs.HappensBeforeEdges.{HappensBefore}
+use Rattle.journal.specs.HappensBeforeEdges.HappensBefore.{edge}
+use Rattle.journal.specs.Pasts.{InPast}
+use Rattle.journal.specs.Times.{ClosesAt, IsTimeIn, IsTimeOf}
+use Rattle.journal.proofs.Order.HappensBefore.{before_longer, before_shorter}
+use Rattle.journal.proofs.Order.CountedAndNumbered.{numbered_at_same, count_of-take-le, numbered_does_at, numbered_does_same}
+use Rattle.causes.specs.declared.news.Step.{Step}
+use Rattle.causes.specs.Edges.{EdgeFromOther, EdgeLeadsOn}
+use Rattle.causes.specs.declared.index.Turn.{Turn}
+use Rattle.causes.specs.Index.{AreIndexedClosings, AreIndexedClosingsOf, IsIndexedClosing, IsIndexedTurn}
+use Rattle.causes.specs.News.{AreIncoming, AreNewsInOrder, IsNewsOfStep, IsNews, TimesAroundNews}
+use Rattle.causes.proofs.LookedUpIndex.{index_closing_same}
+use Rattle.causes.proofs.EdgeLeadsOn.{leads, edge_leads_led}
+
+-- a timestamp with the same entries
+pub fresh_news_time_same : (j : List Event) (among : ℕ → Type 0) (t u : ℕ → ℕ) → ((q : ℕ) → u q ≡ t q) → IsTimeIn j among t
+    → IsTimeIn j among u
+fresh_news_time_same j among t u same time = record {
+  covers = λ q i x.
+      (let c = time.covers q i x in
+      let is = same q in
+      ((λ h. (let lt = c.0 h in omega arith)), λ lt. c.1 (omega arith)));
+  within = λ q. (let le = time.within q in let is = same q in omega arith);
+}
+
+-- what lets another processor on closes an interval
+fresh_news_lets_closes : (a : Kind) (n : ℕ) (b : Kind) (m : ℕ) → EdgeLeadsOn a n b m → IsTrue (is_closing a)
+fresh_news_lets_closes a n (Acquire l) m is = subst (λ k. IsTrue (is_closing k)) (sym is) refl
+fresh_news_lets_closes a n (Await f) m is = subst (λ k. IsTrue (is_closing k)) (sym is) refl
+fresh_news_lets_closes a n Depart m is = subst (λ k. IsTrue (is_closing k)) (sym is.0) refl
+fresh_news_lets_closes a n _ m is = absurd is
+
+-- what happens before a place of a journal's front does so in the front, and the other way round
+pub fresh_news_in_front : (j : List Event) (n i m : ℕ) → n ≤ length j → m < n → HappensBefore j i m → HappensBefore (take n j) i m
+fresh_news_in_front j n i m le lt h =
+    let long : length (take n j) ≡ n = length-take-le n j le in
+    before_shorter (take n j) (drop n j) (omega arith)
+    (subst (λ xs. HappensBefore xs i m) (sym (take-append-drop n j)) h)
+
+pub fresh_news_from_front : (j : List Event) (n i m : ℕ) → HappensBefore (take n j) i m → HappensBefore j i m
+fresh_news_from_front j n i m h =
+    subst (λ xs. HappensBefore xs i m) (take-append-drop n j) (before_longer (take n j) (drop n j) h)
+
+news_closes_in_front : (j : List Event) (n q i : ℕ) → i < n → ClosesAt j q i → ClosesAt (take n j) q i
+news_closes_in_front j n q i lt x =
+    record { kind = x.kind; does = slice_get-take j n i lt ∙ x.does; closes = x.closes }
+
+pub news_number_in_front : (j : List Event) (n q i : ℕ) → i ≤ n → interval_at (take n j) q i ≡ interval_at j q i
+news_number_in_front j n q i le = ap (λ (xs : List Event). count_of is_closing xs q) (take-take i n j le)
+
+-- what the step brings news of is news
+pub step_news_is_news : (j : List Event) (x : Step) (q i : ℕ) → TimesAroundNews j x → IsNewsOfStep j x q i → IsNews j i x.place
+step_news_is_news j x q i step new = record { leads = new.leads; first = first }
+  where
+    before : i < x.place
+    before = new.leads.edge.before
+
+    within : x.place < length j
+    within = slice_get_within j x.place step.event step.at
+
+    first : (m : ℕ) (f : Event) → m < x.place → At j m f → f.processor ≡ new.leads.edge.to.processor
+        → ¬ HappensBefore j i m
+    first m f lt at mine h =
+        let lt_i = before in
+        let inside = within in
+        let same = numbered_at_same j x.place new.leads.edge.to step.event new.leads.edge.to_at step.at in
+        let past : InPast (take x.place j) step.event.processor i =
+        record {
+          own = m;
+          event = f;
+          at = slice_get-take j x.place m lt ∙ at;
+          mine = mine ∙ ap (λ (y : Event). y.processor) same;
+          reaches = inr (fresh_news_in_front j x.place i m (omega arith) lt h);
+        } in
+        let counted = (step.before.covers q i (news_closes_in_front j x.place q i before new.closes)).0 past in
+        let number = news_number_in_front j x.place q i (omega arith) in
+        let late = new.late in
+        absurd (omega arith)
+
+-- what is news is what the step brings of its processor
+pub record IsNewsOfSome (j : List Event) (x : Step) (i : ℕ) : Type 0 where
+  pub by : ℕ
+  pub low : by < 16
+  pub new : IsNewsOfStep j x by i
+
+pub news_is_of_step : (j : List Event) (x : Step) (i : ℕ) → ProcessorsInRange 16 j → TimesAroundNews j x → IsNews j i x.place
+    → IsNewsOfSome j x i
+news_is_of_step j x i low step news = record {
+  by = from.processor;
+  low = low i from news.leads.edge.from_at;
+  new = record { closes = closes; leads = news.leads; late = late; counted = counted };
+}
+  where
+    from : Event
+    from = news.leads.edge.from
+
+    k : ℕ
+    k = x.place
+
+    before : i < k
+    before = news.leads.edge.before
+
+    within : k < length j
+    within = slice_get_within j k step.event step.at
+
+    closes : ClosesAt j from.processor i
+    closes =
+        let to = edge_leads_led j i k from step.event news.leads.edge.from_at step.at news.leads in
+        record {
+          kind = from.kind;
+          does = numbered_does_at j i from.processor from news.leads.edge.from_at refl;
+          closes = fresh_news_lets_closes from.kind _ step.event.kind _ to.1;
+        }
+
+    unheard : ¬ InPast (take k j) step.event.processor i
+    unheard past =
+        let same = numbered_at_same j k news.leads.edge.to step.event news.leads.edge.to_at step.at in
+        let mine : past.event.processor ≡ news.leads.edge.to.processor =
+        past.mine ∙ sym (ap (λ (y : Event). y.processor) same) in
+        let there : At j past.own past.event = front_at past.own past.event past.at in
+        let lt : past.own < k = front_lt past.own past.event past.at in
+        elim past.reaches [
+          | inl is ↦
+              (let one = numbered_at_same j i from past.event news.leads.edge.from_at (subst (λ m. At j m past.event) (sym is) there) in
+              news.leads.apart (ap (λ (y : Event). y.processor) one ∙ mine))
+          | inr h ↦ news.first past.own past.event lt there mine (fresh_news_from_front j k i past.own h)
+        ]
+      where
+        front_lt : (m : ℕ) (f : Event) → At (take k j) m f → m < k
+        front_lt m f at =
+            let lt = slice_get_within (take k j) m f at in
+            let inside = within in
+            let long = length-take-le k j (omega arith) in
+            omega arith
+
+        front_at : (m : ℕ) (f : Event) → At (take k j) m f → At j m f
+        front_at m f at = sym (slice_get-take j k m (front_lt m f at)) ∙ at
+
+    late : slice_index x.before from.processor ≤ interval_at j from.processor i
+    late = elim (cases_lt (interval_at j from.processor i) (slice_index x.before from.processor)) [
+      | inl lt ↦
+          (let lt_i = before in
+          let number = news_number_in_front j k from.processor i (omega arith) in
+          absurd (unheard ((step.before.covers from.processor i (news_closes_in_front j k from.processor i before closes)).1
+          (omega arith))))
+      | inr ge ↦ ge
+    ]
+
+    counted : interval_at j from.processor i < slice_index x.after from.processor
+    counted =
+        let lt_i = before in
+        let inside = within in
+        let number = news_number_in_front j (k + 1) from.processor i (omega arith) in
+        let past : InPast (take (k + 1) j) step.event.processor i =
+        record {
+          own = k;
+          event = step.event;
+          at = slice_get-take j (k + 1) k (omega arith) ∙ step.at;
+          mine = refl;
+          reaches = inr (fresh_news_in_front j (k + 1) i k (omega arith) (omega arith) (edge news.leads.edge));
+        } in
+        let lt =
+        (step.after.covers from.processor i (news_closes_in_front j (k + 1) from.processor i (omega arith) closes)).0 past in
+        omega arith
+
+-- the places so far: those that were there, and q's news of intervals below n
+abbrev pub HasNewsBelow : List Event → Step → ℕ → ℕ → List ℕ → List ℕ → Type 0
+HasNewsBelow j x q n old places =
+    (i : ℕ) → Has places i ↔ (Has old i ⊎ (IsNewsOfStep j x q i × (interval_at j q i < n)))
+
+-- no place of them stands twice, if none did and none was a closing of q's
+abbrev pub IsNewsOnceIf : List Event → ℕ → List ℕ → List ℕ → Type 0
+IsNewsOnceIf j q old places = IsOnce old → ((i : ℕ) → Has old i → ¬ ClosesAt j q i) → IsOnce places
+
+fresh_news_has_older : (xs : List ℕ) (y i : ℕ) → Has xs i → Has (xs ++ y ∷ []) i
+fresh_news_has_older xs y i at = (at.0, slice_get-append_left xs (y ∷ []) at.0 (slice_get_within xs at.0 i at.1) ∙ at.1)
+
+-- at first there are none
+pub fresh_news_below_first : (j : List Event) (x : Step) (q n : ℕ) (old : List ℕ) → n ≡ slice_index x.before q
+    → HasNewsBelow j x q n old old
+fresh_news_below_first j x q n old is i = (
+  (λ at. inl at),
+  λ s. elim s [
+    | inl at ↦ at
+    | inr new ↦ (let late = new.0.late in let lt = new.1 in absurd (omega arith))
+  ],
+)
+
+-- q's closing of interval n is news
+pub fresh_news_below_next : (j : List Event) (x : Step) (q n p : ℕ) (old places : List ℕ) → IsIndexedClosing j q n p
+    → slice_index x.before q ≤ n → n < slice_index x.after q → EdgeFromOther j p x.place
+    → HasNewsBelow j x q n old places → HasNewsBelow j x q (n + 1) old (places ++ p ∷ [])
+fresh_news_below_next j x q n p old places here late counted leads was i = (there, back)
+  where
+    there : Has (places ++ p ∷ []) i → Has old i ⊎ (IsNewsOfStep j x q i × (interval_at j q i < n + 1))
+    there at = elim (slice_push_cases places p at.0 i at.1) [
+      | inl older ↦ elim ((was i).0 (at.0, older.1)) [
+        | inl first ↦ inl first
+        | inr new ↦ (let lt = new.1 in inr (new.0, omega arith))
+      ]
+      | inr last ↦
+          (let number = here.number in
+          let new : IsNewsOfStep j x q p × (interval_at j q p < n + 1) =
+          (record { closes = here.closes; leads = leads; late = omega arith; counted = omega arith }, omega arith) in
+          inr (subst (λ m. IsNewsOfStep j x q m × (interval_at j q m < n + 1)) last.1 new))
+    ]
+
+    back : (Has old i ⊎ (IsNewsOfStep j x q i × (interval_at j q i < n + 1))) → Has (places ++ p ∷ []) i
+    back s = elim s [
+      | inl first ↦ fresh_news_has_older places p i ((was i).1 (inl first))
+      | inr new ↦ elim (cases_eq (interval_at j q i) n) [
+        | inl is ↦
+            (let same = index_closing_same j q n p i here (record { closes = new.0.closes; number = is }) in
+            (length places, slice_get-last places p ∙ ap (λ m. Some m) same))
+        | inr isnt ↦ (let lt = new.1 in fresh_news_has_older places p i ((was i).1 (inr (new.0, omega arith))))
+      ]
+    ]
+
+-- or isn't
+pub fresh_news_below_others : (j : List Event) (x : Step) (q n p : ℕ) (old places : List ℕ) → IsIndexedClosing j q n p
+    → ¬ EdgeFromOther j p x.place → HasNewsBelow j x q n old places → HasNewsBelow j x q (n + 1) old places
+fresh_news_below_others j x q n p old places here away was i = (there, back)
+  where
+    there : Has places i → Has old i ⊎ (IsNewsOfStep j x q i × (interval_at j q i < n + 1))
+    there at = elim ((was i).0 at) [
+      | inl first ↦ inl first
+      | inr new ↦ (let lt = new.1 in inr (new.0, omega arith))
+    ]
+
+    back : (Has old i ⊎ (IsNewsOfStep j x q i × (interval_at j q i < n + 1))) → Has places i
+    back s = elim s [
+      | inl first ↦ (was i).1 (inl first)
+      | inr new ↦ elim (cases_eq (interval_at j q i) n) [
+        | inl is ↦
+            (let same = index_closing_same j q n i p (record { closes = new.0.closes; number = is }) here in
+            absurd (away (subst (λ m. EdgeFromOther j m x.place) same new.0.leads)))
+        | inr isnt ↦ (let lt = new.1 in (was i).1 (inr (new.0, omega arith)))
+      ]
+    ]
+
+-- past the last interval that is counted, these are all of q's
+pub fresh_news_below_all : (j : List Event) (x : Step) (q n : ℕ) (old places : List ℕ) → slice_index x.after q ≤ n
+    → HasNewsBelow j x q n old places → (i : ℕ) → Has places i ↔ (Has old i ⊎ IsNewsOfStep j x q i)
+fresh_news_below_all j x q n old places le was i = (
+  (λ at. elim ((was i).0 at) [ inl first ↦ inl first | inr new ↦ inr new.0 ]),
+  λ s. elim s [
+    | inl first ↦ (was i).1 (inl first)
+    | inr new ↦ (let lt = new.counted in (was i).1 (inr (new, omega arith)))
+  ],
+)
+
+-- a place more that isn't among them
+fresh_news_once_next : (xs : List ℕ) (y : ℕ) → IsOnce xs → ¬ Has xs y → IsOnce (xs ++ y ∷ [])
+fresh_news_once_next xs y once away m n a b lt at to is = elim (slice_push_cases xs y n b to) [
+  | inl last ↦ elim (slice_push_cases xs y m a at) [
+    | inl first ↦ once m n a b lt first.1 last.1 is
+    | inr new ↦ (let inside = slice_get_within xs n b last.1 in absurd (omega (arith, new.0)))
+  ]
+  | inr last ↦ elim (slice_push_cases xs y m a at) [
+    | inl first ↦ away (m, first.1 ∙ ap (λ z. Some z) (is ∙ sym last.1))
+    | inr new ↦ absurd (omega (arith, new.0, last.0))
+  ]
+]
+
+pub fresh_news_once_push : (j : List Event) (x : Step) (q n p : ℕ) (old places : List ℕ) → IsIndexedClosing j q n p
+    → HasNewsBelow j x q n old places → IsNewsOnceIf j q old places → IsNewsOnceIf j q old (places ++ p ∷ [])
+fresh_news_once_push j x q n p old places here was once first apart =
+    fresh_news_once_next places p (once first apart) (λ at. elim ((was p).0 at) [
+      | inl there ↦ apart p there here.closes
+      | inr new ↦ (let number = here.number in let lt = new.1 in absurd (omega arith))
+    ])
+
+-- the places so far: the news of the first n processors, none twice
+pub record AreNewsBelow (j : List Event) (x : Step) (n : ℕ) (places : List ℕ) : Type 0 where
+  pub has : (i : ℕ) → Has places i ↔ ((q : ℕ) × (q < n) × IsNewsOfStep j x q i)
+  pub once : IsOnce places
+
+pub fresh_news_start : (j : List Event) (x : Step) → AreNewsBelow j x 0 []
+fresh_news_start j x = record {
+  has = λ i. ((λ at. absurd (none-some i at.1)), λ s. (let lt = s.1 in absurd (omega arith)));
+  once = λ m n a b lt at to. absurd (none-some a at);
+}
+
+-- and of one more
+pub fresh_news_next_processor : (j : List Event) (x : Step) (n : ℕ) (old new : List ℕ) → AreNewsBelow j x n old
+    → ((i : ℕ) → Has new i ↔ (Has old i ⊎ IsNewsOfStep j x n i)) → IsNewsOnceIf j n old new → AreNewsBelow j x (n + 1) new
+fresh_news_next_processor j x n old new was has once = record { has = λ i. (there i, back i); once = once was.once apart }
+  where
+    apart : (i : ℕ) → Has old i → ¬ ClosesAt j n i
+    apart i at closes =
+        let o = (was.has i).0 at in
+        let lt = o.1 in
+        let same = (numbered_does_same j i o.0 n o.2.closes.kind closes.kind o.2.closes.does closes.does).0 in
+        absurd (omega arith)
+
+    there : (i : ℕ) → Has new i → (q : ℕ) × (q < n + 1) × IsNewsOfStep j x q i
+    there i at = elim ((has i).0 at) [
+      | inl older ↦ (let o = (was.has i).0 older in let lt = o.1 in (o.0, omega arith, o.2))
+      | inr now ↦ (n, omega arith, now)
+    ]
+
+    back : (i : ℕ) → ((q : ℕ) × (q < n + 1) × IsNewsOfStep j x q i) → Has new i
+    back i s = elim (cases_eq s.0 n) [
+      | inl is ↦ (has i).1 (inr (subst (λ q. IsNewsOfStep j x q i) is s.2))
+      | inr isnt ↦ (let lt = s.1 in (has i).1 (inl ((was.has i).1 (s.0, omega arith, s.2))))
+    ]
+
+fresh_news_has_contains : (xs : List ℕ) (x : ℕ) → Has xs x → Contains xs x
+fresh_news_has_contains xs x at =
+    let lt = slice_get_within xs at.0 x at.1 in
+    (at.0, lt, same_Some (slice_index_or xs at.0 x) x (sym (slice_get-get_or xs at.0 x lt) ∙ at.1))
+
+fresh_news_contains_has : (xs : List ℕ) (x : ℕ) → Contains xs x → Has xs x
+fresh_news_contains_has xs x at = (at.0, slice_get-get_or xs at.0 x at.1 ∙ ap (λ y. Some y) at.2)
+
+-- in another order the same places stand in the list
+fresh_news_has_moved : (xs ys : List ℕ) (x : ℕ) → IsPermutation xs ys → Has xs x → Has ys x
+fresh_news_has_moved xs ys x moved at = fresh_news_contains_has ys x (Contains-permutation xs ys x moved (fresh_news_has_contains xs x at))
+
+in_order : (xs : List ℕ) → IsStrictlyIncreasing xs → InOrder (λ i m. i < m) xs
+in_order xs rises m n a b lt at to =
+    let inside = slice_get_within xs n b to in
+    let first = same_Some (slice_index_or xs m 0) a (sym (slice_get-get_or xs m 0 (omega arith)) ∙ at) in
+    let last = same_Some (slice_index_or xs n 0) b (sym (slice_get-get_or xs n 0 inside) ∙ to) in
+    let pair = AllPairs-from_increasing xs rises m n 0 lt inside in
+    omega arith
+
+fresh_news_flips : (a b : ℕ) → (a == b) ≡ (b == a)
+fresh_news_flips a b = elim (cases_eq a b) [
+  | inl is ↦ eq-eqb a b is ∙ sym (eq-eqb b a (sym is))
+  | inr isnt ↦ ne_eqb a b isnt ∙ sym (ne_eqb b a (λ is. isnt (sym is)))
+]
+
+-- those of all processors, sorted, are the news
+pub fresh_news_sorted_all : (j : List Event) (x : Step) (n : ℕ) (places sorted : List ℕ) → 16 ≤ n → ProcessorsInRange 16 j
+    → TimesAroundNews j x → AreNewsBelow j x n places → IsPermutation places sorted → IsNonDecreasing sorted
+    → AreNewsInOrder j x.place sorted
+fresh_news_sorted_all j x n places sorted most low step are moved up = record { has = λ i. (there i, back i); order = order }
+  where
+    there : (i : ℕ) → Has sorted i → IsNews j i x.place
+    there i at =
+        let o = (are.has i).0 (fresh_news_has_moved sorted places i (IsPermutation-sym places sorted moved) at) in
+        step_news_is_news j x o.0 i step o.2
+
+    back : (i : ℕ) → IsNews j i x.place → Has sorted i
+    back i news =
+        let new = news_is_of_step j x i low step news in
+        let lt = new.low in
+        fresh_news_has_moved places sorted i moved ((are.has i).1 (new.by, omega arith, new.new))
+
+    apart : (m n d : ℕ) → m < n → n < length places → (slice_index_or places m d == slice_index_or places n d) ≡ false
+    apart m n d lt inside =
+        ne_eqb (slice_index_or places m d) (slice_index_or places n d)
+        (are.once m n (slice_index_or places m d) (slice_index_or places n d) lt
+        (slice_get-get_or places m d (omega arith)) (slice_get-get_or places n d inside))
+
+    order : InOrder (λ i m. i < m) sorted
+    order =
+        in_order sorted
+        (IsStrictlyIncreasing-from_distinct sorted up
+        (IsDistinct-IsPermutation (λ (a b : ℕ). a == b) fresh_news_flips places sorted moved (IsDistinct-from_apart (λ (a b : ℕ). a == b) places apart)))
+
+-- a row more
+pub fresh_news_incoming_next : (j : List Event) (rows : List (Vec ℕ)) (n : ℕ) (row : Vec ℕ) → length rows ≡ n
+    → AreIncoming j rows → AreNewsInOrder j n row.items → AreIncoming j (rows ++ row ∷ [])
+fresh_news_incoming_next j rows n row long are now k new at = elim (slice_push_cases rows row k new at) [
+  | inl old ↦ are k new old.1
+  | inr last ↦
+      (let is : n ≡ k = omega (arith, last.0) in
+      subst (λ (v : Vec ℕ). AreNewsInOrder j k v.items) last.1 (subst (λ m. AreNewsInOrder j m row.items) is now))
+]
+
+-- whether an edge leads on, by the turns of both events
+pub news_leads_by_turns : (j : List Event) (i k : ℕ) (e f : Event) (s t : Turn) (b : Bool) → At j i e → At j k f
+    → IsIndexedTurn j i e.processor s → IsIndexedTurn j k f.processor t → i < k → e.processor ≢ f.processor
+    → (IsTrue b ↔ EdgeLeadsOn e.kind s.arrived f.kind t.departed) → IsTrue b ↔ EdgeFromOther j i k
+news_leads_by_turns j i k e f s t b at to one two lt apart tells = (there, back)
+  where
+    there : IsTrue b → EdgeFromOther j i k
+    there so =
+        leads j i k e f lt at to (
+          apart,
+          subst (λ n. EdgeLeadsOn e.kind n f.kind (count_of is_depart (take k j) f.processor)) one.arrived
+              (subst (λ m. EdgeLeadsOn e.kind s.arrived f.kind m) two.departed (tells.0 so)),
+        )
+
+    back : EdgeFromOther j i k → IsTrue b
+    back x =
+        tells.1
+        (subst (λ n. EdgeLeadsOn e.kind n f.kind t.departed) (sym one.arrived)
+        (subst (λ m. EdgeLeadsOn e.kind (count_of is_arrive (take i j) e.processor) f.kind m) (sym two.departed)
+        (edge_leads_led j i k e f at to x).1))
+
+-- an interval that the step's event counts has its place
+pub fresh_news_number_within : (j : List Event) (x : Step) (q n : ℕ) (row : List ℕ) → TimesAroundNews j x → AreIndexedClosingsOf j q row
+    → n < slice_index x.after q → n < length row
+fresh_news_number_within j x q n row step are lt =
+    let counts = step.after.within q in
+    let all = count_of-take-le is_closing j (x.place + 1) q in
+    let long = are.long in
+    omega arith
+
+-- the timestamps of the journal's fronts are those of the step
+pub fresh_news_of_step : (j : List Event) (x : Step) (e : Event) (before after : ℕ → ℕ) → At j x.place e
+    → IsTimeOf (take x.place j) e.processor before → IsTimeOf (take (x.place + 1) j) e.processor after
+    → ((q : ℕ) → slice_index x.before q ≡ before q) → ((q : ℕ) → slice_index x.after q ≡ after q) → TimesAroundNews j x
+fresh_news_of_step j x e before after at old new one two = record {
+  event = e;
+  at = at;
+  before =
+      fresh_news_time_same (take x.place j) (InPast (take x.place j) e.processor) before (slice_index x.before) one old;
+  after =
+      fresh_news_time_same (take (x.place + 1) j) (InPast (take (x.place + 1) j) e.processor) after (slice_index x.after) two new;
+}
+
+-- the place that was read closes q's interval of this number
+pub fresh_news_closing_read : (j : List Event) (x : Step) (q n p : ℕ) (rows : List (Vec ℕ)) (row : Vec ℕ) → q < 16 → TimesAroundNews j x
+    → AreIndexedClosings j rows → row ≡ slice_index_or rows q row → n < slice_index x.after q
+    → p ≡ slice_index_or row.items n p → IsIndexedClosing j q n p
+fresh_news_closing_read j x q n p rows row low step are read lt got =
+    let long = are.long in
+    let at = slice_get_read rows (length rows) q row refl (omega arith) read in
+    let mine = are.each q row at in
+    mine.each n p
+    (slice_get_read row.items (length row.items) n p refl (fresh_news_number_within j x q n row.items step mine lt) got)

@@ -1,0 +1,326 @@
+-- Which of a processor's events an event reaches first, and how a way goes on from there.
+-- The timestamp after an event of q counts p's event i exactly where i is up to that event (`taken_tells`). What another's
+-- event reaches first of q is one that takes (`taking_before`), so the first timestamp that counts it is that event's.
+-- It is reached by its news alone: by an event of q it would not be the first.
+use Rattle.std.proofs.Common.{◌≡◌, ◌≢◌, ℕ, ◌+◌, ◌-◌, ◌<◌, ◌≤◌, inl, inr, ◌↔◌, IsTrue, List, [], ◌∷◌, ◌++◌, Some, length, take, slice_get, slice_index, zero, suc, subst, sym, refl, ap, ◌∙◌, length-append, arith}
+use Rattle.std.proofs.lemmas.Bool.{cases_eq, cases_lt}
+use Rattle.std.proofs.lemmas.Option.{same_Some, slice_get_within}
+use Rattle.base.specs.InOrderOnce.{InOrder}
+use Rattle.base.proofs.SlicesAndCounts.{slice_push_cases, slice_get-append_left, slice_get-from_take, slice_get-last, slice_get-take, slice_get-take_within}
+use Rattle.journal.specs.declared.event.Event.{Event}
+use Rattle.journal.specs.declared.event.Kind.{Kind}
+use Rattle.journal.specs.declared.event.Kind.TheVariants.{Acquire, Release, Set, Await}
+use Rattle.journal.specs.DidEvent.{event}
+use Rattle.journal.specs.Events.{interval_at, is_closing, is_taking}
+use Rattle.journal.specs.HappensBeforeEdges.{Edge, HappensBefore, LetsThrough, Link, same, lets, meets}
+use Rattle.journal.specs.Pasts.{InPast, UpTo}
+use Rattle.journal.specs.Times.{IsTimeOf}
+use Rattle.journal.specs.WellFormed.{Does}
+use Rattle.journal.proofs.Order.CountedAndNumbered.{numbered_at_same, numbered_at_within, count_of-mono, numbered_does_at, numbered_does_same}
+use Rattle.journal.proofs.Order.HappensBefore.{before_goes_forward}
+use Rattle.journal.proofs.Order.EdgesIntoPast.{past_last_step, past_up_to_back}
+use Rattle.journal.proofs.Times.LeavingCloses.{leaving_own_order}
+use Rattle.journal.proofs.Times.PushesCovered.{covered}
+use Rattle.causes.specs.declared.takings.Taking.{Taking}
+use Rattle.causes.specs.Edges.{EdgeFromOther}
+use Rattle.causes.specs.News.{IsNews}
+use Rattle.causes.specs.Takings.{AreTakings, IsFirstTakingAbove, IsTaking, NoTakingAbove}
+use Rattle.causes.specs.Paths.{IsFirstReachedByPath, IsWay}
+use Rattle.causes.proofs.FreshNews.{fresh_news_from_front, fresh_news_in_front, news_number_in_front}
+
+-- what is up to a place doesn't stand behind it
+pub reached_up_to_le : (j : List Event) (k i : ℕ) → UpTo j k i → i ≤ k
+reached_up_to_le j k i (inl is) = omega arith
+reached_up_to_le j k i (inr h) = let lt : i < k = before_goes_forward j h in omega arith
+
+-- what is up to something is up to what that is up to
+pub reached_up_to_longer : (j : List Event) (i m k : ℕ) → UpTo j m i → UpTo j k m → UpTo j k i
+reached_up_to_longer j i m k (inl is) up = subst (λ n. UpTo j k n) (sym is) up
+reached_up_to_longer j i m k (inr h) up = past_up_to_back j i m k h up
+
+-- what is up to an event of q is up to each later one of q
+pub reached_up_to_own : (j : List Event) (q i k m : ℕ) (a b : Kind) → Does j k q a → Does j m q b → k ≤ m → UpTo j k i
+    → UpTo j m i
+reached_up_to_own j q i k m a b one two le up = elim (cases_eq k m) [
+  | inl is ↦ subst (λ n. UpTo j n i) is up
+  | inr isnt ↦ reached_up_to_longer j i k m up (inr (leaving_own_order j q k m a b one two (omega arith)))
+]
+
+-- after its event at place m, q's timestamp counts p's event at place i exactly where that is up to place m
+pub reached_path_taken_tells : (j : List Event) (p q i m : ℕ) (a b : Kind) (t : ℕ → ℕ) → Does j i p a → Does j m q b → p ≢ q
+    → IsTimeOf (take (m + 1) j) q t → UpTo j m i ↔ (interval_at j p i < t p)
+reached_path_taken_tells j p q i m a b t does at apart time = (there, back)
+  where
+    within : m < length j
+    within = numbered_at_within j m (event q b) at
+
+    there : UpTo j m i → interval_at j p i < t p
+    there (inl is) = absurd (apart (numbered_does_same j m p q a b (subst (λ n. Does j n p a) is does) at).0)
+    there (inr h) =
+        let lt : i < m = before_goes_forward j h in
+        let inside = within in
+        let number = news_number_in_front j (m + 1) p i (omega arith) in
+        let past : InPast (take (m + 1) j) q i =
+        record {
+          own = m;
+          event = event q b;
+          at = slice_get-take j (m + 1) m (omega arith) ∙ at;
+          mine = refl;
+          reaches = inr (fresh_news_in_front j (m + 1) i m (omega arith) (omega arith) h);
+        } in
+        let less =
+        (covered (take (m + 1) j) q p i a t time (slice_get-take j (m + 1) i (omega arith) ∙ does) apart).0 past in
+        omega arith
+
+    up_front : (k : ℕ) → UpTo (take (m + 1) j) k i → UpTo j k i
+    up_front k (inl is) = inl is
+    up_front k (inr h) = inr (fresh_news_from_front j (m + 1) i k h)
+
+    from_past : InPast (take (m + 1) j) q i → UpTo j m i
+    from_past x =
+        let lt = slice_get-take_within j (m + 1) x.own x.event x.at in
+        let there = slice_get-from_take j (m + 1) x.own x.event x.at in
+        reached_up_to_own j q i x.own m x.event.kind b (numbered_does_at j x.own q x.event there x.mine) at (omega arith)
+        (up_front x.own x.reaches)
+
+    back : interval_at j p i < t p → UpTo j m i
+    back lt = elim (cases_lt i (m + 1)) [
+      | inl before ↦
+          (let number = news_number_in_front j (m + 1) p i (omega arith) in
+          from_past ((covered (take (m + 1) j) q p i a t time (slice_get-take j (m + 1) i before ∙ does) apart).1
+          (omega arith)))
+      | inr behind ↦
+          (let counts = time.within p in
+          let up = count_of-mono is_closing j (m + 1) i p behind in
+          absurd (omega arith))
+    ]
+
+reached_path_lets_takes : (a b : Kind) → LetsThrough a b → IsTrue (is_taking b)
+reached_path_lets_takes (Release l) (Acquire m) h = refl
+reached_path_lets_takes (Set f) (Await g) h = refl
+reached_path_lets_takes _ _ h = absurd h
+
+-- an edge from another processor leads to an event that takes
+reached_path_link_takes : (j : List Event) (i k : ℕ) (e f : Event) → Link j i k e f → e.processor ≢ f.processor
+    → IsTrue (is_taking f.kind)
+reached_path_link_takes j i k e f (same s) apart = absurd (apart s)
+reached_path_link_takes j i k e f (lets l) apart = reached_path_lets_takes e.kind f.kind l
+reached_path_link_takes j i k e f (meets m) apart = rw m.departs refl
+
+-- an event of q that takes, up to place k, to which place i is
+pub record TakingReachedBefore (j : List Event) (q i k : ℕ) : Type 0 where
+  pub place : ℕ
+  pub within : place ≤ k
+  pub kind : Kind
+  pub does : Does j place q kind
+  pub takes : IsTrue (is_taking kind)
+  pub reached : UpTo j place i
+
+-- what is up to another's event happens before it
+reached_before : (j : List Event) (p q i k : ℕ) (a b : Kind) → Does j i p a → Does j k q b → p ≢ q → UpTo j k i
+    → HappensBefore j i k
+reached_before j p q i k a b does at apart (inl is) =
+    absurd (apart (numbered_does_same j k p q a b (subst (λ n. Does j n p a) is does) at).0)
+reached_before j p q i k a b does at apart (inr h) = h
+
+reached_path_taking_within : (j : List Event) (n p q i k : ℕ) (a b : Kind) → k < n → Does j i p a → Does j k q b → p ≢ q
+    → HappensBefore j i k → TakingReachedBefore j q i k
+reached_path_taking_within j zero p q i k a b lt does at apart h = absurd (omega arith)
+reached_path_taking_within j (suc n) p q i k a b lt does at apart h =
+    let s = past_last_step j i k h in
+    let l = s.0 in
+    let d = s.2 in
+    let before = d.before in
+    let into : d.to ≡ event q b = numbered_at_same j k d.to (event q b) d.to_at at in
+    let to_mine : d.to.processor ≡ q = ap (λ (e : Event). e.processor) into in
+    let to_kind : d.to.kind ≡ b = ap (λ (e : Event). e.kind) into in
+    elim (cases_eq d.from.processor q) [
+      | inl is ↦
+          (let one : Does j l q d.from.kind = numbered_does_at j l q d.from d.from_at is in
+          let further : HappensBefore j i l = reached_before j p q i l a d.from.kind does one apart s.1 in
+          let t = reached_path_taking_within j n p q i l a d.from.kind (omega arith) does one apart further in
+          let le = t.within in
+          record {
+            place = t.place;
+            within = omega arith;
+            kind = t.kind;
+            does = t.does;
+            takes = t.takes;
+            reached = t.reached;
+          })
+      | inr isnt ↦
+          record {
+            place = k;
+            within = omega arith;
+            kind = b;
+            does = at;
+            takes = subst (λ c. IsTrue (is_taking c)) to_kind
+                (reached_path_link_takes j l k d.from d.to d.link (λ s. isnt (s ∙ to_mine)));
+            reached = inr h;
+          }
+    ]
+
+-- where another's event is up to one of q, there is such an event
+pub reached_path_taking_before : (j : List Event) (p q i k : ℕ) (a b : Kind) → Does j i p a → Does j k q b → p ≢ q → UpTo j k i
+    → TakingReachedBefore j q i k
+reached_path_taking_before j p q i k a b does at apart up =
+    reached_path_taking_within j (suc k) p q i k a b (omega arith) does at apart (reached_before j p q i k a b does at apart up)
+
+-- of its own processor's events, an event reaches itself first
+pub first_reached_own : (j : List Event) (p i : ℕ) (a : Kind) → Does j i p a → IsFirstReachedByPath j i p i
+first_reached_own j p i a does = record {
+  kind = a;
+  does = does;
+  reached = inl refl;
+  first = λ k b lt at up. (let le = reached_up_to_le j k i up in absurd (omega arith));
+}
+
+-- the timestamps of takings that do not count an interval stand in front
+pub reached_path_parted : (j : List Event) (p q i n number : ℕ) (a : Kind) (takings : List Taking) → Does j i p a → p ≢ q
+    → number ≡ interval_at j p i → AreTakings j q n takings
+    → InOrder (λ (x y : Taking). slice_index y.after p ≤ number → slice_index x.after p ≤ number) takings
+reached_path_parted j p q i n number a takings does apart is are k m x y lt at to le =
+    elim (cases_lt number (slice_index x.after p)) [
+      | inl above ↦
+          (let one = are.each k x at in
+          let two = are.each m y to in
+          let rises = are.rising k m x y lt at to in
+          let up =
+          (reached_path_taken_tells j p q i x.place a one.kind (slice_index x.after) does one.does apart one.after).1 (omega arith) in
+          let more =
+          (reached_path_taken_tells j p q i y.place a two.kind (slice_index y.after) does two.does apart two.after).0
+          (reached_up_to_own j q i x.place y.place one.kind two.kind one.does two.does (omega arith) up) in
+          absurd (omega arith))
+      | inr within ↦ within
+    ]
+
+-- where no timestamp counts it, it reaches none of q's events
+pub none_reached : (j : List Event) (p q i number : ℕ) (a : Kind) (takings : List Taking) → Does j i p a → p ≢ q
+    → number ≡ interval_at j p i → AreTakings j q (length j) takings → NoTakingAbove takings p number
+    → (k : ℕ) (b : Kind) → Does j k q b → ¬ UpTo j k i
+none_reached j p q i number a takings does apart is are none k b at up =
+    let t = reached_path_taking_before j p q i k a b does at apart up in
+    let w = are.all t.place t.kind (numbered_at_within j t.place (event q t.kind) t.does) t.does t.takes in
+    let x = w.1 in
+    let here = are.each w.0 x w.2 in
+    let le = none w.0 x w.2 in
+    let more =
+    (reached_path_taken_tells j p q i x.place a here.kind (slice_index x.after) does here.does apart here.after).0
+    (subst (λ n. UpTo j n i) (sym w.3) t.reached) in
+    omega arith
+
+-- the first one that counts it is that after the first event that it reaches
+pub first_reached : (j : List Event) (p q i m number : ℕ) (a : Kind) (takings : List Taking) → Does j i p a → p ≢ q
+    → number ≡ interval_at j p i → AreTakings j q (length j) takings → IsFirstTakingAbove takings p number m
+    → IsFirstReachedByPath j i q m
+first_reached j p q i m number a takings does apart is are found =
+    subst (IsFirstReachedByPath j i q) found.place_is
+    (record { kind = here.kind; does = here.does; reached = reached; first = first })
+  where
+    x : Taking
+    x = found.taking
+
+    here : IsTaking j q (length j) x
+    here = are.each found.index x found.at
+
+    reached : UpTo j x.place i
+    reached =
+        let above = found.above in
+        let same = is in
+        (reached_path_taken_tells j p q i x.place a here.kind (slice_index x.after) does here.does apart here.after).1 (omega arith)
+
+    first : (k : ℕ) (b : Kind) → k < x.place → Does j k q b → ¬ UpTo j k i
+    first k b lt at up =
+        let t = reached_path_taking_before j p q i k a b does at apart up in
+        let w = are.all t.place t.kind (numbered_at_within j t.place (event q t.kind) t.does) t.does t.takes in
+        let y = w.1 in
+        let there = are.each w.0 y w.2 in
+        let place : y.place ≡ t.place = w.3 in
+        let le = t.within in
+        let more =
+        (reached_path_taken_tells j p q i y.place a there.kind (slice_index y.after) does there.does apart there.after).0
+        (subst (λ n. UpTo j n i) (sym w.3) t.reached) in
+        let same = is in
+        elim (cases_lt w.0 found.index) [
+          | inl before ↦ (let under = found.below w.0 y before w.2 in omega arith)
+          | inr behind ↦ elim (cases_eq w.0 found.index) [
+            | inl one ↦
+                (let both : y ≡ x = same_Some y x (sym w.2 ∙ ap (slice_get takings) one ∙ found.at) in
+                let places = ap (λ (z : Taking). z.place) both in
+                omega arith)
+            | inr isnt ↦ (let rises = are.rising found.index w.0 x y (omega arith) found.at w.2 in omega arith)
+          ]
+        ]
+
+-- it reaches that event of q and those behind
+pub reached_from : (j : List Event) (q i m k : ℕ) (b : Kind) → IsFirstReachedByPath j i q m → Does j k q b
+    → (m ≤ k) ↔ UpTo j k i
+reached_from j q i m k b first at = (
+  λ le. reached_up_to_own j q i m k first.kind b first.does at le first.reached,
+  λ up. elim (cases_lt k m) [ inl lt ↦ absurd (first.first k b lt at up) | inr le ↦ le ],
+)
+
+-- where it reaches none of the news of q's first event that it reaches, it is that event
+pub reached_path_none_enters : (j : List Event) (q i k : ℕ) → IsFirstReachedByPath j i q k → ((n : ℕ) → IsNews j n k → ¬ UpTo j n i)
+    → k ≡ i
+reached_path_none_enters j q i k first none = go first.reached
+  where
+    into : (l : ℕ) → UpTo j l i → (d : Edge j l k) → ⊥
+    into l up d =
+        let to = numbered_at_same j k d.to (event q first.kind) d.to_at first.does in
+        let mine : d.to.processor ≡ q = ap (λ (e : Event). e.processor) to in
+        elim (cases_eq d.from.processor q) [
+          | inl is ↦ first.first l d.from.kind d.before (numbered_does_at j l q d.from d.from_at is) up
+          | inr isnt ↦
+              (let leads : EdgeFromOther j l k = record { edge = d; apart = λ s. isnt (s ∙ mine) } in
+              let news : IsNews j l k = record {
+                leads = leads;
+                first = λ m f lt at own h.
+                    first.first m f.kind lt (numbered_does_at j m q f at (own ∙ mine)) (reached_up_to_longer j i l m up (inr h));
+              } in
+              none l news up)
+        ]
+
+    go : UpTo j k i → k ≡ i
+    go (inl is) = sym is
+    go (inr h) = let s = past_last_step j i k h in absurd (into s.0 s.1 s.2)
+
+-- a way of one place
+pub path_way_one : (j : List Event) (i k : ℕ) → k ≡ i → IsWay j i k (k ∷ [])
+path_way_one j i k is = record {
+  first = ap (λ n. Some n) is;
+  last = refl;
+  steps = λ n a b at to. absurd (let lt = slice_get_within (k ∷ []) (n + 1) b to in omega arith);
+}
+
+-- a way goes on by an edge
+pub path_way_longer : (j : List Event) (i m k : ℕ) (places : List ℕ) → IsWay j i m places → Edge j m k
+    → IsWay j i k (places ++ k ∷ [])
+path_way_longer j i m k places way d = record { first = first; last = last; steps = steps }
+  where
+    some : 0 < length places
+    some = slice_get_within places 0 i way.first
+
+    first : slice_get (places ++ k ∷ []) 0 ≡ Some i
+    first = slice_get-append_left places (k ∷ []) 0 some ∙ way.first
+
+    last : slice_get (places ++ k ∷ []) (length (places ++ k ∷ []) - 1) ≡ Some k
+    last =
+        let long = length-append places (k ∷ []) in
+        let is : length (places ++ k ∷ []) - 1 ≡ length places = omega arith in
+        ap (slice_get (places ++ k ∷ [])) is ∙ slice_get-last places k
+
+    steps : (n a b : ℕ) → slice_get (places ++ k ∷ []) n ≡ Some a → slice_get (places ++ k ∷ []) (n + 1) ≡ Some b
+        → Edge j a b
+    steps n a b at to = elim (slice_push_cases places k (n + 1) b to) [
+      | inl old ↦
+          (let lt = old.0 in
+          way.steps n a b (sym (slice_get-append_left places (k ∷ []) n (omega arith)) ∙ at) old.1)
+      | inr new ↦
+          (let end = new.0 in
+          let is : length places - 1 ≡ n = omega arith in
+          let here : slice_get places n ≡ Some a =
+          sym (slice_get-append_left places (k ∷ []) n (omega arith)) ∙ at in
+          let from : m ≡ a = same_Some m a (sym way.last ∙ ap (slice_get places) is ∙ here) in
+          subst (λ y. Edge j a y) new.1 (subst (λ x. Edge j x k) from d))
+    ]

@@ -1,9 +1,0 @@
-use Rattle.std.proofs.lemmas.Option.{slice_get-get_or}
-use Rattle.explore.proofs.prefixes.Steps.{own_next}
-use Rattle.explore.proofs.prefixes.script_call.own_steps.Goals as goal
-
-pub loop-instruction-preserved : goal.loop-instruction-preserved
-loop-instruction-preserved c =
-    let n = c.loop-instruction.instruction-index in
-    let at = slice_get-get_or c.args.section.now n _ c.loop-instruction-test.true in
-    own_next _ _ c.args.section.now n _ at c.loop-instruction.invariant c.in_ok-push_instruction.ensures

@@ -1,0 +1,385 @@
+-- Each processor's last accesses, and the race that is nearest to an event.
+use Rattle.std.proofs.Common.{◌≡◌, ◌≢◌, ℕ, ◌+◌, ◌*◌, ◌<◌, ◌≤◌, ◌⊎◌, inl, inr, ◌↔◌, ◌==◌, Bool, true, false, IsTrue, List, [], ◌∷◌, ◌++◌, length, take, Option, Some, slice_get, slice_set, subst, sym, refl, ap, ◌∙◌, arith, length-append}
+use Rattle.std.specs.Prelude.{None, MatchOption, IfSome, slice_index_or}
+use Rattle.std.proofs.lemmas.Bool.{cases_eq, cases_lt, eq-eqb, eqb-true}
+use Rattle.std.proofs.lemmas.Option.{same_Some, none-some, slice_get-get_or}
+use Rattle.std.proofs.Math.Seq.{take-append_seam}
+use Rattle.base.proofs.SlicesAndCounts.{slice_push_cases}
+use Rattle.base.proofs.SliceSets.{slice_get-set_found, slice_get-set_other, slice_get-replicate_found}
+use Rattle.journal.specs.declared.event.Event.{Event}
+use Rattle.journal.specs.declared.event.Kind.{Kind}
+use Rattle.journal.specs.declared.event.Kind.TheVariants.{Load, Store}
+use Rattle.journal.specs.DidEvent.{did, event}
+use Rattle.journal.specs.Events.{At, count_of, interval_at, address_of, is_closing, is_store}
+use Rattle.journal.specs.WellFormed.{Does}
+use Rattle.journal.specs.InRange.{ProcessorsInRange}
+use Rattle.journal.specs.Times.{IsTimeOf}
+use Rattle.journal.specs.Races.{Conflict, Race, RaceFree}
+use Rattle.journal.proofs.Order.CountedAndNumbered.{numbered_at_within, numbered_at_longer, numbered_at_shorter, numbered_at_last, numbered_at_same, numbered_does_at, count_of-front, count_of-mono}
+use Rattle.journal.proofs.Order.HappensBefore.{before_longer, before_shorter}
+use Rattle.journal.proofs.Passes.ReachedNextRaces.{race_by_time, race_events}
+use Rattle.judge.specs.declared.races.Access.{Access}
+use Rattle.judge.specs.NearestRaces.{AreLastRacingAccesses, IsLastRacingAccess, IsLastRacingAccessOf, IsLastUncountedByRaces, IsNearestRace, IsNearestTo, IsUncountedByRaces, SomeUncountedByRaces, races_with_access_to, races_with_store_to}
+use Rattle.judge.specs.Sources.Tells.{source_row_of}
+
+-- an event of another processor or kind leaves the last access
+pub race_last_access_others : (j : List Event) (e : Event) (is : Kind → Bool) (q : ℕ) (o : Option Access)
+    → (e.processor ≡ q → ¬ IsTrue (is e.kind)) → IsLastRacingAccessOf j is q o → IsLastRacingAccessOf (j ++ e ∷ []) is q o
+race_last_access_others j e is q None away none = λ i k does counts. elim (slice_push_cases j e i (event q k) does) [
+  | inl old ↦ none i k old.1 counts
+  | inr new ↦ away (ap (λ (x : Event). x.processor) new.1)
+      (subst (λ z. IsTrue (is z)) (sym (ap (λ (x : Event). x.kind) new.1)) counts)
+]
+race_last_access_others j e is q (Some x) away last = record {
+  kind = last.kind;
+  does = numbered_at_longer j (e ∷ []) x.place (event q last.kind) last.does;
+  counts = last.counts;
+  interval =
+      (let lt = numbered_at_within j x.place (event q last.kind) last.does in
+      last.interval ∙ sym (count_of-front is_closing j (e ∷ []) x.place q (omega arith)));
+  last = λ i k does counts. elim (slice_push_cases j e i (event q k) does) [
+    | inl old ↦ last.last i k old.1 counts
+    | inr new ↦ absurd (away (ap (λ (z : Event). z.processor) new.1)
+        (subst (λ z. IsTrue (is z)) (sym (ap (λ (y : Event). y.kind) new.1)) counts))
+  ];
+}
+
+-- an event of these kinds is its processor's last one
+pub race_last_access_next : (j : List Event) (p : ℕ) (k : Kind) (is : Kind → Bool) (x : Access) → IsTrue (is k)
+    → x.place ≡ length j → x.interval ≡ count_of is_closing j p → IsLastRacingAccess (did j p k) is p x
+race_last_access_next j p k is x counts place interval = record {
+  kind = k;
+  does = subst (λ n. Does (did j p k) n p k) (sym place) (numbered_at_last j (event p k));
+  counts = counts;
+  interval = interval ∙ sym (ap (λ (xs : List Event). count_of is_closing xs p) front);
+  last = λ i b does here.
+      (let lt = numbered_at_within (did j p k) i (event p b) does in
+      let long = length-append j (event p k ∷ []) in
+      omega arith);
+}
+  where
+    front : take x.place (did j p k) ≡ j
+    front = ap (λ n. take n (did j p k)) place ∙ take-append_seam j (event p k ∷ [])
+
+-- an event of no such kind leaves the rows
+pub nearest_race_rows_left : (j : List Event) (e : Event) (of : ℕ → Kind → Bool) (rows : List (Option Access))
+    → ((a : ℕ) → ¬ IsTrue (of a e.kind)) → AreLastRacingAccesses j of rows → AreLastRacingAccesses (j ++ e ∷ []) of rows
+nearest_race_rows_left j e of rows away are a q o lt at =
+    race_last_access_others j e (of a) q o (λ same. away a) (are a q o lt at)
+
+-- an access of a is kept in its row
+pub nearest_race_rows_kept : (j : List Event) (p a : ℕ) (k : Kind) (of : ℕ → Kind → Bool) (rows : List (Option Access)) (x : Access)
+    → p < 16 → IsTrue (of a k) → ((b : ℕ) → IsTrue (of b k) → a ≡ b) → x.place ≡ length j
+    → x.interval ≡ count_of is_closing j p → AreLastRacingAccesses j of rows
+    → AreLastRacingAccesses (did j p k) of (slice_set rows (source_row_of a p) (Some x))
+nearest_race_rows_kept j p a k of rows x few counts one place interval are b q o lt at =
+    elim (cases_eq (source_row_of b q) (source_row_of a p)) [
+      | inl same ↦
+          (let address : a ≡ b = omega arith in
+          let processor : p ≡ q = omega arith in
+          let is : Some x ≡ o = slice_get-set_found rows (source_row_of a p) (Some x) o
+          (ap (slice_get (slice_set rows (source_row_of a p) (Some x))) (sym same) ∙ at) in
+          subst (IsLastRacingAccessOf (did j p k) (of b) q) is
+          (subst (λ n. IsLastRacingAccess (did j p k) (of n) q x) address
+          (subst (λ n. IsLastRacingAccess (did j p k) (of a) n x) processor
+          (race_last_access_next j p k (of a) x counts place interval))))
+      | inr other ↦
+          race_last_access_others j (event p k) (of b) q o
+          (λ processor yes_is. (let address = one b yes_is in other (omega arith)))
+          (are b q o lt (sym (slice_get-set_other rows (source_row_of a p) (source_row_of b q) (Some x) other) ∙ at))
+    ]
+
+-- before the first event there is none
+pub nearest_race_rows_start : (of : ℕ → Kind → Bool) (rows : List (Option Access)) → ((r : ℕ) (o : Option Access) → slice_get rows r ≡ Some o → None ≡ o)
+    → AreLastRacingAccesses [] of rows
+nearest_race_rows_start of rows none a q o lt at =
+    subst (IsLastRacingAccessOf [] (of a) q) (none (source_row_of a q) o at) (λ i k does counts. none-some (event q k) does)
+
+-- ---- the kinds
+
+pub race_stores_to_one : (a v b : ℕ) → IsTrue (races_with_store_to b (Store a v)) → a ≡ b
+race_stores_to_one a v b counts = eqb-true a b counts
+
+pub race_accesses_to_one : (k : Kind) (a b : ℕ) → address_of k ≡ Some a → IsTrue (races_with_access_to b k) → a ≡ b
+race_accesses_to_one (Load c v) a b is counts = sym (same_Some c a is) ∙ eqb-true c b counts
+race_accesses_to_one (Store c v) a b is counts = sym (same_Some c a is) ∙ eqb-true c b counts
+race_accesses_to_one _ a b is counts = absurd cc
+
+-- a load of a conflicts with the stores to it
+pub nearest_race_load_conflicts : (f : Event) (p a v : ℕ) → Conflict f (event p (Load a v)) ↔ IsTrue (races_with_store_to a f.kind)
+nearest_race_load_conflicts f p a v = (there f.kind refl, back f.kind refl)
+  where
+    there : (k : Kind) → f.kind ≡ k → Conflict f (event p (Load a v)) → IsTrue (races_with_store_to a k)
+    there (Store b w) is c =
+        let one : b ≡ c.address = same_Some b c.address (sym (ap address_of is) ∙ c.first) in
+        let two : a ≡ c.address = same_Some a c.address c.second in
+        eq-eqb b a (one ∙ sym two)
+    there (Load b w) is c = elim c.stores [
+      | inl yes_is ↦ absurd (cc (ap is_store is, yes_is))
+      | inr never ↦ absurd (cc never)
+    ]
+    there k is c = elim c.stores [
+      | inl yes_is ↦ absurd (cc (ap is_store is, yes_is))
+      | inr never ↦ absurd (cc never)
+    ]
+
+    back : (k : Kind) → f.kind ≡ k → IsTrue (races_with_store_to a k) → Conflict f (event p (Load a v))
+    back (Store b w) is counts = record {
+      address = a;
+      first = ap address_of is ∙ ap (λ n. Some n) (eqb-true b a counts);
+      second = refl;
+      stores = inl (ap is_store is);
+    }
+    back _ is counts = absurd (cc counts)
+
+-- a store to a conflicts with all accesses of it
+pub race_store_conflicts_all : (f : Event) (p a v : ℕ) → Conflict f (event p (Store a v)) ↔ IsTrue (races_with_access_to a f.kind)
+race_store_conflicts_all f p a v = (there f.kind refl, back f.kind refl)
+  where
+    there : (k : Kind) → f.kind ≡ k → Conflict f (event p (Store a v)) → IsTrue (races_with_access_to a k)
+    there (Load b w) is c =
+        let one : b ≡ c.address = same_Some b c.address (sym (ap address_of is) ∙ c.first) in
+        let two : a ≡ c.address = same_Some a c.address c.second in
+        eq-eqb b a (one ∙ sym two)
+    there (Store b w) is c =
+        let one : b ≡ c.address = same_Some b c.address (sym (ap address_of is) ∙ c.first) in
+        let two : a ≡ c.address = same_Some a c.address c.second in
+        eq-eqb b a (one ∙ sym two)
+    there k is c = absurd (cc (ap address_of is, c.first))
+
+    back : (k : Kind) → f.kind ≡ k → IsTrue (races_with_access_to a k) → Conflict f (event p (Store a v))
+    back (Load b w) is counts = record {
+      address = a;
+      first = ap address_of is ∙ ap (λ n. Some n) (eqb-true b a counts);
+      second = refl;
+      stores = inr refl;
+    }
+    back (Store b w) is counts = record {
+      address = a;
+      first = ap address_of is ∙ ap (λ n. Some n) (eqb-true b a counts);
+      second = refl;
+      stores = inr refl;
+    }
+    back _ is counts = absurd (cc counts)
+
+-- ---- the last access whose interval a timestamp doesn't count
+
+-- one processor more
+pub nearest_race_uncounted_none : (rows : List (Option Access)) (row : ℕ) (t : ℕ → ℕ) (p n : ℕ) (o : Option ℕ)
+    → IsLastUncountedByRaces rows row t p n o → ((i : ℕ) → ¬ IsUncountedByRaces rows row t p n i)
+    → IsLastUncountedByRaces rows row t p (n + 1) o
+nearest_race_uncounted_none rows row t p n None before none = λ i x. elim (cases_lt x.by n) [
+  | inl lt ↦ before i (record { by = x.by; below = lt; is = x.is })
+  | inr le ↦ (let same : x.by ≡ n = (let b = x.below in omega arith) in
+      none i (subst (λ q. IsUncountedByRaces rows row t p q i) same x.is))
+]
+nearest_race_uncounted_none rows row t p n (Some k) before none = (
+  record { by = before.0.by; below = (let b = before.0.below in omega arith); is = before.0.is },
+  λ m x. elim (cases_lt x.by n) [
+    | inl lt ↦ before.1 m (record { by = x.by; below = lt; is = x.is })
+    | inr le ↦ (let same : x.by ≡ n = (let b = x.below in omega arith) in
+        absurd (none m (subst (λ q. IsUncountedByRaces rows row t p q m) same x.is)))
+  ],
+)
+
+-- two of one row are one
+nearest_race_uncounted_one : (rows : List (Option Access)) (row : ℕ) (t : ℕ → ℕ) (p q i m : ℕ) → IsUncountedByRaces rows row t p q i
+    → IsUncountedByRaces rows row t p q m → i ≡ m
+nearest_race_uncounted_one rows row t p q i m x y =
+    let same : x.access ≡ y.access = same_Some x.access y.access
+    (same_Some (Some x.access) (Some y.access) (sym x.at ∙ y.at)) in
+    sym x.place ∙ (ap (λ (z : Access). z.place) same ∙ y.place)
+
+pub nearest_race_uncounted_some : (rows : List (Option Access)) (row : ℕ) (t : ℕ → ℕ) (p n place k : ℕ) (o : Option ℕ)
+    → IsLastUncountedByRaces rows row t p n o → IsUncountedByRaces rows row t p n place → place ≤ k → IfSome o (λ m. m ≤ k)
+    → (k ≡ place) ⊎ (o ≡ Some k) → IsLastUncountedByRaces rows row t p (n + 1) (Some k)
+nearest_race_uncounted_some rows row t p n place k None before here le old one = (
+  record { by = n; below = omega arith; is = subst (IsUncountedByRaces rows row t p n) (sym is) here },
+  λ m x. elim (cases_lt x.by n) [
+    | inl lt ↦ absurd (before m (record { by = x.by; below = lt; is = x.is }))
+    | inr below ↦ (let same : x.by ≡ n = (let b = x.below in omega arith) in
+        let at = nearest_race_uncounted_one rows row t p n m place (subst (λ q. IsUncountedByRaces rows row t p q m) same x.is) here in
+        omega arith)
+  ],
+)
+  where
+    is : k ≡ place
+    is = elim one [ inl same ↦ same | inr other ↦ absurd (none-some k other) ]
+nearest_race_uncounted_some rows row t p n place k (Some m) before here le old one = (
+  elim one [
+    | inl same ↦ record { by = n; below = omega arith; is = subst (IsUncountedByRaces rows row t p n) (sym same) here }
+    | inr other ↦ record {
+      by = before.0.by;
+      below = (let b = before.0.below in omega arith);
+      is = subst (IsUncountedByRaces rows row t p before.0.by) (same_Some m k other) before.0.is;
+    }
+  ],
+  λ i x. elim (cases_lt x.by n) [
+    | inl lt ↦ (let top = before.1 i (record { by = x.by; below = lt; is = x.is }) in omega arith)
+    | inr below ↦ (let same : x.by ≡ n = (let b = x.below in omega arith) in
+        let at = nearest_race_uncounted_one rows row t p n i place (subst (λ q. IsUncountedByRaces rows row t p q i) same x.is) here in
+        omega arith)
+  ],
+)
+
+-- ---- it is the nearest race
+
+-- what is given: the row has the last accesses of the first n processors, all there are, that conflict with e, and t is the
+-- timestamp before it
+pub record IsRaceRowFor (j : List Event) (e : Event) (is : Kind → Bool) (t : ℕ → ℕ) (rows : List (Option Access)) (row n : ℕ) : Type 0 where
+  pub conflicts : (f : Event) → Conflict f e ↔ IsTrue (is f.kind)
+  pub range : ProcessorsInRange n j
+  pub time : IsTimeOf j e.processor t
+  pub last : (q : ℕ) (o : Option Access) → q < n → slice_get rows (row + q) ≡ Some o → IsLastRacingAccessOf j is q o
+  pub within : row + n ≤ length rows
+
+race_tells : (j : List Event) (e f : Event) (t : ℕ → ℕ) (i : ℕ) → At j i f → f.processor ≢ e.processor → Conflict f e
+    → IsTimeOf j e.processor t → Race (j ++ e ∷ []) i (length j) ↔ (t f.processor ≤ interval_at j f.processor i)
+race_tells j e f t i at apart conflict time =
+    let lt = numbered_at_within j i f at in
+    let front = take-append_seam j (e ∷ []) in
+    let tells = race_by_time (j ++ e ∷ []) (length j) i e f t (numbered_at_last j e) (numbered_at_longer j (e ∷ []) i f at) lt apart conflict
+    (subst (λ xs. IsTimeOf xs e.processor t) (sym front) time) in
+    let same = count_of-front is_closing j (e ∷ []) i f.processor (omega arith) in
+    ((λ r. (let le = tells.0 r in omega arith)), (λ le. tells.1 (omega arith)))
+
+-- an access whose interval isn't counted races
+uncounted_races : (j : List Event) (e : Event) (is : Kind → Bool) (t : ℕ → ℕ) (rows : List (Option Access)) (row n q i : ℕ)
+    → IsRaceRowFor j e is t rows row n → q < n → IsUncountedByRaces rows row t e.processor q i → Race (j ++ e ∷ []) i (length j)
+uncounted_races j e is t rows row n q i given lt x =
+    let last : IsLastRacingAccess j is q x.access = given.last q (Some x.access) lt x.at in
+    let f : Event = event q last.kind in
+    let tells = race_tells j e f t x.access.place last.does x.apart ((given.conflicts f).1 last.counts) given.time in
+    let same = last.interval in
+    let later = x.later in
+    subst (λ m. Race (j ++ e ∷ []) m (length j)) x.place (tells.1 (omega arith))
+
+-- and what races is up to such an access
+record RacesUpToUncounted (rows : List (Option Access)) (row : ℕ) (t : ℕ → ℕ) (p n i : ℕ) : Type 0 where
+  place : ℕ
+  some : SomeUncountedByRaces rows row t p n place
+  up_to : i ≤ place
+
+races_up_to : (j : List Event) (e : Event) (is : Kind → Bool) (t : ℕ → ℕ) (rows : List (Option Access)) (row n i : ℕ)
+    → IsRaceRowFor j e is t rows row n → Race (j ++ e ∷ []) i (length j) → RacesUpToUncounted rows row t e.processor n i
+races_up_to j e is t rows row n i given r = go (slice_index_or rows (row + f.processor) None) there
+  where
+    f : Event
+    f = r.first
+
+    before : i < length j
+    before = r.before
+
+    at : At j i f
+    at = numbered_at_shorter j (e ∷ []) i f before r.first_at
+
+    both : (f.processor ≢ e.processor) × Conflict f e
+    both = race_events (j ++ e ∷ []) (length j) i e f (numbered_at_last j e) r.first_at r
+
+    few : f.processor < n
+    few = given.range i f at
+
+    counts : IsTrue (is f.kind)
+    counts = (given.conflicts f).0 both.1
+
+    there : slice_get rows (row + f.processor) ≡ Some (slice_index_or rows (row + f.processor) None)
+    there = let long = given.within in slice_get-get_or rows (row + f.processor) None (omega (arith, few))
+
+    go : (o : Option Access) → slice_get rows (row + f.processor) ≡ Some o → RacesUpToUncounted rows row t e.processor n i
+    go None none = absurd (given.last f.processor None few none i f.kind at counts)
+    go (Some x) some =
+        let last : IsLastRacingAccess j is f.processor x = given.last f.processor (Some x) few some in
+        let le : i ≤ x.place = last.last i f.kind at counts in
+        let low = (race_tells j e f t i at both.0 both.1 given.time).0 r in
+        let up = count_of-mono is_closing j i x.place f.processor le in
+        let same = last.interval in
+        record {
+          place = x.place;
+          some = record {
+            by = f.processor;
+            below = few;
+            is = record { access = x; apart = both.0; at = some; later = omega arith; place = refl };
+          };
+          up_to = le;
+        }
+
+pub nearest_race_is : (j : List Event) (e : Event) (is : Kind → Bool) (t : ℕ → ℕ) (rows : List (Option Access)) (row n : ℕ)
+    (o : Option ℕ) → IsRaceRowFor j e is t rows row n → IsLastUncountedByRaces rows row t e.processor n o → IsNearestTo j e o
+nearest_race_is j e is t rows row n None given none =
+    λ i r. let x = races_up_to j e is t rows row n i given r in none x.place x.some
+nearest_race_is j e is t rows row n (Some k) given last = (
+  uncounted_races j e is t rows row n last.0.by k given last.0.below last.0.is,
+  λ m r. (let x = races_up_to j e is t rows row n m given r in
+      let top = last.1 x.place x.some in
+      let le = x.up_to in
+      omega arith),
+)
+
+-- ---- races as a history goes on
+
+pub race_longer : (j es : List Event) (m n : ℕ) → Race j m n → Race (j ++ es) m n
+race_longer j es m n r = record {
+  before = r.before;
+  first = r.first;
+  second = r.second;
+  first_at = numbered_at_longer j es m r.first r.first_at;
+  second_at = numbered_at_longer j es n r.second r.second_at;
+  apart = r.apart;
+  conflict = r.conflict;
+  unordered = λ h. r.unordered (before_shorter j es (numbered_at_within j n r.second r.second_at) h);
+}
+
+pub race_shorter : (j es : List Event) (m n : ℕ) → n < length j → Race (j ++ es) m n → Race j m n
+race_shorter j es m n lt r = record {
+  before = r.before;
+  first = r.first;
+  second = r.second;
+  first_at = (let before = r.before in numbered_at_shorter j es m r.first (omega arith) r.first_at);
+  second_at = numbered_at_shorter j es n r.second lt r.second_at;
+  apart = r.apart;
+  conflict = r.conflict;
+  unordered = λ h. r.unordered (before_longer j es h);
+}
+
+-- a race with one event more is one of before, or ends with it
+pub race_cases : (j : List Event) (e : Event) (m n : ℕ) → Race (j ++ e ∷ []) m n → Race j m n ⊎ (n ≡ length j)
+race_cases j e m n r =
+    let within = numbered_at_within (j ++ e ∷ []) n r.second r.second_at in
+    let long = length-append j (e ∷ []) in
+    elim (cases_lt n (length j)) [
+      | inl lt ↦ inl (race_shorter j (e ∷ []) m n lt r)
+      | inr le ↦ inr (omega arith)
+    ]
+
+-- the nearest race stays
+pub nearest_race_longer : (j : List Event) (e : Event) (i k : ℕ) → IsNearestRace j i k → IsNearestRace (j ++ e ∷ []) i k
+nearest_race_longer j e i k x =
+    let lt = numbered_at_within j k x.race.second x.race.second_at in
+    record {
+      race = race_longer j (e ∷ []) i k x.race;
+      least_second = λ m n r. elim (race_cases j e m n r) [
+        | inl old ↦ x.least_second m n old
+        | inr is ↦ omega arith
+      ];
+      greatest_first = λ m r. x.greatest_first m (race_shorter j (e ∷ []) m k lt r);
+    }
+
+-- one event more that ends no race
+pub race_free_next : (j : List Event) (e : Event) → RaceFree j → ((i : ℕ) → ¬ Race (j ++ e ∷ []) i (length j))
+    → RaceFree (j ++ e ∷ [])
+race_free_next j e free none m n r = elim (race_cases j e m n r) [
+  | inl old ↦ free m n old
+  | inr is ↦ none m (subst (Race (j ++ e ∷ []) m) is r)
+]
+
+-- and one that ends the first
+pub nearest_race_new : (j : List Event) (e : Event) (i : ℕ) → RaceFree j → IsNearestTo j e (Some i)
+    → IsNearestRace (j ++ e ∷ []) i (length j)
+nearest_race_new j e i free x = record {
+  race = x.0;
+  least_second = λ m n r. elim (race_cases j e m n r) [
+    | inl old ↦ absurd (free m n old)
+    | inr is ↦ omega arith
+  ];
+  greatest_first = x.1;
+}

@@ -1,0 +1,227 @@
+-- What the getters of clap's matches read, by the rows.
+use Rattle.std.proofs.Common.{◌≡◌, ◌⊎◌, ◌∙◌, ◌<◌, ◌≤◌, ◌^◌, ℕ, Bool, true, false, List, Option, Some, None, Result, Ok, Err, [], ◌∷◌, inl, inr, refl, subst, sym, ap, ap₂, codes}
+use Rattle.std.specs.Prelude.{◌||◌, IfErr, IfOk, OnOk, is_some, option_map}
+use Rattle.std.specs.Option.{option_map_or}
+use Rattle.std.specs.Str.{bytes_eq}
+use Rattle.std.specs.Str.Parse.{IsNumeral, ParsesUnsigned, without_leading_plus}
+use Rattle.std.proofs.lemmas.Option.{same_Some}
+use Rattle.clap.specs.Words.{App, FailsBy, fault_of, HasKind, IsAmong, Kinds, Row, Rule, Text, ReadsOne, first_of, first_value, one_of, one_text, rows_of, subcommand_of, with_rule}
+use Rattle.clap.specs.declared.builder.command.Command.{Command}
+use Rattle.clap.specs.declared.parser.matches.Found.{Found}
+use Rattle.clap.specs.declared.error.Error.{Error}
+use Rattle.clap.proofs.WalkLemmas.{first_value-rows, one_text-rows}
+use Rattle.clap.specs.Values.{kind_of}
+use Rattle.clap.specs.declared.builder.value_parser.ValueParser.{ValueParser}
+use Rattle.clap.specs.declared.error.kind.ErrorKind.TheVariants.{OutOfMemory}
+use Rattle.lrc_options.specs.declared.options.Asked.{Asked}
+use Rattle.lrc_options.specs.declared.options.TraceModel.{TraceModel}
+use Rattle.lrc_options.specs.declared.options.TraceModel.TheVariants.{RaceFree}
+use Rattle.lrc_options.specs.OptionRules.{option_model_given, option_named_model, IsCommand, IsOptionNumberRead, IsNumberOption, IsSeedOption, IsFlagOption, IsRefusedCommandLine, IsOptionUnanswered, OptionTakesNames, AreAskedOptionsOf, AreGivenOptions, flagged_rules, has_both_options, lrc_rules, option_number, most_seed_option}
+
+-- a text that is a number is read as that
+option_number_reads : {E : Type 0} (t : Text) (G : List ℕ → Result ℕ E → Type 0) (r : Option ℕ) → ReadsOne G t r
+    → ((u : List ℕ) (x : Result ℕ E) → G u x → ParsesUnsigned 64 10 u x) → IsNumeral 10 (without_leading_plus t)
+    → option_number t < 2 ^ 64 → r ≡ Some (option_number t)
+option_number_reads t G (Some n) reads parses numeral small = ap Some (parses t (Ok n) reads).1
+option_number_reads t G None reads parses numeral small = absurd (parses t (Err reads.0) reads.1 (numeral, small))
+
+-- `get_one` of a number
+pub option_number_read : {E : Type 0} (G : List ℕ → Result ℕ E → Type 0) (f : Found) (id : Text) (r : Option ℕ)
+    → (one_text f id ≡ None → r ≡ None)
+    → ((t : List ℕ) → one_text f id ≡ Some t → ReadsOne G t r)
+    → ((u : List ℕ) (x : Result ℕ E) → G u x → ParsesUnsigned 64 10 u x) → IsOptionNumberRead (one_of id (rows_of f)) r
+option_number_read G f id r none value parses = record {
+  read = λ t is. option_number_reads t G r (value t (one_text-rows f id ∙ is)) parses;
+  none = λ is. none (one_text-rows f id ∙ is);
+}
+
+-- a number in range
+pub option_number_in : (least most default : ℕ) (given : Option Text) (n : ℕ) → IsOptionNumberRead given (Some n) → least ≤ n
+    → n ≤ most → IsNumberOption least most default given n
+option_number_in least most default given n r above below = record {
+  read = λ t is within. same_Some n (option_number t) (r.read t is within.0 within.1);
+  default_is = λ is. absurd (cc (r.none is));
+  least_is = above;
+  most_is = below;
+}
+
+-- a number out of range
+pub option_number_out : (least most default : ℕ) (given : Option Text) (n : ℕ) → IsOptionNumberRead given (Some n)
+    → (least ≤ n → n ≤ most → ⊥) → least ≤ default → default ≤ most → IsNumberOption least most default given default
+option_number_out least most default given n r out above below = record {
+  read = λ t is within.
+      let same = same_Some n (option_number t) (r.read t is within.0 within.1) in
+      absurd (out (rw same within.2) (rw same within.3));
+  default_is = λ is. refl;
+  least_is = above;
+  most_is = below;
+}
+
+-- no number
+pub option_number_none : (least most default : ℕ) (given : Option Text) → IsOptionNumberRead given None → least ≤ default
+    → default ≤ most → IsNumberOption least most default given default
+option_number_none least most default given r above below = record {
+  read = λ t is within. absurd (cc (r.read t is within.0 within.1));
+  default_is = λ is. refl;
+  least_is = above;
+  most_is = below;
+}
+
+-- a seed in range
+pub seed_option_in : (given : Option Text) (n : ℕ) → IsOptionNumberRead given (Some n) → n ≤ most_seed_option → IsSeedOption given (Some n)
+seed_option_in given n r most = record {
+  read = λ t is within. r.read t is within.0 within.1;
+  none = r.none;
+  most_is = most;
+}
+
+-- a number out of range
+pub seed_option_out : (given : Option Text) (n : ℕ) → IsOptionNumberRead given (Some n) → (n ≤ most_seed_option → ⊥)
+    → IsSeedOption given None
+seed_option_out given n r out = record {
+  read = λ t is within. absurd (out (rw (same_Some n (option_number t) (r.read t is within.0 within.1)) within.3));
+  none = λ is. refl;
+  most_is = tt;
+}
+
+-- no number
+pub seed_option_none : (given : Option Text) → IsOptionNumberRead given None → IsSeedOption given None
+seed_option_none given r = record {
+  read = λ t is within. r.read t is within.0 within.1;
+  none = λ is. refl;
+  most_is = tt;
+}
+
+-- `get_flag`
+pub flag_option_read : (f : Found) (id : Text) (b : Bool) → (one_text f id ≡ None → b ≡ false)
+    → (one_text f id ≡ Some (codes "true") → b ≡ true)
+    → (one_text f id ≡ Some (codes "false") → b ≡ false) → IsFlagOption (one_of id (rows_of f)) b
+flag_option_read f id b none value other = record {
+  set = λ is. value (one_text-rows f id ∙ is);
+  unset = λ is. other (one_text-rows f id ∙ is);
+  none = λ is. none (one_text-rows f id ∙ is);
+}
+
+-- `get_str`, compared with a word
+pub word_option_read : (f : Found) (id word lock : Text) (b : Bool) → Some lock ≡ first_value f id → b ≡ bytes_eq lock word
+    → b ≡ option_map_or (λ t. bytes_eq t word) (first_of id (rows_of f)) false
+word_option_read f id word lock b is same = same
+    ∙ ap (λ o. option_map_or (λ t. bytes_eq t word) o false) (is ∙ first_value-rows f id)
+
+pub no_word_option : (f : Found) (id word : Text) → None ≡ first_value f id
+    → false ≡ option_map_or (λ t. bytes_eq t word) (first_of id (rows_of f)) false
+no_word_option f id word is = ap (λ o. option_map_or (λ t. bytes_eq t word) o false) (is ∙ first_value-rows f id)
+
+-- the model of a name that is given, and of none
+pub option_model_read : (f : Found) (name : Text) (m : TraceModel) → Some name ≡ first_value f (codes "model")
+    → m ≡ option_named_model name → m ≡ option_model_given (rows_of f)
+option_model_read f name m is same = same
+    ∙ ap (λ o. option_map_or option_named_model o RaceFree) (is ∙ first_value-rows f (codes "model"))
+
+pub no_option_model : (f : Found) → None ≡ first_value f (codes "model") → RaceFree ≡ option_model_given (rows_of f)
+no_option_model f is = ap (λ o. option_map_or option_named_model o RaceFree) (is ∙ first_value-rows f (codes "model"))
+
+-- what holds of a value, where there is one, makes what follows from it hold
+pub option_if_ok_map : {T E : Type 0} {P Q : T → Type 0} (r : Result T E) → ((x : T) → P x → Q x) → IfOk r P → IfOk r Q
+option_if_ok_map (Ok x) follows holds = follows x holds
+option_if_ok_map (Err e) follows holds = tt
+
+-- and so of what it was
+pub option_if_ok_was : {T E : Type 0} (P : T → Type 0) (r : Result T E) (x : T) → r ≡ Ok x → IfOk r P → P x
+option_if_ok_was P r x was holds = rw was at holds
+
+-- a command with one more part takes no argument from above
+pub option_still_local : (a b r : Bool) → r ≡ (a || b) → a ≡ false → b ≡ false → r ≡ false
+option_still_local a b r is first second = is ∙ ap₂ (λ x y. x || y) first second
+
+-- a command with a rule is one with the same rule
+pub with_option_rule : {E : Type 0} (r : Result Command E) (a : App) (given rule : Rule) → given ≡ rule
+    → IfOk r (IsCommand (with_rule a given)) → IfOk r (IsCommand (with_rule a rule))
+with_option_rule r a given rule is = subst (λ (x : Rule). IfOk r (IsCommand (with_rule a x))) is
+
+-- and so of one with a rule of its own
+pub own_option_rule_is : {E : Type 0} (r : Result Command E) (name : Text) (given rule : Rule) (locks : ValueParser) (flag : Rule)
+    → given ≡ rule → IfOk r (IsCommand (flagged_rules name given locks flag))
+    → IfOk r (IsCommand (flagged_rules name rule locks flag))
+own_option_rule_is r name given rule locks flag is =
+    subst (λ (x : Rule). IfOk r (IsCommand (flagged_rules name x locks flag))) is
+
+-- what is there stays there, as something else
+pub option_is_some_map : {A B : Type 0} (f : A → B) (o : Option A) → is_some (option_map f o) ≡ is_some o
+option_is_some_map f None = refl
+option_is_some_map f (Some x) = refl
+
+-- what holds of an error, where there is one, makes what follows from it hold
+pub option_if_err_map : {T E : Type 0} {P Q : E → Type 0} (r : Result T E) → ((e : E) → P e → Q e) → IfErr r P → IfErr r Q
+option_if_err_map (Ok x) follows holds = tt
+option_if_err_map (Err e) follows holds = follows e holds
+
+-- two readings of one thing
+abbrev pub both_of_option : {A : Type 0} → (A → Text) → (A → List Row) → A → Text × List Row
+both_of_option f g b = (f b, g b)
+
+-- the name and the rows of what was entered
+pub named_option_rows : {A : Type 0} (f : A → Text) (g : A → List Row) (o : Option A) (name : Text) (rows : List Row)
+    → Some name ≡ option_map f o
+    → Some rows ≡ option_map (λ (p : Text × List Row). p.1) (option_map (both_of_option f g) o)
+    → option_map (both_of_option f g) o ≡ Some (name, rows)
+named_option_rows f g None name rows named found = absurd (cc)
+named_option_rows f g (Some b) name rows named found =
+    ap₂ (λ x y. Some (x, y)) (sym (same_Some name (f b) named)) (sym (same_Some rows (g b) found))
+
+-- where the words were taken there is no fault
+pub option_no_fault : {T : Type 0} (kinds : Kinds) (r : Result T Error) (x : T) → r ≡ Ok x → FailsBy kinds r → kinds ≡ []
+option_no_fault kinds r x was fails = rw was at fails
+
+-- an error has one of the kinds
+pub option_is_fault : {T : Type 0} (kinds : Kinds) (r : Result T Error) (e : Error) → r ≡ Err e → FailsBy kinds r
+    → HasKind kinds e
+option_is_fault kinds r e was fails = rw was at fails
+
+-- an error of the same kind has one of the kinds too
+pub option_fault_same_kind : (kinds : Kinds) (a b : Error) → kind_of b ≡ kind_of a → HasKind kinds a → HasKind kinds b
+option_fault_same_kind kinds a b is has = subst (λ k. (k ≡ OutOfMemory) ⊎ IsAmong k kinds) (sym is) has
+
+-- running out of memory refuses any words
+pub options_out_of_memory : (locks models : ValueParser) (words : List Text) (e : Error)
+    → OptionTakesNames (codes "array" ∷ codes "ticket" ∷ []) locks
+    → OptionTakesNames (codes "race-free" ∷ codes "happens-before" ∷ codes "lazy-release" ∷ codes "sequential" ∷ []) models
+    → kind_of e ≡ OutOfMemory → IsRefusedCommandLine words e
+options_out_of_memory locks models words e are models_are is = record { locks = locks; locks_are = are; models = models; models_are = models_are; kind = inl (inl is) }
+
+-- and so does a seed beside a schedule
+pub options_refused_by : (locks models : ValueParser) (words : List Text) (name : Text) (rows : List Row) (e : Error)
+    → OptionTakesNames (codes "array" ∷ codes "ticket" ∷ []) locks
+    → OptionTakesNames (codes "race-free" ∷ codes "happens-before" ∷ codes "lazy-release" ∷ codes "sequential" ∷ []) models
+    → subcommand_of (lrc_rules locks models) words ≡ Some (name, rows)
+    → IsOptionUnanswered rows e → IsRefusedCommandLine words e
+options_refused_by locks models words name rows e are models_are command (inl memory) =
+    options_out_of_memory locks models words e are models_are memory
+options_refused_by locks models words name rows e are models_are command (inr both) = record {
+  locks = locks;
+  locks_are = are;
+  models = models;
+  models_are = models_are;
+  kind = inr (record { name = name; rows = rows; command = command; both = both.0; kind = both.1 });
+}
+
+-- what is answered is what the words ask for
+pub options_given_by : (locks models : ValueParser) (words : List Text) (name : Text) (rows : List Row) (result : Result Asked Error)
+    → OptionTakesNames (codes "array" ∷ codes "ticket" ∷ []) locks
+    → OptionTakesNames (codes "race-free" ∷ codes "happens-before" ∷ codes "lazy-release" ∷ codes "sequential" ∷ []) models
+    → fault_of (lrc_rules locks models) words ≡ []
+    → subcommand_of (lrc_rules locks models) words ≡ Some (name, rows) → OnOk result (has_both_options rows ≡ false)
+    → IfOk result (AreAskedOptionsOf name rows) → IfOk result (AreGivenOptions words)
+options_given_by locks models words name rows (Ok asked) are models_are none command one told = record {
+  locks = locks;
+  locks_are = are;
+  models = models;
+  models_are = models_are;
+  faultless = none;
+  name = name;
+  rows = rows;
+  command = command;
+  one = one;
+  asked = told;
+}
+options_given_by locks models words name rows (Err e) are models_are none command one told = tt

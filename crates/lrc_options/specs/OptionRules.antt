@@ -1,0 +1,271 @@
+-- What the program's words give.
+use Rattle.std.specs.Prelude.{ℕ, ◌≡◌, ◌<◌, ◌≤◌, ◌-◌, ◌^◌, ◌⊎◌, ◌&&◌, Bool, true, false, List, [], ◌∷◌, Option, Some, None, IfSome, codes, cond, is_some, map, option_map, string_bytes}
+use Rattle.std.specs.Option.{option_map_or}
+use Rattle.std.specs.Str.{bytes_eq}
+use Rattle.std.specs.Str.Parse.{IsNumeral, digits_value, without_leading_plus}
+use Rattle.clap.specs.Words.{App, app_of, HasKind, Row, Rule, Text, new_app, new_rule, with_rule, with_subcommand, subcommand_of, first_of, one_of, fault_of}
+use Rattle.clap.specs.Simple.{on_top}
+use Rattle.clap.specs.Values.{IsUnsignedIn, kind_of}
+use Rattle.clap.specs.declared.builder.action.ArgAction.TheVariants.{SetTrue}
+use Rattle.clap.specs.declared.builder.command.Command.{Command}
+use Rattle.clap.specs.declared.builder.command.Command.TheViews.{out-Command}
+use Rattle.clap.specs.declared.builder.value_parser.ValueParser.{ValueParser}
+use Rattle.clap.specs.declared.builder.value_parser.ValueParser.TheVariants as vp
+use Rattle.clap.specs.declared.error.Error.{Error}
+use Rattle.clap.specs.declared.error.kind.ErrorKind.TheVariants.{ArgumentConflict, OutOfMemory}
+use Rattle.lrc_options.specs.declared.options.Asked.{Asked}
+use Rattle.lrc_options.specs.declared.options.Asked.TheVariants.{Explain, Explore, Sample, Script, Trace}
+use Rattle.lrc_options.specs.declared.options.ExplainOptions.{ExplainOptions}
+use Rattle.lrc_options.specs.declared.options.ExploreOptions.{ExploreOptions}
+use Rattle.lrc_options.specs.declared.options.Options.{Options}
+use Rattle.lrc_options.specs.declared.options.SampleOptions.{SampleOptions}
+use Rattle.lrc_options.specs.declared.options.TraceModel.{TraceModel}
+use Rattle.lrc_options.specs.declared.options.TraceModel.TheVariants.{HappensBefore, LazyRelease, RaceFree, Sequential}
+use Rattle.lrc_options.specs.declared.options.TraceOptions.{TraceOptions}
+
+-- the limits and the default of `--tries`, the limit of `--seed`, `--seeds` and `--most`, and the defaults of the latter two
+abbrev pub most_tries_option : ℕ
+most_tries_option = 1000000000
+
+abbrev pub default_tries_option : ℕ
+default_tries_option = 1000000
+
+abbrev pub most_seed_option : ℕ
+most_seed_option = 2 ^ 32 - 1
+
+abbrev pub default_seeds_option : ℕ
+default_seeds_option = 1000
+
+abbrev pub default_most_option : ℕ
+default_most_option = 1000000
+
+-- an option with a value
+abbrev pub option_rule : Text → Rule
+option_rule id = record (new_rule id) { long = Some id; value_names = 1 }
+
+-- one whose value is a number in this range
+abbrev pub number_rule : Text → ℕ → ℕ → Rule
+number_rule id least most = record (option_rule id) { parser = Some (vp.Unsigned least most) }
+
+abbrev pub tries_rule : Rule
+tries_rule = record (number_rule (codes "tries") 1 most_tries_option) { defaults = codes "1000000" ∷ [] }
+
+abbrev pub seed_rule : Rule
+seed_rule = number_rule (codes "seed") 0 most_seed_option
+
+abbrev pub schedule_rule : Rule
+schedule_rule = option_rule (codes "schedule")
+
+abbrev pub seeds_rule : Rule
+seeds_rule = record (number_rule (codes "seeds") 1 most_seed_option) { defaults = codes "1000" ∷ [] }
+
+abbrev pub most_rule : Rule
+most_rule = record (number_rule (codes "most") 0 most_seed_option) { defaults = codes "1000000" ∷ [] }
+
+abbrev pub lock_rule : ValueParser → Rule
+lock_rule locks = record (option_rule (codes "lock")) { parser = Some locks; defaults = codes "array" ∷ [] }
+
+abbrev pub model_rule : ValueParser → Rule
+model_rule models = record (option_rule (codes "model")) { parser = Some models; defaults = codes "race-free" ∷ [] }
+
+-- an option without a value
+abbrev pub flag_rule : Text → Rule
+flag_rule id = record (new_rule id) { long = Some id; action = Some SetTrue }
+
+abbrev pub journal_rule : Rule
+journal_rule = flag_rule (codes "journal")
+
+abbrev pub svg_rule : Rule
+svg_rule = flag_rule (codes "svg")
+
+-- a command of this shape, of which no argument is global
+pub record IsCommand (a : App) (c : Command) : Type 0 where
+  pub shape : app_of c ≡ a
+  pub local : (out-Command c).has_globals ≡ false
+
+-- a command on a file
+abbrev pub file_rules : Text → App
+file_rules name = with_rule (new_app name) (new_rule (codes "FILE"))
+
+-- the same with an option of its own and `--lock`, which takes what this parser lets through
+abbrev pub script_rules : Text → Rule → ValueParser → App
+script_rules name own locks = with_rule (with_rule (file_rules name) own) (lock_rule locks)
+
+-- the same with a flag
+abbrev pub flagged_rules : Text → Rule → ValueParser → Rule → App
+flagged_rules name own locks flag = with_rule (script_rules name own locks) flag
+
+-- `lrc run` and `lrc step`
+abbrev pub run_rules : ValueParser → App
+run_rules locks = flagged_rules (codes "run") tries_rule locks journal_rule
+
+abbrev pub step_rules : ValueParser → App
+step_rules locks = with_rule (flagged_rules (codes "step") seed_rule locks journal_rule) schedule_rule
+
+-- `lrc explain`
+abbrev pub explain_rules : ValueParser → App
+explain_rules locks = with_rule (flagged_rules (codes "explain") seed_rule locks svg_rule) schedule_rule
+
+-- `lrc sample`
+abbrev pub sample_rules : ValueParser → App
+sample_rules locks = script_rules (codes "sample") seeds_rule locks
+
+-- `lrc explore`
+abbrev pub explore_rules : App
+explore_rules = with_rule (file_rules (codes "explore")) most_rule
+
+-- `lrc check`
+abbrev pub lax_rule : Rule
+lax_rule = flag_rule (codes "lax")
+
+abbrev pub race_is_error_rule : Rule
+race_is_error_rule = flag_rule (codes "race-is-error")
+
+abbrev pub check_rules : ValueParser → App
+check_rules models =
+    with_rule (with_rule (with_rule (file_rules (codes "check")) (model_rule models)) lax_rule) race_is_error_rule
+
+-- `lrc` without its commands: it wants one, and has a version
+abbrev pub bare_rules : App
+bare_rules = on_top (λ s. record s { subcommand_required = true; has_version = true }) (new_app (codes "lrc"))
+
+-- `lrc` with all its commands
+abbrev pub lrc_rules : ValueParser → ValueParser → App
+lrc_rules locks models = with_subcommand (with_subcommand (with_subcommand (with_subcommand (with_subcommand (with_subcommand bare_rules
+    (run_rules locks).top) (step_rules locks).top) (explain_rules locks).top) (sample_rules locks).top) explore_rules.top)
+    (check_rules models).top
+
+-- the parser takes these names and no others
+abbrev pub OptionTakesNames : List Text → ValueParser → Type 0
+OptionTakesNames names (vp.Names given) = map (λ s. s.now) given.now ≡ names
+OptionTakesNames names _ = ⊥
+
+-- the number that a text gives
+abbrev pub option_number : Text → ℕ
+option_number t = digits_value 10 (without_leading_plus t)
+
+-- the number that is given, if the text is one of 64 bits
+pub record IsOptionNumberRead (given : Option Text) (n : Option ℕ) : Type 0 where
+  pub read : (t : Text) → given ≡ Some t → IsNumeral 10 (without_leading_plus t) → option_number t < 2 ^ 64
+      → n ≡ Some (option_number t)
+  pub none : given ≡ None → n ≡ None
+
+-- the number that is given, or the default; it is in range
+pub record IsNumberOption (least most default : ℕ) (given : Option Text) (n : ℕ) : Type 0 where
+  pub read : (t : Text) → given ≡ Some t → IsUnsignedIn least most t → n ≡ option_number t
+  pub default_is : given ≡ None → n ≡ default
+  pub least_is : least ≤ n
+  pub most_is : n ≤ most
+
+-- the seed that is given, or none; it is in range
+pub record IsSeedOption (given : Option Text) (seed : Option ℕ) : Type 0 where
+  pub read : (t : Text) → given ≡ Some t → IsUnsignedIn 0 most_seed_option t → seed ≡ Some (option_number t)
+  pub none : given ≡ None → seed ≡ None
+  pub most_is : IfSome seed (λ n. n ≤ most_seed_option)
+
+-- whether a flag is set
+pub record IsFlagOption (given : Option Text) (flag : Bool) : Type 0 where
+  pub set : given ≡ Some (codes "true") → flag ≡ true
+  pub unset : given ≡ Some (codes "false") → flag ≡ false
+  pub none : given ≡ None → flag ≡ false
+
+-- the options that a command's name and its rows give
+pub record AreOptionsOf (name : Text) (rows : List Row) (o : Options) : Type 0 where
+  pub step : o.step ≡ bytes_eq name (codes "step")
+  pub file : option_map (λ f. string_bytes f) o.file ≡ first_of (codes "FILE") rows
+  pub tries : IsNumberOption 1 most_tries_option default_tries_option (one_of (codes "tries") rows) o.tries
+  pub seed : IsSeedOption (one_of (codes "seed") rows) o.seed
+  pub schedule : option_map (λ t. string_bytes t) o.schedule ≡ first_of (codes "schedule") rows
+  pub ticket : o.ticket ≡ option_map_or (λ t. bytes_eq t (codes "ticket")) (first_of (codes "lock") rows) false
+  pub journal : IsFlagOption (one_of (codes "journal") rows) o.journal
+
+-- the model of this name
+abbrev pub option_named_model : Text → TraceModel
+option_named_model name = cond (bytes_eq name (codes "happens-before")) HappensBefore
+    (cond (bytes_eq name (codes "lazy-release")) LazyRelease
+    (cond (bytes_eq name (codes "sequential")) Sequential RaceFree))
+
+-- the model that is asked for, or the default
+abbrev pub option_model_given : List Row → TraceModel
+option_model_given rows = option_map_or option_named_model (first_of (codes "model") rows) RaceFree
+
+-- the options that the rows of `check` give
+pub record AreTraceOptionsOf (rows : List Row) (o : TraceOptions) : Type 0 where
+  pub file : option_map (λ f. string_bytes f) o.file ≡ first_of (codes "FILE") rows
+  pub model : o.model ≡ option_model_given rows
+  pub lax : IsFlagOption (one_of (codes "lax") rows) o.lax
+  pub race_is_error : IsFlagOption (one_of (codes "race-is-error") rows) o.race_is_error
+
+-- whether the ticket lock is asked for
+abbrev pub ticket_option : List Row → Bool
+ticket_option rows = option_map_or (λ t. bytes_eq t (codes "ticket")) (first_of (codes "lock") rows) false
+
+-- the options that the rows of `sample` give
+pub record AreSampleOptionsOf (rows : List Row) (o : SampleOptions) : Type 0 where
+  pub file : option_map (λ f. string_bytes f) o.file ≡ first_of (codes "FILE") rows
+  pub seeds : IsNumberOption 1 most_seed_option default_seeds_option (one_of (codes "seeds") rows) o.seeds
+  pub ticket : o.ticket ≡ ticket_option rows
+
+-- the options that the rows of `explore` give
+pub record AreExploreOptionsOf (rows : List Row) (o : ExploreOptions) : Type 0 where
+  pub file : option_map (λ f. string_bytes f) o.file ≡ first_of (codes "FILE") rows
+  pub most : IsNumberOption 0 most_seed_option default_most_option (one_of (codes "most") rows) o.most
+
+-- the options that the rows of `explain` give
+pub record AreExplainOptionsOf (rows : List Row) (o : ExplainOptions) : Type 0 where
+  pub file : option_map (λ f. string_bytes f) o.file ≡ first_of (codes "FILE") rows
+  pub seed : IsSeedOption (one_of (codes "seed") rows) o.seed
+  pub schedule : option_map (λ t. string_bytes t) o.schedule ≡ first_of (codes "schedule") rows
+  pub ticket : o.ticket ≡ ticket_option rows
+  pub picture : IsFlagOption (one_of (codes "svg") rows) o.picture
+
+-- what a command's name and its rows ask for
+abbrev pub AreAskedOptionsOf : Text → List Row → Asked → Type 0
+AreAskedOptionsOf name rows (Explain o) = (bytes_eq name (codes "explain") ≡ true) × AreExplainOptionsOf rows o
+AreAskedOptionsOf name rows (Sample o) = (bytes_eq name (codes "sample") ≡ true) × AreSampleOptionsOf rows o
+AreAskedOptionsOf name rows (Explore o) = (bytes_eq name (codes "explore") ≡ true) × AreExploreOptionsOf rows o
+AreAskedOptionsOf name rows (Trace o) = (bytes_eq name (codes "check") ≡ true) × AreTraceOptionsOf rows o
+AreAskedOptionsOf name rows (Script o) = (bytes_eq name (codes "explain") ≡ false)
+    × (bytes_eq name (codes "sample") ≡ false)
+    × (bytes_eq name (codes "explore") ≡ false)
+    × (bytes_eq name (codes "check") ≡ false)
+    × AreOptionsOf name rows o
+
+-- whether a seed and a schedule are given
+abbrev pub has_both_options : List Row → Bool
+has_both_options rows = is_some (first_of (codes "seed") rows) && is_some (first_of (codes "schedule") rows)
+
+-- what the words ask for, by the matches of a simple command, which find no fault in them, and no seed beside a schedule
+pub record AreGivenOptions (words : List Text) (o : Asked) : Type 0 where
+  pub locks : ValueParser
+  pub locks_are : OptionTakesNames (codes "array" ∷ codes "ticket" ∷ []) locks
+  pub models : ValueParser
+  pub models_are : OptionTakesNames
+      (codes "race-free" ∷ codes "happens-before" ∷ codes "lazy-release" ∷ codes "sequential" ∷ []) models
+  pub faultless : fault_of (lrc_rules locks models) words ≡ []
+  pub name : Text
+  pub rows : List Row
+  pub command : subcommand_of (lrc_rules locks models) words ≡ Some (name, rows)
+  pub one : has_both_options rows ≡ false
+  pub asked : AreAskedOptionsOf name rows o
+
+-- the words give a seed and a schedule, and the fault says so
+pub record IsOptionConflict (locks models : ValueParser) (words : List Text) (e : Error) : Type 0 where
+  pub name : Text
+  pub rows : List Row
+  pub command : subcommand_of (lrc_rules locks models) words ≡ Some (name, rows)
+  pub both : has_both_options rows ≡ true
+  pub kind : kind_of e ≡ ArgumentConflict
+
+-- a command whose rows these are isn't answered: memory ran out, or a seed and a schedule are given
+abbrev pub IsOptionUnanswered : List Row → Error → Type 0
+IsOptionUnanswered rows e = (kind_of e ≡ OutOfMemory) ⊎ ((has_both_options rows ≡ true) × (kind_of e ≡ ArgumentConflict))
+
+-- memory ran out, or the matches of that command find a fault of this kind in the words, or a seed beside a schedule
+pub record IsRefusedCommandLine (words : List Text) (e : Error) : Type 0 where
+  pub locks : ValueParser
+  pub locks_are : OptionTakesNames (codes "array" ∷ codes "ticket" ∷ []) locks
+  pub models : ValueParser
+  pub models_are : OptionTakesNames
+      (codes "race-free" ∷ codes "happens-before" ∷ codes "lazy-release" ∷ codes "sequential" ∷ []) models
+  pub kind : HasKind (fault_of (lrc_rules locks models) words) e ⊎ IsOptionConflict locks models words e
