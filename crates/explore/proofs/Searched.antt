@@ -1,7 +1,7 @@
 -- What a search knows, state by state.
 -- What was noted of the first states stays so as states are pushed on. One more state is either followed, where its next
 -- events are found, or ends: then it is whole and shows an outcome, or it hangs.
-use Rattle.std.proofs.Common.{ℕ, zero, suc, ◌≡◌, ◌≢◌, ◌+◌, ◌<◌, ◌≤◌, ◌↔◌, ◌⊎◌, inl, inr, Bool, false, List, [], ◌∷◌, Option, Some, length, map, slice_get, slice_index_or, refl, sym, ap, subst, ◌∙◌, arith}
+use Rattle.std.proofs.Common.{ℕ, zero, suc, ◌≡◌, ◌≢◌, ◌+◌, ◌<◌, ◌≤◌, ◌↔◌, ◌⊎◌, inl, inr, Bool, false, List, [], ◌∷◌, Option, Some, length, map, slice_get, slice_index, slice_index_or, refl, sym, ap, subst, ◌∙◌, arith}
 use Rattle.std.specs.Prelude.{None, MatchOption, unwrap_or}
 use Rattle.std.specs.Global.{Vec}
 use Rattle.std.proofs.lemmas.Bool.{cases_eq, cases_lt, false≢true}
@@ -12,6 +12,7 @@ use Rattle.base.proofs.Joined.{has-append, has-cons, has-nil, in_order-append, i
 use Rattle.base.proofs.SliceSets.{slice_sets_same}
 use Rattle.journal.specs.declared.event.Event.{Event}
 use Rattle.journal.specs.declared.event.Kind.{Kind}
+use Rattle.journal.specs.declared.event.Kind.TheVariants.{Ask}
 use Rattle.journal.specs.DidEvent.{did}
 use Rattle.lrc_script.specs.Plan.{Plan}
 use Rattle.conformance.specs.Follows.{Follows}
@@ -33,11 +34,12 @@ use Rattle.explore.specs.Found.{AreFound, IsFoundState, KeepsFound, states_found
 use Rattle.explore.specs.Machines.{AreLawfulMachineSteps, Knows, machine_rows}
 use Rattle.explore.specs.Nexts.{AreNexts, AreNextInConflict}
 use Rattle.explore.specs.Outcomes.{AreOutcomeReplies}
-use Rattle.explore.specs.Searched.{AreSearchOutcomesShown, HangsSearched, IsAmongSearched, SearchFollowsFree, SearchFollowsWhole, IsSearchReduced, SearchOutcomesNoted, IsSearchHangingOpen, IsSearchVerdictOpen, IsSearchQuiet, SearchedUpTo, IsShownBySearch, HasMoreToSearch, SearchMayNote, NoneSearchedHangs}
+use Rattle.explore.specs.Searched.{AreAsksFollowed, AreSearchOutcomesShown, HangsSearched, IsAmongSearched, SearchFollowsFree, SearchFollowsWhole, IsSearchReduced, SearchOutcomesNoted, IsSearchHangingOpen, IsSearchVerdictOpen, IsSearchQuiet, SearchedUpTo, IsShownBySearch, HasMoreToSearch, SearchMayNote, NoneSearchedHangs}
 use Rattle.explore.proofs.Followed.{followed_known_kept}
 use Rattle.explore.proofs.Machines.{machine_some_at}
 use Rattle.explore.proofs.reduced.Ends.{EndsInConflict, EndsShowing, reduced_ends_conflict_lasts, follows_ends, reduced_ends_hang_lasts, reduced_ends_shows_last}
-use Rattle.explore.proofs.reduced.Reaching.{ReachingFollowsAll, ReachingFollowsOne, reached}
+use Rattle.explore.proofs.reduced.Later.{later_ask}
+use Rattle.explore.proofs.reduced.Reaching.{ReachingFollowsAll, FollowsAsks, ReachingFollowsOne, reached}
 
 -- a state of the first ones was there before
 pub search_was_at : (old new : List FlatState) (place : ℕ) (m : FlatState) → KeepsFound old new → place < length old
@@ -103,13 +105,22 @@ module _ (s : Plan) (old new : List FlatState) (n : ℕ) (keeps : KeepsFound old
   search_reduced_kept : (rows : List (Vec ScriptCall)) → IsSearchReduced s rows old n → IsSearchReduced s rows new n
   search_reduced_kept rows reduced place m lt at = elim (reduced place m lt (search_was_at old new place m keeps (omega arith) at)) [
     | inl whole ↦ inl (λ g p k knows next. followed_known_kept s old new (did g p k) keeps (whole g p k knows next))
-    | inr one ↦ inr (record {
-      processor = one.processor;
-      kind = one.kind;
-      free = one.free;
-      next = one.next;
-      known = λ g knows. followed_known_kept s old new (did g one.processor one.kind) keeps (one.known g knows);
-    })
+    | inr some ↦ inr (elim some [
+      | inl one ↦ inl (record {
+        processor = one.processor;
+        kind = one.kind;
+        free = one.free;
+        next = one.next;
+        known = λ g knows. followed_known_kept s old new (did g one.processor one.kind) keeps (one.known g knows);
+      })
+      | inr asks ↦ inr (record {
+        lock = asks.lock;
+        processor = asks.processor;
+        next = asks.next;
+        known = λ g p knows next. followed_known_kept s old new (did g p (Ask asks.lock)) keeps (asks.known g p knows next);
+        others = asks.others;
+      })
+    ])
   ]
 
   search_quiet_kept : IsSearchQuiet s old n → IsSearchQuiet s new n
@@ -354,12 +365,12 @@ module _ (s : Plan) (x : Search) (steps : List (Vec ScriptCall)) (n : ℕ) (f : 
   }
 
 -- a state more was looked at
-pub looked : (s : Plan) (x z : Search) (steps : List (Vec ScriptCall)) (n : ℕ) (nexts chosen : List (Option Kind))
-    → HasMoreToSearch s x steps n
+pub looked : (s : Plan) (x z : Search) (steps : List (Vec ScriptCall)) (n : ℕ) (done : List ℕ) (nexts chosen : List (Option Kind))
+    → HasMoreToSearch s x steps n → ((m : FlatState) → slice_get (states_found x.found) n ≡ Some m → m.done ≡ done)
     → ((m : FlatState) → slice_get (states_found x.found) n ≡ Some m → AreNexts s m nexts)
-    → ((p q : ℕ) (a b : Kind) → ¬ AreNextInConflict nexts p q a b) → IsChoice steps nexts chosen
+    → ((p q : ℕ) (a b : Kind) → ¬ AreNextInConflict nexts p q a b) → IsChoice steps done nexts chosen
     → AreFollowed s x.found z.found n chosen (length chosen) → SearchOutcomesNoted s z (n + 1) → SearchedUpTo s z steps (n + 1)
-looked s x z steps n nexts chosen may are none choice followed noted =
+looked s x z steps n done nexts chosen may has_done are none choice followed noted =
     let old = states_found x.found in
     let new = states_found z.found in
     let f = machine_some_at old n may.more in
@@ -392,35 +403,62 @@ looked s x z steps n nexts chosen may are none choice followed noted =
     ]
 
     now : (m : FlatState) → slice_get (states_found x.found) n ≡ Some m
-        → SearchFollowsWhole s (states_found z.found) m ⊎ SearchFollowsFree s steps (states_found z.found) m
+        → SearchFollowsWhole s (states_found z.found) m
+        ⊎ (SearchFollowsFree s steps (states_found z.found) m ⊎ AreAsksFollowed s (states_found z.found) m)
     now m here = elim choice [
       | inl all ↦ inl (λ g p k knows next.
           known m g p k here knows (ap (λ os. slice_index_or os p None) all ∙ (are m here g knows p k).1 next))
-      | inr one ↦ inr (record {
-        processor = one.processor;
-        kind = one.kind;
-        free = one.free;
-        next = λ g knows. (are m here g knows one.processor one.kind).0 one.at;
-        known = λ g knows. known m g one.processor one.kind here knows one.chosen_at;
-      })
+      | inr some ↦ inr (elim some [
+        | inl one ↦ inl (record {
+          processor = one.processor;
+          kind = one.kind;
+          free = one.free;
+          next = λ g knows. (are m here g knows one.processor one.kind).0 one.at;
+          known = λ g knows. known m g one.processor one.kind here knows one.chosen_at;
+        })
+        | inr asks ↦ inr (record {
+          lock = asks.lock;
+          processor = asks.processor;
+          next = λ g knows. (are m here g knows asks.processor (Ask asks.lock)).0 asks.asks;
+          known = λ g p knows next.
+              known m g p (Ask asks.lock) here knows (asks.all p ((are m here g knows p (Ask asks.lock)).1 next));
+          others = λ g more p knows later.
+              let ask = later_ask s steps may.lawful g more p asks.lock later in
+              let before = knows.done p ask.small in
+              let le = ask.behind in
+              (are m here g knows p (Ask asks.lock)).0
+              (asks.others p ask.place ask.row ask.at (subst (λ ds. slice_index ds p ≤ ask.place) (has_done m here) (omega arith))
+              ask.asks);
+        })
+      ])
     ]
 
 -- where all states are looked at, no kind of end is missed
 module _ (s : Plan) (x : Search) (steps : List (Vec ScriptCall)) (lawful : AreLawfulMachineSteps s steps)
     (searched : SearchedUpTo s x steps (length (states_found x.found))) where
   search_followed_of : (h : List Event) → IsFoundState s (states_found x.found) h
-      → ReachingFollowsAll s (IsFoundState s (states_found x.found)) h ⊎ ReachingFollowsOne s steps (IsFoundState s (states_found x.found)) h
+      → ReachingFollowsAll s (IsFoundState s (states_found x.found)) h
+      ⊎ (ReachingFollowsOne s steps (IsFoundState s (states_found x.found)) h ⊎ FollowsAsks s (IsFoundState s (states_found x.found)) h)
   search_followed_of h known =
       let within = slice_get_within (states_found x.found) known.place known.state known.at in
       elim (searched.closed known.place known.state within known.at) [
         | inl whole ↦ inl (λ p k next. whole h p k known.knows next)
-        | inr one ↦ inr (record {
-          processor = one.processor;
-          kind = one.kind;
-          free = one.free;
-          next = one.next h known.knows;
-          found = one.known h known.knows;
-        })
+        | inr some ↦ inr (elim some [
+          | inl one ↦ inl (record {
+            processor = one.processor;
+            kind = one.kind;
+            free = one.free;
+            next = one.next h known.knows;
+            found = one.known h known.knows;
+          })
+          | inr asks ↦ inr (record {
+            lock = asks.lock;
+            processor = asks.processor;
+            next = asks.next h known.knows;
+            found = λ p next. asks.known h p known.knows next;
+            others = λ more p later. asks.others h more p known.knows later;
+          })
+        ])
       ]
 
   pub searched_none_hangs : NoneSearchedHangs s (states_found x.found) (length (states_found x.found)) → (g : List Event) → ¬ IsHangingBeginning s g

@@ -1,4 +1,5 @@
 pub mod Same
 pub mod Swapping
 pub mod Reaching
+pub mod Later
 pub mod Ends

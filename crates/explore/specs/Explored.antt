@@ -19,7 +19,7 @@ use Rattle.explore.specs.Room.{states_with_room}
 use Rattle.explore.specs.States.{HasStates}
 use Rattle.explore.specs.Waiting.{AllWaitingTold}
 
--- a beginning whose last event is the first that races
+-- a prefix whose last event is the first that races
 pub record IsExploredRacy (s : Plan) (racy : RacyEvents) : Type 0 where
   pub beginning : IsFlatBeginning s racy.events.items
   pub last : ℕ
@@ -57,7 +57,7 @@ IsExploredHanging s hanging.Never = (g : List Event) → ¬ IsHangingBeginning s
 IsExploredHanging s (hanging.Hangs hang) = IsExploredHang s hang
 IsExploredHanging s hanging.Undecided = ⊤
 
--- whether nothing is open, where all outcomes are known or not
+-- whether nothing is open, if all outcomes are known or not
 abbrev pub explored_settles : Verdict → Hanging → Bool → Bool
 explored_settles (verdict.Racy racy) _ all = true
 explored_settles verdict.RaceFree hanging.Never all = all
@@ -67,8 +67,8 @@ explored_settles _ _ all = false
 abbrev pub is_settled : Explored → Bool
 is_settled answer = explored_settles answer.verdict answer.hanging answer.are_all
 
--- what an answer says, where so many states were asked for: the script has as many as were found, which are no more than
--- those to be looked at and what comes next after one; each answer is true; and one is open only where there are more
+-- what an answer says, if so many states were asked for: the script has as many as were found, which are no more than
+-- those to be looked at and what comes next after one; each answer is true; and one is open only if there are more
 -- states than were asked for, or than fit
 pub record IsExplored (s : Plan) (most : ℕ) (answer : Explored) : Type 0 where
   pub states : HasStates s answer.states

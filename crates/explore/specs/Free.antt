@@ -1,11 +1,13 @@
--- Which events commute with all that other processors may do.
-use Rattle.std.specs.Prelude.{ℕ, ◌≡◌, ◌⊎◌, Bool, true, false, IsTrue, Option, Some, None, List, slice_index_or}
+-- Which events are followed: one that commutes with all that other processors may do, the asks for one lock, or all.
+use Rattle.std.specs.Prelude.{ℕ, ◌≡◌, ◌<◌, ◌≤◌, ◌==◌, ◌⊎◌, Bool, true, false, if◌then◌else◌, IsTrue, Option, Some, None, List, [], slice_get, slice_index, slice_index_or}
 use Rattle.std.specs.Global.{Vec}
 use Rattle.journal.specs.declared.event.Kind.{Kind}
 use Rattle.journal.specs.declared.event.Kind.TheVariants.{Ask}
 use Rattle.journal.specs.Events.{address_of}
 use Rattle.explore.specs.declared.prefixes.script_call.ScriptCall.{ScriptCall}
-use Rattle.explore.specs.Guarded.{IsGuarded}
+use Rattle.explore.specs.declared.prefixes.script_call.ScriptCall.TheVariants.{Call}
+use Rattle.explore.specs.declared.text_facts.TextFacts.{TextFacts}
+use Rattle.explore.specs.Guarded.{AreGuarded, IsGuarded}
 
 abbrev pub is_ask : Kind → Bool
 is_ask (Ask l) = true
@@ -16,10 +18,48 @@ pub record IsFree (rows : List (Vec ScriptCall)) (k : Kind) : Type 0 where
   pub no_ask : is_ask k ≡ false
   pub guarded : (w : ℕ) → address_of k ≡ Some w → IsGuarded rows w
 
--- the same, where these words are known to be guarded
+-- the same, if these words are known to be guarded
 pub record IsFreeOf (words : List Bool) (k : Kind) : Type 0 where
   pub no_ask : is_ask k ≡ false
   pub guarded : (w : ℕ) → address_of k ≡ Some w → IsTrue (slice_index_or words w false)
+
+-- the row's step at place i asks for the lock
+abbrev pub IsAskAt : List ScriptCall → ℕ → ℕ → Type 0
+IsAskAt row i lock = slice_get row i ≡ Some (Call (Ask lock))
+
+-- of each lock, behind how many of the row's steps none asks for it
+abbrev pub AreAskEnds : List ScriptCall → List ℕ → Type 0
+AreAskEnds row ends = (i lock : ℕ) → IsAskAt row i lock → i < slice_index_or ends lock 0
+
+-- the same of each row
+abbrev pub AreAskEndsOfAll : List (Vec ScriptCall) → List (List ℕ) → Type 0
+AreAskEndsOfAll rows ends = (p : ℕ) (row : Vec ScriptCall) → slice_get rows p ≡ Some row
+    → AreAskEnds row.items (slice_index_or ends p [])
+
+-- the same number of a lock, after one more step, up to which there are so many
+abbrev pub ask_end_after : ℕ → ℕ → ℕ → ScriptCall → ℕ
+ask_end_after lock count end (Call (Ask l)) = if l == lock then count else end
+ask_end_after lock count end _ = end
+
+-- the step asks for no lock but the 32 that there are
+abbrev pub IsAskSmall : ScriptCall → Type 0
+IsAskSmall (Call (Ask l)) = l < 32
+IsAskSmall _ = Unit {0}
+
+abbrev pub AreAsksSmall : List ScriptCall → Type 0
+AreAsksSmall row = (i : ℕ) (step : ScriptCall) → slice_get row i ≡ Some step → IsAskSmall step
+
+-- what the text shows of events to come
+pub record AreTextFacts (rows : List (Vec ScriptCall)) (facts : TextFacts) : Type 0 where
+  pub guarded : AreGuarded rows facts.guarded.items
+  pub asks : AreAskEndsOfAll rows facts.ask_ends
+
+-- somebody may ask for the lock next, and so may all that have yet to ask for it, having done so much
+pub record IsAskedByAll (done : List ℕ) (nexts : List (Option Kind)) (ends : List (List ℕ)) (lock : ℕ) : Type 0 where
+  pub processor : ℕ
+  pub asks : slice_index_or nexts processor None ≡ Some (Ask lock)
+  pub others : (p : ℕ) → slice_index done p < slice_index_or (slice_index_or ends p []) lock 0
+      → slice_index_or nexts p None ≡ Some (Ask lock)
 
 -- one event that is free is chosen of these
 pub record IsOneFreeChosen (rows : List (Vec ScriptCall)) (nexts chosen : List (Option Kind)) : Type 0 where
@@ -29,9 +69,18 @@ pub record IsOneFreeChosen (rows : List (Vec ScriptCall)) (nexts chosen : List (
   pub chosen_at : slice_index_or chosen processor None ≡ Some kind
   pub free : IsFree rows kind
 
--- or all are
-abbrev pub IsChoice : List (Vec ScriptCall) → List (Option Kind) → List (Option Kind) → Type 0
-IsChoice rows nexts chosen = (chosen ≡ nexts) ⊎ IsOneFreeChosen rows nexts chosen
+-- or all asks for one lock, if nobody else will ask for it
+pub record AreAsksChosen (rows : List (Vec ScriptCall)) (done : List ℕ) (nexts chosen : List (Option Kind)) : Type 0 where
+  pub lock : ℕ
+  pub processor : ℕ
+  pub asks : slice_index_or nexts processor None ≡ Some (Ask lock)
+  pub all : (p : ℕ) → slice_index_or nexts p None ≡ Some (Ask lock) → slice_index_or chosen p None ≡ Some (Ask lock)
+  pub others : (p i : ℕ) (row : Vec ScriptCall) → slice_get rows p ≡ Some row → slice_index done p ≤ i
+      → IsAskAt row.items i lock → slice_index_or nexts p None ≡ Some (Ask lock)
+
+-- or all are; the processors have done so much
+abbrev pub IsChoice : List (Vec ScriptCall) → List ℕ → List (Option Kind) → List (Option Kind) → Type 0
+IsChoice rows done nexts chosen = (chosen ≡ nexts) ⊎ (IsOneFreeChosen rows nexts chosen ⊎ AreAsksChosen rows done nexts chosen)
 
 -- what is chosen is among these
 abbrev pub IsFreeAmongNexts : List (Option Kind) → List (Option Kind) → Type 0

@@ -20,7 +20,7 @@ guard_step_departs (Adds a v) = false
 abbrev pub guard_phase_at : List ScriptCall → ℕ → ℕ
 guard_phase_at row i = count_by guard_step_departs (take i row)
 
--- whether lock l is held after a call, where it was held before it or not
+-- whether lock l is held after a call, if it was held before it or not
 abbrev pub guard_held_after : ℕ → Bool → Kind → Bool
 guard_held_after l held (Acquire m) = if m == l then true else held
 guard_held_after l held (Release m) = if m == l then false else held

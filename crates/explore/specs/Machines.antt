@@ -48,7 +48,7 @@ abbrev pub IsProperMachineStep : Plan → ScriptCall → Type 0
 IsProperMachineStep s (Call k) = KindInRange (followed_plan_sizes s) k × (is_followed_fetch k ≡ false)
 IsProperMachineStep s (Adds a v) = a < plan_addresses s
 
--- of the step the memory has the word, where it loads one
+-- of the step the memory has the word, if it loads one
 abbrev pub MachineStepReads : ℕ → ScriptCall → Type 0
 MachineStepReads size (Call (Load a v)) = a < size
 MachineStepReads size _ = Unit {0}

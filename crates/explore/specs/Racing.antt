@@ -18,7 +18,7 @@ pub record AreRacing (s : Plan) (x : States) (steps : List (Vec ScriptCall)) (ne
   pub found : AreFound s x
   pub are : AreNextNeighbours s (states_found x) neighbours
 
--- a beginning that races
+-- a prefix that races
 pub record IsRacingBeginning (s : Plan) (g : List Event) : Type 0 where
   pub beginning : IsFlatBeginning s g
   pub first : ℕ

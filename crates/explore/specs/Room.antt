@@ -23,6 +23,6 @@ words_of_state s = plan_addresses s + length s.shown + sum_by room_loads_in s.se
 abbrev pub states_that_fit : Plan → ℕ
 states_that_fit s = 2 ^ 27 / words_of_state s
 
--- so many are looked at, where this number is asked for
+-- so many are looked at, if this number is asked for
 abbrev pub states_with_room : Plan → ℕ → ℕ
 states_with_room s most = min most (states_that_fit s)

@@ -4,6 +4,7 @@ use Rattle.std.specs.Global.{Vec}
 use Rattle.base.specs.InOrderOnce.{Has, IsOnce}
 use Rattle.journal.specs.declared.event.Event.{Event}
 use Rattle.journal.specs.declared.event.Kind.{Kind}
+use Rattle.journal.specs.declared.event.Kind.TheVariants.{Ask}
 use Rattle.journal.specs.DidEvent.{did, event}
 use Rattle.journal.specs.Races.{Conflict}
 use Rattle.lrc_script.specs.Plan.{Plan}
@@ -38,10 +39,20 @@ pub record SearchFollowsFree (s : Plan) (rows : List (Vec ScriptCall)) (states :
   pub next : FoundStaysPossible s m processor kind
   pub known : (g : List Event) → Knows s g m → IsFoundState s states (did g processor kind)
 
+-- or what the asks for one lock make of it, if nobody else will ask for it
+pub record AreAsksFollowed (s : Plan) (states : List FlatState) (m : FlatState) : Type 0 where
+  pub lock : ℕ
+  pub processor : ℕ
+  pub next : FoundStaysPossible s m processor (Ask lock)
+  pub known : (g : List Event) (p : ℕ) → Knows s g m → IsFlatBeginning s (did g p (Ask lock))
+      → IsFoundState s states (did g p (Ask lock))
+  pub others : (g more : List Event) (p : ℕ) → Knows s g m → IsFlatBeginning s (did (g ++ more) p (Ask lock))
+      → IsFlatBeginning s (did g p (Ask lock))
+
 -- of each of the first n states
 abbrev pub IsSearchReduced : Plan → List (Vec ScriptCall) → List FlatState → ℕ → Type 0
 IsSearchReduced s rows states n = (place : ℕ) (m : FlatState) → place < n → slice_get states place ≡ Some m
-    → SearchFollowsWhole s states m ⊎ SearchFollowsFree s rows states m
+    → SearchFollowsWhole s states m ⊎ (SearchFollowsFree s rows states m ⊎ AreAsksFollowed s states m)
 
 -- and no two next events conflict
 abbrev pub IsSearchQuiet : Plan → List FlatState → ℕ → Type 0
@@ -107,7 +118,7 @@ abbrev pub IsSearchedAt : Plan → Search → List (Vec ScriptCall) → ℕ → 
 IsSearchedAt s x steps n o =
     MatchOption o (SearchedUpTo s x steps (n + 1)) (λ ns. SearchedUpTo s x steps n × AreRacing s x.found steps ns)
 
--- some states have been looked at, and all where they are no more than this; or of one two next events conflict
+-- some states have been looked at, and all if they are no more than this; or of one two next events conflict
 pub record IsSearchedThrough (s : Plan) (x : Search) (steps : List (Vec ScriptCall)) (most : ℕ) (o : Option Neighbours)
     : Type 0 where
   pub some : (n : ℕ) × SearchedUpTo s x steps n
@@ -120,13 +131,13 @@ pub record IsSearched (s : Plan) (x : Search) (steps : List (Vec ScriptCall)) (t
   pub some : (n : ℕ) × SearchedUpTo s x steps n
   pub all : IsTrue through → SearchedUpTo s x steps (length (states_found x.found))
 
--- the verdict is open only where no two events conflict and not all states were looked at
+-- the verdict is open only if no two events conflict and not all states were looked at
 abbrev pub IsSearchVerdictOpen : Option Neighbours → Bool → Verdict → Type 0
 IsSearchVerdictOpen o through verdict.RaceFree = o ≡ None
 IsSearchVerdictOpen o through (verdict.Racy racy) = ⊤
 IsSearchVerdictOpen o through verdict.Undecided = (o ≡ None) × (through ≡ false)
 
--- whether it hangs is open only where not all states were looked at
+-- whether it hangs is open only if not all states were looked at
 abbrev pub IsSearchHangingOpen : Bool → Hanging → Type 0
 IsSearchHangingOpen through hanging.Undecided = through ≡ false
 IsSearchHangingOpen through _ = ⊤

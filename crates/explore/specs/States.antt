@@ -12,7 +12,7 @@ pub record IsOneState (s : Plan) (g h : List Event) : Type 0 where
   pub first : Knows s g machine
   pub second : Knows s h machine
 
--- the script has as many states at least: beginnings of which no two come to one state
+-- the script has as many states at least: prefixes of which no two come to one state
 pub record HasStates (s : Plan) (n : ℕ) : Type 0 where
   pub beginning : ℕ → List Event
   pub are : (i : ℕ) → i < n → IsFlatBeginning s (beginning i)

@@ -27,7 +27,7 @@ pub record HasUser (word : WordUse) (phase p : ℕ) (store : Bool) (held : ℕ �
   pub at : get nat_cmp word.phases phase ≡ Some users
   pub covered : IsUser users p store held
 
--- where the word is called guarded, its users are so in each phase
+-- if the word is called guarded, its users are so in each phase
 abbrev pub AreSoundUsers : WordUse → Type 0
 AreSoundUsers word = IsTrue word.is_guarded → (phase : ℕ) (u : Users) → get nat_cmp word.phases phase ≡ Some u → AreCleanUsers u
 

@@ -17,7 +17,7 @@ use Rattle.judge.specs.Why.{WhyWaitsFor}
 use Rattle.explore.specs.declared.waiting.Waiting.{Waiting}
 use Rattle.explore.specs.Waits.{WaitsAreKept, wait_code_arrivals_open, wait_code_seated}
 
--- of each processor what it waits for, where it waits
+-- of each processor what it waits for, if it waits
 abbrev pub AllWaitingTold : List Event → List (Option Kind) → Type 0
 AllWaitingTold g waits = (p : ℕ) (k : Kind) → (slice_index_or waits p None ≡ Some k) ↔ WhyWaitsFor g p k
 

@@ -14,12 +14,12 @@ wait_code_end_of (Lock l) = kind.Acquire l
 wait_code_end_of Barrier = kind.Depart
 wait_code_end_of (Flag f) = kind.Await f
 
--- and where there may be none
+-- and if there may be none
 abbrev pub wait_code_ending : Option WaitCode → Option Kind
 wait_code_ending None = None
 wait_code_ending (Some w) = Some (wait_code_end_of w)
 
--- of each processor what it waits for, where it waits
+-- of each processor what it waits for, if it waits
 abbrev pub WaitsAreKept : List Event → List (Option WaitCode) → Type 0
 WaitsAreKept j waits = (p : ℕ) (k : Kind) → (wait_code_ending (slice_index_or waits p None) ≡ Some k) ↔ WhyWaitsFor j p k
 

@@ -1,6 +1,6 @@
 //! A script's run on one flat memory, an event at a time.
 ghost use Rattle.std.specs.Prelude.{◌≡◌, ◌↔◌, ℕ, ◌+◌, ◌<◌, ◌≤◌, ◌++◌, [], ◌∷◌, List, Some, None, IfOk, OnOk, IsTrue};
-ghost use Rattle.std.specs.Prelude.{length, replicate, slice_index_or};
+ghost use Rattle.std.specs.Prelude.{length, replicate, slice_index, slice_index_or};
 ghost use Rattle.base.specs.Prelude.{wrote};
 ghost use Rattle.journal.specs.declared.event.Event.{Event as AnEvent};
 ghost use Rattle.journal.specs.declared.event.Kind.{Kind as AKind};
@@ -32,7 +32,7 @@ pub struct FlatState {
     waiting: Waiting,
 }
 
-/// The call that the step says, after this reply, with the word of the memory where it loads.
+/// The call that the step says, after this reply, with the word of the memory if it loads.
 fn call_of(step: ScriptCall, reply: u32, memory: &[u32]) -> Kind
     requires { MachineStepReads (length memory.now) step }
     ensures { (k : AKind) → (result ≡ k) ↔ (IsCallOfStep reply step k × AnswersFlatWord memory.now k) }
@@ -44,7 +44,7 @@ fn call_of(step: ScriptCall, reply: u32, memory: &[u32]) -> Kind
     }
 }
 
-/// The last of these words, 0 where there is none.
+/// The last of these words, 0 if there is none.
 fn last_of(words: &[u32]) -> u32
     ensures { result ≡ machine_last_or 0 words.now }
 {
@@ -111,7 +111,15 @@ impl FlatState {
         })
     }
 
-    /// What the processor's last load answered, 0 where there is none.
+    /// How many calls the processor has made.
+    pub fn steps_done(&self, processor: usize) -> usize
+        requires { processor < 16 }
+        ensures { result ≡ slice_index self.now.done processor }
+    {
+        self.done[processor] as usize
+    }
+
+    /// What the processor's last load answered, 0 if there is none.
     fn reply_before(&self, processor: usize) -> u32
         requires { processor < length self.now.replies.items }
         ensures { (s : Plan) (g : List AnEvent) → Knows s g self.now → result ≡ last_reply_of_calls (followed_calls g processor) }

@@ -1,11 +1,15 @@
-//! Which of the next events are followed: one that commutes with all that other processors may do, if there is one; else all.
-ghost use Rattle.std.specs.Prelude.{◌≡◌, ℕ, ◌<◌, IsTrue, List, None, Some, false, length, slice_index_or};
+//! Which of the next events are followed: one that commutes with all that other processors may do, if there is one; else the
+//! asks for one lock, if nobody else will ask for it; else all.
+ghost use Rattle.std.specs.Prelude.{◌≡◌, ◌↔◌, ℕ, ◌<◌, ⊤, IsTrue, List, MatchOption, None, Some, [], false, length};
+ghost use Rattle.std.specs.Prelude.{slice_index, slice_index_or};
 ghost use Rattle.std.specs.Global.{Vec as AVec};
 ghost use Rattle.journal.specs.declared.event.Kind.{Kind as AKind};
+ghost use Rattle.journal.specs.declared.event.Kind.TheVariants.{Ask};
 ghost use Rattle.explore.specs.declared.prefixes.script_call.ScriptCall.{ScriptCall as AStep};
-ghost use Rattle.explore.specs.Free.{IsFreeAmongNexts, IsChoice, IsFreeOf};
-ghost use Rattle.explore.specs.Guarded.{AreGuarded};
+ghost use Rattle.explore.specs.Free.{AreTextFacts, IsFreeAmongNexts, IsAskedByAll, IsChoice, IsFreeOf};
 
+use crate::flat_state::FlatState;
+use crate::text_facts::TextFacts;
 use journal::Kind;
 
 /// Whether the word is said to be guarded.
@@ -39,19 +43,116 @@ fn alone(processor: usize, kind: Kind) -> [Option<Kind>; 16]
     nexts
 }
 
-/// The first of these events that is free, alone; all of them, if none is. Swaps of events that commute lead to the same
-/// states, so a search that follows no others there misses no race, no hang and no outcome.
-pub fn to_follow(nexts: &[Option<Kind>; 16], guarded: &[bool]) -> [Option<Kind>; 16]
-    ensures choice { (rows : List (AVec AStep)) → AreGuarded rows guarded.now → IsChoice rows nexts.now result }
+/// Whether the event is an ask for this lock.
+fn asks_for(next: Option<Kind>, lock: usize) -> bool
+    ensures { IsTrue result ↔ (next ≡ Some (Ask lock)) }
+{
+    match next {
+        Some(Kind::Ask(asked)) => asked == lock,
+        _ => false,
+    }
+}
+
+/// The event, if it asks for this lock.
+fn only_ask(next: Option<Kind>, lock: usize) -> Option<Kind>
+    ensures ask { next ≡ Some (Ask lock) → result ≡ Some (Ask lock) }
+    ensures same { (k : AKind) → result ≡ Some k → next ≡ Some k }
+{
+    if asks_for(next, lock) { next } else { None }
+}
+
+/// Those of the events that ask for the lock.
+fn asks_among(nexts: &[Option<Kind>; 16], lock: usize) -> [Option<Kind>; 16]
+    ensures all { (p : ℕ) → slice_index_or nexts.now p None ≡ Some (Ask lock)
+        → slice_index_or result p None ≡ Some (Ask lock) }
+    ensures among { IsFreeAmongNexts nexts.now result }
+    ensures long { length result ≡ 16 }
+{
+    let mut asks = [None; 16];
+    for processor in 0..16 {
+        asks[processor] = only_ask(nexts[processor], lock);
+    }
+    asks
+}
+
+/// Whether a processor asks for the lock next, or not any more: it has done so many steps, and its asks end there.
+fn asks_now(next: Option<Kind>, done: usize, ends: &[usize; 32], lock: usize) -> bool
+    ensures { IsTrue result → done < slice_index_or ends.now lock 0 → next ≡ Some (Ask lock) }
+{
+    lock >= 32 || done >= ends[lock] || asks_for(next, lock)
+}
+
+/// Whether each processor that has yet to ask for the lock may do so next.
+fn may_all_ask(
+    state: &FlatState,
+    nexts: &[Option<Kind>; 16],
+    ends: &[[usize; 32]; 16],
+    lock: usize,
+) -> bool
+    ensures { IsTrue result → (p : ℕ) → slice_index state.now.done p < slice_index_or (slice_index_or ends.now p []) lock 0
+        → slice_index_or nexts.now p None ≡ Some (Ask lock) }
+{
+    for processor in 0..16 {
+        let done = state.steps_done(processor);
+        if !asks_now(nexts[processor], done, &ends[processor], lock) {
+            return false;
+        }
+    }
+    true
+}
+
+/// The first lock that somebody may ask for next, if all may that have yet to ask for it.
+fn asked_by_all(
+    state: &FlatState,
+    nexts: &[Option<Kind>; 16],
+    ends: &[[usize; 32]; 16],
+) -> Option<usize>
+    ensures { MatchOption result ⊤ (IsAskedByAll state.now.done nexts.now ends.now) }
+{
+    for processor in 0..16 {
+        if let Some(Kind::Ask(lock)) = nexts[processor] {
+            if may_all_ask(state, nexts, ends, lock) {
+                return Some(lock);
+            }
+        }
+    }
+    None
+}
+
+/// Where none of these events is free: the asks for one lock, if all may ask for it that have yet to; else all.
+fn asks_or_all(
+    state: &FlatState,
+    nexts: &[Option<Kind>; 16],
+    facts: &TextFacts,
+) -> [Option<Kind>; 16]
+    ensures choice { (rows : List (AVec AStep)) → AreTextFacts rows facts.now → IsChoice rows state.now.done nexts.now result }
+    ensures among { IsFreeAmongNexts nexts.now result }
+    ensures long { length result ≡ 16 }
+{
+    match asked_by_all(state, nexts, &facts.ask_ends) {
+        Some(lock) => asks_among(nexts, lock),
+        None => *nexts,
+    }
+}
+
+/// Which of these events are followed after the state. The first that is free, alone: swaps of events that commute lead to
+/// the same states. If none is, the asks for one lock, if nobody else will ask for it: whatever comes next of them all may as
+/// well come first. Else all. So a search that follows no others misses no race, no hang and no outcome.
+pub fn to_follow(
+    state: &FlatState,
+    nexts: &[Option<Kind>; 16],
+    facts: &TextFacts,
+) -> [Option<Kind>; 16]
+    ensures choice { (rows : List (AVec AStep)) → AreTextFacts rows facts.now → IsChoice rows state.now.done nexts.now result }
     ensures among { IsFreeAmongNexts nexts.now result }
     ensures long { length result ≡ 16 }
 {
     for processor in 0..16 {
         if let Some(kind) = nexts[processor] {
-            if is_free(guarded, kind) {
+            if is_free(&facts.guarded, kind) {
                 return alone(processor, kind);
             }
         }
     }
-    *nexts
+    asks_or_all(state, nexts, facts)
 }

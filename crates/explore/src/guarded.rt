@@ -286,7 +286,7 @@ pub fn are_all(words: &[bool]) -> bool
 
 /// A script of which all words are guarded has no race, whatever the order of events. Two accesses that may both come next
 /// are in one phase, since each processor has arrived as often as any has departed; and a lock has one holder. So no two of
-/// them conflict, and by the law of neighbours no beginning races.
+/// them conflict, and by the law of neighbours no prefix races.
 pub fn guarded_law()
     ensures { GuardedTextLaw }
 {}

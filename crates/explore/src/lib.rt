@@ -1,6 +1,6 @@
 //! All schedules of a script on one flat memory: whether it races, whether it can hang, and what it can show.
 //!
-//! **What contracts see.** `IsExplored` is what an answer says: no beginning races, or here is a race; this is a hang, or
+//! **What contracts see.** `IsExplored` is what an answer says: no prefix races, or here is a race; this is a hang, or
 //! there is none; these are outcomes of whole runs, each once, and all of them or some. An answer is open only if there are
 //! more states than were to be looked at (`states_to_look_at`). Inside, a `FlatState` knows events (`Knows`), so two machines
 //! that are found equal go on alike; `States` has the states, each once, with where it comes from (`AreFound`); `Search` has
@@ -22,6 +22,7 @@ mod racing;
 mod room;
 mod search;
 mod states;
+mod text_facts;
 mod wait;
 mod waiting;
 

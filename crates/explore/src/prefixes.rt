@@ -1,12 +1,12 @@
-//! Beginnings of a script's runs on one flat memory: definitions, and laws of them.
+//! Prefixes of a script's runs on one flat memory: definitions, and laws of them.
 //!
-//! **What contracts see.** A history is a flat beginning of a script (`IsFlatBeginning`) where it is well formed, begins the
-//! script, replays from zeros and fetches nothing; it is whole (`IsWhole`) where it follows the script, and a hang
-//! (`IsHang`) where it isn't and nothing may come next. A script is seen as steps, one a call (`section_steps`).
+//! **What contracts see.** A history is a prefix of a script's runs (`IsFlatBeginning`) if it is well formed, begins the
+//! script, replays from zeros and fetches nothing; it is whole (`IsWhole`) if it follows the script, and a hang
+//! (`IsHang`) if it isn't and nothing may come next. A script is seen as steps, one a call (`section_steps`).
 //!
-//! **What is proved.** The laws (module `laws`): a script of which no beginning races never races; nothing begins each
-//! script; what begins a beginning is one; what may come next after it (`IsNext`), exactly; and when it is whole. No
-//! beginning races exactly where no two accesses that may come next conflict (`HasNoNeighbours`).
+//! **What is proved.** The laws (module `laws`): a script of which no prefix races never races; nothing begins each
+//! script; what begins a prefix is one; what may come next after it (`MayComeNext`), exactly; and when it is whole. No
+//! prefix races exactly if no two accesses that may come next conflict (`HasNoNeighbours`).
 //! `steps_of_script` gives the steps of each section.
 
 mod laws;

@@ -45,7 +45,7 @@ fn states_that_fit(script: &Script) -> usize
     MOST_WORDS / words_of_state(script)
 }
 
-/// How many states are looked at, where `most` are asked for: so many, but no more than fit.
+/// How many states are looked at, if `most` are asked for: so many, but no more than fit.
 pub fn states_to_look_at(script: &Script, most: usize) -> usize
     requires { IsLawful (plan_of script.now) }
     ensures { result ≡ states_with_room (plan_of script.now) most }

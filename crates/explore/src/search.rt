@@ -5,7 +5,7 @@ ghost use Rattle.lrc_script.specs.Prelude.{IsLawful, Plan, plan_of};
 ghost use Rattle.lrc_script.specs.Lawful.{plan_addresses};
 ghost use Rattle.explore.specs.declared.prefixes.script_call.ScriptCall.{ScriptCall as AStep};
 ghost use Rattle.explore.specs.Prefixes.Prelude.{IsRaceFreeBeginning};
-ghost use Rattle.explore.specs.Guarded.{AreGuarded};
+ghost use Rattle.explore.specs.Free.{AreTextFacts};
 ghost use Rattle.explore.specs.Explored.{IsExplored, IsExploredHang, IsExploredHanging, IsExploredVerdict, explored_outcome};
 ghost use Rattle.explore.specs.Found.{AreFound, states_found};
 ghost use Rattle.explore.specs.Machines.{AreLawfulMachineSteps};
@@ -17,13 +17,14 @@ ghost use Rattle.explore.specs.Searched.{IsSearchHangingOpen, IsSearchVerdictOpe
 use crate::explored::{Explored, Hang, Hanging, ScriptOutcome, Verdict};
 use crate::flat_state::FlatState;
 use crate::free::to_follow;
-use crate::guarded::{are_all, guarded_words};
+use crate::guarded::are_all;
 use crate::neighbours::{Neighbours, is_over, neighbours_in, nexts_of};
 use crate::prefixes::{ScriptCall, steps_of_script};
 use crate::progress::Progress;
 use crate::racing::racing_history;
 use crate::room::states_to_look_at;
 use crate::states::States;
+use crate::text_facts::{TextFacts, text_facts};
 use indexmap::IndexSet;
 use lrc_script::script::Script;
 use std::alloc::{AllocError, Global};
@@ -58,7 +59,7 @@ fn is_past(states: usize, most: usize) -> bool
     states > most
 }
 
-/// Whether all states were looked at, where these two events conflict, or none do, and so many were to be looked at.
+/// Whether all states were looked at: no two events conflict, and no more states were found than were to be looked at.
 fn is_through(neighbours: Option<Neighbours>, states: usize, most: usize) -> bool
     ensures { IsTrue result ↔ ((neighbours ≡ None) × (states ≤ most)) }
 {
@@ -108,21 +109,22 @@ impl Search {
     }
 
     /// Looks at the state at this place: the two events that conflict, if there are such; else what comes next is
-    /// found, by one event that is free or by all, and what there is to note is noted.
+    /// found, by one event that is free, by the asks for one lock, or by all, and what there is to note is noted.
     fn look_at(
         &mut self,
         steps: &[Vec<ScriptCall>],
-        guarded: &[bool],
+        facts: &TextFacts,
         place: usize,
     ) -> Result<Option<Neighbours>, AllocError>
-        requires guarded { AreGuarded steps.now guarded.now }
+        requires facts { AreTextFacts steps.now facts.now }
         requires unvisited { (s : Plan) × HasMoreToSearch s self.old steps.now place }
         ensures looked { IfOk result (λ o. (s : Plan) → HasMoreToSearch s self.old steps.now place
             → IsSearchedAt s self.new steps.now place o) }
         ensures few { IfOk result (λ _. (s : Plan) → HasMoreToSearch s self.old steps.now place
             → length (states_found self.new.found) ≤ length (states_found self.old.found) + 16) }
     {
-        let nexts = nexts_of(self.found.at(place), steps);
+        let state = self.found.at(place);
+        let nexts = nexts_of(state, steps);
         if let Some((first, second)) = neighbours_in(&nexts) {
             return Ok(Some(Neighbours {
                 place,
@@ -130,10 +132,11 @@ impl Search {
                 second,
             }));
         }
+        let followed = to_follow(state, &nexts, facts);
         if is_over(&nexts) {
             self.note_end(steps, place)?;
         }
-        self.found.follow_all(place, &to_follow(&nexts, guarded))?;
+        self.found.follow_all(place, &followed)?;
         Ok(None)
     }
 
@@ -141,11 +144,11 @@ impl Search {
     fn look_at_all<P: Progress>(
         &mut self,
         steps: &[Vec<ScriptCall>],
-        guarded: &[bool],
+        facts: &TextFacts,
         most: usize,
         progress: &mut P,
     ) -> Result<Option<Neighbours>, AllocError>
-        requires guarded { AreGuarded steps.now guarded.now }
+        requires facts { AreTextFacts steps.now facts.now }
         requires searched { (s : Plan) × AreLawfulMachineSteps s steps.now × SearchedUpTo s self.old steps.now 0 }
         ensures looked { IfOk result (λ o. (s : Plan) → AreLawfulMachineSteps s steps.now → SearchedUpTo s self.old steps.now 0
             → IsSearchedThrough s self.new steps.now most o) }
@@ -161,7 +164,7 @@ impl Search {
             if place == states {
                 return Ok(None);
             }
-            if let Some(neighbours) = self.look_at(steps, guarded, place)? {
+            if let Some(neighbours) = self.look_at(steps, facts, place)? {
                 return Ok(Some(neighbours));
             }
         }
@@ -181,7 +184,7 @@ impl Search {
         })
     }
 
-    /// Whether a state hangs, where all states have been looked at or not. The only error is running out of memory.
+    /// Whether a state hangs, if all states have been looked at or not. The only error is running out of memory.
     fn hanging(&self, alloc: Global, script: &Script, through: bool) -> Result<Hanging, AllocError>
         requires lawful { IsLawful (plan_of script.now) }
         requires searched { (rows : List (AVec AStep)) × AreLawfulMachineSteps (plan_of script.now) rows
@@ -228,22 +231,22 @@ impl Search {
         alloc: Global,
         script: &Script,
         steps: &[Vec<ScriptCall>],
-        guarded: &[bool],
+        facts: &TextFacts,
         most: usize,
         progress: &mut P,
     ) -> Result<Explored, AllocError>
         requires steps { AreLawfulMachineSteps (plan_of script.now) steps.now }
-        requires long { length guarded.now ≡ plan_addresses (plan_of script.now) }
-        requires guarded { AreGuarded steps.now guarded.now }
+        requires long { length facts.now.guarded.items ≡ plan_addresses (plan_of script.now) }
+        requires facts { AreTextFacts steps.now facts.now }
         requires searched { SearchedUpTo (plan_of script.now) self.old steps.now 0 }
         requires few { length (states_found self.old.found) ≤ 1 }
         ensures { IfOk result (IsExplored (plan_of script.now) most) }
     {
         let most = states_to_look_at(script, most);
-        let neighbours = self.look_at_all(steps, guarded, most, progress)?;
+        let neighbours = self.look_at_all(steps, facts, most, progress)?;
         let states = self.found.len();
         let through = is_through(neighbours, states, most);
-        let race_free = through | are_all(guarded);
+        let race_free = through | are_all(&facts.guarded);
         let verdict = self.verdict(alloc, script, steps, neighbours, race_free)?;
         let hanging = self.hanging(alloc, script, through)?;
         let outcomes = mem::replace(&mut self.outcomes, IndexSet::new(alloc));
@@ -269,23 +272,25 @@ fn search_steps<P: Progress>(
     requires { AreLawfulMachineSteps (plan_of script.now) steps.now }
     ensures { IfOk result (IsExplored (plan_of script.now) most) }
 {
-    let guarded = guarded_words(alloc, script, steps)?;
+    let facts = text_facts(alloc, script, steps)?;
     let mut search = Search::new(alloc, script)?;
-    search.answer(alloc, script, steps, &guarded, most, progress)
+    search.answer(alloc, script, steps, &facts, most, progress)
 }
 
 /// Looks at the states of the script on one flat memory, and says whether it races, whether it can hang, and what it can
-/// show. Where all words are guarded (`guarded_words`), it says race-free whatever it finds. It ends at the first two accesses that race, and gives up once it finds more than `most` states. Either way it says
-/// what it has found: a hang and outcomes that it met are there. The only error is running out of memory.
+/// show. If all words are guarded (`guarded_words`), it says race-free whatever it finds. It ends at the first two
+/// accesses that race, and gives up once it finds more than `most` states. Either way it says what it has found: a hang and
+/// outcomes that it met are there. The only error is running out of memory.
 ///
-/// It gives up, too, where it finds more states than fit (`states_that_fit`): those of which each has as many words as the
+/// It gives up, too, if it finds more states than fit (`states_that_fit`): those of which each has as many words as the
 /// memory, and a reply to each load that the script's sections make, and which have 2^27 words together. So the memory that
 /// it takes is bounded, whatever the script. While it looks, `progress` is told how many states were found.
 ///
-/// A state is what each processor has done, with the replies to its loads, the words, and who waits for what. Where some
-/// processor may do next what commutes with all that others may do, that alone is followed (`to_follow`): a persistent set
-/// of one (Godefroid, Partial-order methods for the verification of concurrent systems, 1996). Two accesses that conflict
-/// and may both come next make a race; where no state that was found has such, no run races, on one flat memory or on the
+/// A state is what each processor has done, with the replies to its loads, the words, and who waits for what. If some
+/// processor may do next what commutes with all that others may do, that alone is followed (`to_follow`), and if all who
+/// have yet to ask for a lock may do so next, these asks: persistent sets (Godefroid, Partial-order methods for the
+/// verification of concurrent systems, 1996). Two accesses that conflict
+/// and may both come next make a race; if no state that was found has such, no run races, on one flat memory or on the
 /// real one.
 pub fn explore<P: Progress>(
     alloc: Global,

@@ -50,7 +50,7 @@ fn is_same(a: Kind, b: Kind) -> bool
     a == b
 }
 
-/// Counts the event where it is an arrival.
+/// Counts the event if it is an arrival.
 fn count(arrivals: &mut [u32; 16], processor: usize, kind: Kind)
     requires processor { processor < 16 }
     requires room { slice_index arrivals.old processor < 2 ^ 22 }

@@ -9,7 +9,6 @@ use Rattle.journal.specs.Races.{Conflict}
 use Rattle.lrc_script.specs.Plan.{Plan}
 use Rattle.conformance.specs.Follows.{followed_calls, Follows, FollowsSection}
 use Rattle.explore.specs.declared.prefixes.script_call.ScriptCall.{ScriptCall}
-use Rattle.explore.specs.Free.{IsFree}
 use Rattle.explore.specs.Machines.{AreLawfulMachineSteps}
 use Rattle.explore.specs.Outcomes.{AreOutcomeReplies, outcome_replies_in}
 use Rattle.explore.specs.Prefixes.Beginnings.{IsFlatBeginning, IsHangingBeginning}
@@ -18,7 +17,7 @@ use Rattle.explore.proofs.locksets.Law.{lockset_guarded_quiet}
 use Rattle.explore.proofs.Machines.{machine_next_within, machine_some_at}
 use Rattle.explore.proofs.prefixes.Beginnings.{beginning_next, beginning_whole_done}
 use Rattle.explore.proofs.reduced.Same.{IsSame, reduced_same_other_way, same_calls, same_next}
-use Rattle.explore.proofs.reduced.Swapping.{reduced_swapped_next_after}
+use Rattle.explore.proofs.reduced.Swapping.{IsCalm, reduced_swapped_next_after}
 use Rattle.explore.proofs.reduced.Reaching.{IsReachingLasting, reduced_reaching_next_once}
 
 -- a whole run can't go on
@@ -52,7 +51,7 @@ reduced_ends_hang_lasts s rows = record {
     unfinished = λ follows. hang.unfinished (reduced_ends_follows_same s h g (reduced_same_other_way s g h same) follows);
     stuck = λ p k next. hang.stuck p k (same_next s h g p k (reduced_same_other_way s g h same) hang.beginning next);
   };
-  stays = λ g p k free next hang. absurd (hang.stuck p k next);
+  stays = λ g p k calm next hang. absurd (hang.stuck p k next);
 }
 
 -- a whole run that shows this
@@ -67,7 +66,7 @@ reduced_ends_shows_last s rows replies long = record {
     follows = reduced_ends_follows_same s g h same shows.follows;
     are = reduced_ends_replies_same s g h replies same shows.are;
   };
-  stays = λ g p k free next shows. absurd (follows_ends s g p k long shows.follows next);
+  stays = λ g p k calm next shows. absurd (follows_ends s g p k long shows.follows next);
 }
 
 -- two next events that conflict
@@ -90,10 +89,10 @@ reduced_ends_conflict_turned p q a b c = record {
 }
 
 module _ (s : Plan) (rows : List (Vec ScriptCall)) (steps : AreLawfulMachineSteps s rows) (g : List Event) (r : ℕ) (k : Kind)
-    (free : IsFree rows k) (next : IsFlatBeginning s (did g r k)) where
-  -- a free event conflicts with no other that may come next
-  reduced_ends_free_calm : (p : ℕ) (a : Kind) → r ≢ p → IsFlatBeginning s (did g p a) → ¬ Conflict (event r k) (event p a)
-  reduced_ends_free_calm p a apart first c = lockset_guarded_quiet s rows steps g r p k a next first apart c (free.guarded c.address c.first)
+    (calm : IsCalm rows k) (next : IsFlatBeginning s (did g r k)) where
+  -- such an event conflicts with no other that may come next
+  still : (p : ℕ) (a : Kind) → r ≢ p → IsFlatBeginning s (did g p a) → ¬ Conflict (event r k) (event p a)
+  still p a apart first c = lockset_guarded_quiet s rows steps g r p k a next first apart c (calm c.address c.first)
 
   -- and so is another's than those that do
   reduced_ends_others : (p q : ℕ) (a b : Kind) → p ≢ q → IsFlatBeginning s (did g p a) → IsFlatBeginning s (did g q b)
@@ -101,7 +100,7 @@ module _ (s : Plan) (rows : List (Vec ScriptCall)) (steps : AreLawfulMachineStep
   reduced_ends_others p q a b apart first second conflict is =
       let mine = subst (λ t. IsFlatBeginning s (did g t a)) (sym is) first in
       let same = reduced_reaching_next_once s g r k a steps.lawful.but_uneven.one_each next mine in
-      reduced_ends_free_calm q b (λ other. apart (sym is ∙ other)) second
+      still q b (λ other. apart (sym is ∙ other)) second
       (subst (λ c. Conflict (event r c) (event q b)) (sym same)
       (subst (λ t. Conflict (event t a) (event q b)) (sym is) conflict))
 
@@ -117,17 +116,17 @@ reduced_ends_conflict_lasts s rows steps = record {
     apart = m.apart;
     conflict = m.conflict;
   };
-  stays = λ g r k free next m.
-      let one = reduced_ends_others s rows steps g r k free next m.p m.q m.a m.b m.apart m.first m.second m.conflict in
-      let two = reduced_ends_others s rows steps g r k free next m.q m.p m.b m.a (λ is. m.apart (sym is)) m.second m.first
+  stays = λ g r k calm next m.
+      let one = reduced_ends_others s rows steps g r k calm next m.p m.q m.a m.b m.apart m.first m.second m.conflict in
+      let two = reduced_ends_others s rows steps g r k calm next m.q m.p m.b m.a (λ is. m.apart (sym is)) m.second m.first
       (reduced_ends_conflict_turned m.p m.q m.a m.b m.conflict) in
       record {
         p = m.p;
         q = m.q;
         a = m.a;
         b = m.b;
-        first = reduced_swapped_next_after s g r m.p k m.a one (reduced_ends_free_calm s rows steps g r k free next m.p m.a one m.first) next m.first;
-        second = reduced_swapped_next_after s g r m.q k m.b two (reduced_ends_free_calm s rows steps g r k free next m.q m.b two m.second) next m.second;
+        first = reduced_swapped_next_after s g r m.p k m.a one (still s rows steps g r k calm next m.p m.a one m.first) next m.first;
+        second = reduced_swapped_next_after s g r m.q k m.b two (still s rows steps g r k calm next m.q m.b two m.second) next m.second;
         apart = m.apart;
         conflict = m.conflict;
       };

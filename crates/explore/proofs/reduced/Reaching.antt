@@ -1,8 +1,9 @@
--- A search that follows one free event where there is one, and else all, misses no kind of end.
--- Let some beginning have a property that beginnings which are the same share, and that a free event doesn't end. From a
--- state that was found it is reached by some events. The free event that was followed there is one of them, and may as well
--- come first; or it isn't, and then it may come behind them, so that it may come first again. Either way what is left is
--- reached from the next state, and beginnings are only so long.
+-- A search that follows one free event if there is one, or the asks for one lock if nobody else will ask for it, and else
+-- all, misses no kind of end.
+-- Let some prefix have a property that prefixes which are the same share, and that a free event or an ask doesn't end. From a
+-- state that was found it is reached by some events. The free event that was followed there, or the first ask for the lock,
+-- is one of them, and may as well come first; or none is, and then one may come behind them, so that it may come first again.
+-- Either way what is left is reached from the next state, and prefixes are only so long.
 use Rattle.std.proofs.Common.{ℕ, zero, suc, ◌≡◌, ◌≢◌, ◌+◌, ◌<◌, ◌≤◌, ◌⊎◌, inl, inr, List, [], ◌∷◌, ◌++◌, length, replicate, Some, slice_get, refl, sym, ap, subst, ◌∙◌, append_assoc, append-nil, length-append, arith}
 use Rattle.std.specs.Global.{Vec}
 use Rattle.std.proofs.lemmas.Bool.{cases_eq}
@@ -10,7 +11,7 @@ use Rattle.std.proofs.lemmas.Option.{none-some, same_Some}
 use Rattle.base.specs.Limits.{most_held}
 use Rattle.journal.specs.declared.event.Event.{Event}
 use Rattle.journal.specs.declared.event.Kind.{Kind}
-use Rattle.journal.specs.declared.event.Kind.TheVariants.{Load}
+use Rattle.journal.specs.declared.event.Kind.TheVariants.{Ask, Load}
 use Rattle.journal.specs.DidEvent.{did, event}
 use Rattle.journal.specs.Events.{At}
 use Rattle.journal.specs.FlatMemory.{AnswersFlatWord, memory_after}
@@ -22,6 +23,7 @@ use Rattle.conformance.specs.Follows.{followed_calls, Follows, FollowsSection}
 use Rattle.explore.specs.declared.prefixes.script_call.ScriptCall.{ScriptCall}
 use Rattle.explore.specs.declared.prefixes.script_call.ScriptCall.TheVariants.{Call, Adds}
 use Rattle.explore.specs.Free.{IsFree}
+use Rattle.journal.proofs.Order.CountedAndNumbered.{numbered_at_longer}
 use Rattle.explore.specs.Guarded.{IsGuarded}
 use Rattle.explore.specs.Machines.{AreLawfulMachineSteps}
 use Rattle.explore.specs.Outcomes.{AreOutcomeReplies, outcome_replies_in}
@@ -33,7 +35,7 @@ use Rattle.explore.proofs.Machines.{machine_some_at}
 use Rattle.explore.proofs.locksets.Law.{lockset_guarded_quiet}
 use Rattle.explore.proofs.prefixes.Beginnings.{beginning_front, beginning_next}
 use Rattle.explore.proofs.reduced.Same.{IsSame, reduced_same_after_that, reduced_same_other_way, same_calls, same_next, same_on}
-use Rattle.explore.proofs.reduced.Swapping.{SwappedComesFirst, reduced_swapped_comes_first, reduced_swapped_next_after}
+use Rattle.explore.proofs.reduced.Swapping.{SwappedComesFirst, IsCalm, IsNoRival, ask_or_not, reduced_swapped_comes_first, reduced_swapped_next_after, swapped_no_ask_now}
 
 -- one reply is the memory's
 once : (memory : List ℕ) (j k : Kind) → replyless_call j ≡ replyless_call k → AnswersFlatWord memory j → AnswersFlatWord memory k → j ≡ k
@@ -102,7 +104,7 @@ reduced_reaching_first_of (e ∷ w) p = elim (cases_eq e.processor p) [
     further e w xs p isnt away zero f at = subst (λ (x : Event). x.processor ≢ p) (same_Some e f at) isnt
     further e w xs p isnt away (suc m) f at = away m f at
 
--- what was followed of a beginning: all that may come next, or one free event
+-- what was followed of a prefix: all that may come next, or one free event
 pub record ReachingFollowsOne (s : Plan) (rows : List (Vec ScriptCall)) (V : List Event → Type 0) (h : List Event) : Type 0 where
   pub processor : ℕ
   pub kind : Kind
@@ -110,13 +112,69 @@ pub record ReachingFollowsOne (s : Plan) (rows : List (Vec ScriptCall)) (V : Lis
   pub next : IsFlatBeginning s (did h processor kind)
   pub found : V (did h processor kind)
 
+-- or the asks for one lock, if nobody else will ask for it
+pub record FollowsAsks (s : Plan) (V : List Event → Type 0) (h : List Event) : Type 0 where
+  pub lock : ℕ
+  pub processor : ℕ
+  pub next : IsFlatBeginning s (did h processor (Ask lock))
+  pub found : (p : ℕ) → IsFlatBeginning s (did h p (Ask lock)) → V (did h p (Ask lock))
+  pub others : (more : List Event) (p : ℕ) → IsFlatBeginning s (did (h ++ more) p (Ask lock))
+      → IsFlatBeginning s (did h p (Ask lock))
+
 abbrev pub ReachingFollowsAll : Plan → (List Event → Type 0) → List Event → Type 0
 ReachingFollowsAll s V h = (p : ℕ) (k : Kind) → IsFlatBeginning s (did h p k) → V (did h p k)
+
+-- the first ask for the lock among some events, or there is none
+record FirstAsk (w : List Event) (l : ℕ) : Type 0 where
+  before : List Event
+  own : Event
+  after : List Event
+  are : w ≡ before ++ own ∷ after
+  asks : Ask l ≡ own.kind
+  none : IsNoRival (Ask l) before
+
+first_ask : (w : List Event) (l : ℕ) → FirstAsk w l ⊎ IsNoRival (Ask l) w
+first_ask [] l = inr (λ m f at. absurd (none-some f at))
+first_ask (e ∷ w) l = elim (ask_or_not l e.kind) [
+  | inl is ↦ inl (record {
+    before = [];
+    own = e;
+    after = w;
+    are = refl;
+    asks = is;
+    none = λ m f at. absurd (none-some f at);
+  })
+  | inr isnt ↦ elim (first_ask w l) [
+    | inl found ↦ inl (record {
+      before = e ∷ found.before;
+      own = found.own;
+      after = found.after;
+      are = ap (λ xs. e ∷ xs) found.are;
+      asks = found.asks;
+      none = further e w found.before l isnt found.none;
+    })
+    | inr none ↦ inr (further e w w l isnt none)
+  ]
+]
+  where
+    further : (e : Event) (w xs : List Event) (l : ℕ) → Ask l ≢ e.kind → IsNoRival (Ask l) xs → IsNoRival (Ask l) (e ∷ xs)
+    further e w xs l isnt none zero f at m is =
+        subst (λ (x : Event). Ask m ≢ x.kind) (same_Some e f at) (subst (λ c. c ≢ e.kind) (sym is) isnt)
+    further e w xs l isnt none (suc n) f at m is = none n f at m is
+
+-- an ask accesses nothing
+calm_ask : {rows : List (Vec ScriptCall)} (l : ℕ) → IsCalm rows (Ask l)
+calm_ask l w at = absurd (none-some w at)
+
+-- the event behind some
+at_behind : (xs : List Event) (e : Event) (ys : List Event) → At (xs ++ e ∷ ys) (length xs) e
+at_behind [] e ys = refl
+at_behind (x ∷ xs) e ys = at_behind xs e ys
 
 -- a property that is looked for
 pub record IsReachingLasting (s : Plan) (rows : List (Vec ScriptCall)) (T : List Event → Type 0) : Type 0 where
   pub shared : (g h : List Event) → IsSame s g h → IsFlatBeginning s h → T g → T h
-  pub stays : (g : List Event) (p : ℕ) (k : Kind) → IsFree rows k → IsFlatBeginning s (did g p k) → T g → T (did g p k)
+  pub stays : (g : List Event) (p : ℕ) (k : Kind) → IsCalm rows k → IsFlatBeginning s (did g p k) → T g → T (did g p k)
 
 -- what is left once the free event has come first
 record IsReachingLeft (s : Plan) (T : List Event → Type 0) (h : List Event) : Type 0 where
@@ -132,10 +190,10 @@ pub record IsReached (V T : List Event → Type 0) : Type 0 where
 
 module _ (s : Plan) (rows : List (Vec ScriptCall)) (steps : AreLawfulMachineSteps s rows) (V T : List Event → Type 0)
     (lasting : IsReachingLasting s rows T)
-    (closed : (h : List Event) → V h → ReachingFollowsAll s V h ⊎ ReachingFollowsOne s rows V h) where
-  reduced_reaching_left_first : (h w : List Event) (p : ℕ) (k : Kind) → IsFree rows k → IsFlatBeginning s (did h p k)
-      → IsFlatBeginning s (h ++ w) → T (h ++ w) → FirstReaching w p → IsReachingLeft s T (did h p k)
-  reduced_reaching_left_first h w p k free next whole has f =
+    (closed : (h : List Event) → V h → ReachingFollowsAll s V h ⊎ (ReachingFollowsOne s rows V h ⊎ FollowsAsks s V h)) where
+  reduced_reaching_left_first : (h w : List Event) (p : ℕ) (k : Kind) → IsCalm rows k → IsFlatBeginning s (did h p k)
+      → IsFlatBeginning s (h ++ w) → T (h ++ w) → (f : FirstReaching w p) → IsNoRival k f.before → IsReachingLeft s T (did h p k)
+  reduced_reaching_left_first h w p k calm next whole has f no_rival =
       let parted : h ++ w ≡ (h ++ f.before) ++ f.own ∷ f.after =
       ap (λ xs. h ++ xs) f.are ∙ sym (append_assoc h f.before (f.own ∷ f.after)) in
       let joined : (h ++ f.before) ++ f.own ∷ f.after ≡ ((h ++ f.before) ++ f.own ∷ []) ++ f.after =
@@ -143,7 +201,7 @@ module _ (s : Plan) (rows : List (Vec ScriptCall)) (steps : AreLawfulMachineStep
       let all = subst (IsFlatBeginning s) (parted ∙ joined) whole in
       let with_own = beginning_front s ((h ++ f.before) ++ f.own ∷ []) f.after all in
       let before = beginning_front s (h ++ f.before) (f.own ∷ []) with_own in
-      let moved = reduced_swapped_comes_first s rows steps p k free f.before h f.away next before in
+      let moved = reduced_swapped_comes_first s rows steps p k calm f.before h f.away no_rival next before in
       let mine = subst (λ q. IsFlatBeginning s (did (h ++ f.before) q f.own.kind)) f.mine with_own in
       let same : k ≡ f.own.kind = reduced_reaching_next_once s (h ++ f.before) p k f.own.kind steps.lawful.but_uneven.one_each moved.last mine in
       let is : event p k ≡ f.own = ap (event p) same ∙ ap (λ q. event q f.own.kind) (sym f.mine) in
@@ -157,21 +215,81 @@ module _ (s : Plan) (rows : List (Vec ScriptCall)) (steps : AreLawfulMachineStep
         has = subst T end (lasting.shared _ _ on.1 on.0 (subst T (parted ∙ joined) has));
       }
 
-  reduced_reaching_left_behind : (h w : List Event) (p : ℕ) (k : Kind) → IsFree rows k → IsFlatBeginning s (did h p k)
-      → IsFlatBeginning s (h ++ w) → T (h ++ w) → ((m : ℕ) (f : Event) → At w m f → f.processor ≢ p) → IsReachingLeft s T (did h p k)
-  reduced_reaching_left_behind h w p k free next whole has away =
-      let moved = reduced_swapped_comes_first s rows steps p k free w h away next whole in
+  reduced_reaching_left_behind : (h w : List Event) (p : ℕ) (k : Kind) → IsCalm rows k → IsFlatBeginning s (did h p k)
+      → IsFlatBeginning s (h ++ w) → T (h ++ w) → ((m : ℕ) (f : Event) → At w m f → f.processor ≢ p) → IsNoRival k w
+      → IsReachingLeft s T (did h p k)
+  reduced_reaching_left_behind h w p k calm next whole has away no_rival =
+      let moved = reduced_swapped_comes_first s rows steps p k calm w h away no_rival next whole in
       record {
         more = w;
         begins = moved.first;
-        has = lasting.shared _ _ moved.same moved.first (lasting.stays (h ++ w) p k free moved.last has);
+        has = lasting.shared _ _ moved.same moved.first (lasting.stays (h ++ w) p k calm moved.last has);
       }
 
   left : (h w : List Event) (p : ℕ) (k : Kind) → IsFree rows k → IsFlatBeginning s (did h p k)
       → IsFlatBeginning s (h ++ w) → T (h ++ w) → IsReachingLeft s T (did h p k)
   left h w p k free next whole has = elim (reduced_reaching_first_of w p) [
-    | inl f ↦ reduced_reaching_left_first h w p k free next whole has f
-    | inr away ↦ reduced_reaching_left_behind h w p k free next whole has away
+    | inl f ↦ reduced_reaching_left_first h w p k free.guarded next whole has f (λ m e at l is. absurd (swapped_no_ask_now k l free.no_ask is))
+    | inr away ↦ reduced_reaching_left_behind h w p k free.guarded next whole has away (λ m e at l is. absurd (swapped_no_ask_now k l free.no_ask is))
+  ]
+
+  -- who may ask for the lock next does nothing before that
+  away_of : (h w : List Event) (p l : ℕ) → IsFlatBeginning s (did h p (Ask l)) → IsFlatBeginning s (h ++ w) → IsNoRival (Ask l) w
+      → (m : ℕ) (f : Event) → At w m f → f.processor ≢ p
+  away_of h w p l next whole no_rival = elim (reduced_reaching_first_of w p) [
+    | inl f ↦
+        (let parted : h ++ w ≡ (h ++ f.before) ++ f.own ∷ f.after =
+        ap (λ xs. h ++ xs) f.are ∙ sym (append_assoc h f.before (f.own ∷ f.after)) in
+        let joined : (h ++ f.before) ++ f.own ∷ f.after ≡ ((h ++ f.before) ++ f.own ∷ []) ++ f.after =
+        sym (append_assoc (h ++ f.before) (f.own ∷ []) f.after) in
+        let all = subst (IsFlatBeginning s) (parted ∙ joined) whole in
+        let with_own = beginning_front s ((h ++ f.before) ++ f.own ∷ []) f.after all in
+        let before = beginning_front s (h ++ f.before) (f.own ∷ []) with_own in
+        let rivals = subst (IsNoRival (Ask l)) f.are no_rival in
+        let moved = reduced_swapped_comes_first s rows steps p (Ask l) (calm_ask l) f.before h f.away
+        (λ m e at. rivals m e (numbered_at_longer f.before (f.own ∷ f.after) m e at)) next before in
+        let mine = subst (λ q. IsFlatBeginning s (did (h ++ f.before) q f.own.kind)) f.mine with_own in
+        let same : Ask l ≡ f.own.kind =
+        reduced_reaching_next_once s (h ++ f.before) p (Ask l) f.own.kind steps.lawful.but_uneven.one_each moved.last mine in
+        absurd (rivals (length f.before) f.own (at_behind f.before f.own f.after) l refl same))
+    | inr away ↦ away
+  ]
+
+  -- one of the asks for the lock, once it has come first
+  record IsAskLeft (h : List Event) (l : ℕ) : Type 0 where
+    p : ℕ
+    next : IsFlatBeginning s (did h p (Ask l))
+    rest : IsReachingLeft s T (did h p (Ask l))
+
+  asked_left : (h w : List Event) → IsFlatBeginning s (h ++ w) → T (h ++ w) → (l : ℕ) → (next : (q : ℕ) × IsFlatBeginning s (did h q (Ask l)))
+      → ((more : List Event) (p : ℕ) → IsFlatBeginning s (did (h ++ more) p (Ask l)) → IsFlatBeginning s (did h p (Ask l)))
+      → IsAskLeft h l
+  asked_left h w whole has l next others = elim (first_ask w l) [
+    | inl f ↦
+        (let parted : h ++ w ≡ (h ++ f.before) ++ f.own ∷ f.after =
+        ap (λ xs. h ++ xs) f.are ∙ sym (append_assoc h f.before (f.own ∷ f.after)) in
+        let joined : (h ++ f.before) ++ f.own ∷ f.after ≡ ((h ++ f.before) ++ f.own ∷ []) ++ f.after =
+        sym (append_assoc (h ++ f.before) (f.own ∷ []) f.after) in
+        let with_own = beginning_front s ((h ++ f.before) ++ f.own ∷ []) f.after (subst (IsFlatBeginning s) (parted ∙ joined) whole) in
+        let asked = subst (λ c. IsFlatBeginning s (did (h ++ f.before) f.own.processor c)) (sym f.asks) with_own in
+        let first = others f.before f.own.processor asked in
+        record {
+          p = f.own.processor;
+          next = first;
+          rest = reduced_reaching_left_first h w f.own.processor (Ask l) (calm_ask l) first whole has (record {
+            before = f.before;
+            own = f.own;
+            after = f.after;
+            are = f.are;
+            mine = refl;
+            away = away_of h f.before f.own.processor l first (beginning_front s (h ++ f.before) (f.own ∷ []) with_own) f.none;
+          }) f.none;
+        })
+    | inr none ↦ record {
+      p = next.0;
+      next = next.1;
+      rest = reduced_reaching_left_behind h w next.0 (Ask l) (calm_ask l) next.1 whole has (away_of h w next.0 l next.1 whole none) none;
+    }
   ]
 
   reduced_reaching_longer : (h : List Event) (p : ℕ) (k : Kind) → IsFlatBeginning s (did h p k) → (n : ℕ) → most_held ≤ length h + suc n
@@ -188,10 +306,17 @@ module _ (s : Plan) (rows : List (Vec ScriptCall)) (steps : AreLawfulMachineStep
         let longer_whole = subst (IsFlatBeginning s) joined whole in
         let next = beginning_front s (h ++ e ∷ []) w longer_whole in
         reach n (h ++ e ∷ []) w (reduced_reaching_longer h e.processor e.kind next n le) (all e.processor e.kind next) longer_whole (subst T joined has))
-    | inr one ↦
-        (let rest = left h (e ∷ w) one.processor one.kind one.free one.next whole has in
-        reach n (did h one.processor one.kind) rest.more (reduced_reaching_longer h one.processor one.kind one.next n le) one.found rest.begins
-        rest.has)
+    | inr some ↦ elim some [
+      | inl one ↦
+          (let rest = left h (e ∷ w) one.processor one.kind one.free one.next whole has in
+          reach n (did h one.processor one.kind) rest.more (reduced_reaching_longer h one.processor one.kind one.next n le) one.found rest.begins
+          rest.has)
+      | inr asks ↦
+          (let l = asks.lock in
+          let ask = asked_left h (e ∷ w) whole has l (asks.processor, asks.next) asks.others in
+          reach n (did h ask.p (Ask l)) ask.rest.more (reduced_reaching_longer h ask.p (Ask l) ask.next n le) (asks.found ask.p ask.next)
+          ask.rest.begins ask.rest.has)
+    ]
   ]
 
   -- where nothing was found at first, each beginning that has it shows that one was found

@@ -1,6 +1,6 @@
 -- What may come next may still come after another processor's event. So two that may come next come in either order, and
--- where they don't conflict, and aren't both asks, the two beginnings are the same.
-use Rattle.std.proofs.Common.{ℕ, suc, ◌≡◌, ◌≢◌, ◌+◌, ◌<◌, inl, inr, false, List, [], ◌∷◌, ◌++◌, length, replicate, Option, Some, slice_get, slice_set, refl, sym, ap, subst, ◌∙◌, append_assoc, append-nil, length-append, arith}
+-- if they don't conflict, and don't both ask for one lock, the two prefixes are the same.
+use Rattle.std.proofs.Common.{ℕ, suc, ◌≡◌, ◌≢◌, ◌+◌, ◌<◌, ◌↔◌, ◌⊎◌, inl, inr, false, List, [], ◌∷◌, ◌++◌, length, replicate, Option, Some, slice_get, slice_set, refl, sym, ap, subst, ◌∙◌, append_assoc, append-nil, length-append, arith}
 use Rattle.std.specs.Prelude.{None}
 use Rattle.std.specs.Global.{Vec}
 use Rattle.std.proofs.lemmas.Bool.{cases_eq, cases_order, false≢true}
@@ -26,7 +26,7 @@ use Rattle.lrc_script.specs.Lawful.{plan_addresses}
 use Rattle.conformance.specs.Follows.{followed_calls, followed_plan_sizes}
 use Rattle.conformance.proofs.Calls.{followed_calls-others}
 use Rattle.explore.specs.declared.prefixes.script_call.ScriptCall.{ScriptCall}
-use Rattle.explore.specs.Free.{IsFree, is_ask}
+use Rattle.explore.specs.Free.{is_ask}
 use Rattle.explore.specs.Guarded.{IsGuarded}
 use Rattle.explore.specs.Machines.{AreLawfulMachineSteps}
 use Rattle.explore.specs.Prefixes.Beginnings.{IsFlatBeginning}
@@ -141,15 +141,23 @@ reduced_swapped_writes_commute m p q (kind.Store a v) (kind.Store b u) quiet = e
 reduced_swapped_writes_commute m p q (kind.Store a v) _ quiet = refl
 reduced_swapped_writes_commute m p q _ c quiet = refl
 
--- the ask of an event that is none
-swapped_no_ask_now : (k : Kind) (l : ℕ) → is_ask k ≡ false → kind.Ask l ≢ k
+-- a free event is no ask
+pub swapped_no_ask_now : (k : Kind) (l : ℕ) → is_ask k ≡ false → kind.Ask l ≢ k
 swapped_no_ask_now k l none is = false≢true (sym none ∙ ap is_ask (sym is))
 
--- after an event that is no ask, an open ask is an old one of another
-reduced_swapped_old_ask : (j : List Event) (p r i l : ℕ) (k : Kind) → is_ask k ≡ false → LastIs (did j p k) r i (kind.Ask l)
+-- an event asks for the lock or doesn't
+pub ask_or_not : (l : ℕ) (k : Kind) → (kind.Ask l ≡ k) ⊎ (kind.Ask l ≢ k)
+ask_or_not l (kind.Ask m) = elim (cases_eq l m) [
+  | inl is ↦ inl (ap kind.Ask is)
+  | inr isnt ↦ inr (λ same. isnt (cc same))
+]
+ask_or_not l k = inr (λ is. swapped_no_ask_now _ l refl is)
+
+-- after an event that doesn't ask for the lock, an open ask is an old one of another
+reduced_swapped_old_ask : (j : List Event) (p r i l : ℕ) (k : Kind) → kind.Ask l ≢ k → LastIs (did j p k) r i (kind.Ask l)
     → (p ≢ r) × LastIs j r i (kind.Ask l)
 reduced_swapped_old_ask j p r i l k none last = elim (last_cases j (event p k) r i (kind.Ask l) last) [
-  | inl own ↦ absurd (swapped_no_ask_now k l none own.2)
+  | inl own ↦ absurd (none own.2)
   | inr old ↦ old
 ]
 
@@ -167,10 +175,10 @@ reduced_swapped_two_old g e f l r t i m er et fr ft first second lt = record {
   before = lt;
 }
 
--- events of two processors in either order, of which the first is no ask
-module _ (g : List Event) (p q : ℕ) (k c : Kind) (apart : p ≢ q) (none : is_ask k ≡ false) where
-  reduced_swapped_asks_there : (l r t : ℕ) → SameAsksFirst (did (did g p k) q c) l r t → SameAsksFirst (did (did g q c) p k) l r t
-  reduced_swapped_asks_there l r t a = elim (last_cases (did g p k) (event q c) t a.second (kind.Ask l) a.other) [
+-- events of two processors in either order, of which the first doesn't ask for the lock
+module _ (g : List Event) (p q : ℕ) (k c : Kind) (apart : p ≢ q) (l : ℕ) (none : kind.Ask l ≢ k) where
+  reduced_swapped_asks_there : (r t : ℕ) → SameAsksFirst (did (did g p k) q c) l r t → SameAsksFirst (did (did g q c) p k) l r t
+  reduced_swapped_asks_there r t a = elim (last_cases (did g p k) (event q c) t a.second (kind.Ask l) a.other) [
     | inl mine ↦ elim (last_cases (did g p k) (event q c) r a.first (kind.Ask l) a.asks) [
       | inl own ↦ (let lt = a.before in let one = mine.1 in let two = own.1 in absurd (omega arith))
       | inr old ↦
@@ -203,8 +211,8 @@ module _ (g : List Event) (p q : ℕ) (k c : Kind) (apart : p ≢ q) (none : is_
         ])
   ]
 
-  reduced_swapped_asks_back : (l r t : ℕ) → SameAsksFirst (did (did g q c) p k) l r t → SameAsksFirst (did (did g p k) q c) l r t
-  reduced_swapped_asks_back l r t a =
+  reduced_swapped_asks_back : (r t : ℕ) → SameAsksFirst (did (did g q c) p k) l r t → SameAsksFirst (did (did g p k) q c) l r t
+  reduced_swapped_asks_back r t a =
       let first = reduced_swapped_old_ask (did g q c) p r a.first l k none a.asks in
       let second = reduced_swapped_old_ask (did g q c) p t a.second l k none a.other in
       elim (last_cases g (event q c) t a.second (kind.Ask l) second.1) [
@@ -235,6 +243,8 @@ module _ (g : List Event) (p q : ℕ) (k c : Kind) (apart : p ≢ q) (none : is_
         ]
       ]
 
+-- events of two processors in either order
+module _ (g : List Event) (p q : ℕ) (k c : Kind) (apart : p ≢ q) where
   reduced_swapped_parts_either : (r : ℕ) → events_of (did (did g p k) q c) r ≡ events_of (did (did g q c) p k) r
   reduced_swapped_parts_either r = elim (cases_eq p r) [
     | inl is ↦
@@ -255,8 +265,19 @@ module _ (g : List Event) (p q : ℕ) (k c : Kind) (apart : p ≢ q) (none : is_
     ]
   ]
 
-  pub reduced_swapped_same_either : (s : Plan) → ¬ Conflict (event p k) (event q c) → IsSame s (did (did g p k) q c) (did (did g q c) p k)
-  reduced_swapped_same_either s quiet =
+  -- which don't both ask for one lock
+  asks_either : (l r t : ℕ) → (kind.Ask l ≡ k → kind.Ask l ≢ c)
+      → SameAsksFirst (did (did g p k) q c) l r t ↔ SameAsksFirst (did (did g q c) p k) l r t
+  asks_either l r t one = elim (ask_or_not l k) [
+    | inl is ↦
+        (let none = one is in
+        let back : q ≢ p = λ other. apart (sym other) in
+        (reduced_swapped_asks_back g q p c k back l none r t, reduced_swapped_asks_there g q p c k back l none r t))
+    | inr none ↦ (reduced_swapped_asks_there g p q k c apart l none r t, reduced_swapped_asks_back g p q k c apart l none r t)
+  ]
+
+  pub reduced_swapped_same_either : (s : Plan) → ((l : ℕ) → kind.Ask l ≡ k → kind.Ask l ≢ c) → ¬ Conflict (event p k) (event q c) → IsSame s (did (did g p k) q c) (did (did g q c) p k)
+  reduced_swapped_same_either s one quiet =
       let start = replicate (plan_addresses s) 0 in
       record {
         parts = reduced_swapped_parts_either;
@@ -264,7 +285,7 @@ module _ (g : List Event) (p q : ℕ) (k c : Kind) (apart : p ≢ q) (none : is_
             reduced_same_memory_did start (did g p k) q c ∙ ap (λ m. wrote m (flat_write c)) (reduced_same_memory_did start g p k)
             ∙ reduced_swapped_writes_commute (memory_after start g) p q k c quiet
             ∙ sym (reduced_same_memory_did start (did g q c) p k ∙ ap (λ m. wrote m (flat_write k)) (reduced_same_memory_did start g q c));
-        asks = λ l r t. (reduced_swapped_asks_there l r t, reduced_swapped_asks_back l r t);
+        asks = λ l r t. asks_either l r t (one l);
       }
 
 -- what is so where an event came before some others of which none is its processor's
@@ -273,38 +294,46 @@ pub record SwappedComesFirst (s : Plan) (g w : List Event) (p : ℕ) (k : Kind) 
   pub last : IsFlatBeginning s (did (g ++ w) p k)
   pub same : IsSame s (did (g ++ w) p k) (did g p k ++ w)
 
+-- the event accesses no word but a guarded one
+abbrev pub IsCalm : List (Vec ScriptCall) → Kind → Type 0
+IsCalm rows k = (w : ℕ) → address_of k ≡ Some w → IsGuarded rows w
+
+-- it asks for no lock that one of these asks for
+abbrev pub IsNoRival : Kind → List Event → Type 0
+IsNoRival k w = (m : ℕ) (f : Event) → At w m f → (l : ℕ) → kind.Ask l ≡ k → kind.Ask l ≢ f.kind
+
 module _ (s : Plan) (rows : List (Vec ScriptCall)) (steps : AreLawfulMachineSteps s rows) (p : ℕ) (k : Kind)
-    (free : IsFree rows k) where
+    (calm : IsCalm rows k) where
   quiet : (g : List Event) (q : ℕ) (c : Kind) → p ≢ q → IsFlatBeginning s (did g p k) → IsFlatBeginning s (did g q c)
       → ¬ Conflict (event p k) (event q c)
   quiet g q c apart first second conflict =
-      lockset_guarded_quiet s rows steps g p q k c first second apart conflict (free.guarded conflict.address conflict.first)
+      lockset_guarded_quiet s rows steps g p q k c first second apart conflict (calm conflict.address conflict.first)
 
-  -- a free event comes before others' as well as after them
-  pub reduced_swapped_comes_first : (w g : List Event) → ((m : ℕ) (f : Event) → At w m f → f.processor ≢ p) → IsFlatBeginning s (did g p k)
-      → IsFlatBeginning s (g ++ w) → SwappedComesFirst s g w p k
-  reduced_swapped_comes_first [] g away next whole = record {
+  -- it comes before others' as well as after them
+  pub reduced_swapped_comes_first : (w g : List Event) → ((m : ℕ) (f : Event) → At w m f → f.processor ≢ p) → IsNoRival k w
+      → IsFlatBeginning s (did g p k) → IsFlatBeginning s (g ++ w) → SwappedComesFirst s g w p k
+  reduced_swapped_comes_first [] g away no_rival next whole = record {
     first = subst (IsFlatBeginning s) (sym (append-nil (did g p k))) next;
     last = subst (λ x. IsFlatBeginning s (did x p k)) (sym (append-nil g)) next;
     same = subst (λ x. IsSame s (did x p k) (did g p k ++ [])) (sym (append-nil g))
         (subst (IsSame s (did g p k)) (sym (append-nil (did g p k))) (reduced_same_as_itself s (did g p k)));
   }
-  reduced_swapped_comes_first (e ∷ w) g away next whole =
+  reduced_swapped_comes_first (e ∷ w) g away no_rival next whole =
       let apart : p ≢ e.processor = λ is. away 0 e refl (sym is) in
       let back : e.processor ≢ p = away 0 e refl in
       let longer = subst (IsFlatBeginning s) (sym (append_assoc g (e ∷ []) w)) whole in
       let now = beginning_front s (g ++ e ∷ []) w longer in
-      let calm = quiet g e.processor e.kind apart next now in
-      let calm_back : ¬ Conflict e (event p k) = λ c. calm (record {
+      let still = quiet g e.processor e.kind apart next now in
+      let still_back : ¬ Conflict e (event p k) = λ c. still (record {
         address = c.address;
         first = c.second;
         second = c.first;
         stores = elim c.stores [ inl is ↦ inr is | inr is ↦ inl is ];
       }) in
-      let one = reduced_swapped_next_after s g p e.processor k e.kind apart calm next now in
-      let two = reduced_swapped_next_after s g e.processor p e.kind k back calm_back now next in
-      let more = reduced_swapped_comes_first w (g ++ e ∷ []) (λ m. away (suc m)) two longer in
-      let either = reduced_swapped_same_either g p e.processor k e.kind apart free.no_ask s calm in
+      let one = reduced_swapped_next_after s g p e.processor k e.kind apart still next now in
+      let two = reduced_swapped_next_after s g e.processor p e.kind k back still_back now next in
+      let more = reduced_swapped_comes_first w (g ++ e ∷ []) (λ m. away (suc m)) (λ m. no_rival (suc m)) two longer in
+      let either = reduced_swapped_same_either g p e.processor k e.kind apart s (no_rival 0 e refl) still in
       let on = same_on s w (did (g ++ e ∷ []) p k) (did g p k ++ e ∷ []) (reduced_same_other_way s _ _ either) one more.first in
       record {
         first = subst (IsFlatBeginning s) (append_assoc (did g p k) (e ∷ []) w) on.0;

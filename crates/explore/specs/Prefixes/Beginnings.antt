@@ -1,4 +1,4 @@
--- Beginnings of a script's runs on one flat memory.
+-- Prefixes of a script's runs on one flat memory.
 use Rattle.std.specs.Prelude.{ℕ, List, replicate}
 use Rattle.journal.specs.declared.event.Event.{Event}
 use Rattle.journal.specs.declared.event.Kind.{Kind}

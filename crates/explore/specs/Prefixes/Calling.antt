@@ -57,11 +57,11 @@ abbrev pub reply_after_call : ℕ → Kind → ℕ
 reply_after_call reply (kind.Load a v) = v
 reply_after_call reply _ = reply
 
--- after these calls; 0 where no load is among them
+-- after these calls; 0 if no load is among them
 abbrev pub last_reply_of_calls : List Kind → ℕ
 last_reply_of_calls kinds = fold reply_after_call 0 kinds
 
--- the call is as the step says, where this reply was given last
+-- the call is as the step says, if this reply was given last
 abbrev pub IsCallOfStep : ℕ → ScriptCall → Kind → Type 0
 IsCallOfStep reply (Call c) k = replyless_call k ≡ replyless_call c
 IsCallOfStep reply (Adds a v) k = k ≡ kind.Store a ((reply + v) % 2 ^ 32)

@@ -1,4 +1,4 @@
--- What is promised of beginnings.
+-- What is promised of prefixes.
 use Rattle.std.specs.Prelude.{ℕ, ◌≡◌, ◌≢◌, ◌+◌, ◌↔◌, Some, List, [], ◌++◌, length, replicate, slice_get}
 use Rattle.journal.specs.declared.event.Event.{Event}
 use Rattle.journal.specs.declared.event.Kind.{Kind}
@@ -14,7 +14,7 @@ use Rattle.conformance.specs.FlatRuns.{NeverRacesFlat}
 use Rattle.explore.specs.Prefixes.Beginnings.{IsFlatBeginning, IsRaceFreeBeginning}
 use Rattle.explore.specs.Prefixes.Calling.{CallsNext, replyless_call, prefix_calling_section_steps, prefix_calling_shown_by}
 
--- a script of which no beginning races never races
+-- a script of which no prefix races never races
 abbrev pub NeverRacesLaw : Type 0
 NeverRacesLaw = (s : Plan) → IsRaceFreeBeginning s → NeverRacesFlat s
 
@@ -22,7 +22,7 @@ NeverRacesLaw = (s : Plan) → IsRaceFreeBeginning s → NeverRacesFlat s
 abbrev pub EmptyLaw : Type 0
 EmptyLaw = (s : Plan) → IsFlatBeginning s []
 
--- what begins a beginning is one
+-- what begins a prefix is one
 abbrev pub FrontLaw : Type 0
 FrontLaw = (s : Plan) (g more : List Event) → IsFlatBeginning s (g ++ more) → IsFlatBeginning s g
 
@@ -32,7 +32,7 @@ pub record MayComeNextByLaw (s : Plan) (g : List Event) (p : ℕ) (k : Kind) : T
   pub calls : CallsNext s g p k
   pub answers : AnswersFlatWord (memory_after (replicate (plan_addresses s) 0) g) k
 
--- exactly then it makes a beginning longer
+-- exactly then it makes a prefix longer
 abbrev pub NextLaw : Type 0
 NextLaw = (s : Plan) (g : List Event) (p : ℕ) (k : Kind)
     → IsFlatBeginning s (did g p k) ↔ (IsFlatBeginning s g × MayComeNextByLaw s g p k)
@@ -42,7 +42,7 @@ abbrev pub AreAllDoneByLaw : Plan → List Event → Type 0
 AreAllDoneByLaw s g = (p : ℕ) (section : List Instruction) → slice_get s.sections p ≡ Some section
     → length (followed_calls g p) ≡ length (prefix_calling_section_steps section (prefix_calling_shown_by s p))
 
--- a beginning is whole exactly then
+-- a prefix is whole exactly then
 abbrev pub WholeRunLaw : Type 0
 WholeRunLaw = (s : Plan) (g : List Event) → IsFlatBeginning s g → Follows s g ↔ AreAllDoneByLaw s g
 
@@ -51,18 +51,18 @@ abbrev pub NoNeighboursByLaw : Plan → Type 0
 NoNeighboursByLaw s = (g : List Event) (p q : ℕ) (a b : Kind) → IsFlatBeginning s (did g p a)
     → IsFlatBeginning s (did g q b) → p ≢ q → ¬ Conflict (event p a) (event q b)
 
--- then no beginning races
+-- then no prefix races
 abbrev pub NeighboursLaw : Type 0
 NeighboursLaw = (s : Plan) → NoNeighboursByLaw s → IsRaceFreeBeginning s
 
--- after g and p's access a, q's access b races with a, where b has the reply that a load of it has then
+-- after g and p's access a, q's access b races with a, if b has the reply that a load of it has then
 pub record LawRacesAfter (s : Plan) (g : List Event) (p q : ℕ) (a b : Kind) : Type 0 where
   pub kind : Kind
   pub call : replyless_call kind ≡ replyless_call b
   pub beginning : IsFlatBeginning s (did (did g p a) q kind)
   pub race : Race (did (did g p a) q kind) (length g) (length g + 1)
 
--- two that may access one word next, one of them storing, race where they do so one after the other
+-- two that may access one word next, one of them storing, race if they do so one after the other
 abbrev pub RacingLaw : Type 0
 RacingLaw = (s : Plan) (g : List Event) (p q : ℕ) (a b : Kind) → IsFlatBeginning s (did g p a)
     → IsFlatBeginning s (did g q b) → p ≢ q → Conflict (event p a) (event q b) → LawRacesAfter s g p q a b

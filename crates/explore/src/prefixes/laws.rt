@@ -1,30 +1,30 @@
-//! Laws of beginnings, as contracts of functions that do nothing: the check proves each by its name.
+//! Laws of prefixes, as contracts of functions that do nothing: the check proves each by its name.
 ghost use Rattle.explore.specs.Prefixes.Prelude.{NeverRacesLaw, EmptyLaw, FrontLaw, NextLaw, WholeRunLaw};
 ghost use Rattle.explore.specs.Prefixes.Prelude.{NeighboursLaw, RacingLaw};
 
-/// A script of which no beginning on one flat memory races never races, so by the law of race-free scripts it doesn't
+/// A script of which no prefix on one flat memory races never races, so by the law of race-free scripts it doesn't
 /// race on the real memory either.
 pub fn never_races_law()
     ensures { NeverRacesLaw }
 {}
 
-/// Nothing begins each script, and what begins a beginning is one.
+/// Nothing begins each script, and what begins a prefix is one.
 pub fn front_law()
     ensures empty { EmptyLaw }
     ensures front { FrontLaw }
 {}
 
-/// What may come next after a beginning: what its processor's section says, once it may, with the reply of the memory.
+/// What may come next after a prefix: what its processor's section says, once it may, with the reply of the memory.
 pub fn next_law()
     ensures { NextLaw }
 {}
 
-/// A beginning is whole exactly where each processor has made as many calls as its section says.
+/// A prefix is whole exactly if each processor has made as many calls as its section says.
 pub fn whole_law()
     ensures { WholeRunLaw }
 {}
 
-/// A script of which no two processors may access one word next, one of them storing, doesn't race in any beginning. So
+/// A script of which no two processors may access one word next, one of them storing, doesn't race in any prefix. So
 /// a search looks at what may come next in each state, and keeps no timestamps. The idea is that of adjacent conflicting
 /// actions: Boehm and Adve, Foundations of the C++ concurrency memory model (PLDI 2008), on equal definitions of a race.
 pub fn neighbours_law()

@@ -1,7 +1,7 @@
 //! Laws, as contracts of functions that do nothing: the check proves each by its name.
 ghost use Rattle.lrc_explore.specs.Schedules.Prelude.{BegunLaw, GoesOnLaw, NeverStuckLaw, ReportLaw};
 
-/// An explained history that begins a script, of which no beginning on one flat memory races, has no race and replays, also
+/// An explained history that begins a script, of which no prefix on one flat memory races, has no race and replays, also
 /// if it ends before the script does. So `race_free_law` of crate `conformance` holds of runs that are stuck or halted,
 /// too.
 pub fn begun_law()

@@ -1,22 +1,13 @@
-use Rattle.std.proofs.Common.{ℕ, zero, suc, ◌≡◌, ◌<◌, inl, inr, List, [], ◌∷◌, length, replicate, Option, Some, refl, sym, subst, ◌∙◌, get_or-set_other, get_or-set_same, arith}
+use Rattle.std.proofs.Common.{ℕ, ◌≡◌, ◌<◌, inl, inr, replicate, Some, sym, subst, ◌∙◌, get_or-set_other, get_or-set_same, arith}
 use Rattle.std.specs.Prelude.{None, slice_index_or, slice_set}
 use Rattle.std.proofs.lemmas.Bool.{cases_eq}
-use Rattle.std.proofs.lemmas.Option.{none-some, same_Some}
+use Rattle.std.proofs.lemmas.Option.{same_Some}
 use Rattle.journal.specs.declared.event.Kind.{Kind}
+use Rattle.explore.proofs.Choosing.{none_among, none_long}
 use Rattle.explore.proofs.free.alone.Goals as goal
 
--- among so many Nones there is no Some
-nothing : (n p : ℕ) (k : Kind) → slice_index_or (replicate n None) p None ≡ Some k → ⊥
-nothing zero p k at = none-some k at
-nothing (suc n) zero k at = none-some k at
-nothing (suc n) (suc p) k at = nothing n p k at
-
-long : (n : ℕ) → length (replicate {A = Option Kind} n None) ≡ n
-long zero = refl
-long (suc n) = let more = long n in omega arith
-
 set_own : (p : ℕ) (k : Kind) → p < 16 → slice_index_or (slice_set (replicate 16 None) p (Some k)) p None ≡ Some k
-set_own p k lt = let size = long 16 in get_or-set_same (replicate 16 None) p (Some k) None (omega arith)
+set_own p k lt = let size = none_long 16 in get_or-set_same (replicate 16 None) p (Some k) None (omega arith)
 
 set_only : (p q : ℕ) (j k : Kind) → p < 16 → slice_index_or (slice_set (replicate 16 None) p (Some k)) q None ≡ Some j
     → (q ≡ p) × (j ≡ k)
@@ -25,7 +16,7 @@ set_only p q j k lt at = elim (cases_eq q p) [
       (let here = subst (λ r. slice_index_or (slice_set (replicate 16 None) p (Some k)) r None ≡ Some j) is at in
       (is, same_Some j k (sym here ∙ set_own p k lt)))
   | inr isnt ↦
-      absurd (nothing 16 q j (sym (get_or-set_other (replicate 16 None) p q (Some k) None isnt) ∙ at))
+      absurd (none_among 16 q j (sym (get_or-set_other (replicate 16 None) p q (Some k) None isnt) ∙ at))
 ]
 
 pub returns-clause-own : goal.returns-clause-own

@@ -67,12 +67,14 @@ neither false all is = refl
 pub verdict-requires-clause-free : goal.verdict-requires-clause-free
 verdict-requires-clause-free g c =
     let s = plan_of c.args.script.now in
-    race_free s c.look_at_all.new.self c.args.steps.now c.args.guarded.now c.is_through-through.result c.are_all.result
+    race_free s c.look_at_all.new.self c.args.steps.now c.args.facts.now.guarded.items c.is_through-through.result c.are_all.result
     c.requires.steps
     (searched s c.look_at_all.new.self c.args.steps.now c.states_to_look_at-most.result c.len-states.result
     c.in_ok-neighbours.neighbours c.is_through-through.result
     (c.in_ok-neighbours.ensures.looked s c.requires.steps c.requires.searched) c.len-states.ensures.count
-    c.is_through-through.ensures) c.requires.guarded c.requires.long c.are_all.ensures
+    c.is_through-through.ensures) c.requires.facts.guarded c.requires.long
+    (subst (λ ws. IsTrue c.are_all.result → (w : ℕ) → w < length ws → IsTrue (slice_index_or ws w false)) c.deref.ensures.value
+    c.are_all.ensures)
 
 pub verdict-requires-clause-racing : goal.verdict-requires-clause-racing
 verdict-requires-clause-racing g c =

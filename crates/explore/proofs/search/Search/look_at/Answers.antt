@@ -16,12 +16,12 @@ pub nexts_of-nexts-requires : goal.nexts_of-nexts-requires
 nexts_of-nexts-requires c =
     let s = c.requires.unvisited.0 in
     let may = c.requires.unvisited.1 in
-    let g = may.searched.found.known c.args.place c.at.result.now c.at.ensures in
+    let g = may.searched.found.known c.args.place c.at-state.result.now c.at-state.ensures in
     record { plan = s; lawful = may.lawful; events = g.0; knows = g.1 }
 
 pub returns-in-Some-clause-looked : goal.returns-in-Some-clause-looked
 returns-in-Some-clause-looked c = λ s may.
-    let f = c.at.result.now in
+    let f = c.at-state.result.now in
     let nexts = c.nexts_of-nexts.ensures.nexts s may.lawful in
     let conflict = c.in-Some.ensures in (
       may.searched,
@@ -33,10 +33,10 @@ returns-in-Some-clause-looked c = λ s may.
           apart = conflict.apart;
           conflict = conflict.conflict;
           first = λ m at g knows.
-              let mine = subst (λ x. Knows s g x) (same_Some m f (sym at ∙ c.at.ensures)) knows in
+              let mine = subst (λ x. Knows s g x) (same_Some m f (sym at ∙ c.at-state.ensures)) knows in
               (nexts g mine c.in-Some.first.processor c.in-Some.first.kind).0 conflict.first;
           second = λ m at g knows.
-              let mine = subst (λ x. Knows s g x) (same_Some m f (sym at ∙ c.at.ensures)) knows in
+              let mine = subst (λ x. Knows s g x) (same_Some m f (sym at ∙ c.at-state.ensures)) knows in
               (nexts g mine c.in-Some.second.processor c.in-Some.second.kind).0 conflict.second;
         };
       },
@@ -46,7 +46,7 @@ pub note_end-requires : goal.note_end-requires
 note_end-requires c =
     let s = c.requires.unvisited.0 in
     let may = c.requires.unvisited.1 in
-    let f = c.at.result.now in
+    let f = c.at-state.result.now in
     let nexts = c.nexts_of-nexts.ensures.nexts s may.lawful in (
       s,
       record {
@@ -54,7 +54,7 @@ note_end-requires c =
         found = may.searched.found;
         within = may.more;
         over = λ m at g p k knows next.
-            let mine = subst (λ x. Knows s g x) (same_Some m f (sym at ∙ c.at.ensures)) knows in
+            let mine = subst (λ x. Knows s g x) (same_Some m f (sym at ∙ c.at-state.ensures)) knows in
             c.is_over.ensures.0 c.if-is_over.true p k ((nexts g mine p k).1 next);
         noted = may.searched.noted;
       },
@@ -64,20 +64,20 @@ pub follow_all-requires : goal.follow_all-requires
 follow_all-requires c =
     let s = c.requires.unvisited.0 in
     let may = c.requires.unvisited.1 in
-    let f = c.at.result.now in
+    let f = c.at-state.result.now in
     let same : c.if-is_over.self.found ≡ c.args.self.now.found = elim c.if-is_over.branch [
       | then-is_over+in_ok-note_end w ↦ ap (λ (z : Search). z.found) w.self-is ∙ w.in_ok-note_end.ensures.found
       | else-is_over w ↦ ap (λ (z : Search). z.found) w.self-is
     ] in (
       s,
-      subst (λ x. MayFollowAll s x c.args.place c.to_follow.result) (sym same)
+      subst (λ x. MayFollowAll s x c.args.place c.to_follow-followed.result) (sym same)
           (record {
             lawful = may.lawful.lawful;
             found = may.searched.found;
             within = may.more;
             next = λ m at p k told g knows.
                 (c.nexts_of-nexts.ensures.nexts s may.lawful g
-                (subst (Knows s g) (same_Some m f (sym at ∙ c.at.ensures)) knows) p k).0 (c.to_follow.ensures.among p k told);
+                (subst (Knows s g) (same_Some m f (sym at ∙ c.at-state.ensures)) knows) p k).0 (c.to_follow-followed.ensures.among p k told);
           }),
     )
 
@@ -85,8 +85,8 @@ pub returns-clause-few : goal.returns-clause-few
 returns-clause-few c = λ s may.
     let x = c.args.self.now.found in
     let place = c.args.place in
-    let f = c.at.result.now in
-    let chosen = c.to_follow.result in
+    let f = c.at-state.result.now in
+    let chosen = c.to_follow-followed.result in
     let new = c.follow_all.new.self in
     let same : c.if-is_over.self.found ≡ x = elim c.if-is_over.branch [
       | then-is_over+in_ok-note_end w ↦ ap (λ (z : Search). z.found) w.self-is ∙ w.in_ok-note_end.ensures.found
@@ -97,23 +97,23 @@ returns-clause-few c = λ s may.
       found = may.searched.found;
       within = may.more;
       next = λ m at p k told g knows.
-          (c.nexts_of-nexts.ensures.nexts s may.lawful g (subst (Knows s g) (same_Some m f (sym at ∙ c.at.ensures)) knows) p k).0
-          (c.to_follow.ensures.among p k told);
+          (c.nexts_of-nexts.ensures.nexts s may.lawful g (subst (Knows s g) (same_Some m f (sym at ∙ c.at-state.ensures)) knows) p k).0
+          (c.to_follow-followed.ensures.among p k told);
     } in
     let followed =
     subst (λ y. AreFollowed s y new place chosen (length chosen)) same
     (c.in_ok-follow_all.ensures s (subst (λ y. MayFollowAll s y place chosen) (sym same) may_follow)) in
     let few = followed.few in
-    let long = c.to_follow.ensures.long in
+    let long = c.to_follow-followed.ensures.long in
     omega (arith, few, long)
 
 pub returns-clause-looked : goal.returns-clause-looked
 returns-clause-looked c = λ s may.
     let x = c.args.self.now in
     let place = c.args.place in
-    let f = c.at.result.now in
+    let f = c.at-state.result.now in
     let nexts = c.nexts_of-nexts.result in
-    let chosen = c.to_follow.result in
+    let chosen = c.to_follow-followed.result in
     let are = c.nexts_of-nexts.ensures.nexts s may.lawful in
     let new = c.follow_all.new.self in
     let same : c.if-is_over.self.found ≡ x.found = elim c.if-is_over.branch [
@@ -121,12 +121,12 @@ returns-clause-looked c = λ s may.
       | else-is_over w ↦ ap (λ (z : Search). z.found) w.self-is
     ] in
     let each : (m : FlatState) → slice_get (states_found x.found) place ≡ Some m → AreNexts s m nexts =
-    (λ m at. subst (λ y. AreNexts s y nexts) (same_Some f m (sym c.at.ensures ∙ at)) are) in
+    (λ m at. subst (λ y. AreNexts s y nexts) (same_Some f m (sym c.at-state.ensures ∙ at)) are) in
     let may_follow : MayFollowAll s x.found place chosen = record {
       lawful = may.lawful.lawful;
       found = may.searched.found;
       within = may.more;
-      next = λ m at p k told g knows. (each m at g knows p k).0 (c.to_follow.ensures.among p k told);
+      next = λ m at p k told g knows. (each m at g knows p k).0 (c.to_follow-followed.ensures.among p k told);
     } in
     let followed =
     subst (λ y. AreFollowed s y new place chosen (length chosen)) same
@@ -138,20 +138,21 @@ returns-clause-looked c = λ s may.
             found = may.searched.found;
             within = may.more;
             over = λ m at g p k knows next.
-                let mine = subst (λ y. Knows s g y) (same_Some m f (sym at ∙ c.at.ensures)) knows in
+                let mine = subst (λ y. Knows s g y) (same_Some m f (sym at ∙ c.at-state.ensures)) knows in
                 c.is_over.ensures.0 w.if-is_over.true p k ((are g mine p k).1 next);
             noted = may.searched.noted;
           }))
       | else-is_over w ↦
           subst (λ z. SearchOutcomesNoted s z (place + 1)) (sym w.self-is)
-          (search_noted_skips s (states_found x.found) place f c.at.ensures may.lawful.lawful.but_uneven.one_each
+          (search_noted_skips s (states_found x.found) place f c.at-state.ensures may.lawful.lawful.but_uneven.one_each
           (λ g knows none.
           false≢true (sym w.if-is_over.false ∙ c.is_over.ensures.1 (λ p k is. none p k ((are g knows p k).0 is)))) x refl
           may.searched.noted)
     ] in
     let z : Search = record { found = new; outcomes = c.if-is_over.self.outcomes; hang = c.if-is_over.self.hang } in
     let more = may.more in
-    looked s x z c.args.steps.now place nexts chosen may each c.in_default.ensures
-    (c.to_follow.ensures.choice c.args.steps.now c.requires.guarded) followed
+    looked s x z c.args.steps.now place f.done nexts chosen may
+    (λ m at. ap (λ (y : FlatState). y.done) (same_Some m f (sym at ∙ c.at-state.ensures))) each c.in_default.ensures
+    (c.to_follow-followed.ensures.choice c.args.steps.now c.requires.facts) followed
     (search_noted_kept s (states_found x.found) (states_found new) (place + 1) followed.keeps (omega arith) c.if-is_over.self z
     (ap states_found same) refl refl refl noted)

@@ -1,0 +1,75 @@
+//! What a script's text shows of events to come.
+ghost use Rattle.std.specs.Prelude.{◌≡◌, ◌≤◌, ℕ, IfOk, Some, length, slice_get, slice_index_or};
+ghost use Rattle.lrc_script.specs.Prelude.{plan_of};
+ghost use Rattle.lrc_script.specs.Lawful.{plan_addresses};
+ghost use Rattle.std.specs.Global.{Vec as AVec};
+ghost use Rattle.explore.specs.declared.prefixes.script_call.ScriptCall.{ScriptCall as AStep};
+ghost use Rattle.explore.specs.Free.{AreAskEnds, AreAskEndsOfAll, AreAsksSmall, AreTextFacts, IsAskSmall, ask_end_after};
+ghost use Rattle.explore.specs.Machines.{AreLawfulMachineSteps};
+
+use crate::guarded::guarded_words;
+use crate::prefixes::ScriptCall;
+use journal::Kind;
+use lrc_script::script::Script;
+use std::alloc::{AllocError, Global};
+
+/// What a script's text shows of events to come.
+#[derive(Drop)]
+pub struct TextFacts {
+    /// Of each word, whether it is guarded.
+    pub guarded: Vec<bool>,
+    /// Of each processor and lock, how many steps there are up to the last that asks for the lock; 0 if none does.
+    pub ask_ends: [[usize; 32]; 16],
+}
+
+/// Takes note of a step that asks for a lock, if it does: so many steps there are up to this one.
+fn note_ask(ends: &mut [usize; 32], step: ScriptCall, count: usize)
+    requires { IsAskSmall step }
+    ensures { (lock : ℕ) → slice_index_or ends.new lock 0 ≡ ask_end_after lock count (slice_index_or ends.old lock 0) step }
+{
+    if let ScriptCall::Call(Kind::Ask(lock)) = step {
+        ends[lock] = count;
+    }
+}
+
+/// Of each lock, how many of these steps there are up to the last that asks for it.
+fn ends_in(row: &[ScriptCall]) -> [usize; 32]
+    requires { AreAsksSmall row.now }
+    ensures { AreAskEnds row.now result }
+{
+    let mut ends = [0; 32];
+    for place in 0..row.len() {
+        note_ask(&mut ends, row[place], place + 1);
+    }
+    ends
+}
+
+/// The same of each processor.
+fn ask_ends(steps: &[Vec<ScriptCall>]) -> [[usize; 32]; 16]
+    requires few { length steps.now ≤ 16 }
+    requires small { (p : ℕ) (row : AVec AStep) → slice_get steps.now p ≡ Some row → AreAsksSmall row.items }
+    ensures { AreAskEndsOfAll steps.now result }
+{
+    let mut ends = [[0; 32]; 16];
+    for processor in 0..steps.len() {
+        ends[processor] = ends_in(&steps[processor]);
+    }
+    ends
+}
+
+/// What the script's text shows. The only error is running out of memory.
+pub fn text_facts(
+    alloc: Global,
+    script: &Script,
+    steps: &[Vec<ScriptCall>],
+) -> Result<TextFacts, AllocError>
+    requires { AreLawfulMachineSteps (plan_of script.now) steps.now }
+    ensures long { IfOk result (λ f. length f.guarded.items ≡ plan_addresses (plan_of script.now)) }
+    ensures facts { IfOk result (AreTextFacts steps.now) }
+{
+    let guarded = guarded_words(alloc, script, steps)?;
+    Ok(TextFacts {
+        guarded,
+        ask_ends: ask_ends(steps),
+    })
+}
