@@ -24,7 +24,7 @@ TOOL = [Path("tools/edits"), *sorted(it.relative_to(ROOT) for it in (ROOT / "too
 def line_of(name):
     """A crate's line of crates.txt."""
     lines = (ROOT / "crates.txt").read_text(encoding="utf-8").splitlines()
-    return next(line.partition("#")[0].strip() for line in lines if line.split(":")[0] == name)
+    return next(line.partition("#")[0].strip() for line in lines if line.partition(":")[0].split()[:1] == [name])
 
 
 def add_files(made, files):

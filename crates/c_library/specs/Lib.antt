@@ -1,0 +1,6 @@
+pub mod Given
+pub mod CallFaults
+pub mod Told
+pub mod Judging
+pub mod Histories
+pub mod Prelude

@@ -1,0 +1,60 @@
+//! A history is judged.
+ghost use Rattle.std.specs.Prelude.{◌≡◌, ◌≢◌, IfErr, IfOk};
+ghost use Rattle.c_library.specs.Prelude.{IsCodeOf, IsJudgeFault, IsToldOf};
+
+use crate::call_fault::CallFault;
+use crate::given::{GivenEvent, GivenRules, GivenSizes, are_few, events_of, have_kinds};
+use crate::told::{ToldVerdict, verdict};
+use lrc_check::judge_history;
+use std::alloc::Global;
+
+/// Judges the events, if all that was handed in is in range.
+fn judge(
+    alloc: Global,
+    sizes: GivenSizes,
+    rules: GivenRules,
+    events: &[GivenEvent],
+) -> Result<ToldVerdict, CallFault>
+    ensures told { IfOk result (IsToldOf sizes rules events.now) }
+    ensures refused { IfErr result (IsJudgeFault sizes rules events.now) }
+{
+    let judged = sizes.sizes();
+    if !judged.are_small() {
+        return Err(CallFault::BadSizes);
+    }
+    if !rules.are_known() {
+        return Err(CallFault::BadRules);
+    }
+    if !are_few(events) {
+        return Err(CallFault::TooMany);
+    }
+    if !have_kinds(events) {
+        return Err(CallFault::BadEvent);
+    }
+    let history = events_of(alloc, events)?;
+    let found = judge_history(alloc, judged, &history, rules.rules())?;
+    Ok(verdict(&found))
+}
+
+/// Judges the events by the rules, and writes what was found of them; answers 0. Else it answers the code of a fault, and
+/// writes nothing.
+#[unsafe(no_mangle)]
+pub extern "C" fn cevandle_judge_nonnull(
+    alloc: Global,
+    sizes: GivenSizes,
+    rules: GivenRules,
+    events: &[GivenEvent],
+    told: &mut ToldVerdict,
+) -> u32
+    ensures told { result ≡ 0 → IsToldOf sizes rules events.now told.new }
+    ensures refused { result ≢ 0 → IsCodeOf (IsJudgeFault sizes rules events.now) result }
+    ensures unwritten { result ≢ 0 → told.new ≡ told.old }
+{
+    match judge(alloc, sizes, rules, events) {
+        Ok(found) => {
+            *told = found;
+            0
+        }
+        Err(fault) => fault.code(),
+    }
+}

@@ -1,0 +1,183 @@
+/* cevandle.h: what of Cevandle can be called from C. docs/C.md says how to build libcevandle.a and to link it.
+ *
+ * No call keeps anything between two calls, waits, starts a thread, or writes but where its last arguments point. What a call
+ * reads and what it writes must not overlap. Memory comes from the program's malloc, and is given back before the call returns.
+ * Each call answers a cevandle_code; unless that is CEVANDLE_DONE, nothing was written.
+ */
+#ifndef CEVANDLE_H
+#define CEVANDLE_H
+
+#include <stddef.h>
+#include <stdint.h>
+
+#ifdef __cplusplus
+extern "C" {
+#endif
+
+/* Why a call did nothing. Of several reasons the first one in this order is answered. */
+enum cevandle_code {
+    CEVANDLE_DONE = 0,
+    CEVANDLE_BAD_SIZES = 1,  /* a size is out of range */
+    CEVANDLE_BAD_RULES = 2,  /* a number of the rules has no meaning */
+    CEVANDLE_BAD_ROOM = 3,   /* the memory has not just a word for each address */
+    CEVANDLE_TOO_MANY = 4,   /* there are more than CEVANDLE_MOST_EVENTS events */
+    CEVANDLE_BAD_EVENT = 5,  /* an event's kind is none of cevandle_kind, or a number of it is out of range */
+    CEVANDLE_NO_MEMORY = 6,  /* malloc refused */
+    CEVANDLE_NULL = 7        /* a pointer is null: looked at before all others */
+};
+
+#define CEVANDLE_MOST_EVENTS (1u << 21)
+
+/* No place, and nobody. */
+#define CEVANDLE_NONE UINT64_MAX
+
+/* The sizes of the memory: at most 16 processors, 64 pages of 64 words, 32 locks and 32 flags. Its addresses are the numbers
+ * below pages times words. */
+typedef struct cevandle_sizes {
+    uint32_t processors, pages, words, locks, flags;
+} cevandle_sizes;
+
+/* What an event did: docs/CHECKING.md has when to log each. */
+enum cevandle_kind {
+    CEVANDLE_LOAD = 0,    /* number: the address; value: the word answered */
+    CEVANDLE_STORE = 1,   /* number: the address; value: the word stored */
+    CEVANDLE_FETCH = 2,   /* number: the page; writers, records, words: what it brought */
+    CEVANDLE_ASK = 3,     /* number: the lock */
+    CEVANDLE_ACQUIRE = 4, /* number: the lock */
+    CEVANDLE_RELEASE = 5, /* number: the lock */
+    CEVANDLE_ARRIVE = 6,  /* at the barrier */
+    CEVANDLE_DEPART = 7,  /* from the barrier */
+    CEVANDLE_SET = 8,     /* number: the flag */
+    CEVANDLE_WATCH = 9,   /* number: the flag */
+    CEVANDLE_AWAIT = 10   /* number: the flag */
+};
+
+/* An event. Fields that its kind doesn't name are not looked at. */
+typedef struct cevandle_event {
+    uint32_t processor; /* from 0 */
+    uint32_t kind;      /* a cevandle_kind */
+    uint32_t number;
+    uint32_t value;
+    uint32_t writers, records, words;
+} cevandle_event;
+
+/* What a load has to answer: docs/CHECKING.md, "The models". */
+enum cevandle_model {
+    CEVANDLE_RACE_FREE = 0,
+    CEVANDLE_HAPPENS_BEFORE = 1,
+    CEVANDLE_LAZY_RELEASE = 2,
+    CEVANDLE_SEQUENTIAL = 3
+};
+
+/* By what a history is judged. */
+typedef struct cevandle_rules {
+    uint32_t model;        /* a cevandle_model */
+    uint32_t lax;          /* 1 to leave out the order in which a lock is granted, and what fetches count; else 0 */
+    uint32_t ends_at_race; /* 1 to end judging with the first race; else 0 */
+} cevandle_rules;
+
+/* The places of two accesses that race, from 0; CEVANDLE_NONE twice without a race. */
+typedef struct cevandle_race {
+    uint64_t first, second;
+} cevandle_race;
+
+/* Why an event is a lie. */
+enum cevandle_why {
+    CEVANDLE_NO_LIE = 0,
+    CEVANDLE_UNEXPLAINED = 1,        /* a load of what it may not answer: see stores, last */
+    CEVANDLE_MISCOUNTED = 2,         /* a fetch that has to count writers, records and words */
+    CEVANDLE_NO_SUCH_PROCESSOR = 3,
+    CEVANDLE_OUT_OF_RANGE = 4,       /* its address, page, lock or flag */
+    CEVANDLE_WAITS = 5,              /* its processor waits for another event */
+    CEVANDLE_ASKS_WHAT_IT_HOLDS = 6,
+    CEVANDLE_NOT_ASKED = 7,          /* an acquire, depart or await without its ask, arrival or watch */
+    CEVANDLE_HELD_BY = 8,            /* an acquire of a lock that `other` holds */
+    CEVANDLE_ASKED_EARLIER = 9,      /* an acquire; `other` asked for the lock before, at place `earlier` */
+    CEVANDLE_NOT_HELD = 10,          /* a release */
+    CEVANDLE_NOT_ARRIVED = 11,       /* a departure; `other` has not arrived as often */
+    CEVANDLE_NOT_SET = 12            /* an await of a flag that nobody has set */
+};
+
+/* The first event that no memory of the model makes. What has no meaning under `why` is CEVANDLE_NONE, or 0 of the counts. */
+typedef struct cevandle_lie {
+    uint64_t why; /* a cevandle_why */
+    uint64_t place;
+    uint64_t other, earlier;
+    uint64_t writers, records, words;
+    uint64_t stores[16]; /* the load may answer what these stored, by processor; 0 alone if none did. Under
+                            CEVANDLE_HAPPENS_BEFORE, also what was stored before it and doesn't happen before it */
+    uint64_t last;       /* under CEVANDLE_SEQUENTIAL, it has to answer what this one stored; 0 without one */
+} cevandle_lie;
+
+enum cevandle_judgement {
+    CEVANDLE_FAITHFUL = 0,
+    CEVANDLE_UNFAITHFUL = 1,
+    CEVANDLE_ENDED_AT_RACE = 2 /* with ends_at_race alone; what stands before race.second is faithful */
+};
+
+/* What events cost, by the counts of their own fetches. */
+typedef struct cevandle_traffic {
+    uint64_t messages, records, words;
+} cevandle_traffic;
+
+typedef struct cevandle_verdict {
+    uint64_t verdict; /* a cevandle_judgement */
+    uint64_t judged;  /* how many events: all, or those up to the lie or the race and with it */
+    cevandle_lie lie;
+    cevandle_race race; /* of those judged: the least second place, and with it the greatest first one */
+    cevandle_traffic traffic; /* of a faithful history; else zeros */
+    uint64_t unjudged; /* loads of a faithful history: under CEVANDLE_RACE_FREE those from race.second on */
+} cevandle_verdict;
+
+/* What the library has: as the calls below, but no pointer may be null. A caller without this header calls these. */
+uint32_t cevandle_judge_nonnull(cevandle_sizes sizes, cevandle_rules rules, const cevandle_event *events, size_t count,
+                                cevandle_verdict *verdict);
+uint32_t cevandle_first_race_nonnull(cevandle_sizes sizes, const cevandle_event *events, size_t count, cevandle_race *race);
+uint32_t cevandle_replay_nonnull(cevandle_sizes sizes, const cevandle_event *events, size_t count, uint32_t *memory,
+                                 size_t room, uint32_t *replays);
+
+/* Stands in for an array of no items, which may be null. */
+static const cevandle_event cevandle_no_events[1] = {{0, 0, 0, 0, 0, 0, 0}};
+
+/* Judges a history: whether a memory of the model can make it, and if not, which event is the first lie, and why. `events`
+ * may be null if count is 0. Numbers of events may be any: an event that names what isn't there is a lie, not an error.
+ * Answers BAD_SIZES, BAD_RULES, TOO_MANY, BAD_EVENT (a kind alone), NO_MEMORY or NULL, else DONE. */
+static inline uint32_t cevandle_judge(cevandle_sizes sizes, cevandle_rules rules, const cevandle_event *events,
+                                      size_t count, cevandle_verdict *verdict)
+{
+    if ((events == NULL && count != 0) || verdict == NULL) {
+        return CEVANDLE_NULL;
+    }
+    return cevandle_judge_nonnull(sizes, rules, events == NULL ? cevandle_no_events : events, count, verdict);
+}
+
+/* Finds the first race of any events, whether a memory can make them or not: the least second place, and with it the least
+ * first one. `events` may be null if count is 0. Answers BAD_SIZES, TOO_MANY, BAD_EVENT (a kind; a processor, address, page,
+ * lock or flag that isn't within the sizes), NO_MEMORY or NULL, else DONE. */
+static inline uint32_t cevandle_first_race(cevandle_sizes sizes, const cevandle_event *events, size_t count,
+                                           cevandle_race *race)
+{
+    if ((events == NULL && count != 0) || race == NULL) {
+        return CEVANDLE_NULL;
+    }
+    return cevandle_first_race_nonnull(sizes, events == NULL ? cevandle_no_events : events, count, race);
+}
+
+/* Does the events to one flat memory of zeros, in their order. If each load answers its word there, *replays is 1 and `memory`
+ * has the words at the end, else *replays is 0 and `memory` is as before. `room`, the words of `memory`, is pages times words.
+ * `events` may be null if count is 0. Answers BAD_SIZES, BAD_ROOM, TOO_MANY, BAD_EVENT (as cevandle_first_race), NO_MEMORY or
+ * NULL, else DONE. */
+static inline uint32_t cevandle_replay(cevandle_sizes sizes, const cevandle_event *events, size_t count, uint32_t *memory,
+                                       size_t room, uint32_t *replays)
+{
+    if ((events == NULL && count != 0) || memory == NULL || replays == NULL) {
+        return CEVANDLE_NULL;
+    }
+    return cevandle_replay_nonnull(sizes, events == NULL ? cevandle_no_events : events, count, memory, room, replays);
+}
+
+#ifdef __cplusplus
+}
+#endif
+
+#endif
