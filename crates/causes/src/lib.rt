@@ -4,16 +4,18 @@
 //!
 //! **What contracts see.** `IsSource` of specs/Source says what each source of a load means, `IsHeard` of specs/Heard
 //! which event of another processor is the last one heard of, `EdgeFromOther` of specs/Edges which events have an edge to
-//! one, `IsNews` of specs/News which of these its processor had not heard of, `IsWay` of specs/Ways what a way along edges
-//! is, `IsDue` of specs/Dues which records an event tells of, `IsWait` of specs/Waits what each thing that a processor
-//! waits for means; all in journal's words of happens-before, latest stores, races, gaps of copies and who holds a lock.
-//! The histories need not be ones that a cluster can make.
+//! one, `IsNews` of specs/News which of these its processor had not heard of, `AreHandOvers` of specs/HandOvers which of
+//! those are the last ones, `IsWay` of specs/Paths what a way along edges is, `AreDues` of specs/Dues which records an event
+//! tells of, `IsOrigin` of specs/Origins from which store the word of a copy comes, `IsWait` of specs/Waits what each thing
+//! that a processor waits for means; all in journal's words of happens-before, latest stores, races, gaps of copies and who
+//! holds a lock. The histories need not be ones that a cluster can make.
 //!
 //! **What is proved.** `loads` names for each load a latest store of its past whose value it answers; or that its past
 //! has no store and it answers 0; or that it may not answer what it does. `race` is the first race, with the last event
 //! of the first access's processor that happens before the second access. `edges` has, of one event, exactly the events of
 //! other processors with an edge to it; `incoming` has, of each event, exactly those of them that its processor had not
-//! heard of. `way` has, of two events, a way along edges from the one to the other, exactly where the one is the other or
+//! heard of, `hand_overs` the last of these. `origins` has, of each load, the store from which its copy's word comes, and by
+//! which event. `way` has, of two events, a way along edges from the one to the other, exactly where the one is the other or
 //! happens before it; `Ways` finds many. `dues` has, of each event that takes, exactly the records that its processor's
 //! copies lack after it and did not lack before, and of each fetch those that its copy of the page lacked, by page and
 //! writer. `waits` has, of each processor, what it waits for at the end: a lock, who holds it and whose asks of it are

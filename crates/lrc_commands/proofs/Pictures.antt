@@ -1,5 +1,5 @@
 -- What is drawn of a history behind some arrivals: its own events, each in range since the whole history is, with the
--- places that are its news. Places are counted from the arrivals' end, so each lies below the number of the events.
+-- places of its hand-overs. Places are counted from the arrivals' end, so each lies below the number of the events.
 use Rattle.std.proofs.Common.{◌≡◌, ℕ, ◌-◌, ◌+◌, ◌<◌, ◌≤◌, List, Option, Some, None, length, slice_get, slice_index_or, refl, ap, subst, ◌∙◌, arith, length-append}
 use Rattle.std.specs.Prelude.{All, MatchOption}
 use Rattle.std.specs.Global.{Vec}
@@ -14,20 +14,21 @@ use Rattle.journal.specs.RacesFrom.{IsFirstRaceFrom, RaceFreeFrom}
 use Rattle.journal.proofs.Order.CountedAndNumbered.{numbered_at_within}
 use Rattle.lrc_picture.specs.Arrows.{ArePlaces}
 use Rattle.lrc_picture.specs.Layout.{CanBeDrawn, ArrowInside}
-use Rattle.causes.specs.News.{AreIncoming}
+use Rattle.causes.specs.HandOvers.{AreAllHandOvers}
 use Rattle.lrc_commands.specs.Explained.{IsExplainedBehind}
 
 -- all items have it where each does
 all_of : {A : Type 0} (P : A → Type 0) (xs : List A) → ((x : A) → Has xs x → P x) → All P xs
 all_of P xs each = λ k d within. each (slice_index_or xs k d) (k, slice_get-get_or xs k d within)
 
--- the news of a history's events stand within it
-pub picture_news_within : (j : List Event) (rows : List (Vec ℕ)) → length rows ≡ length j → AreIncoming j rows
+-- the hand-overs to a history's events stand within it
+pub picture_hand_overs_within : (j : List Event) (rows : List (Vec ℕ)) → AreAllHandOvers j rows
     → ArePlaces (length rows) rows
-picture_news_within j rows long news = record {
+picture_hand_overs_within j rows are = record {
   long = refl;
   within = λ k row at. all_of (λ i. i < length rows) row.items (λ i has.
-      let edge = (((news k row at).has i).0 has).leads.edge in
+      let edge = ((are.each k row at).each i has).leads.edge in
+      let long = are.long in
       rw long (numbered_at_within j i edge.from edge.from_at));
 }
 

@@ -7,11 +7,13 @@ ghost use Rattle.lrc_picture.specs.Prelude.{ArePlaces};
 ghost use Rattle.lrc_commands.specs.Prelude.{IsStatusBeforeAnswer, IsExplainedBehind, IsInputsStatus};
 
 use crate::fault::StudyFault;
-use causes::incoming;
+use causes::hand_overs;
 use conformance::Ended;
 use journal::{Event, Journal, Kind, MOST_HELD, MOST_PROCESSORS};
+use lrc_explain::{Sketch, sketch_run};
 use lrc_picture::picture::render;
-use lrc_picture::story::Story;
+use lrc_picture::story::{Details, Story};
+use lrc_script::script::Script;
 use std::alloc::{AllocError, Global};
 use std::io::Write;
 
@@ -94,8 +96,8 @@ fn rows_from(
     Ok(left)
 }
 
-/// For each event of the history behind so many the places, counted from there, of the other processors' events that let
-/// it through and that its processor had not heard of.
+/// For each event of the history behind so many the places, counted from there, of the other processors' events by which its
+/// processor gets its news: of a lock the last release alone.
 fn arrows_of(
     alloc: Global,
     processors: usize,
@@ -108,15 +110,28 @@ fn arrows_of(
     requires processors { ProcessorsInRange processors history.now }
     ensures { IfOk result (λ v. ArePlaces (length history.now - opening) v.items) }
 {
-    let rows = incoming(alloc, processors, history)?;
+    let rows = hand_overs(alloc, processors, history)?;
     rows_from(alloc, &rows, opening)
 }
 
-/// Draws the run with this journal.
+/// What the picture tells besides events and arrows.
+fn details_of(sketch: &Sketch) -> Details<'_> {
+    Details {
+        notes: &sketch.notes,
+        reads: &sketch.reads,
+        stale: &sketch.stale,
+        waits: &sketch.waits,
+        holders: &sketch.holders,
+    }
+}
+
+/// Draws the run of a script of this name, with this journal, of which this is told.
 fn draw_journal<W: Write>(
     alloc: Global,
+    name: Option<&str>,
     processors: usize,
     journal: &Journal,
+    sketch: &Sketch,
     halted: bool,
     out: &mut W,
 ) -> Result<(), StudyFault>
@@ -131,22 +146,25 @@ fn draw_journal<W: Write>(
     }
     let arrows = arrows_of(alloc, processors, opening, &history)?;
     let story = Story {
+        name,
         processors,
         events: journal.events(),
         incoming: &arrows,
         first: journal.cut_events(),
         race: journal.first_race()?,
         halted,
+        details: details_of(sketch),
     };
     render(alloc, &story, out)?;
     Ok(())
 }
 
-/// Draws how a run of so many processors ended. The only faults are running out of memory, that of the output, and a
-/// journal that isn't of so many processors.
+/// Draws how a run of the script ended, whose file has this name. The only faults are running out of memory, that of the
+/// output, and a journal that isn't one of the script.
 pub(crate) fn draw<W: Write>(
     alloc: Global,
-    processors: usize,
+    name: Option<&str>,
+    script: &Script,
     ended: &Ended,
     out: &mut W,
 ) -> Result<(), StudyFault>
@@ -154,8 +172,11 @@ pub(crate) fn draw<W: Write>(
     ensures early { IfErr result
         (λ fault. IsStatusBeforeAnswer fault → Keeps (W.contents out.old) (W.contents out.new)) }
 {
-    match ended {
-        Ended::Whole(report) => draw_journal(alloc, processors, &report.journal, false, out),
-        Ended::Halted(halt) => draw_journal(alloc, processors, &halt.journal, true, out),
-    }
+    let processors = script.processors;
+    let sketch = sketch_run(alloc, processors, script.words, ended)?;
+    let (journal, halted) = match ended {
+        Ended::Whole(report) => (&report.journal, false),
+        Ended::Halted(halt) => (&halt.journal, true),
+    };
+    draw_journal(alloc, name, processors, journal, &sketch, halted, out)
 }

@@ -38,18 +38,19 @@ fn halt_line(alloc: Global, file: Option<&str>, ended: &Ended) -> Result<Option<
 /// Tells how a run of the script ended, or draws it.
 fn print_end<W: Write>(
     alloc: Global,
+    options: &ExplainOptions,
     script: &Script,
-    picture: bool,
     ended: &Ended,
     out: &mut W,
 ) -> Result<(), StudyFault>
-    ensures told { OnOk result (ExplainedWritten picture (W.contents out.old) (W.contents out.new) ended.now) }
+    ensures told { OnOk result (ExplainedWritten options.now.picture
+        (W.contents out.old) (W.contents out.new) ended.now) }
     ensures runs { IfErr result (λ fault. IsInputsStatus fault → ⊥) }
     ensures early { IfErr result
         (λ fault. IsStatusBeforeAnswer fault → Keeps (W.contents out.old) (W.contents out.new)) }
 {
-    if picture {
-        return draw(alloc, script.processors, ended, out);
+    if options.picture {
+        return draw(alloc, options.file.as_deref(), script, ended, out);
     }
     render(alloc, script.processors, Some(script.words), ended, out)?;
     Ok(())
@@ -96,7 +97,7 @@ fn print_run<T: Runs, R: Wait, W: Write>(
 {
     let ended = end_of(runs, rt, alloc, options, script)?;
     let line = halt_line(alloc, options.file.as_deref(), &ended)?;
-    print_end(alloc, script, options.picture, &ended, out)?;
+    print_end(alloc, options, script, &ended, out)?;
     Ok(line)
 }
 

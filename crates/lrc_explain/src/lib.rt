@@ -32,4 +32,4 @@ mod text;
 
 pub use fault::ExplainFault;
 pub use rendering::render;
-pub use sketching::{Sketch, WaitHint, sketch_run};
+pub use sketching::{Sketch, sketch_run};

@@ -18,15 +18,6 @@ use conformance::Ended;
 use journal::{Event, Journal, MOST_PROCESSORS};
 use std::alloc::{AllocError, Global};
 
-/// For what a processor waits.
-#[derive(Drop)]
-pub struct WaitHint {
-    /// In words.
-    pub text: Vec<u8>,
-    /// The one processor that could let it go on, where there is one.
-    pub holder: Option<usize>,
-}
-
 /// What is told of a run's events, those alone that are left in the journal: their places are counted from 0.
 #[derive(Drop)]
 pub struct Sketch {
@@ -37,8 +28,10 @@ pub struct Sketch {
     /// Of each event whether it is a load that misses a store: one that stands before it, and is neither what it answers nor
     /// ordered before it.
     pub stale: Vec<bool>,
-    /// Of each processor for what it waits, where the run can't go on; None where it waits for nothing.
-    pub waits: Vec<Option<WaitHint>>,
+    /// Of each processor for what it waits, where the run can't go on, in words; None where it waits for nothing.
+    pub waits: Vec<Option<Vec<u8>>>,
+    /// Of each processor the one that could let it go on, where there is one.
+    pub holders: Vec<Option<usize>>,
 }
 
 /// Adds of each event that is left what is said of it. The only error is running out of memory.
@@ -113,32 +106,44 @@ fn stale_of(
     Ok(stale)
 }
 
-/// For what each processor waits. The only error is running out of memory.
+/// For what the processor waits, in words; None where it waits for nothing. The only error is running out of memory.
+fn wait_of(
+    alloc: Global,
+    halted: &Halted<'_>,
+    processor: usize,
+) -> Result<Option<Vec<u8>>, AllocError> {
+    if !halted.waits(processor) {
+        return Ok(None);
+    }
+    let mut text = Text::new(alloc);
+    halted.put_wait(&mut text, processor);
+    Ok(Some(text.into_line()?))
+}
+
+/// For what each of so many processors waits. The only error is running out of memory.
 fn waits_of(
     alloc: Global,
-    held: &HeldNow,
-    journal: &Journal,
-) -> Result<Vec<Option<WaitHint>>, AllocError> {
-    let last = last_of(journal.events());
-    let halted = Halted {
-        held,
-        last: &last,
-        is_cut: journal.cut_events() > 0,
-    };
+    halted: &Halted<'_>,
+    processors: usize,
+) -> Result<Vec<Option<Vec<u8>>>, AllocError> {
     let mut waits = Vec::new(alloc);
-    for processor in 0..held.arrived().len() {
-        if halted.waits(processor) {
-            let mut text = Text::new(alloc);
-            halted.put_wait(&mut text, processor);
-            waits.push(Some(WaitHint {
-                text: text.into_line()?,
-                holder: halted.waits_for(processor),
-            }))?;
-        } else {
-            waits.push(None)?;
-        }
+    for processor in 0..processors {
+        waits.push(wait_of(alloc, halted, processor)?)?;
     }
     Ok(waits)
+}
+
+/// Of each of so many processors the one that could let it go on. The only error is running out of memory.
+fn holders_of(
+    alloc: Global,
+    halted: &Halted<'_>,
+    processors: usize,
+) -> Result<Vec<Option<usize>>, AllocError> {
+    let mut holders = Vec::new(alloc);
+    for processor in 0..processors {
+        holders.push(halted.waits_for(processor))?;
+    }
+    Ok(holders)
 }
 
 /// What is told of these events of a run of this shape, the journal's.
@@ -166,12 +171,20 @@ fn sketch_history(
     add_notes(&mut notes, &mut held, alloc, &known)?;
     let reads = reads_of(alloc, &found, numbers, events.len())?;
     let stale = stale_of(alloc, &found, numbers, events.len())?;
-    let waits = waits_of(alloc, &held, journal)?;
+    let last = last_of(journal.events());
+    let halted = Halted {
+        held: &held,
+        last: &last,
+        is_cut: journal.cut_events() > 0,
+    };
+    let waits = waits_of(alloc, &halted, shape.processors)?;
+    let holders = holders_of(alloc, &halted, shape.processors)?;
     Ok(Sketch {
         notes,
         reads,
         stale,
         waits,
+        holders,
     })
 }
 

@@ -1,5 +1,5 @@
 -- The layout of a picture.
-use Rattle.std.specs.Prelude.{ℕ, ◌≡◌, ◌+◌, ◌*◌, ◌<◌, ◌≤◌, IfSome, List, Option, length}
+use Rattle.std.specs.Prelude.{ℕ, ◌≡◌, ◌≢◌, ◌+◌, ◌*◌, ◌<◌, ◌≤◌, IfSome, List, Option, length}
 use Rattle.std.specs.Global.{Vec}
 use Rattle.base.specs.Limits.{most_held, most_processors}
 use Rattle.journal.specs.declared.event.Event.{Event}
@@ -18,12 +18,17 @@ pub record CanBeDrawn (n : ℕ) (j : List Event) (incoming : List (Vec ℕ)) : T
   pub processors : ProcessorsInRange n j
   pub places : ArePlaces (length j) incoming
 
--- a lane for each of n processors, a row for each event and one more, and lanes so far from each other that the longest
--- label fits in between, at eight pixels a byte
+-- that many pixels have room for each label, at eight pixels a byte, and for the mark beside it
+abbrev pub HasRoom : List Event → ℕ → Type 0
+HasRoom j room = (k : ℕ) (e : Event) → At j k e → length (label_text e.kind) * 8 + 40 ≤ room
+
+-- a lane for each of n processors, a row for each event and one more; where labels stand between lanes these have room for
+-- them, else the column of labels has
 pub record IsGridOf (n : ℕ) (j : List Event) (g : Grid) : Type 0 where
   pub lanes : g.lanes ≡ n
   pub rows : length j < g.rows
-  pub wide : (k : ℕ) (e : Event) → At j k e → length (label_text e.kind) * 8 + 40 ≤ g.step
+  pub beside : g.side ≡ 0 → HasRoom j g.step
+  pub aside : g.side ≢ 0 → HasRoom j g.side
 
 -- such a grid, and a mark for each event
 pub record IsLayoutOf (n : ℕ) (j : List Event) (l : Layout) : Type 0 where

@@ -13,14 +13,14 @@ pub struct Bar {
     pub to: Point,
 }
 
-/// The bar across all lanes in this row.
+/// The bar in this row, from the first lane to the last one.
 fn bar_across(grid: Grid, row: usize) -> Bar
     requires { row ≤ grid.rows }
     ensures { result ≡ bar_for grid row }
 {
     Bar {
         from: grid.point(0, row),
-        to: grid.point(grid.lanes, row),
+        to: grid.point(grid.lanes.saturating_sub(1), row),
     }
 }
 

@@ -1,5 +1,5 @@
 //! Where the lanes and rows of a picture lie, in pixels.
-ghost use Rattle.std.specs.Prelude.{◌≡◌, ◌≤◌, ◌^◌};
+ghost use Rattle.std.specs.Prelude.{◌≡◌, ◌≢◌, ◌≤◌, ◌^◌};
 ghost use Rattle.base.specs.Prelude.{most_processors};
 
 /// A point of the picture, in pixels from its left upper corner.
@@ -11,8 +11,8 @@ pub struct Point {
     pub y: usize,
 }
 
-/// How many lanes and rows a picture has, and how far the lanes are from each other. A lane is a processor's line with the
-/// labels to its right; a row is an event's.
+/// How many lanes and rows a picture has, and how far the lanes are from each other. A lane is a processor's line, with the
+/// labels to its right if there is no column of labels; a row is an event's.
 #[derive(Clone, Copy, Debug, PartialEq, Eq)]
 pub struct Grid {
     /// How many lanes there are.
@@ -21,22 +21,26 @@ pub struct Grid {
     pub rows: usize,
     /// From a lane to the next, in pixels.
     pub step: usize,
+    /// How wide the column of labels is that stands right of all lanes, in pixels; 0 where each label stands right of its
+    /// mark.
+    pub side: usize,
     pub ghost lanes_few: { lanes ≤ most_processors },
     pub ghost rows_few: { rows ≤ 2 ^ 22 },
     pub ghost step_small: { step ≤ 2 ^ 12 },
+    pub ghost side_small: { side ≤ 2 ^ 12 },
 }
 
 /// Where the first lane is.
 const LEFT: usize = 104;
 
 /// Where the first row is.
-const TOP: usize = 56;
+const TOP: usize = 88;
 
 /// From a row to the next.
 const ROW: usize = 24;
 
-/// How wide the legend is, with the room to its left.
-const LEGEND: usize = 380;
+/// What is right of the last lane.
+const RIGHT: usize = 16;
 
 /// What is below the last row.
 const BOTTOM: usize = 16;
@@ -44,7 +48,7 @@ const BOTTOM: usize = 16;
 impl Grid {
     ghost use Rattle.lrc_picture.specs.Grid.{crossing, height_of, width_of, x_of, y_of};
 
-    /// Where the line of this processor is; for the number of lanes, where the legend begins.
+    /// Where the line of this processor is; for the number of lanes, where the last lane ends.
     pub fn lane_x(self, processor: usize) -> usize
         requires { processor ≤ self.lanes }
         ensures { result ≡ x_of self processor }
@@ -76,10 +80,24 @@ impl Grid {
     pub fn width(self) -> usize
         ensures { result ≡ width_of self }
     {
-        self.lane_x(self.lanes) + LEGEND
+        self.lane_x(self.lanes) + self.side + RIGHT
     }
 
-    /// How high the picture is.
+    /// Where the label of a mark at this point stands: there, or in the column of labels.
+    pub fn label_point(self, at: Point) -> Point
+        ensures beside { self.side ≡ 0 → result ≡ at }
+        ensures aside { self.side ≢ 0 → result ≡ record { x = x_of self self.lanes; y = at.y } }
+    {
+        if self.side == 0 {
+            return at;
+        }
+        Point {
+            x: self.lane_x(self.lanes),
+            y: at.y,
+        }
+    }
+
+    /// How high the picture is, without its legend.
     pub fn height(self) -> usize
         ensures { result ≡ height_of self }
     {

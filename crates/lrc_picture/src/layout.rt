@@ -23,8 +23,8 @@ pub struct Layout {
     pub bars: Vec<Bar>,
 }
 
-/// How many characters a lane's head has at most.
-const HEAD: usize = 12;
+/// How many characters a lane's head has at most, and what is said of a processor that waits.
+const HEAD: usize = 14;
 
 /// How wide a character is at most, in pixels.
 const CHARACTER: usize = 8;
@@ -32,8 +32,14 @@ const CHARACTER: usize = 8;
 /// The room between a lane and its labels and behind these, in pixels.
 const GAP: usize = 40;
 
-/// How many rows the legend has.
-const LEGEND_ROWS: usize = 11;
+/// How far lanes without labels are from each other, in pixels.
+const NARROW: usize = 44;
+
+/// The room in front of a label in the column of labels, and for its processor's name, in pixels.
+const NAMED: usize = 80;
+
+/// How wide lanes with labels are together at most, in pixels: so a page has them all in its width.
+const MOST_WIDE: usize = 1024;
 
 /// The grid of the picture of these events. The only error is running out of memory.
 fn grid_of(alloc: Global, processors: usize, events: &[Event]) -> Result<Grid, AllocError>
@@ -42,10 +48,17 @@ fn grid_of(alloc: Global, processors: usize, events: &[Event]) -> Result<Grid, A
     ensures { IfOk result (IsGridOf processors events.now) }
 {
     let label = widest(alloc, events)?;
+    let wide = GAP + label.max(HEAD) * CHARACTER;
+    let (step, side) = if processors * wide <= MOST_WIDE {
+        (wide, 0)
+    } else {
+        (NARROW, NAMED + label * CHARACTER)
+    };
     Ok(Grid {
         lanes: processors,
-        rows: (events.len() + 1).max(LEGEND_ROWS),
-        step: GAP + label.max(HEAD) * CHARACTER,
+        rows: events.len() + 1,
+        step,
+        side,
     })
 }
 

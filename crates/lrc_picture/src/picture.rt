@@ -1,6 +1,5 @@
 //! Writes a run's picture.
 ghost use Rattle.std.specs.Prelude.{◌≡◌, ◌≢◌, ◌≤◌, Err, length};
-ghost use Rattle.base.specs.Prelude.{most_cut};
 ghost use Rattle.lrc_picture.specs.Prelude.{CanBeDrawn, ArrowInside};
 
 use crate::layout::lay_out;
@@ -24,7 +23,6 @@ pub enum PictureFault {
 /// The text of the story's picture. The only error is running out of memory.
 fn drawn(alloc: Global, story: &Story<'_>) -> Result<String, AllocError>
     requires drawn { CanBeDrawn story.now.processors story.now.events.now story.now.incoming.now }
-    requires first { story.now.first ≤ most_cut }
     requires race { ArrowInside (length story.now.events.now) story.now.race }
 {
     let layout = lay_out(alloc, story.processors, story.events, story.incoming)?;
@@ -51,7 +49,6 @@ fn write<W: Write>(text: &str, out: &mut W) -> Result<(), PictureFault>
 /// It takes time and memory in the order of the events and of the places that let them through.
 pub fn render<W: Write>(alloc: Global, story: &Story<'_>, out: &mut W) -> Result<(), PictureFault>
     requires drawn { CanBeDrawn story.now.processors story.now.events.now story.now.incoming.now }
-    requires first { story.now.first ≤ most_cut }
     requires race { ArrowInside (length story.now.events.now) story.now.race }
     ensures no_memory { result ≡ Err PictureFault.NoMemory → W.contents out.new ≡ W.contents out.old }
 {

@@ -49,6 +49,27 @@ impl Svg {
         self.put(buffer.format(number));
     }
 
+    /// Adds this character as it stands in a file of XML; a `?` for one that can't.
+    fn put_character(&mut self, character: char) {
+        match character {
+            '<' => self.put("&lt;"),
+            '&' => self.put("&amp;"),
+            '\u{0}'..='\u{1f}' | '\u{fffe}'..='\u{ffff}' => self.put("?"),
+            _ => {
+                if self.granted.is_ok() {
+                    self.granted = self.text.push(character);
+                }
+            }
+        }
+    }
+
+    /// Adds these words, each character as it stands in a file of XML.
+    pub fn put_escaped(&mut self, words: &str) {
+        for character in words.chars() {
+            self.put_character(character);
+        }
+    }
+
     /// The text. The only error is running out of memory: a growth was refused.
     pub fn finish(self) -> Result<String, AllocError>
         ensures granted { OnOk result (IsOk self.granted) }

@@ -6,9 +6,9 @@
 //!   needlessly;
 //! - the texts of histories that no whole run has; that a text is one write; and that a journal with a processor too
 //!   many is refused;
-//! - that each event has its mark and its label in a picture's file, each event that was let through its arrows, each
-//!   complete episode its bar, the first race its frames and each processor that waits its cross; that the file is one
-//!   element, closed at its end; that memory isn't refused needlessly, and that each refusal is answered.
+//! - that each event has its mark, its label and its title in a picture's file, each hand-over its arrow, each load that
+//!   answers a store its edge, each stale load its stroke, each complete episode its bar, the first race its frames and each
+//!   processor that waits its cross; that the legend has what occurs; that the file is one element, closed at its end; that memory isn't refused needlessly, and that each refusal is answered.
 ghost use Rattle.std.specs.Prelude.{◌<◌, ◌≤◌, IsTrue, length};
 ghost use Rattle.base.specs.Prelude.{most_held, most_processors};
 ghost use Rattle.journal.specs.Prelude.{AddressInRange, AddressesInRange, ProcessorsInRange};

@@ -7,7 +7,7 @@ ghost use Rattle.lrc_picture.specs.Prelude.{ArePlaces, ArrowInside};
 use super::{Row, history};
 use journal::{Event, Kind, MOST_HELD, MOST_PROCESSORS};
 use lrc_picture::picture::render;
-use lrc_picture::story::Story;
+use lrc_picture::story::{Details, Story};
 use std::alloc::{AllocError, Global};
 use std::process::Abort;
 use std::test::Fail;
@@ -20,9 +20,14 @@ struct Case<'a> {
     /// From where to where arrows lead.
     arrows: &'a [(usize, usize)],
     race: Option<(usize, usize)>,
-    halted: bool,
-    /// How many arrows by locks, arrows by flags, bars and crosses.
-    want: [usize; 4],
+    /// Which events answer which.
+    reads: &'a [Option<usize>],
+    /// Which events are stale loads.
+    stale: &'a [bool],
+    /// Of each processor that waits which one it waits for.
+    waits: &'a [(usize, Option<usize>)],
+    /// How many arrows by locks, arrows by flags, bars, crosses, and arrows between these.
+    want: [usize; 5],
 }
 
 /// Whether all events are of these processors.
@@ -94,6 +99,52 @@ fn rows_of(
     Ok(rows)
 }
 
+/// For each of so many processors for what it waits.
+fn waits_of(
+    alloc: Global,
+    processors: usize,
+    waits: &[(usize, Option<usize>)],
+) -> Result<Vec<Option<Vec<u8>>>, AllocError> {
+    let mut texts = Vec::new(alloc);
+    for processor in 0..processors {
+        let waiting = waits.iter().any(|wait| wait.0 == processor);
+        texts.push(if waiting { Some(Vec::new(alloc)) } else { None })?;
+    }
+    Ok(texts)
+}
+
+/// For each of so many processors the one that it waits for.
+fn holders_of(
+    alloc: Global,
+    processors: usize,
+    waits: &[(usize, Option<usize>)],
+) -> Result<Vec<Option<usize>>, AllocError> {
+    let mut holders = vec![in alloc; None; processors]?;
+    for (processor, holder) in waits {
+        if let Some(there) = holders.get_mut(*processor) {
+            *there = *holder;
+        }
+    }
+    Ok(holders)
+}
+
+/// What a case's picture tells, in lists.
+#[derive(Drop)]
+struct Lists {
+    rows: Vec<Vec<usize>>,
+    waits: Vec<Option<Vec<u8>>>,
+    holders: Vec<Option<usize>>,
+}
+
+/// The lists of the case.
+fn lists_of(alloc: Global, case: &Case<'_>) -> Result<Lists, AllocError> {
+    Ok(Lists {
+        rows: rows_of(alloc, case.arrows, case.events.len())?,
+        waits: waits_of(alloc, case.processors, case.waits)?,
+        holders: holders_of(alloc, case.processors, case.waits)?,
+    })
+}
+
 /// How often these words stand in the text.
 fn count(text: &[u8], words: &[u8]) -> usize {
     let mut found: usize = 0;
@@ -108,18 +159,26 @@ fn count(text: &[u8], words: &[u8]) -> usize {
 /// The picture of the case; where memory is refused once, it is asked for again.
 fn picture<R: Abort + AllocGlobal>(rt: &R, case: &Case<'_>) -> Result<Vec<u8>, Fail> {
     let alloc = rt.alloc();
-    let rows = match rows_of(alloc, case.arrows, case.events.len()) {
-        Ok(rows) => rows,
-        Err(_) => rows_of(alloc, case.arrows, case.events.len())?,
+    let lists = match lists_of(alloc, case) {
+        Ok(lists) => lists,
+        Err(_) => lists_of(alloc, case)?,
     };
     let events = history(alloc, case.events)?;
     let story = Story {
+        name: Some("a/<b>.lrc"),
         processors: case.processors,
         events: &events,
-        incoming: &rows,
+        incoming: &lists.rows,
         first: 0,
         race: case.race,
-        halted: case.halted,
+        halted: !case.waits.is_empty(),
+        details: Details {
+            notes: &[],
+            reads: case.reads,
+            stale: case.stale,
+            waits: &lists.waits,
+            holders: &lists.holders,
+        },
     };
     assert!(rt; story.events.len() <= MOST_HELD && story.processors <= MOST_PROCESSORS);
     assert!(rt; are_by(story.processors, story.events));
@@ -133,20 +192,39 @@ fn picture<R: Abort + AllocGlobal>(rt: &R, case: &Case<'_>) -> Result<Vec<u8>, F
     Ok(out)
 }
 
-/// Draws the case and counts. The legend has an arrow of each kind, a bar and a race's line, too.
+/// How many there are with the one of the legend, which has what occurs.
+fn with_legend(count: usize) -> usize {
+    if count == 0 {
+        0
+    } else {
+        count.saturating_add(1)
+    }
+}
+
+/// Draws the case and counts: of each sign that occurs there is one more, in the legend.
 fn check<R: Abort + AllocGlobal>(rt: &R, case: &Case<'_>) -> Result<(), Fail> {
     let out = picture(rt, case)?;
     let text = out.as_slice();
-    let racing = if case.race.is_some() { 2 } else { 0 };
-    let [locks, flags, bars, crosses] = case.want;
+    let racing: usize = if case.race.is_some() { 2 } else { 0 };
+    let reads = case.reads.iter().filter(|read| read.is_some()).count();
+    let stale = case.stale.iter().filter(|is_stale| **is_stale).count();
+    let [locks, flags, bars, crosses, holders] = case.want;
     assert_eq!(rt; count(text, b"class=\"mark\""), case.events.len());
     assert_eq!(rt; count(text, b"class=\"number\""), case.events.len());
+    assert_eq!(rt;
+        count(text, b"<title>event "),
+        case.events.len().saturating_add(reads)
+    );
     assert_eq!(rt; count(text, b"class=\"head\""), case.processors);
-    assert_eq!(rt; count(text, b"class=\"racing\""), racing);
-    assert_eq!(rt; count(text, b"class=\"lock\""), locks.saturating_add(1));
-    assert_eq!(rt; count(text, b"class=\"flag\""), flags.saturating_add(1));
-    assert_eq!(rt; count(text, b"class=\"barrier\""), bars.saturating_add(1));
+    assert_eq!(rt; count(text, b"class=\"racing\""), racing.saturating_add(1));
+    assert_eq!(rt; count(text, b"class=\"lock\""), with_legend(locks));
+    assert_eq!(rt; count(text, b"class=\"flag\""), with_legend(flags));
+    assert_eq!(rt; count(text, b"class=\"barrier\""), with_legend(bars));
     assert_eq!(rt; count(text, b"class=\"waiting\""), crosses);
+    assert_eq!(rt; count(text, b"class=\"holder\""), with_legend(holders));
+    assert_eq!(rt; count(text, b"class=\"edge\""), with_legend(reads));
+    assert_eq!(rt; count(text, b"class=\"stale\""), stale);
+    assert_eq!(rt; count(text, b">&lt;b>.lrc: "), 1);
     assert!(rt; text.starts_with(b"<svg ") && text.ends_with(b"</svg>\n"));
     Ok(())
 }
@@ -156,22 +234,28 @@ fn check<R: Abort + AllocGlobal>(rt: &R, case: &Case<'_>) -> Result<(), Fail> {
 fn alone(rt: HostRuntime) -> Result<(), Fail> {
     let one = [(0, Kind::Store(0, 7)), (0, Kind::Load(0, 7))];
     let far = [(15, Kind::Store(4, 4_294_967_295))];
-    let rows: [(usize, &[Row]); 3] = [(2, &[]), (1, &one), (16, &far)];
-    for (processors, events) in rows {
+    let rows: [(usize, &[Row], &[Option<usize>]); 3] = [
+        (2, &[], &[]),
+        (1, &one, &[None, Some(0)]),
+        (16, &far, &[]),
+    ];
+    for (processors, events, reads) in rows {
         let case = Case {
             processors,
             events,
             arrows: &[],
             race: None,
-            halted: false,
-            want: [0; 4],
+            reads,
+            stale: &[],
+            waits: &[],
+            want: [0; 5],
         };
         check(&rt, &case)?;
     }
     Ok(())
 }
 
-/// Messages by a lock and by a flag, and a race.
+/// Messages by a lock and by a flag, and a race with a stale load.
 #[test]
 fn messages(rt: HostRuntime) -> Result<(), Fail> {
     let events = [
@@ -180,21 +264,23 @@ fn messages(rt: HostRuntime) -> Result<(), Fail> {
         (0, Kind::Set(1)),
         (1, Kind::Acquire(0)),
         (1, Kind::Await(1)),
-        (1, Kind::Load(0, 7)),
         (0, Kind::Store(0, 8)),
+        (1, Kind::Load(0, 7)),
     ];
     let case = Case {
         processors: 2,
         events: &events,
         arrows: &[(1, 3), (2, 4)],
         race: Some((5, 6)),
-        halted: false,
-        want: [1, 1, 0, 0],
+        reads: &[None, None, None, None, None, None, Some(0)],
+        stale: &[false, false, false, false, false, false, true],
+        waits: &[],
+        want: [1, 1, 0, 0, 0],
     };
     check(&rt, &case)
 }
 
-/// A barrier of four has one bar and no arrows; the one that comes again waits.
+/// A barrier of four has one bar and no arrows; the one that comes again waits for one, and another for nobody.
 #[test]
 fn barrier(rt: HostRuntime) -> Result<(), Fail> {
     let events = [
@@ -207,14 +293,17 @@ fn barrier(rt: HostRuntime) -> Result<(), Fail> {
         (2, Kind::Depart),
         (1, Kind::Depart),
         (1, Kind::Arrive),
+        (3, Kind::Watch(0)),
     ];
     let case = Case {
         processors: 4,
         events: &events,
         arrows: &[(0, 4), (1, 4), (2, 4)],
         race: None,
-        halted: true,
-        want: [0, 0, 1, 1],
+        reads: &[],
+        stale: &[],
+        waits: &[(1, Some(2)), (3, None)],
+        want: [0, 0, 1, 2, 1],
     };
     check(&rt, &case)
 }

@@ -1,0 +1,66 @@
+//! What stands at the head of a picture: the script's name, and the run's verdict.
+
+use crate::elements::{WordStyle, begin_words, end_words};
+use crate::grid::Point;
+use crate::story::Story;
+use crate::svg::Svg;
+
+/// Where the head stands.
+const AT: Point = Point { x: 16, y: 24 };
+
+/// Puts how many there are: the words for one, or for any other number.
+fn put_count(text: &mut Svg, count: usize, one: &str, many: &str) {
+    text.put_number("", count);
+    text.put(if count == 1 { one } else { many });
+}
+
+/// Puts the title of the file: what the picture is of.
+pub fn put_title(text: &mut Svg, story: &Story<'_>) {
+    text.put("<title>A run of ");
+    put_count(
+        text,
+        story.processors,
+        " processor and ",
+        " processors and ",
+    );
+    put_count(text, story.events.len(), " event, ", " events, ");
+    text.put(match story.race {
+        Some(_) => "with a race",
+        None => "without a race",
+    });
+    text.put(if story.halted {
+        ", that can't go on</title>\n"
+    } else {
+        "</title>\n"
+    });
+}
+
+/// Puts the name of the file at this path, and a colon.
+fn put_name(text: &mut Svg, path: &str) {
+    let mut name = path.as_bytes();
+    for part in path.as_bytes().split(|byte| *byte == b'/') {
+        name = part;
+    }
+    text.put_escaped(str::from_utf8(name).unwrap_or(""));
+    text.put(": ");
+}
+
+/// What the run came to.
+fn verdict(is_racy: bool, halted: bool) -> &'static str {
+    match (is_racy, halted) {
+        (true, false) => "racy",
+        (false, false) => "race-free",
+        (true, true) => "racy, and can't go on",
+        (false, true) => "can't go on",
+    }
+}
+
+/// Puts the head: the script's name, where it has one, and the verdict.
+pub fn put_head(text: &mut Svg, story: &Story<'_>) {
+    begin_words(text, WordStyle::Title, AT);
+    if let Some(path) = story.name {
+        put_name(text, path);
+    }
+    text.put(verdict(story.race.is_some(), story.halted));
+    end_words(text);
+}

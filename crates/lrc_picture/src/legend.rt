@@ -1,0 +1,200 @@
+//! The legend of a picture: it explains the signs that occur there, and no others.
+
+use crate::arrows::Way;
+use crate::elements::{WordStyle, put_line, put_mark, put_words};
+use crate::grid::Point;
+use crate::layout::Layout;
+use crate::marks::MarkShape;
+use crate::story::Story;
+use crate::svg::Svg;
+use crate::waiters::count_holders;
+
+/// From a row of the legend to the next, in pixels.
+const ROW: usize = 24;
+
+/// Where the middle of the signs is.
+const LEFT: usize = 48;
+
+/// How far a sign that is a line reaches to each side of its middle.
+const REACH: usize = 18;
+
+/// A sign of a picture.
+#[derive(Clone, Copy)]
+enum Sign {
+    Store,
+    Load,
+    Stale,
+    Fetch,
+    LetsOn,
+    BeginsToWait,
+    GoesOn,
+    Reads,
+    Lock,
+    Flag,
+    Barrier,
+    Race,
+    Waits,
+    Holder,
+}
+
+/// All signs, in the legend's order.
+const SIGNS: [Sign; 14] = [
+    Sign::Store,
+    Sign::Load,
+    Sign::Stale,
+    Sign::Fetch,
+    Sign::LetsOn,
+    Sign::BeginsToWait,
+    Sign::GoesOn,
+    Sign::Reads,
+    Sign::Lock,
+    Sign::Flag,
+    Sign::Barrier,
+    Sign::Race,
+    Sign::Waits,
+    Sign::Holder,
+];
+
+/// What the legend says of a sign.
+fn meaning(sign: Sign) -> &'static str {
+    match sign {
+        Sign::Store => "store ADDRESS &lt;- WORD",
+        Sign::Load => "load ADDRESS -> WORD",
+        Sign::Stale => "stale: it misses a store before it",
+        Sign::Fetch => "fetch PAGE (writers, records, words)",
+        Sign::LetsOn => "lets others on: release, set, arrive",
+        Sign::BeginsToWait => "begins to wait: ask, watch",
+        Sign::GoesOn => "goes on: acquire, await, depart",
+        Sign::Reads => "from a store to a load of its word",
+        Sign::Lock => "a release hands on news by a lock",
+        Sign::Flag => "a set hands on news by a flag",
+        Sign::Barrier => "barrier: all have arrived",
+        Sign::Race => "race: nothing orders the two",
+        Sign::Waits => "waits, and nothing comes",
+        Sign::Holder => "who could let it go on",
+    }
+}
+
+/// Whether a mark of this shape occurs.
+fn has_mark(layout: &Layout, shape: MarkShape) -> bool {
+    for mark in &layout.marks {
+        if mark.shape == shape {
+            return true;
+        }
+    }
+    false
+}
+
+/// Whether an arrow that looks so occurs.
+fn has_arrow(layout: &Layout, way: Way) -> bool {
+    for arrow in &layout.arrows {
+        if arrow.way == way {
+            return true;
+        }
+    }
+    false
+}
+
+/// Whether some load is stale.
+fn has_stale(story: &Story<'_>) -> bool {
+    for is_stale in story.details.stale {
+        if *is_stale {
+            return true;
+        }
+    }
+    false
+}
+
+/// Whether some load answers a store that is drawn.
+fn has_reads(story: &Story<'_>) -> bool {
+    for read in story.details.reads {
+        if read.is_some() {
+            return true;
+        }
+    }
+    false
+}
+
+/// Whether the sign occurs.
+fn occurs(sign: Sign, layout: &Layout, story: &Story<'_>) -> bool {
+    match sign {
+        Sign::Store => has_mark(layout, MarkShape::Disc),
+        Sign::Load => has_mark(layout, MarkShape::Ring),
+        Sign::Stale => has_stale(story),
+        Sign::Fetch => has_mark(layout, MarkShape::Dash),
+        Sign::LetsOn => has_mark(layout, MarkShape::Block),
+        Sign::BeginsToWait => has_mark(layout, MarkShape::Frame),
+        Sign::GoesOn => has_mark(layout, MarkShape::Wedge),
+        Sign::Reads => has_reads(story),
+        Sign::Lock => has_arrow(layout, Way::Lock),
+        Sign::Flag => has_arrow(layout, Way::Flag),
+        Sign::Barrier => !layout.bars.is_empty(),
+        Sign::Race => story.race.is_some(),
+        Sign::Waits => story.halted,
+        Sign::Holder => count_holders(story) > 0,
+    }
+}
+
+/// Puts a sign that is a mark.
+fn put_sign_mark(text: &mut Svg, name: &str, y: usize) {
+    put_mark(text, "sign", name, Point { x: LEFT, y });
+}
+
+/// Puts a sign that is a line of this class.
+fn put_sign_line(text: &mut Svg, class: &str, y: usize) {
+    let from = Point { x: LEFT - REACH, y };
+    put_line(text, class, from, Point { x: LEFT + REACH, y });
+}
+
+/// Puts a sign at this height.
+fn put_sign(text: &mut Svg, sign: Sign, y: usize) {
+    match sign {
+        Sign::Store => put_sign_mark(text, "disc", y),
+        Sign::Load => put_sign_mark(text, "ring", y),
+        Sign::Stale => {
+            put_sign_mark(text, "ring", y);
+            put_sign_mark(text, "slash", y);
+        }
+        Sign::Fetch => put_sign_mark(text, "dash", y),
+        Sign::LetsOn => put_sign_mark(text, "block", y),
+        Sign::BeginsToWait => put_sign_mark(text, "frame", y),
+        Sign::GoesOn => put_sign_mark(text, "wedge", y),
+        Sign::Reads => put_sign_line(text, "edge", y),
+        Sign::Lock => put_sign_line(text, "lock", y),
+        Sign::Flag => put_sign_line(text, "flag", y),
+        Sign::Barrier => put_sign_line(text, "barrier", y),
+        Sign::Race => put_sign_line(text, "race", y),
+        Sign::Waits => put_sign_mark(text, "stop", y),
+        Sign::Holder => put_sign_line(text, "holder", y),
+    }
+}
+
+/// How high the legend is.
+pub fn legend_height(layout: &Layout, story: &Story<'_>) -> usize {
+    let mut height: usize = 0;
+    for sign in &SIGNS {
+        if occurs(*sign, layout, story) {
+            height = height.saturating_add(ROW);
+        }
+    }
+    height
+}
+
+/// Puts the legend below this height: each sign that occurs, and what it means.
+pub fn put_legend(text: &mut Svg, layout: &Layout, story: &Story<'_>, top: usize) {
+    let mut y = top;
+    text.put("<g class=\"legend\">\n");
+    for sign in &SIGNS {
+        if occurs(*sign, layout, story) {
+            y = y.saturating_add(ROW);
+            put_sign(text, *sign, y);
+            put_words(
+                text,
+                WordStyle::Label,
+                Point { x: LEFT + REACH, y },
+                meaning(*sign),
+            );
+        }
+    }
+    text.put("</g>\n");
+}

@@ -1,0 +1,127 @@
+//! Those of a picture that wait, where the run can't go on: a cross for each, for what it waits, and an arrow to who could
+//! let it go on.
+ghost use Rattle.std.specs.Prelude.{◌≤◌};
+
+use crate::elements::{
+    HALF_ROW, WordStyle, begin_path, begin_words, end_path, end_words, put_mark,
+};
+use crate::grid::{Grid, Point};
+use crate::story::Story;
+use crate::svg::Svg;
+use journal::Kind;
+
+/// How far right of a cross an arrow leaves it, and how far left of it another one comes, in pixels.
+const ASIDE: usize = 4;
+
+/// How far below a cross arrows leave it and come to it, in pixels.
+const BELOW: usize = 9;
+
+/// From a line of words to the next, in pixels.
+const LINE: usize = 16;
+
+/// A processor that waits.
+#[derive(Clone, Copy)]
+struct Waiter<'a> {
+    processor: usize,
+    /// For what, in words.
+    hint: &'a str,
+    /// Its last event.
+    last: Option<Kind>,
+}
+
+/// Puts for what a processor waits whose last event is of this kind, shortly.
+fn put_what(text: &mut Svg, last: Option<Kind>) {
+    match last {
+        Some(Kind::Ask(lock)) => text.put_number("waits: lock ", lock),
+        Some(Kind::Watch(flag)) => text.put_number("waits: flag ", flag),
+        Some(Kind::Arrive) => text.put("waits: barrier"),
+        _ => text.put("waits"),
+    }
+}
+
+/// Puts the cross of a processor that waits at this point, and there for what.
+fn put_cross(text: &mut Svg, grid: Grid, at: Point, words_at: Point, waiter: Waiter<'_>) {
+    text.put_number("<g>\n<title>p", waiter.processor);
+    text.put(" ");
+    text.put_escaped(waiter.hint);
+    text.put("</title>\n");
+    put_mark(text, "waiting", "stop", at);
+    begin_words(text, WordStyle::Label, words_at);
+    if grid.side != 0 {
+        text.put_number("p", waiter.processor);
+        text.put(" ");
+    }
+    put_what(text, waiter.last);
+    end_words(text);
+    text.put("</g>\n");
+}
+
+/// Puts a cross for each processor that waits, in this row. In the column of labels their words stand below each other.
+pub fn put_crosses(text: &mut Svg, grid: Grid, row: usize, story: &Story<'_>)
+    requires { row ≤ grid.rows }
+{
+    let mut below: usize = 0;
+    for processor in 0..grid.lanes {
+        if let Some(hint) = story.wait(processor) {
+            let at = grid.point(processor, row);
+            let mut words_at = grid.label_point(at);
+            if grid.side != 0 {
+                words_at.y = words_at.y.saturating_add(below);
+            }
+            below = below.saturating_add(LINE);
+            let waiter = Waiter {
+                processor,
+                hint,
+                last: story.last(processor),
+            };
+            put_cross(text, grid, at, words_at, waiter);
+        }
+    }
+}
+
+/// How many arrows there are.
+pub fn count_holders(story: &Story<'_>) -> usize {
+    let mut count: usize = 0;
+    for processor in 0..story.processors {
+        if story.holder(processor).is_some() {
+            count = count.saturating_add(1);
+        }
+    }
+    count
+}
+
+/// How much is below the crosses, in pixels: the arrows between them, and in the column of labels what is said of them.
+pub fn waiters_height(grid: Grid, story: &Story<'_>) -> usize {
+    let arrows = count_holders(story).saturating_mul(HALF_ROW);
+    if story.halted && grid.side != 0 {
+        return arrows.max(grid.lanes.saturating_mul(LINE));
+    }
+    arrows
+}
+
+/// Puts an arrow from one cross to another, so far below them.
+fn put_holder(text: &mut Svg, from: Point, to: Point, below: usize) {
+    let start = Point {
+        x: from.x.saturating_add(ASIDE),
+        y: from.y.saturating_add(BELOW),
+    };
+    begin_path(text, "holder", start);
+    text.put_number("V", from.y.saturating_add(below));
+    text.put_number("H", to.x.saturating_sub(ASIDE));
+    text.put_number("V", to.y.saturating_add(BELOW));
+    end_path(text);
+}
+
+/// Puts the arrows between the crosses of this row, each at a depth of its own.
+pub fn put_holders(text: &mut Svg, grid: Grid, row: usize, story: &Story<'_>)
+    requires row { row ≤ grid.rows }
+    requires lanes { story.now.processors ≤ grid.lanes }
+{
+    let mut below = HALF_ROW;
+    for processor in 0..story.processors {
+        if let Some(to) = story.holder(processor) {
+            below = below.saturating_add(HALF_ROW);
+            put_holder(text, grid.point(processor, row), grid.point(to, row), below);
+        }
+    }
+}
