@@ -1,25 +1,24 @@
 -- Words whose accesses keep to guards have no race.
-use Rattle.std.proofs.Common.{ℕ, ◌≡◌, ◌≢◌, ◌<◌, ◌⊎◌, inl, inr, Bool, true, false, not, Option, Some, None, List, [], ◌∷◌, ◌++◌, length, take, drop, slice_get, suc, refl, sym, ap, subst, subst₂, ◌∙◌, arith, take-append-drop, append_assoc}
-use Rattle.std.specs.Prelude.{◌==◌, IsTrue}
+use Rattle.std.proofs.Common.{ℕ, ◌≡◌, ◌≢◌, ◌<◌, ◌⊎◌, inl, inr, true, not, Option, Some, None, List, [], ◌∷◌, ◌++◌, length, take, drop, slice_get, suc, refl, sym, ap, subst, ◌∙◌, arith, take-append-drop, append_assoc}
+use Rattle.std.specs.Prelude.{IsTrue}
 use Rattle.std.proofs.lemmas.Bool.{cases_order, eqb-true, eq-eqb}
 use Rattle.std.proofs.Math.Seq.{take-append_seam}
 use Rattle.base.proofs.SlicesAndCounts.{take-suc_at}
 use Rattle.journal.specs.declared.event.Event.{Event}
 use Rattle.journal.specs.declared.event.Kind.{Kind}
-use Rattle.journal.specs.declared.event.Kind.TheVariants.{Load, Store, Fetch}
+use Rattle.journal.specs.declared.event.Kind.TheVariants.{Fetch}
 use Rattle.journal.specs.DidEvent.{event}
-use Rattle.journal.specs.Events.{At, address_of, count_of, is_depart, is_store, events_of}
+use Rattle.journal.specs.Events.{address_of, count_of, is_depart, is_store, events_of}
 use Rattle.journal.specs.HappensBeforeEdges.{HappensBefore}
-use Rattle.journal.specs.Races.{Race}
 use Rattle.journal.specs.Sizes.{Sizes}
-use Rattle.journal.specs.WellFormed.{Does, Holds, WellFormed}
+use Rattle.journal.specs.WellFormed.{WellFormed}
 use Rattle.journal.proofs.Order.HappensBefore.{before_goes_forward}
 use Rattle.journal.proofs.Order.CountedAndNumbered.{numbered_does_at}
 use Rattle.seats.specs.declared.guard.Guard.{Guard}
 use Rattle.seats.specs.declared.guard.Guard.TheVariants.{Under, Of, Shared, Open}
 use Rattle.seats.specs.Deeds.{deeds, is_deed}
 use Rattle.seats.specs.Guards.{Guards, KeepsTo, holds_after, lets_access, may_do, phase_after}
-use Rattle.seats.specs.Laws.{AllKeepTo, PhaseGuardLaw}
+use Rattle.seats.specs.Laws.{PhaseGuardLaw}
 use Rattle.seats.proofs.Deeds.{own_deed, own_deeds-append}
 use Rattle.seats.proofs.Guards.{holds_is, phase_is}
 use Rattle.seats.proofs.Phases.{AccessAt, earlier, under_lock}

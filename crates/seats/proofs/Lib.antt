@@ -2,3 +2,4 @@ mod Deeds
 mod Guards
 mod Phases
 mod Guarded
+mod Layouts

@@ -1,5 +1,5 @@
 -- Accesses by two processors: what orders them.
-use Rattle.std.proofs.Common.{ℕ, ◌≡◌, ◌≢◌, ◌+◌, ◌<◌, ◌≤◌, ◌⊎◌, inl, inr, Some, None, Option, List, [], ◌∷◌, ◌++◌, ◌-◌, length, get_or, slice_get, take, suc, zero, take-take, refl, sym, ap, subst, ◌∙◌, arith}
+use Rattle.std.proofs.Common.{ℕ, ◌≡◌, ◌≢◌, ◌+◌, ◌<◌, ◌≤◌, ◌⊎◌, inl, inr, Some, None, List, [], ◌∷◌, ◌++◌, ◌-◌, length, get_or, slice_get, take, suc, zero, take-take, refl, sym, ap, subst, ◌∙◌, arith}
 use Rattle.std.specs.Prelude.{IsTrue}
 use Rattle.std.proofs.lemmas.Bool.{cases_order}
 use Rattle.std.proofs.lemmas.Option.{slice_get-get_or}
@@ -8,7 +8,7 @@ use Rattle.journal.specs.declared.event.Event.{Event}
 use Rattle.journal.specs.declared.event.Kind.{Kind}
 use Rattle.journal.specs.declared.event.Kind.TheVariants.{Acquire, Release, Arrive, Depart}
 use Rattle.journal.specs.DidEvent.{event}
-use Rattle.journal.specs.Events.{At, address_of, count_of, is_arrive, is_depart}
+use Rattle.journal.specs.Events.{address_of, count_of, is_arrive, is_depart}
 use Rattle.journal.specs.HappensBeforeEdges.{HappensBefore}
 use Rattle.journal.specs.HappensBeforeEdges.Link.{same, lets, meets}
 use Rattle.journal.specs.HappensBeforeEdges.HappensBefore.{edge, on}
@@ -17,7 +17,6 @@ use Rattle.journal.specs.WellFormed.{Does, Holds, LastIs, WellFormed}
 use Rattle.journal.proofs.Journals.Balance.{balanced}
 use Rattle.journal.proofs.Journals.HoldingReleases.{holds_alone}
 use Rattle.journal.proofs.Journals.WellFormedLast.{well_formed_holds_longer, well_formed_take}
-use Rattle.journal.proofs.Order.HappensBefore.{before_goes_forward}
 use Rattle.journal.proofs.Order.CountedAndNumbered.{numbered_at_within, count_of-past, numbered_does_same, numbered}
 use Rattle.seats.proofs.Guards.{release_or}
 

@@ -2,3 +2,4 @@ pub mod Deeds
 pub mod Guards
 pub mod Laws
 pub mod Prelude
+pub mod Tables

@@ -1,0 +1,20 @@
+use Rattle.std.proofs.Common.{◌≡◌, ◌≢◌, ◌<◌, ◌∙◌, Some, inl, inr, length, map, get_or, slice_get, [], ap, subst, arith}
+use Rattle.std.proofs.lemmas.Bool.{cases_lt}
+use Rattle.std.specs.Vec.{vec_items}
+use Rattle.seats.specs.declared.guard.Guard.TheVariants.{Open}
+use Rattle.seats.specs.Tables.{GuardTables, guard_in}
+use Rattle.seats.proofs.Layouts.{found_in}
+use Rattle.seats.proofs.layout.Layout.first_open.Goals as goal
+
+pub loop-table-preserved : goal.loop-table-preserved
+loop-table-preserved c = λ t a less. elim (cases_lt t c.loop-table.table) [
+  | inl old ↦ c.loop-table.invariant t a old
+  | inr new ↦ (let same : c.loop-table.table ≡ t = omega (arith, less, new) in
+      let tables = c.self.inside.tables.items in
+      let within : c.loop-table.table < length tables = omega (arith, c.loop-table-test.true, c.len-table-end.ensures) in
+      let here = c.as_slice.ensures.value
+      ∙ found_in vec_items tables c.loop-table.table c.index.result.now within c.index.ensures in
+      subst (λ (now : GuardTables). guard_in now t a ≢ Some Open) c.self.view_is
+      (subst (λ k. slice_get (get_or (map vec_items tables) k []) a ≢ Some Open) same
+      (λ is. c.in-None.ensures a (ap (λ xs. slice_get xs a) here ∙ is))))
+]
