@@ -4,7 +4,10 @@ pub mod Shapes
 pub mod CutLines
 pub mod Heads
 pub mod Texts
+pub mod Labelling
 pub mod Never
 pub mod Places
+pub mod Feeding
+pub mod BareTexts
 pub mod Printed
 pub mod CutFaults

@@ -1,9 +1,11 @@
 pub mod Sizes
 pub mod Text
+pub mod Labels
 pub mod Lawful
 pub mod Begun
 pub mod Names
 pub mod Lines
 pub mod Faults
+pub mod Fed
 pub mod Laws
 pub mod Prelude

@@ -4,15 +4,15 @@ ghost use Rattle.std.specs.Io.KnownBytes.{Appends, Keeps};
 ghost use Rattle.lrc_check.specs.Traces.Prelude.{IsNoTrace};
 ghost use Rattle.judge.specs.Prelude.{AreSizesSmall};
 ghost use Rattle.judge.specs.Prelude.{sizes_of as judged_sizes};
-ghost use Rattle.lrc_check.specs.Traces.Prelude.{IsTrace, trace_sizes_head, sizes_of};
+ghost use Rattle.lrc_check.specs.Traces.Prelude.{IsTrace, bare, trace_sizes_head, sizes_of};
 ghost use Rattle.lrc_script.specs.Prelude.{AreLawfulSizes};
 ghost use Rattle.lrc_check.specs.Prelude.{IsFoundBeforeOutput, IsChecked, IsFoundOf, IsFoundInTrace};
 
 use crate::checked::{Checked, Rules};
 use crate::fault::CheckFault;
 use crate::judging::judge_history;
-use crate::text::text_of;
-use crate::traces::trace::{Trace, read};
+use crate::text::{Told, text_of};
+use crate::traces::trace::{LabelledTrace, read};
 use lrc_report::render::OutFault;
 use std::alloc::Global;
 use std::io::Write;
@@ -52,23 +52,28 @@ fn write<W: Write>(out: &mut W, bytes: &[u8]) -> Result<(), OutFault>
 /// Nothing was written where memory ran out. After `Output` a beginning of the text may have been. `Trace` never comes.
 pub fn check_trace<W: Write>(
     alloc: Global,
-    trace: &Trace,
+    labelled: &LabelledTrace,
     rules: Rules,
     out: &mut W,
 ) -> Result<Checked, CheckFault>
-    requires { IsTrace (sizes_of trace.now.sizes) trace.now.events.items }
-    ensures found { IfOk result (IsChecked rules (sizes_of trace.now.sizes) trace.now.events.items) }
+    requires { IsTrace (sizes_of labelled.now.trace.sizes) labelled.now.trace.events.items }
+    ensures found { IfOk result (IsChecked rules (sizes_of labelled.now.trace.sizes) labelled.now.trace.events.items) }
     ensures refused { IfErr result (λ fault. IsFoundInTrace fault → ⊥) }
     ensures early { IfErr result
         (λ fault. IsFoundBeforeOutput fault → Keeps (W.contents out.old) (W.contents out.new)) }
 {
+    let trace = &labelled.trace;
     let found = judge_history(alloc, sizes_for(trace.sizes), &trace.events, rules)?;
-    let text = text_of(alloc, &trace.events, &found, rules)?;
+    let told = Told {
+        events: &trace.events,
+        labels: &labelled.labels,
+    };
+    let text = text_of(alloc, told, &found, rules)?;
     write(out, &text)?;
     Ok(found)
 }
 
-/// Judges the trace that has these bytes as its text, and writes what was found, as `check_trace` does.
+/// Judges the trace that has these bytes, without their labels, as its text, and writes what was found, as `check_trace` does.
 ///
 /// # Errors
 ///
@@ -83,10 +88,10 @@ pub fn check<W: Write>(
     // What is found is true of the one trace that has these bytes.
     ensures found { IfOk result (IsFoundOf rules bytes.now) }
     // What is refused as a trace is none.
-    ensures refused { IfErr result (λ fault. IsFoundInTrace fault → IsNoTrace bytes.now) }
+    ensures refused { IfErr result (λ fault. IsFoundInTrace fault → IsNoTrace (bare bytes.now)) }
     ensures early { IfErr result
         (λ fault. IsFoundBeforeOutput fault → Keeps (W.contents out.old) (W.contents out.new)) }
 {
-    let trace = read(alloc, bytes)?;
-    check_trace(alloc, &trace, rules, out)
+    let labelled = read(alloc, bytes)?;
+    check_trace(alloc, &labelled, rules, out)
 }

@@ -1,6 +1,9 @@
 //! The text of what was found of a trace.
+ghost use Rattle.std.specs.Prelude.{◌≡◌, ◌++◌, OnOk};
+ghost use Rattle.lrc_check.specs.Prelude.{label_mark, told_line};
 
 use crate::checked::{Checked, Lie, Rules, TraceVerdict, Unexplained};
+use crate::traces::labels::Labels;
 use journal::{Event, Kind, Traffic};
 use judge::{IllFormed, MemoryModel, Miscounted, Permitted, Why};
 use lrc_report::{Line, render};
@@ -9,21 +12,46 @@ use std::alloc::{AllocError, Global};
 /// How many stores are told that a load may answer, at most.
 const MOST_TOLD: usize = 64;
 
-/// Adds the line of the event at this place, as the trace has it.
-fn put_event(text: &mut Vec<u8>, events: &[Event], place: usize) -> Result<(), AllocError> {
-    let Some(event) = events.get(place) else {
+/// What is told of a trace: its events, with their labels.
+#[derive(Clone, Copy)]
+pub(crate) struct Told<'a> {
+    pub(crate) events: &'a [Event],
+    pub(crate) labels: &'a Labels,
+}
+
+/// Adds a label behind two spaces, if there is one.
+fn put_label(text: &mut Vec<u8>, label: &[u8]) -> Result<(), AllocError>
+    ensures { OnOk result (text.new.items ≡ text.old.items ++ label_mark label.now) }
+{
+    if label.is_empty() {
+        return Ok(());
+    }
+    text.extend_from_slice(b"  ")?;
+    text.extend_from_slice(label)?;
+    Ok(())
+}
+
+/// Adds the line of the event at this place, as the trace has it, with its label.
+fn put_event(text: &mut Vec<u8>, told: Told<'_>, place: usize) -> Result<(), AllocError>
+    ensures { OnOk result (text.new.items ≡ text.old.items
+        ++ told_line told.entry.events.now told.entry.labels.now place) }
+{
+    let Some(event) = told.events.get(place) else {
         return Ok(());
     };
     let mut line = Line::new();
     render::put_event(&mut line, place as u64, event);
-    text.extend_from_slice(line.bytes())?;
+    let bytes = line.bytes();
+    text.extend_from_slice(&bytes[..bytes.len() - 1])?;
+    put_label(text, told.labels.of(place))?;
+    text.push(b'\n')?;
     Ok(())
 }
 
 /// Adds the lines of the events at these places.
-fn put_events(text: &mut Vec<u8>, events: &[Event], places: &[usize]) -> Result<(), AllocError> {
+fn put_events(text: &mut Vec<u8>, told: Told<'_>, places: &[usize]) -> Result<(), AllocError> {
     for place in places {
-        put_event(text, events, *place)?;
+        put_event(text, told, *place)?;
     }
     Ok(())
 }
@@ -123,7 +151,7 @@ fn add_untold(
 /// Adds what a load may answer: 0, if it may, and the values of these stores.
 fn put_answers(
     text: &mut Vec<u8>,
-    events: &[Event],
+    told: Told<'_>,
     is_free: bool,
     places: &[usize],
 ) -> Result<(), AllocError> {
@@ -136,29 +164,29 @@ fn put_answers(
     } else {
         text.extend_from_slice(b"because it may answer only what was stored by\n")?;
     }
-    put_events(text, events, places)
+    put_events(text, told, places)
 }
 
 /// Adds what the load may answer.
 fn put_unexplained(
     text: &mut Vec<u8>,
     alloc: Global,
-    events: &[Event],
+    told: Told<'_>,
     load: &Unexplained,
 ) -> Result<(), AllocError> {
     match &load.permitted {
         Permitted::Latest(latest) => {
             let places = places_of(alloc, latest)?;
-            put_answers(text, events, false, &places)
+            put_answers(text, told, false, &places)
         }
         Permitted::Heard(latest, unordered) => {
             let mut places = places_of(alloc, latest)?;
             let is_free = places.is_empty();
-            add_untold(&mut places, events, unordered)?;
-            put_answers(text, events, is_free, &places)
+            add_untold(&mut places, told.events, unordered)?;
+            put_answers(text, told, is_free, &places)
         }
-        Permitted::Last(Some(place)) => put_answers(text, events, false, &[*place]),
-        Permitted::Last(None) => put_answers(text, events, false, &[]),
+        Permitted::Last(Some(place)) => put_answers(text, told, false, &[*place]),
+        Permitted::Last(None) => put_answers(text, told, false, &[]),
     }
 }
 
@@ -178,10 +206,10 @@ fn put_miscounted(text: &mut Vec<u8>, alloc: Global, fetch: Miscounted) -> Resul
 }
 
 /// Adds that there is a race, with its two events.
-fn put_race(text: &mut Vec<u8>, events: &[Event], race: (usize, usize)) -> Result<(), AllocError> {
+fn put_race(text: &mut Vec<u8>, told: Told<'_>, race: (usize, usize)) -> Result<(), AllocError> {
     text.extend_from_slice(b"verdict racy\n")?;
-    put_event(text, events, race.0)?;
-    put_event(text, events, race.1)
+    put_event(text, told, race.0)?;
+    put_event(text, told, race.1)
 }
 
 /// The place of the lie.
@@ -194,19 +222,14 @@ fn place_of(lie: &Lie) -> usize {
 }
 
 /// Adds the lie: its place, its line, and why it is one.
-fn put_lie(
-    text: &mut Vec<u8>,
-    alloc: Global,
-    events: &[Event],
-    lie: &Lie,
-) -> Result<(), AllocError> {
+fn put_lie(text: &mut Vec<u8>, alloc: Global, told: Told<'_>, lie: &Lie) -> Result<(), AllocError> {
     let place = place_of(lie);
     let line = format!(in alloc; "unfaithful {place}\n")?;
     text.extend_from_slice(line.as_bytes())?;
-    put_event(text, events, place)?;
+    put_event(text, told, place)?;
     match lie {
         Lie::IllFormed(fault) => put_ill_formed(text, alloc, *fault),
-        Lie::Unexplained(load) => put_unexplained(text, alloc, events, load),
+        Lie::Unexplained(load) => put_unexplained(text, alloc, told, load),
         Lie::Miscounted(fetch) => put_miscounted(text, alloc, *fetch),
     }
 }
@@ -272,10 +295,10 @@ fn opening(alloc: Global, count: usize, model: MemoryModel) -> Result<Vec<u8>, A
     Ok(text)
 }
 
-/// The text of what was found of the trace with these events. The only error is running out of memory.
+/// The text of what was found of this trace. The only error is running out of memory.
 pub(crate) fn text_of(
     alloc: Global,
-    events: &[Event],
+    told: Told<'_>,
     found: &Checked,
     rules: Rules,
 ) -> Result<Vec<u8>, AllocError> {
@@ -286,20 +309,20 @@ pub(crate) fn text_of(
             put_unjudged(&mut text, rules)?;
             put_unjudged_loads(&mut text, alloc, rules, found.race.is_some(), *unjudged)?;
             match found.race {
-                Some(race) => put_race(&mut text, events, race)?,
+                Some(race) => put_race(&mut text, told, race)?,
                 None => text.extend_from_slice(b"verdict race-free\n")?,
             }
             put_traffic(&mut text, alloc, *traffic)?;
         }
         TraceVerdict::Lie(lie) => {
             if let Some(race) = found.race {
-                put_race(&mut text, events, race)?;
+                put_race(&mut text, told, race)?;
             }
-            put_lie(&mut text, alloc, events, lie)?;
+            put_lie(&mut text, alloc, told, lie)?;
         }
         TraceVerdict::Racy => {
             if let Some(race) = found.race {
-                put_race(&mut text, events, race)?;
+                put_race(&mut text, told, race)?;
             }
         }
     }

@@ -1,11 +1,12 @@
 //! Traces: journals given as text, of anyone's making, and the reader of that text.
 //!
 //! A trace's text is a script's first line, which has the sizes, and then a line for each event, as a report prints
-//! them: `event 8 1 fetch 0 1 1 1`, numbered from 0, each with its line feed, and nothing else.
+//! them: `event 8 1 fetch 0 1 1 1`, numbered from 0, each with its line feed, and nothing else. What stands on a line
+//! behind two spaces in a row is its label (module `labels`).
 //!
 //! **What contracts see.** A `Trace` as it is; its sizes as the journal's (`sizes_of`). `IsTrace` says which sizes
-//! and events a trace may have, `text` what its bytes are. `IsFault` says what a fault says of the bytes. A `Reader`, of a
-//! text that comes in pieces, is seen as the bytes that it was fed.
+//! and events a trace may have, `trace_text` what its bytes are, `bare` what a text is without its labels. `IsTraceFault` says
+//! what a fault says of such bytes. Of a `Reader`, `IsReadOf` says which bytes it was fed.
 //!
 //! **What is proved.** `trace::read` answers a trace only where it is one and the bytes are its text, and a fault
 //! only where they are no trace's, with the first line that isn't due. A `Reader` answers this of all its pieces'
@@ -18,6 +19,7 @@
 
 mod begun;
 pub mod fault;
+pub mod labels;
 pub mod laws;
 mod line;
 mod names;

@@ -1,8 +1,8 @@
 -- A trace that was read and judged.
-use Rattle.std.proofs.Common.{◌≡◌, ◌≢◌, ◌∙◌, ℕ, suc, Bool, List, [], ◌++◌, ◌≤◌, Option, Some, None, Result, Ok, Err, IfOk, length, take, drop, sym, ap, subst, append_assoc, take-append-drop, arith}
+use Rattle.std.proofs.Common.{◌≡◌, ◌≢◌, ◌∙◌, ℕ, suc, Bool, List, [], ◌++◌, ◌≤◌, Option, Some, None, Result, Ok, Err, IfOk, length, take, drop, refl, sym, ap, subst, append_assoc, append-nil, take-append-drop, arith}
 use Rattle.std.proofs.lemmas.List.{take_all}
-use Rattle.std.specs.Prelude.{IfErr}
-use Rattle.std.specs.Io.KnownBytes.{Consumes}
+use Rattle.std.specs.Prelude.{IfErr, IfSome}
+use Rattle.std.specs.Io.KnownBytes.{Consumes, IsAtEnd}
 use Rattle.journal.specs.declared.event.Event.{Event}
 use Rattle.journal.specs.Sizes.{Sizes}
 use Rattle.journal.specs.Races.{Race}
@@ -16,46 +16,74 @@ use Rattle.lrc_check.specs.Faithful.{IsFaithfulAndCounted}
 use Rattle.lrc_check.specs.Checked.{IsLie, IsCheckVerdictOf, IsCheckedWhole, checked_lie_place}
 use Rattle.lrc_check.specs.declared.traces.fault.TraceFault.{TraceFault}
 use Rattle.lrc_check.specs.declared.traces.fault.TraceFault.TheVariants.{NoMemory}
-use Rattle.lrc_check.specs.Traces.Faults.{BeginsTraceText}
-use Rattle.lrc_check.specs.Traces.Lawful.{IsTrace}
+use Rattle.lrc_check.specs.Traces.Fed.{BeginsTrace, IsReadOf, TextRead}
+use Rattle.lrc_check.specs.Traces.Labels.{bare}
+use Rattle.lrc_check.specs.Traces.Lawful.{IsNoTrace, IsTrace}
+use Rattle.lrc_check.specs.Traces.Text.{trace_text}
 use Rattle.lrc_commands.specs.declared.checking.Judgement.{Judgement}
-use Rattle.lrc_commands.specs.JudgedTraces.{HasTraceText, IsJudgedAs, IsTraceReadSoFar, judgement_in}
+use Rattle.lrc_commands.specs.JudgedTraces.{HasTraceText, IsJudgedAs, IsNoTraceOf, IsTraceReadSoFar, judgement_in}
 
 -- nothing was read yet
-pub judged_fed_none : (source : Option (List ℕ)) (fed : List ℕ) → fed ≡ [] → Consumes source source fed
-judged_fed_none None fed none = tt
-judged_fed_none (Some xs) fed none = ap (λ (x : List ℕ). x ++ xs) (sym none)
+pub judged_fed_none : (source : Option (List ℕ)) (x : TextRead) → IsReadOf [] x → IsTraceReadSoFar source source (Ok x)
+judged_fed_none None x h = ([], tt, h)
+judged_fed_none (Some xs) x h = ([], refl, h)
+
+consumed_no_more : (source left after : Option (List ℕ)) (fed piece : List ℕ) (n : ℕ) → n ≡ 0 → Consumes source left fed
+    → Consumes left after (take n piece) → Consumes source after fed
+consumed_no_more None left after fed piece n none had more = tt
+consumed_no_more (Some xs) None after fed piece n none had more = absurd had
+consumed_no_more (Some xs) (Some ys) None fed piece n none had more = absurd more
+consumed_no_more (Some xs) (Some ys) (Some zs) fed piece n none had more =
+    had ∙ ap (λ (x : List ℕ). fed ++ x) (more ∙ ap (λ (m : ℕ). take m piece ++ zs) none)
 
 -- nothing more was read
 pub judged_fed_no_more : (source left after : Option (List ℕ)) (piece : List ℕ) (n : ℕ)
-    (r : Result (List ℕ) (ℕ × TraceFault)) → n ≡ 0 → IsTraceReadSoFar source left r → Consumes left after (take n piece)
+    (r : Result TextRead (ℕ × TraceFault)) → n ≡ 0 → IsTraceReadSoFar source left r → Consumes left after (take n piece)
     → IsTraceReadSoFar source after r
 judged_fed_no_more source left after piece n (Err e) none had more = had
-judged_fed_no_more None left after piece n (Ok fed) none had more = tt
-judged_fed_no_more (Some xs) None after piece n (Ok fed) none had more = absurd had
-judged_fed_no_more (Some xs) (Some ys) None piece n (Ok fed) none had more = absurd more
-judged_fed_no_more (Some xs) (Some ys) (Some zs) piece n (Ok fed) none had more =
-    had ∙ ap (λ (x : List ℕ). fed ++ x) (more ∙ ap (λ (m : ℕ). take m piece ++ zs) none)
+judged_fed_no_more source left after piece n (Ok x) none had more =
+    (had.0, consumed_no_more source left after had.0 piece n none had.1 more, had.2)
+
+consumed_on : (source left after : Option (List ℕ)) (fed piece : List ℕ) → Consumes source left fed
+    → Consumes left after piece → Consumes source after (fed ++ piece)
+consumed_on None left after fed piece had more = tt
+consumed_on (Some xs) None after fed piece had more = absurd had
+consumed_on (Some xs) (Some ys) None fed piece had more = absurd more
+consumed_on (Some xs) (Some ys) (Some zs) fed piece had more =
+    had ∙ ap (λ (x : List ℕ). fed ++ x) more ∙ sym (append_assoc fed piece zs)
+
+-- no trace begins with what the source had
+refused_of : (source left : Option (List ℕ)) (fed : List ℕ) → Consumes source left fed → ¬ BeginsTrace fed → IsNoTraceOf source
+refused_of None left fed had none = tt
+refused_of (Some xs) None fed had none = absurd had
+refused_of (Some xs) (Some zs) fed had none = λ s es h text. none (s, es, h, zs, sym text ∙ ap bare had)
 
 -- what was read and the next piece
-pub judged_fed_on : (source left after : Option (List ℕ)) (fed piece : List ℕ) (r : Result (List ℕ) (ℕ × TraceFault))
-    → IfOk r (λ bytes. bytes ≡ fed ++ piece) → IfErr r (λ e. e.1 ≢ NoMemory → ¬ BeginsTraceText (fed ++ piece))
-    → Consumes source left fed → Consumes left after piece → IsTraceReadSoFar source after r
-judged_fed_on None left after fed piece (Ok bytes) same none had more = tt
-judged_fed_on None left after fed piece (Err e) same none had more = λ ne. tt
-judged_fed_on (Some xs) None after fed piece r same none had more = absurd had
-judged_fed_on (Some xs) (Some ys) None fed piece r same none had more = absurd more
-judged_fed_on (Some xs) (Some ys) (Some zs) fed piece (Ok bytes) same none had more =
-    had ∙ ap (λ (x : List ℕ). fed ++ x) more ∙ sym (append_assoc fed piece zs)
-    ∙ ap (λ (x : List ℕ). x ++ zs) (sym same)
-judged_fed_on (Some xs) (Some ys) (Some zs) fed piece (Err e) same none had more = λ ne s es h text.
-    none ne (
-      s,
-      es,
-      h,
-      zs,
-      sym text ∙ had ∙ ap (λ (x : List ℕ). fed ++ x) more ∙ sym (append_assoc fed piece zs),
-    )
+pub judged_fed_on : (source left after : Option (List ℕ)) (x : TextRead) (piece : List ℕ) (r : Result TextRead (ℕ × TraceFault))
+    → IfOk r (λ y. (bytes : List ℕ) → IsReadOf bytes x → IsReadOf (bytes ++ piece) y)
+    → IfErr r (λ e. e.1 ≢ NoMemory → (bytes : List ℕ) → IsReadOf bytes x → ¬ BeginsTrace (bytes ++ piece))
+    → IsTraceReadSoFar source left (Ok x) → Consumes left after piece → IsTraceReadSoFar source after r
+judged_fed_on source left after x piece (Ok y) fed none had more =
+    (had.0 ++ piece, consumed_on source left after had.0 piece had.1 more, fed had.0 had.2)
+judged_fed_on source left after x piece (Err e) fed none had more =
+    λ ne. refused_of source after (had.0 ++ piece) (consumed_on source left after had.0 piece had.1 more) (none ne had.0 had.2)
+
+-- all was read
+pub consumed_whole : (source left : Option (List ℕ)) (fed : List ℕ) → Consumes source left fed → IsAtEnd left
+    → IfSome source (λ xs. xs ≡ fed)
+consumed_whole None left fed had end = tt
+consumed_whole (Some xs) None fed had end = absurd had
+consumed_whole (Some xs) (Some ys) fed had end = had ∙ ap (λ (x : List ℕ). fed ++ x) end ∙ append-nil fed
+
+pub whole_text : (source : Option (List ℕ)) (fed : List ℕ) (s : Sizes) (es : List Event) → IfSome source (λ xs. xs ≡ fed)
+    → bare fed ≡ trace_text s es → HasTraceText source s es
+whole_text None fed s es same text = tt
+whole_text (Some xs) fed s es same text = ap bare same ∙ text
+
+pub whole_refused : (source : Option (List ℕ)) (fed : List ℕ) → IfSome source (λ xs. xs ≡ fed) → IsNoTrace (bare fed)
+    → IsNoTraceOf source
+whole_refused None fed same none = tt
+whole_refused (Some xs) fed same none = subst (λ (x : List ℕ). IsNoTrace (bare x)) (sym same) none
 
 -- a history that begins with a lie isn't faithful
 none_judged_faithful : (m : MemoryModel) (lax : Bool) (s : Sizes) (j : List Event) (n : ℕ) (x : Lie)

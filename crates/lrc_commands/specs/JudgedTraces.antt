@@ -5,6 +5,8 @@ use Rattle.journal.specs.declared.event.Event.{Event}
 use Rattle.journal.specs.Sizes.{Sizes}
 use Rattle.lrc_check.specs.declared.traces.fault.TraceFault.{TraceFault}
 use Rattle.lrc_check.specs.declared.traces.fault.TraceFault.TheVariants.{NoMemory}
+use Rattle.lrc_check.specs.Traces.Fed.{IsReadOf, TextRead}
+use Rattle.lrc_check.specs.Traces.Labels.{bare}
 use Rattle.lrc_check.specs.Traces.Lawful.{IsNoTrace, IsTrace}
 use Rattle.lrc_check.specs.Traces.Text.{trace_text}
 use Rattle.journal.specs.Races.{Race}
@@ -31,9 +33,9 @@ judgement_in (verdict.Faithful traffic unjudged) = judgement.Faithful
 judgement_in (verdict.Lie x) = judgement.Unfaithful
 judgement_in verdict.Racy = judgement.Racy
 
--- what the source had is the text of this trace
+-- what the source had is, without labels, the text of this trace
 abbrev pub HasTraceText : Option (List ℕ) → Sizes → List Event → Type 0
-HasTraceText source s es = IfSome source (λ xs. xs ≡ trace_text s es)
+HasTraceText source s es = IfSome source (λ xs. bare xs ≡ trace_text s es)
 
 -- the source had the text of a trace, whose history is faithful under the model, lax or not
 pub record IsFaithfulTrace (m : MemoryModel) (lax : Bool) (source : Option (List ℕ)) : Type 0 where
@@ -69,10 +71,10 @@ IsJudgedAs m lax source judgement.Racy = IsRacyTrace source
 
 -- what the source had is no trace
 abbrev pub IsNoTraceOf : Option (List ℕ) → Type 0
-IsNoTraceOf source = IfSome source IsNoTrace
+IsNoTraceOf source = IfSome source (λ xs. IsNoTrace (bare xs))
 
 -- of a source that has this left: a reader has what came before it, or a fault, unless it is of memory, says that what
 -- the source had is no trace
-abbrev pub IsTraceReadSoFar : Option (List ℕ) → Option (List ℕ) → Result (List ℕ) (ℕ × TraceFault) → Type 0
-IsTraceReadSoFar source left (Ok fed) = Consumes source left fed
+abbrev pub IsTraceReadSoFar : Option (List ℕ) → Option (List ℕ) → Result TextRead (ℕ × TraceFault) → Type 0
+IsTraceReadSoFar source left (Ok x) = (fed : List ℕ) × Consumes source left fed × IsReadOf fed x
 IsTraceReadSoFar source left (Err e) = e.1 ≢ NoMemory → IsNoTraceOf source

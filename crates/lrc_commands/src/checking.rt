@@ -10,14 +10,14 @@ use crate::fault::StudyFault;
 use judge::MemoryModel;
 use lrc_check::traces::fault::TraceFault;
 use lrc_check::traces::reader::Reader;
-use lrc_check::traces::trace::Trace;
+use lrc_check::traces::trace::LabelledTrace;
 use lrc_check::{CheckFault, Checked, Rules, TraceVerdict, check_trace};
 use lrc_options::options::{TraceModel, TraceOptions};
 use std::alloc::{AllocError, Global};
 use std::io;
 use std::io::{ErrorKind, Read, Write};
 
-/// More bytes than the longest trace has, whose 2^21 events take less than 64 bytes each.
+/// More bytes than are read of a trace. The longest one without labels has less: its 2^21 events take less than 64 bytes each.
 const MOST_READ: usize = (1 << 27) + 128;
 
 /// How many bytes are read at once, at most.
@@ -72,15 +72,15 @@ fn feed(alloc: Global, reading: Reading, piece: &[u8]) -> Reading
 }
 
 /// What was read after the last piece.
-fn finish(reading: Reading) -> Result<Trace, CheckFault>
-    ensures trace { IfOk result (λ t. IsTrace (sizes_of t.sizes) t.events.items) }
+fn finish(reading: Reading) -> Result<LabelledTrace, CheckFault>
+    ensures trace { IfOk result (λ t. IsTrace (sizes_of t.trace.sizes) t.trace.events.items) }
     ensures text { IfOk result (λ t. (source left : Option (List ℕ)) → IsTraceReadSoFar source left reading
-        → IsAtEnd left → HasTraceText source (sizes_of t.sizes) t.events.items) }
+        → IsAtEnd left → HasTraceText source (sizes_of t.trace.sizes) t.trace.events.items) }
     ensures refused { IfErr result (λ fault. IsFoundInTrace fault → (source left : Option (List ℕ))
         → IsTraceReadSoFar source left reading → IsAtEnd left → IsNoTraceOf source) }
 {
-    let trace = reading?.finish()?;
-    Ok(trace)
+    let labelled = reading?.finish()?;
+    Ok(labelled)
 }
 
 /// Reads a trace, all that the source has, a piece at a time. What is longer than any trace is refused without its rest.
@@ -88,10 +88,10 @@ fn read_pieces<S: Read>(
     alloc: Global,
     source: &mut S,
     piece: &mut [u8],
-) -> Result<Trace, StudyFault>
+) -> Result<LabelledTrace, StudyFault>
     requires { 0 < length piece.old }
-    ensures trace { IfOk result (λ t. IsTrace (sizes_of t.sizes) t.events.items) }
-    ensures text { IfOk result (λ t. HasTraceText (S.remaining source.old) (sizes_of t.sizes) t.events.items) }
+    ensures trace { IfOk result (λ t. IsTrace (sizes_of t.trace.sizes) t.trace.events.items) }
+    ensures text { IfOk result (λ t. HasTraceText (S.remaining source.old) (sizes_of t.trace.sizes) t.trace.events.items) }
     ensures refused { IfErr result (λ fault. IsInputsStatus fault → IsNoTraceOf (S.remaining source.old)) }
 {
     let mut reading = Ok(Reader::new(alloc));
@@ -115,9 +115,9 @@ fn room(alloc: Global, size: usize) -> Result<Vec<u8>, AllocError>
 }
 
 /// Reads a trace, so that its text is never there as a whole.
-fn read_trace<S: Read>(alloc: Global, source: &mut S) -> Result<Trace, StudyFault>
-    ensures trace { IfOk result (λ t. IsTrace (sizes_of t.sizes) t.events.items) }
-    ensures text { IfOk result (λ t. HasTraceText (S.remaining source.old) (sizes_of t.sizes) t.events.items) }
+fn read_trace<S: Read>(alloc: Global, source: &mut S) -> Result<LabelledTrace, StudyFault>
+    ensures trace { IfOk result (λ t. IsTrace (sizes_of t.trace.sizes) t.trace.events.items) }
+    ensures text { IfOk result (λ t. HasTraceText (S.remaining source.old) (sizes_of t.trace.sizes) t.trace.events.items) }
     ensures refused { IfErr result (λ fault. IsInputsStatus fault → IsNoTraceOf (S.remaining source.old)) }
 {
     let mut piece = room(alloc, PIECE)?;
@@ -172,9 +172,9 @@ fn check_source<S: Read, W: Write>(
     ensures early { IfErr result
         (λ fault. IsStatusBeforeAnswer fault → Keeps (W.contents out.old) (W.contents out.new)) }
 {
-    let trace = read_trace(alloc, source)?;
+    let labelled = read_trace(alloc, source)?;
     let rules = rules_of(options);
-    let found = check_trace(alloc, &trace, rules, out)?;
+    let found = check_trace(alloc, &labelled, rules, out)?;
     Ok(judgement_of(&found))
 }
 

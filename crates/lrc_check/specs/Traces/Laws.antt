@@ -11,8 +11,13 @@ use Rattle.lrc_check.specs.declared.traces.fault.TraceFault.{TraceFault}
 use Rattle.lrc_check.specs.declared.traces.fault.TraceFault.TheVariants.{Cut, NoMemory}
 use Rattle.lrc_check.specs.Traces.Sizes.{trace_sizes_head}
 use Rattle.lrc_check.specs.Traces.Text.{trace_text_head_line, trace_text}
+use Rattle.lrc_check.specs.Traces.Labels.{bare}
 use Rattle.lrc_check.specs.Traces.Lawful.{HasTraceWords, IsNoOtherTrace, IsTrace}
 use Rattle.lrc_check.specs.Traces.Faults.{IsTraceFault}
+
+-- a trace's text has no label
+abbrev pub BareLaw : Type 0
+BareLaw = (s : Sizes) (es : List Event) → IsTrace s es → bare (trace_text s es) ≡ trace_text s es
 
 -- no two traces have one text
 abbrev pub OneTraceLaw : Type 0

@@ -7,4 +7,6 @@ pub use Rattle.lrc_check.specs.Traces.Names.{trace_name_operand_count, kind_from
 pub use Rattle.lrc_check.specs.Traces.Lines.{TraceLineGivesKind, HasBadTraceLineNumber, HasNoTraceLineShape, TraceLineRead, IsCutLine, IsDueOnTraceLine, IsEventLine, IsTraceLineShaped}
 pub use Rattle.lrc_check.specs.Traces.Faults.{BeginsTraceText, TraceEventSays, TraceHeadSays, IsTraceFault, IsTraceFaultAt, IsTraceFaultBehind, IsHeadFault, IsTraceFaultPast}
 pub use Rattle.lrc_check.specs.Traces.Faults.{TraceHasNoSizes, TraceLineHasSizes, IsLastingFault, IsNoTraceEvent, TraceLineSays, TraceRefuses, fault_from}
-pub use Rattle.lrc_check.specs.Traces.Laws.{CutRefusedLaw, OneTraceLaw, PrintedLaw, WellFormedTraceLaw}
+pub use Rattle.lrc_check.specs.Traces.Laws.{BareLaw, CutRefusedLaw, OneTraceLaw, PrintedLaw, WellFormedTraceLaw}
+pub use Rattle.lrc_check.specs.Traces.Labels.{bare, bare_line, event_label, label_at, labels_of, line_label}
+pub use Rattle.lrc_check.specs.Traces.Fed.{BeginsTrace, IsReadOf, StaysFault, TextRead, labels_with, text_with}

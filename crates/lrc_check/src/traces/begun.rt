@@ -1,11 +1,12 @@
 //! The lines of a trace's text, as they come: what those so far are, and what comes next.
-ghost use Rattle.std.specs.Prelude.{◌≡◌, [], ◌∷◌, ◌++◌, IfOk, IfErr, OnOk};
+ghost use Rattle.std.specs.Prelude.{◌≡◌, ℕ, List, [], ◌∷◌, ◌++◌, IfOk, IfErr, OnOk};
 ghost use Rattle.lrc_script.specs.Prelude.{HasNoLineFeed};
-ghost use Rattle.lrc_check.specs.declared.traces.fault.TraceFault.TheVariants.{Truncated};
+ghost use Rattle.lrc_check.specs.declared.traces.fault.TraceFault.TheVariants.{NoMemory, Truncated};
 ghost use Rattle.lrc_check.specs.Traces.Prelude.{TraceHasNoSizes, TraceLineHasSizes, IsTraceBegun, IsTraceFault, IsLastingFault, IsNoOtherTrace};
-ghost use Rattle.lrc_check.specs.Traces.Prelude.{IsNoTrace, IsTrace, begun_text, trace_line_number_after, sizes_of, trace_text};
+ghost use Rattle.lrc_check.specs.Traces.Prelude.{IsNoTrace, IsTrace, bare, begun_text, labels_of, trace_line_number_after, sizes_of, trace_text};
 
 use crate::traces::fault::TraceFault;
+use crate::traces::labels::{Labels, split_label};
 use crate::traces::line::add;
 use crate::traces::trace::{Sizes, Trace};
 use lrc_script::line::split_line;
@@ -74,22 +75,47 @@ fn read_line(
     }
 }
 
-/// Reads the lines that are whole, and answers what stands behind them.
+/// Keeps the label of the next line.
+fn keep_label(
+    begun: &Option<Trace>,
+    labels: &mut Labels,
+    label: &[u8],
+) -> Result<(), (usize, TraceFault)>
+    requires { IsTraceBegun begun.now }
+    ensures kept { OnOk result (labels.new ≡ labels.old ++ (label.now ++ 10 ∷ [])) }
+    ensures number { IfErr result (λ e. e.0 ≡ trace_line_number_after begun.now) }
+    ensures fault { IfErr result (λ e. e.1 ≡ NoMemory) }
+{
+    match labels.push(label) {
+        Ok(()) => Ok(()),
+        Err(_) => Err((next_number(begun), TraceFault::NoMemory)),
+    }
+}
+
+/// Reads the lines that are whole, keeps their labels, and answers what stands behind them.
 pub fn read_lines<'a>(
     alloc: Global,
     begun: &mut Option<Trace>,
+    labels: &mut Labels,
     bytes: &'a [u8],
 ) -> Result<&'a [u8], (usize, TraceFault)>
     requires { IsTraceBegun begun.old }
     ensures begun { OnOk result (IsTraceBegun begun.new) }
     ensures rest { IfOk result (λ rest. HasNoLineFeed rest.now) }
-    ensures text { IfOk result (λ rest. begun_text begun.new ++ rest.now ≡ begun_text begun.old ++ bytes.now) }
-    ensures fault { IfErr result (λ e. IsLastingFault (begun_text begun.old ++ bytes.now) e.0 e.1) }
+    ensures behind { IfOk result (λ rest. (front : List ℕ) × (bytes.now ≡ front ++ rest.now)) }
+    ensures text { IfOk result (λ rest. (more : List ℕ)
+        → begun_text begun.new ++ bare (rest.now ++ more) ≡ begun_text begun.old ++ bare (bytes.now ++ more)) }
+    ensures labels { IfOk result (λ rest. (more : List ℕ)
+        → labels.new ++ labels_of (rest.now ++ more) ≡ labels.old ++ labels_of (bytes.now ++ more)) }
+    ensures fault { IfErr result (λ e. (more : List ℕ)
+        → IsTraceFault (begun_text begun.old ++ bare (bytes.now ++ more)) e.0 e.1) }
 {
     // This is the one call of `read_line`: so the compiler puts all that reads a line into the loop.
     let mut rest = bytes;
     while let Some((line, after)) = split_line(rest) {
-        read_line(alloc, begun, line)?;
+        let (event, label) = split_label(line);
+        keep_label(begun, labels, label)?;
+        read_line(alloc, begun, event)?;
         rest = after;
     }
     Ok(rest)
@@ -99,6 +125,7 @@ pub fn read_lines<'a>(
 pub fn end(begun: Option<Trace>, rest: &[u8]) -> Result<Trace, (usize, TraceFault)>
     requires begun { IsTraceBegun begun }
     requires rest { HasNoLineFeed rest.now }
+    ensures whole { IfOk result (λ _. rest.now ≡ []) }
     ensures found { IfOk result (λ t. IsTrace (sizes_of t.sizes) t.events.items
         × (begun_text begun ++ rest.now ≡ trace_text (sizes_of t.sizes) t.events.items)) }
     ensures again { IfOk result (λ t. IsNoOtherTrace (begun_text begun ++ rest.now) (sizes_of t.sizes) t.events.items) }

@@ -1,5 +1,5 @@
 //! Laws, as contracts of functions that do nothing: the check proves each by its name.
-ghost use Rattle.lrc_check.specs.Traces.Prelude.{CutRefusedLaw, OneTraceLaw, PrintedLaw, WellFormedTraceLaw};
+ghost use Rattle.lrc_check.specs.Traces.Prelude.{BareLaw, CutRefusedLaw, OneTraceLaw, PrintedLaw, WellFormedTraceLaw};
 
 /// No two traces have one text.
 pub fn one_trace_law()
@@ -20,4 +20,9 @@ pub fn well_formed_law()
 /// What is printed of a journal of which something was cut off has a fault at its second line: that it was cut.
 pub fn cut_law()
     ensures { CutRefusedLaw }
+{}
+
+/// The text of a trace has no label: without its labels it is the same.
+pub fn bare_law()
+    ensures { BareLaw }
 {}

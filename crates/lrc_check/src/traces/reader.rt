@@ -1,33 +1,35 @@
 //! The reader of a trace whose text comes in pieces.
-ghost use Rattle.std.specs.Prelude.{◌≡◌, ◌≢◌, [], ◌++◌, IfOk, IfErr, OnOk};
+ghost use Rattle.std.specs.Prelude.{◌≡◌, ◌≢◌, ℕ, List, [], ◌++◌, IfOk, IfErr, OnOk};
 ghost use Rattle.lrc_script.specs.Prelude.{HasNoLineFeed};
 ghost use Rattle.lrc_check.specs.declared.traces.fault.TraceFault.TheVariants.{NoMemory, Truncated};
-ghost use Rattle.lrc_check.specs.Traces.Prelude.{BeginsTraceText, IsTraceBegun, IsTraceFault, IsLastingFault, IsNoOtherTrace, IsNoTrace, IsTrace};
-ghost use Rattle.lrc_check.specs.Traces.Prelude.{begun_text, sizes_of, trace_text};
+ghost use Rattle.lrc_check.specs.Traces.Prelude.{BeginsTrace, IsNoOtherTrace, IsNoTrace, IsReadOf, IsTrace, IsTraceBegun, IsTraceFault};
+ghost use Rattle.lrc_check.specs.Traces.Prelude.{StaysFault, bare, begun_text, labels_of, sizes_of, trace_text};
 
 use crate::traces::begun::{end, next_number, read_lines};
 use crate::traces::fault::TraceFault;
-use crate::traces::trace::Trace;
+use crate::traces::labels::{Labels, split_label};
+use crate::traces::trace::{LabelledTrace, Trace};
 use lrc_script::line::split_line;
 use std::alloc::Global;
 use std::marker::Model;
 
-/// A trace whose text comes in pieces, cut anywhere. It keeps the events of the lines that are whole, and the bytes of
-/// the line that isn't: so the text is never there as a whole. Contracts see it as the bytes that it was fed.
+/// A trace whose text comes in pieces, cut anywhere. It keeps the events of the lines that are whole, the labels, and the
+/// bytes of the line that isn't: so the text is never there as a whole. Contracts see what was read of the bytes.
 #[derive(Drop)]
 pub struct Reader {
     begun: Option<Trace>,
+    labels: Labels,
     unfinished: Vec<u8>,
 }
 
 impl Model for Reader {
-    ghost use Rattle.std.specs.Prelude.{ℕ, List, ◌++◌};
     ghost use Rattle.lrc_script.specs.LineFaults.{HasNoLineFeed};
     ghost use Rattle.lrc_check.specs.Traces.Begun.{IsTraceBegun, begun_text};
+    ghost use Rattle.lrc_check.specs.Traces.Fed.{TextRead};
 
-    ghost Value = { List ℕ };
+    ghost Value = { TextRead };
 
-    ghost view = { λ r. begun_text r.begun ++ r.unfinished.items };
+    ghost view = { λ r. record { lines = begun_text r.begun; labels = r.labels; unfinished = r.unfinished.items } };
 
     ghost invariant = { λ r. IsTraceBegun r.begun × HasNoLineFeed r.unfinished.items };
 }
@@ -52,6 +54,7 @@ fn keep(
 fn read_piece(
     alloc: Global,
     begun: &mut Option<Trace>,
+    labels: &mut Labels,
     unfinished: &mut Vec<u8>,
     piece: &[u8],
 ) -> Result<(), (usize, TraceFault)>
@@ -59,18 +62,20 @@ fn read_piece(
     requires unfinished { HasNoLineFeed unfinished.old.items }
     ensures begun { OnOk result (IsTraceBegun begun.new) }
     ensures unfinished { OnOk result (HasNoLineFeed unfinished.new.items) }
-    ensures text { OnOk result (begun_text begun.new ++ unfinished.new.items
-        ≡ (begun_text begun.old ++ unfinished.old.items) ++ piece.now) }
-    ensures fault { IfErr result (λ e. e.1 ≢ NoMemory
-        → IsLastingFault ((begun_text begun.old ++ unfinished.old.items) ++ piece.now) e.0 e.1) }
+    ensures text { OnOk result ((more : List ℕ) → begun_text begun.new ++ bare (unfinished.new.items ++ more)
+        ≡ begun_text begun.old ++ bare (unfinished.old.items ++ (piece.now ++ more))) }
+    ensures labels { OnOk result ((more : List ℕ) → labels.new ++ labels_of (unfinished.new.items ++ more)
+        ≡ labels.old ++ labels_of (unfinished.old.items ++ (piece.now ++ more))) }
+    ensures fault { IfErr result (λ e. e.1 ≢ NoMemory → (more : List ℕ)
+        → IsTraceFault (begun_text begun.old ++ bare (unfinished.old.items ++ (piece.now ++ more))) e.0 e.1) }
 {
     let Some((end, behind)) = split_line(piece) else {
         return keep(begun, unfinished, piece);
     };
     keep(begun, unfinished, end)?;
     keep(begun, unfinished, b"\n")?;
-    read_lines(alloc, begun, unfinished)?;
-    let rest = read_lines(alloc, begun, behind)?;
+    read_lines(alloc, begun, labels, unfinished)?;
+    let rest = read_lines(alloc, begun, labels, behind)?;
     unfinished.clear();
     keep(begun, unfinished, rest)
 }
@@ -78,50 +83,67 @@ fn read_piece(
 impl Reader {
     /// Before the first piece.
     pub fn new(alloc: Global) -> Reader
-        ensures { result ≡ [] }
+        ensures { IsReadOf [] result }
     {
         Reader {
             begun: None,
+            labels: Labels::new(alloc),
             unfinished: Vec::new(alloc),
         }
     }
 
-    /// Takes the next piece. It takes time in the order of its bytes, and memory for the events of the lines that end in
-    /// it and for the line that doesn't.
+    /// Takes the next piece. It takes time in the order of its bytes, and memory for the events and the labels of the lines
+    /// that end in it and for the line that doesn't.
     ///
     /// # Errors
     ///
     /// The first line with a fault, counted from 1; on one line the faults are tested in the order that `TraceFault` tells.
     /// Each but `NoMemory` comes only where no trace has a text that begins with these bytes. `Truncated` never comes.
     pub fn feed(self, alloc: Global, piece: &[u8]) -> Result<Reader, (usize, TraceFault)>
-        ensures fed { IfOk result (λ r. r ≡ self ++ piece.now) }
+        ensures fed { IfOk result (λ r. (bytes : List ℕ) → IsReadOf bytes self → IsReadOf (bytes ++ piece.now) r) }
         // No beginning of a trace's text is refused, unless memory runs out.
-        ensures only { IfErr result (λ e. e.1 ≢ NoMemory → ¬ BeginsTraceText (self ++ piece.now)) }
+        ensures only { IfErr result (λ e. e.1 ≢ NoMemory → (bytes : List ℕ) → IsReadOf bytes self
+            → ¬ BeginsTrace (bytes ++ piece.now)) }
         // However the bytes go on, that line has that fault.
-        ensures fault { IfErr result (λ e. e.1 ≢ NoMemory → IsLastingFault (self ++ piece.now) e.0 e.1) }
+        ensures fault { IfErr result (λ e. e.1 ≢ NoMemory → (bytes : List ℕ) → IsReadOf bytes self
+            → StaysFault (bytes ++ piece.now) e.0 e.1) }
     {
         let Reader {
             mut begun,
+            mut labels,
             mut unfinished,
         } = self;
-        read_piece(alloc, &mut begun, &mut unfinished, piece)?;
-        Ok(Reader { begun, unfinished })
+        read_piece(alloc, &mut begun, &mut labels, &mut unfinished, piece)?;
+        Ok(Reader {
+            begun,
+            labels,
+            unfinished,
+        })
     }
 
-    /// The trace that has the bytes as its text, after the last piece.
+    /// The trace that has the bytes, without their labels, as its text, and the labels, after the last piece.
     ///
     /// # Errors
     ///
     /// `Truncated` alone, with the number of the line that has to be there or to end.
-    pub fn finish(self) -> Result<Trace, (usize, TraceFault)>
-        ensures found { IfOk result (λ t. IsTrace (sizes_of t.sizes) t.events.items
-            × (self ≡ trace_text (sizes_of t.sizes) t.events.items)) }
-        ensures again { IfOk result (λ t. IsNoOtherTrace self (sizes_of t.sizes) t.events.items) }
-        ensures only { IfErr result (λ _. IsNoTrace self) }
+    pub fn finish(self) -> Result<LabelledTrace, (usize, TraceFault)>
+        ensures found { IfOk result (λ t. IsTrace (sizes_of t.trace.sizes) t.trace.events.items
+            × ((bytes : List ℕ) → IsReadOf bytes self
+            → bare bytes ≡ trace_text (sizes_of t.trace.sizes) t.trace.events.items)) }
+        ensures again { IfOk result (λ t. (bytes : List ℕ) → IsReadOf bytes self
+            → IsNoOtherTrace (bare bytes) (sizes_of t.trace.sizes) t.trace.events.items) }
+        ensures labels { IfOk result (λ t. (bytes : List ℕ) → IsReadOf bytes self → t.labels ≡ labels_of bytes) }
+        ensures only { IfErr result (λ _. (bytes : List ℕ) → IsReadOf bytes self → IsNoTrace (bare bytes)) }
         ensures truncated { IfErr result (λ e. e.1 ≡ Truncated) }
-        ensures fault { IfErr result (λ e. IsTraceFault self e.0 e.1) }
+        ensures fault { IfErr result (λ e. (bytes : List ℕ) → IsReadOf bytes self → IsTraceFault (bare bytes) e.0 e.1) }
     {
-        let Reader { begun, unfinished } = self;
-        end(begun, &unfinished)
+        let Reader {
+            begun,
+            labels,
+            unfinished,
+        } = self;
+        let (left, _) = split_label(&unfinished);
+        let trace = end(begun, left)?;
+        Ok(LabelledTrace { trace, labels })
     }
 }

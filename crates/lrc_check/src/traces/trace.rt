@@ -1,10 +1,11 @@
 //! A trace: the sizes of a cluster, and its events in order.
 ghost use Rattle.std.specs.Prelude.{◌≡◌, ◌≢◌, IfOk, IfErr};
 ghost use Rattle.lrc_check.specs.declared.traces.fault.TraceFault.TheVariants.{NoMemory};
-ghost use Rattle.lrc_check.specs.Traces.Prelude.{IsTraceFault, IsNoOtherTrace, IsNoTrace, IsTrace, sizes_of, trace_text};
+ghost use Rattle.lrc_check.specs.Traces.Prelude.{IsTraceFault, IsNoOtherTrace, IsNoTrace, IsTrace, bare, labels_of, sizes_of, trace_text};
 
 use crate::traces::begun::{end, read_lines};
 use crate::traces::fault::TraceFault;
+use crate::traces::labels::{Labels, split_label};
 use journal::Event;
 use std::alloc::Global;
 
@@ -26,25 +27,38 @@ pub struct Trace {
     pub events: Vec<Event>,
 }
 
-/// The trace that has these bytes as its text, or the first line with a fault, counted from 1. On one line the
-/// faults are tested in the order that `TraceFault` tells. Reading takes time in the order of the bytes.
+/// A trace, and the labels of its lines.
+#[derive(Drop)]
+pub struct LabelledTrace {
+    pub trace: Trace,
+    pub labels: Labels,
+}
+
+/// The trace that has these bytes, without their labels, as its text, and the labels; or the first line with a fault, counted
+/// from 1. On one line the faults are tested in the order that `TraceFault` tells. Reading takes time in the order of the
+/// bytes.
 ///
 /// # Errors
 ///
 /// Each but `NoMemory` comes only where no trace has these bytes as its text, and says what is wrong with its line.
 /// `NoMemory` comes where a growth was refused while that line was read.
-pub fn read(alloc: Global, bytes: &[u8]) -> Result<Trace, (usize, TraceFault)>
+pub fn read(alloc: Global, bytes: &[u8]) -> Result<LabelledTrace, (usize, TraceFault)>
     // What is read is a trace, and the bytes are its text.
-    ensures found { IfOk result (λ t. IsTrace (sizes_of t.sizes) t.events.items
-        × (bytes.now ≡ trace_text (sizes_of t.sizes) t.events.items)) }
+    ensures found { IfOk result (λ t. IsTrace (sizes_of t.trace.sizes) t.trace.events.items
+        × (bare bytes.now ≡ trace_text (sizes_of t.trace.sizes) t.trace.events.items)) }
     // It is the one trace with this text.
-    ensures again { IfOk result (λ t. IsNoOtherTrace bytes.now (sizes_of t.sizes) t.events.items) }
+    ensures again { IfOk result (λ t. IsNoOtherTrace (bare bytes.now) (sizes_of t.trace.sizes) t.trace.events.items) }
+    // Each label is that of its line.
+    ensures labels { IfOk result (λ t. t.labels ≡ labels_of bytes.now) }
     // No trace is refused, unless memory runs out.
-    ensures only { IfErr result (λ e. e.1 ≢ NoMemory → IsNoTrace bytes.now) }
+    ensures only { IfErr result (λ e. e.1 ≢ NoMemory → IsNoTrace (bare bytes.now)) }
     // The lines before the fault are a trace's text, or none; no trace has that line next, and the fault says why.
-    ensures fault { IfErr result (λ e. IsTraceFault bytes.now e.0 e.1) }
+    ensures fault { IfErr result (λ e. IsTraceFault (bare bytes.now) e.0 e.1) }
 {
     let mut begun = None;
-    let rest = read_lines(alloc, &mut begun, bytes)?;
-    end(begun, rest)
+    let mut labels = Labels::new(alloc);
+    let rest = read_lines(alloc, &mut begun, &mut labels, bytes)?;
+    let (left, _) = split_label(rest);
+    let trace = end(begun, left)?;
+    Ok(LabelledTrace { trace, labels })
 }

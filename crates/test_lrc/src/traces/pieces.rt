@@ -34,7 +34,8 @@ fn read_each(alloc: Global, bytes: &[u8], size: usize) -> Result<Trace, (usize, 
     for piece in bytes.chunks(size.max(1)) {
         reader = reader.feed(alloc, piece)?;
     }
-    reader.finish()
+    let labelled = reader.finish()?;
+    Ok(labelled.trace)
 }
 
 /// Reads two pieces, with empty ones round them.
@@ -49,13 +50,17 @@ fn read_two(alloc: Global, first: &[u8], second: &[u8]) -> Result<Trace, (usize,
     ] {
         reader = reader.feed(alloc, piece)?;
     }
-    reader.finish()
+    let labelled = reader.finish()?;
+    Ok(labelled.trace)
 }
 
 /// Reads the bytes as they come by this cut.
 pub fn read_cut(alloc: Global, bytes: &[u8], cut: Cut) -> Result<Trace, (usize, TraceFault)> {
     match cut {
-        Cut::Never => read(alloc, bytes),
+        Cut::Never => {
+            let labelled = read(alloc, bytes)?;
+            Ok(labelled.trace)
+        }
         Cut::Each(size) => read_each(alloc, bytes, size),
         Cut::Once(at) => {
             let (first, second) = bytes.split_at(at.min(bytes.len()));

@@ -7,4 +7,4 @@ returns-clause-judged g c =
     judged_by c.rules_of-rules.result _ _ _ _ _ c.rules_of-rules.ensures.model c.rules_of-rules.ensures.lax
     c.judgement_of.ensures
     (judged_as c.rules_of-rules.result _ _ _ c.in_ok-found.found.count c.in_ok-found.found.race
-    c.in_ok-found.found.verdict c.in_ok-trace.ensures.trace c.in_ok-trace.ensures.text found.verdict found.whole)
+    c.in_ok-found.found.verdict c.in_ok-labelled.ensures.trace c.in_ok-labelled.ensures.text found.verdict found.whole)
