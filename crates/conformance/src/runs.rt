@@ -26,15 +26,16 @@ pub enum LockChoice {
 
 /// Runs lawful scripts. Whatever report it answers is one of the script.
 ///
-/// `ran`, `stepped` and `followed` say what comes of a run; each implementor gives them their meaning. So code that promises
-/// one of them for any implementor has made this very call: on threads or by turns, with this lock, and these tries, this
-/// seed or this schedule.
+/// `ran`, `stepped`, `followed` and `drawn` say what comes of a run; each implementor gives them their meaning. So code that
+/// promises one of them for any implementor has made this very call: on threads or by turns, with this lock, and these
+/// tries, this seed or this schedule.
 pub trait Runs {
     ghost use Rattle.lrc_script.specs.Plan.{Plan};
     ghost use Rattle.lrc_report.specs.declared.report.Report.{Report};
     ghost use Rattle.conformance.specs.declared.cause.RunFault.{RunFault};
     ghost use Rattle.conformance.specs.declared.runs.LockChoice.{LockChoice};
     ghost use Rattle.conformance.specs.declared.ended.Ended.{Ended};
+    ghost use Rattle.conformance.specs.declared.schedule.DrawnRun.{DrawnRun};
     ghost use Rattle.conformance.specs.declared.schedule.ScheduleFault.{ScheduleFault};
 
     // What comes of a script by `run` with this lock and so many tries.
@@ -45,6 +46,9 @@ pub trait Runs {
 
     // What comes of it by `step_by` with this lock and this schedule.
     ghost followed: { Plan → LockChoice → List ℕ → Result Ended ScheduleFault → Type 0 } = { λ _ _ _ _. Unit {0} };
+
+    // What comes of it by `step_drawn` with this lock and this seed.
+    ghost drawn: { Plan → LockChoice → ℕ → Result DrawnRun RunFault → Type 0 } = { λ _ _ _ _. Unit {0} };
 
     /// Runs the script with a thread for each processor, started by this handle. What a processor waits for is tried for `tries` times in a row.
     fn run<R: Threads + Wait + Sync>(
@@ -117,6 +121,7 @@ pub trait Runs {
         seed: u64,
     ) -> Result<DrawnRun, RunFault>
         requires { IsLawful (plan_of script.now) }
-        ensures { IfOk result (λ run. IsEndByTurns (plan_of script.now)
+        ensures drawn { drawn (plan_of script.now) lock seed result }
+        ensures turns { IfOk result (λ run. IsEndByTurns (plan_of script.now)
             (scheduled (plan_of script.now) run.schedule.turns.items) run.ended) };
 }

@@ -118,6 +118,8 @@ impl<T: Runs> Runs for Counted<'_, T> {
 
     ghost followed = { T.followed };
 
+    ghost drawn = { T.drawn };
+
     fn run<R: Threads + Wait + Sync>(
         &self,
         rt: &R,

@@ -3,6 +3,7 @@ use Rattle.std.proofs.Common.{◌≡◌, ◌∙◌, ℕ, Bool, true, List, subst
 use Rattle.std.specs.Prelude.{IfErr, IfOk, is_some, option_map, string_bytes}
 use Rattle.std.proofs.lemmas.Option.{none-some, same_Some}
 use Rattle.conformance.specs.declared.ended.Ended.{Ended}
+use Rattle.conformance.specs.declared.schedule.DrawnRun.{DrawnRun}
 use Rattle.conformance.specs.ByTurns.{IsEndByTurns, turn_orders}
 use Rattle.conformance.specs.Schedules.{IsScheduleText, scheduled}
 use Rattle.std.specs.Io.KnownBytes.{Keeps}
@@ -36,11 +37,12 @@ serves_end o s e given by =
     record { by_seed = λ _. by; by_schedule = λ other is. absurd (none-some other (given ∙ is)) }
 
 -- it was sampled
-pub serves_sample : {A : Type 0} (runs : ℕ) (script : Plan) (source old new : Option (List ℕ))
-    (result : Result A StudyFault) → IsScriptRead source script → OnOk result (IsSampleWritten runs script old new)
-    → OnOk result (IsSampled runs source old new)
-serves_sample runs script source old new (Ok x) read written = record { script = script; read = read; sample = written }
-serves_sample runs script source old new (Err fault) read written = tt
+pub serves_sample : {A : Type 0} (came : Plan → Option ℕ → DrawnRun → Type 0) (runs : ℕ) (script : Plan)
+    (source old new : Option (List ℕ)) (result : Result A StudyFault) → IsScriptRead source script
+    → OnOk result (IsSampleWritten came runs script old new) → OnOk result (IsSampled came runs source old new)
+serves_sample came runs script source old new (Ok x) read written =
+    record { script = script; read = read; sample = written }
+serves_sample came runs script source old new (Err fault) read written = tt
 
 -- it was explained
 pub serves_explanation : {A : Type 0} (picture : Bool) (o : ExplainOptions) (script : Plan)

@@ -3,7 +3,8 @@ ghost use Rattle.std.specs.Prelude.{◌≡◌, ◌≢◌, ◌+◌, IfErr, OnOk};
 ghost use Rattle.std.specs.Io.KnownBytes.{Keeps};
 ghost use Rattle.lrc_script.specs.Prelude.{IsLawful, plan_of};
 ghost use Rattle.lrc_program.specs.Prelude.{IsNoScript};
-ghost use Rattle.lrc_commands.specs.Prelude.{IsStatusBeforeAnswer, IsInputsStatus, IsSampleWritten, IsSampled};
+ghost use Rattle.lrc_sample.specs.Prelude.{CameBySeed};
+ghost use Rattle.lrc_commands.specs.Prelude.{IsStatusBeforeAnswer, IsInputsStatus, IsSampleWritten, IsSampled, lock_asked};
 
 use crate::fault::StudyFault;
 use crate::locks::lock_of;
@@ -27,8 +28,8 @@ fn print_sample<T: Runs, R: Wait, W: Write>(
     out: &mut W,
 ) -> Result<(), StudyFault>
     requires { IsLawful (plan_of script.now) }
-    ensures written { OnOk result (IsSampleWritten (options.now.seeds + 1) (plan_of script.now)
-        (W.contents out.old) (W.contents out.new)) }
+    ensures written { OnOk result (IsSampleWritten (CameBySeed T.followed T.drawn (lock_asked options.now.ticket))
+        (options.now.seeds + 1) (plan_of script.now) (W.contents out.old) (W.contents out.new)) }
     ensures runs { IfErr result (λ fault. IsInputsStatus fault → ⊥) }
     ensures early { IfErr result
         (λ fault. IsStatusBeforeAnswer fault → Keeps (W.contents out.old) (W.contents out.new)) }
@@ -48,8 +49,8 @@ fn sample_script<T: Runs, R: Wait, S: Read, W: Write>(
     source: &mut S,
     out: &mut W,
 ) -> Result<(), StudyFault>
-    ensures sampled { OnOk result (IsSampled (options.now.seeds + 1) (S.remaining source.old)
-        (W.contents out.old) (W.contents out.new)) }
+    ensures sampled { OnOk result (IsSampled (CameBySeed T.followed T.drawn (lock_asked options.now.ticket))
+        (options.now.seeds + 1) (S.remaining source.old) (W.contents out.old) (W.contents out.new)) }
     ensures refused { IfErr result (λ fault. IsInputsStatus fault → IsNoScript (S.remaining source.old)) }
     ensures early { IfErr result
         (λ fault. IsStatusBeforeAnswer fault → Keeps (W.contents out.old) (W.contents out.new)) }
@@ -69,9 +70,10 @@ pub fn sample_program<T: Runs, R: Wait, S: Read, W: Write, E: Write>(
     out: &mut W,
     err: &mut E,
 ) -> u8
-    // The script that was read was run so often, and the text of what that came to was written, whole.
-    ensures sampled { result ≡ 0 → IsSampled (options.now.seeds + 1) (S.remaining source.old)
-        (W.contents out.old) (W.contents out.new) }
+    // The script that was read was run once by each of so many seeds and once without, with the lock that was asked for, and
+    // the text of what that came to was written, whole.
+    ensures sampled { result ≡ 0 → IsSampled (CameBySeed T.followed T.drawn (lock_asked options.now.ticket))
+        (options.now.seeds + 1) (S.remaining source.old) (W.contents out.old) (W.contents out.new) }
     // What is refused as a script is none.
     ensures refused { result ≡ 2 → IsNoScript (S.remaining source.old) }
     // At any status but 4, the text is written whole or not at all.

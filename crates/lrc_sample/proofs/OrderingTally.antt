@@ -45,16 +45,17 @@ ordering_tally_swapped os lines i j first second is = record {
 pub ordering_tally_moved : (os : List SampleOutcome) (xs ys : List TallyLine) → IsPermutation xs ys → TallyCountsRuns os xs → TallyCountsRuns os ys
 ordering_tally_moved os xs ys moves is = IsPermutation-keeps xs (TallyCountsRuns os) is (ordering_tally_swapped os) ys moves
 
--- two lines in each other's place show what they did
-ordering_shown_swapped : (shows : List ℕ → SampleOutcome → Type 0) (lines : List TallyLine) (i j : ℕ) → i < length lines
-    → j < length lines → AreLinesShown shows lines → AreLinesShown shows (swap lines i j)
-ordering_shown_swapped shows lines i j first second shown a has =
+-- two lines in each other's place keep their schedules
+ordering_shown_swapped : (schedules : List (List ℕ)) (lines : List TallyLine) (i j : ℕ) → i < length lines
+    → j < length lines → AreLinesShown schedules lines → AreLinesShown schedules (swap lines i j)
+ordering_shown_swapped schedules lines i j first second shown a has =
     shown a (swap_moved i j has.0, sym (swap_items lines i j has.0 first second) ∙ has.1)
 
 -- and so do lines in another order
-pub ordering_shown_moved : (shows : List ℕ → SampleOutcome → Type 0) (xs ys : List TallyLine) → IsPermutation xs ys
-    → AreLinesShown shows xs → AreLinesShown shows ys
-ordering_shown_moved shows xs ys moves is = IsPermutation-keeps xs (AreLinesShown shows) is (ordering_shown_swapped shows) ys moves
+pub ordering_shown_moved : (schedules : List (List ℕ)) (xs ys : List TallyLine) → IsPermutation xs ys
+    → AreLinesShown schedules xs → AreLinesShown schedules ys
+ordering_shown_moved schedules xs ys moves is =
+    IsPermutation-keeps xs (AreLinesShown schedules) is (ordering_shown_swapped schedules) ys moves
 
 -- what stands in order pairwise does so all over
 ordering_chain : {A : Type 0} (R : A → A → Type 0) → ((a b c : A) → R a b → R b c → R a c) → (xs : List A)

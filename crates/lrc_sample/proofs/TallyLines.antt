@@ -205,32 +205,35 @@ tally_new_at os lines o seed schedule none place is = record {
   seen = tally_seen_new os lines (tally_line_noted o seed schedule) place is;
 }
 
--- the line that counts one run more shows what it did
-pub tally_shown_again : (shows : List ℕ → SampleOutcome → Type 0) (lines : List TallyLine) (o : SampleOutcome) (k : ℕ)
+-- the line that counts one run more keeps its schedule, and the runs before theirs
+pub tally_shown_again : (schedules : List (List ℕ)) (turns : List ℕ) (lines : List TallyLine) (o : SampleOutcome) (k : ℕ)
     (d now : TallyLine) → now ≡ slice_index_or lines k d
-    → ((line : TallyLine) × ((slice_get lines k ≡ Some line) × (line.outcome ≡ o))) → AreLinesShown shows lines
-    → AreLinesShown shows (slice_set lines k (counted now))
-tally_shown_again shows lines o k d now read found shown a (j, has) = elim (cases_eq j k) [
-  | inl here ↦
-      (let same : found.0 ≡ now = sym (tally_item_at lines k found.0 d found.1.0) ∙ sym read in
-      let is : counted now ≡ a = slice_get-set_found lines k (counted now) a
-      (subst (λ n. slice_get (slice_set lines k (counted now)) n ≡ Some a) here has) in
-      let P : TallyLine → Type 0 = λ l. shows l.schedule.turns.items l.outcome in
-      let tally_line_was : P now = subst P same (shown found.0 (k, found.1.0)) in
-      subst P is tally_line_was)
-  | inr there ↦ shown a (j, sym (slice_get-set_other lines k j (counted now) there) ∙ has)
-]
+    → ((line : TallyLine) × ((slice_get lines k ≡ Some line) × (line.outcome ≡ o))) → AreLinesShown schedules lines
+    → AreLinesShown (schedules ++ turns ∷ []) (slice_set lines k (counted now))
+tally_shown_again schedules turns lines o k d now read found shown a (j, has) =
+    sample_line_stays schedules turns (tally_run_of a.seed) a.schedule.turns.items (elim (cases_eq j k) [
+      | inl here ↦
+          (let same : found.0 ≡ now = sym (tally_item_at lines k found.0 d found.1.0) ∙ sym read in
+          let is : counted now ≡ a = slice_get-set_found lines k (counted now) a
+          (subst (λ n. slice_get (slice_set lines k (counted now)) n ≡ Some a) here has) in
+          let P : TallyLine → Type 0 = λ l. slice_get schedules (tally_run_of l.seed) ≡ Some l.schedule.turns.items in
+          let tally_line_was : P now = subst P same (shown found.0 (k, found.1.0)) in
+          subst P is tally_line_was)
+      | inr there ↦ shown a (j, sym (slice_get-set_other lines k j (counted now) there) ∙ has)
+    ])
 
--- and so does the line of a first run
-pub tally_shown_new : (shows : List ℕ → SampleOutcome → Type 0) (lines : List TallyLine) (o : SampleOutcome) (seed : Option ℕ)
-    (schedule : Schedule) → AreLinesShown shows lines → shows schedule.turns.items o
-    → AreLinesShown shows (lines ++ tally_line_noted o seed schedule ∷ [])
-tally_shown_new shows lines o seed schedule shown new a (j, has) = elim (slice_push_cases lines (tally_line_noted o seed schedule) j a has) [
-  | inl old ↦ shown a (j, old.1)
-  | inr last ↦
-      (let P : TallyLine → Type 0 = λ l. shows l.schedule.turns.items l.outcome in
-      subst P last.1 new)
-]
+-- the line of a first run has that run's
+pub tally_shown_new : (schedules : List (List ℕ)) (lines : List TallyLine) (o : SampleOutcome) (seed : Option ℕ)
+    (schedule : Schedule) → AreLinesShown schedules lines → tally_run_of seed ≡ length schedules
+    → AreLinesShown (schedules ++ schedule.turns.items ∷ []) (lines ++ tally_line_noted o seed schedule ∷ [])
+tally_shown_new schedules lines o seed schedule shown place a (j, has) =
+    let all = schedules ++ schedule.turns.items ∷ [] in
+    elim (slice_push_cases lines (tally_line_noted o seed schedule) j a has) [
+      | inl old ↦ sample_line_stays schedules schedule.turns.items (tally_run_of a.seed) a.schedule.turns.items (shown a (j, old.1))
+      | inr last ↦
+          (let P : TallyLine → Type 0 = λ l. slice_get all (tally_run_of l.seed) ≡ Some l.schedule.turns.items in
+          subst P last.1 (ap (slice_get all) place ∙ slice_get-last schedules schedule.turns.items))
+    ]
 
 -- no line up to this one has the outcome
 pub tally_none_more : (lines : List TallyLine) (o : SampleOutcome) (n : ℕ) (item : TallyLine)

@@ -2,6 +2,8 @@
 use Rattle.std.specs.Prelude.{ℕ, ◌≡◌, List, length}
 use Rattle.lrc_script.specs.Plan.{Plan}
 use Rattle.lrc_report.specs.declared.report.Report.{Report}
+use Rattle.conformance.specs.declared.ended.Ended.{Ended as HowItEnded}
+use Rattle.conformance.specs.declared.ended.Ended.TheVariants.{Halted, Whole}
 use Rattle.conformance.specs.ByTurns.{IsReportByTurns, IsStuckByTurns}
 use Rattle.lrc_sample.specs.declared.outcome.SampleOutcome.{SampleOutcome}
 use Rattle.lrc_sample.specs.declared.outcome.SampleOutcome.TheVariants.{Ended, Stuck}
@@ -15,6 +17,11 @@ answered_outcome processors r = record {
   replies = replies_of (length r.shown.items) processors r.journal.events;
   racy = r.racy;
 }
+
+-- what a run of so many processors that ended so came to: its report's answers, or that it is stuck
+abbrev pub outcome_of_end : ℕ → HowItEnded → SampleOutcome
+outcome_of_end processors (Whole report) = Ended (answered_outcome processors report)
+outcome_of_end processors (Halted halt) = Stuck halt.processor
 
 -- the answers are those of a report of the script's run by turns in these orders; or that run gets into a deadlock, of
 -- which this is the least processor

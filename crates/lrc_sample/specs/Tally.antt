@@ -29,6 +29,7 @@ pub record TallyCountsRuns (outcomes : List SampleOutcome) (lines : List TallyLi
   pub all : (o : SampleOutcome) → Has outcomes o → (line : TallyLine) × (Has lines line × (line.outcome ≡ o))
   pub sum : sum_by tally_times_of lines ≡ length outcomes
 
--- each line's schedule shows its outcome
-abbrev pub AreLinesShown : (List ℕ → SampleOutcome → Type 0) → List TallyLine → Type 0
-AreLinesShown shows lines = (line : TallyLine) → Has lines line → shows line.schedule.turns.items line.outcome
+-- each line's schedule is that of the run that it tells
+abbrev pub AreLinesShown : List (List ℕ) → List TallyLine → Type 0
+AreLinesShown schedules lines = (line : TallyLine) → Has lines line
+    → slice_get schedules (tally_run_of line.seed) ≡ Some line.schedule.turns.items

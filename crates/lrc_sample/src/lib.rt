@@ -2,14 +2,15 @@
 //!
 //! **What contracts see.** The `Answers` of a run as plain lists (`Answered`), everything else as it is.
 //!
-//! **What is proved.** `sample` tells of outcomes of runs of the script (`IsSampleOf`), one for each seed and one without:
-//! each outcome that came has one line, with how often it came, where first and a schedule that shows it, and the lines count
-//! every run. The most frequent stands first, and of as frequent ones the one that came first. The answers are those of a
-//! report of the script's run by that schedule; a run that is stuck is a deadlock. Module `laws`: each line counts a run at least, the run that it tells
-//! came to its outcome and none before it did, and a script that never races on one flat memory has no racy outcome.
+//! **What is proved.** `sample` tells of the script's runs on the lock that is asked for (`IsSampleOf`): `step_by` made the
+//! first, of no turns, and `step_drawn` then one by each seed in order (`CameBySeed`). Each outcome that these runs came to has
+//! one line, with how often it came, where first, and that run's schedule, which shows it; the lines count every run. The
+//! most frequent stands first, and of as frequent ones the one that came first. The answers are those of a report of the
+//! script's run by that schedule; a run that is stuck is a deadlock. Module `laws`: each line counts a run at least, the run
+//! that it tells came to its outcome and none before it did, and a script that never races on one flat memory has no racy
+//! outcome.
 //!
-//! **What is only tested** (in `test_lrc`): that the lock and the seeds are those that were asked for, that other faults
-//! than being stuck end a sample, and that the text is one write.
+//! **What is only tested** (in `test_lrc`): that other faults than being stuck end a sample, and that the text is one write.
 #![tactic(auto)]
 
 pub mod laws;

@@ -1,8 +1,7 @@
 //! A script by many schedules.
-ghost use Rattle.std.specs.Prelude.{ℕ, ◌≤◌, ◌+◌, ◌^◌, IfOk, List, OnOk};
+ghost use Rattle.std.specs.Prelude.{◌≡◌, ◌≤◌, ◌+◌, ◌^◌, IfOk, OnOk};
 ghost use Rattle.lrc_script.specs.Prelude.{IsLawful, plan_of};
-ghost use Rattle.conformance.specs.Prelude.{IsEndByTurns, scheduled};
-ghost use Rattle.lrc_sample.specs.Prelude.{IsSampleMade, IsSampleOutcomeOf, IsSampleOf, tally_run_of};
+ghost use Rattle.lrc_sample.specs.Prelude.{CameBySeed, IsSampleMade, IsSampleOf, IsSampleRun, outcome_of_end, tally_run_of};
 
 use crate::outcome::{Answers, SampleOutcome};
 use crate::tally::{TallyLine, note, sort};
@@ -28,8 +27,7 @@ fn no_memory(error: AllocError) -> RunFault {
 
 /// What a run came to: a run that can't go on is stuck.
 fn outcome_of(alloc: Global, script: &Script, ended: Ended) -> Result<SampleOutcome, RunFault>
-    ensures { (orders : ℕ → List ℕ) → IsEndByTurns (plan_of script.now) orders ended
-        → IfOk result (IsSampleOutcomeOf (plan_of script.now) orders) }
+    ensures { IfOk result (λ outcome. outcome ≡ outcome_of_end script.now.processors ended) }
 {
     match ended {
         Ended::Whole(report) => match Answers::of(alloc, script.processors, report) {
@@ -50,8 +48,7 @@ fn run_of<T: Runs, R: Wait>(
     seed: Option<u64>,
 ) -> Result<DrawnRun, RunFault>
     requires { IsLawful (plan_of script.now) }
-    ensures { IfOk result (λ run. IsEndByTurns (plan_of script.now)
-        (scheduled (plan_of script.now) run.schedule.turns.items) run.ended) }
+    ensures { IfOk result (IsSampleRun (CameBySeed T.followed T.drawn lock) (plan_of script.now) seed) }
 {
     let Some(seed) = seed else {
         let schedule = Schedule {
@@ -78,8 +75,9 @@ fn run_once<T: Runs, R: Wait>(
 ) -> Result<(), RunFault>
     requires lawful { IsLawful (plan_of script.now) }
     requires few { tally_run_of seed ≤ 2 ^ 32 }
-    requires made { IsSampleMade (plan_of script.now) (tally_run_of seed) lines.old.items }
-    ensures { OnOk result (IsSampleMade (plan_of script.now) (tally_run_of seed + 1) lines.new.items) }
+    requires made { IsSampleMade (CameBySeed T.followed T.drawn lock) (plan_of script.now) (tally_run_of seed) lines.old.items }
+    ensures { OnOk result (IsSampleMade (CameBySeed T.followed T.drawn lock) (plan_of script.now) (tally_run_of seed + 1)
+        lines.new.items) }
 {
     let DrawnRun { schedule, ended } = run_of(runs, rt, alloc, script, lock, seed)?;
     let outcome = outcome_of(alloc, script, ended)?;
@@ -103,7 +101,7 @@ pub fn sample<T: Runs, R: Wait>(
     seeds: u32,
 ) -> Result<Sampled, RunFault>
     requires { IsLawful (plan_of script.now) }
-    ensures { IfOk result (IsSampleOf (plan_of script.now) (seeds + 1)) }
+    ensures { IfOk result (IsSampleOf (CameBySeed T.followed T.drawn lock) (plan_of script.now) (seeds + 1)) }
 {
     let mut lines = Vec::new(alloc);
     run_once(runs, rt, alloc, script, lock, None, &mut lines)?;

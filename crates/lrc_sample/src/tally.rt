@@ -3,9 +3,8 @@ ghost use Rattle.std.specs.Prelude.{ℕ, ◌≡◌, ◌≢◌, ◌<◌, ◌-◌,
 ghost use Rattle.std.specs.List.{sum_by};
 ghost use Rattle.lrc_sample.specs.declared.outcome.SampleOutcome.{SampleOutcome};
 ghost use Rattle.lrc_sample.specs.declared.tally.TallyLine.{TallyLine};
-ghost use Rattle.lrc_sample.specs.Prelude.{AreFrequentFirst, AreSeenInOrder, AreLinesShown, SampleShows, TallyOrderStarted};
+ghost use Rattle.lrc_sample.specs.Prelude.{AreFrequentFirst, AreSeenInOrder, AreLinesShown, TallyOrderStarted};
 ghost use Rattle.lrc_sample.specs.Prelude.{TallyCountsRuns, tally_run_of, tally_times_of};
-ghost use Rattle.lrc_script.specs.Prelude.{Plan};
 
 use crate::outcome::SampleOutcome;
 use conformance::Schedule;
@@ -42,8 +41,8 @@ pub fn note(
     schedule: Schedule,
 ) -> Result<(), AllocError>
     requires { sum_by tally_times_of lines.old.items < 2 ^ 64 - 1 }
-    ensures shown { OnOk result ((s : Plan) → AreLinesShown (SampleShows s) lines.old.items
-        → SampleShows s schedule.turns.items outcome → AreLinesShown (SampleShows s) lines.new.items) }
+    ensures shown { OnOk result ((schedules : List (List ℕ)) → AreLinesShown schedules lines.old.items
+        → tally_run_of seed ≡ length schedules → AreLinesShown (schedules ++ schedule.turns.items ∷ []) lines.new.items) }
     ensures tally { OnOk result ((outcomes : List SampleOutcome) → TallyOrderStarted outcomes lines.old.items
         → tally_run_of seed ≡ length outcomes → TallyOrderStarted (outcomes ++ outcome ∷ []) lines.new.items) }
 {
@@ -64,7 +63,8 @@ pub fn sort(lines: &mut Vec<TallyLine>) -> Result<(), AllocError>
     requires { sum_by tally_times_of lines.old.items < 2 ^ 64 }
     ensures tally { (outcomes : List SampleOutcome) → TallyCountsRuns outcomes lines.old.items
         → TallyCountsRuns outcomes lines.new.items }
-    ensures shown { (s : Plan) → AreLinesShown (SampleShows s) lines.old.items → AreLinesShown (SampleShows s) lines.new.items }
+    ensures shown { (schedules : List (List ℕ)) → AreLinesShown schedules lines.old.items
+        → AreLinesShown schedules lines.new.items }
     ensures order { OnOk result (AreSeenInOrder lines.old.items → AreFrequentFirst lines.new.items) }
 {
     lines.sort_by_key(|line| u64::MAX - line.times)

@@ -316,55 +316,63 @@ fn brings<R: Abort + AllocGlobal>(
     Ok(())
 }
 
+/// A lock goes round three processors, one of whom acquires it twice in a row; nobody has released the other lock.
+const LOCK_NEWS: [Row; 10] = [
+    (0, Kind::Release(0)),
+    (1, Kind::Acquire(0)),
+    (1, Kind::Release(0)),
+    (0, Kind::Acquire(0)),
+    (0, Kind::Release(0)),
+    (2, Kind::Acquire(0)),
+    (2, Kind::Release(0)),
+    (1, Kind::Acquire(0)),
+    (1, Kind::Acquire(0)),
+    (0, Kind::Acquire(1)),
+];
+
+/// A flag that two have set, and one that one has.
+const FLAG_NEWS: [Row; 8] = [
+    (0, Kind::Set(3)),
+    (1, Kind::Set(3)),
+    (2, Kind::Await(3)),
+    (2, Kind::Await(3)),
+    (2, Kind::Set(4)),
+    (15, Kind::Await(4)),
+    (15, Kind::Await(3)),
+    (0, Kind::Await(3)),
+];
+
+/// Two episodes of a barrier of three, and a flag between.
+const BARRIER_NEWS: [Row; 10] = [
+    (0, Kind::Arrive),
+    (1, Kind::Arrive),
+    (2, Kind::Arrive),
+    (2, Kind::Depart),
+    (2, Kind::Set(0)),
+    (1, Kind::Await(0)),
+    (1, Kind::Depart),
+    (0, Kind::Depart),
+    (0, Kind::Arrive),
+    (1, Kind::Depart),
+];
+
+/// Histories, with the places that have news, and these.
+const NEWS: [(&[Row], &[(usize, &[usize])]); 3] = [
+    (
+        &LOCK_NEWS,
+        &[(1, &[0]), (3, &[2]), (5, &[0, 2, 4]), (7, &[4, 6])],
+    ),
+    (&FLAG_NEWS, &[(2, &[0, 1]), (5, &[4]), (7, &[1])]),
+    (
+        &BARRIER_NEWS,
+        &[(3, &[0, 1]), (5, &[4]), (7, &[1, 2]), (9, &[8])],
+    ),
+];
+
 /// News come by a lock, by a flag that two have set, and by a barrier of three; what came another way is none.
 #[test]
 fn news(rt: HostRuntime) -> Result<(), Fail> {
-    let by_lock = [
-        (0, Kind::Release(0)),
-        (1, Kind::Acquire(0)),
-        (1, Kind::Release(0)),
-        (0, Kind::Acquire(0)),
-        (0, Kind::Release(0)),
-        (2, Kind::Acquire(0)),
-        (2, Kind::Release(0)),
-        (1, Kind::Acquire(0)),
-        (1, Kind::Acquire(0)),
-        (0, Kind::Acquire(1)),
-    ];
-    let by_flag = [
-        (0, Kind::Set(3)),
-        (1, Kind::Set(3)),
-        (2, Kind::Await(3)),
-        (2, Kind::Await(3)),
-        (2, Kind::Set(4)),
-        (15, Kind::Await(4)),
-        (15, Kind::Await(3)),
-        (0, Kind::Await(3)),
-    ];
-    let by_barrier = [
-        (0, Kind::Arrive),
-        (1, Kind::Arrive),
-        (2, Kind::Arrive),
-        (2, Kind::Depart),
-        (2, Kind::Set(0)),
-        (1, Kind::Await(0)),
-        (1, Kind::Depart),
-        (0, Kind::Depart),
-        (0, Kind::Arrive),
-        (1, Kind::Depart),
-    ];
-    let histories: [(&[Row], &[(usize, &[usize])]); 3] = [
-        (
-            &by_lock,
-            &[(1, &[0]), (3, &[2]), (5, &[0, 2, 4]), (7, &[4, 6])],
-        ),
-        (&by_flag, &[(2, &[0, 1]), (5, &[4]), (7, &[1])]),
-        (
-            &by_barrier,
-            &[(3, &[0, 1]), (5, &[4]), (7, &[1, 2]), (9, &[8])],
-        ),
-    ];
-    for (rows, wants) in histories {
+    for (rows, wants) in NEWS {
         brings(&rt, rows, wants)?;
     }
     Ok(())
@@ -450,78 +458,90 @@ fn waiting<R: Abort + AllocGlobal>(rt: &R, rows: &[Row], wants: &[Want<'_>]) -> 
     Ok(())
 }
 
+/// Two processors hold a lock each, and ask for the other one.
+const DEADLOCK: [Row; 6] = [
+    (0, Kind::Ask(0)),
+    (0, Kind::Acquire(0)),
+    (1, Kind::Ask(1)),
+    (1, Kind::Acquire(1)),
+    (0, Kind::Ask(1)),
+    (1, Kind::Ask(0)),
+];
+
+/// A lock is asked for whose holder is at the barrier.
+const HOLDER_ARRIVED: [Row; 5] = [
+    (0, Kind::Ask(0)),
+    (0, Kind::Acquire(0)),
+    (1, Kind::Ask(0)),
+    (0, Kind::Arrive),
+    (2, Kind::Ask(0)),
+];
+
+/// A flag that is set is watched, and one that nobody sets; one processor has arrived.
+const FLAGS_WATCHED: [Row; 4] = [
+    (0, Kind::Set(1)),
+    (1, Kind::Watch(1)),
+    (2, Kind::Watch(3)),
+    (3, Kind::Arrive),
+];
+
+/// A lock that two have asked for is free.
+const FREE_LOCK: [Row; 5] = [
+    (0, Kind::Ask(0)),
+    (0, Kind::Acquire(0)),
+    (1, Kind::Ask(0)),
+    (2, Kind::Ask(0)),
+    (0, Kind::Release(0)),
+];
+
+/// One of two has arrived again, and the other has not departed.
+const BARRIER_REACHED: [Row; 4] = [
+    (0, Kind::Arrive),
+    (1, Kind::Arrive),
+    (0, Kind::Depart),
+    (0, Kind::Arrive),
+];
+
+/// Histories, with what each processor waits for at the end.
+const STUCK: [(&[Row], &[Want<'static>]); 5] = [
+    (
+        &DEADLOCK,
+        &[Want::Lock(1, Some(1), &[]), Want::Lock(0, Some(0), &[])],
+    ),
+    (
+        &HOLDER_ARRIVED,
+        &[
+            Want::Barrier(&[1, 2]),
+            Want::Lock(0, Some(0), &[]),
+            Want::Lock(0, Some(0), &[1]),
+        ],
+    ),
+    (
+        &FLAGS_WATCHED,
+        &[
+            Want::Nothing,
+            Want::Flag(1, true),
+            Want::Flag(3, false),
+            Want::Barrier(&[0, 1, 2]),
+        ],
+    ),
+    (
+        &FREE_LOCK,
+        &[
+            Want::Nothing,
+            Want::Lock(0, None, &[]),
+            Want::Lock(0, None, &[1]),
+            Want::Nothing,
+        ],
+    ),
+    (&BARRIER_REACHED, &[Want::Barrier(&[1]), Want::Barrier(&[])]),
+];
+
 /// A deadlock of two locks; a lock whose holder is at the barrier; a flag that nobody sets, and one that is set; locks
 /// that are free, or asked for earlier; a barrier that two of three haven't reached, or that all have.
 #[test]
 fn stuck(rt: HostRuntime) -> Result<(), Fail> {
-    let deadlock = [
-        (0, Kind::Ask(0)),
-        (0, Kind::Acquire(0)),
-        (1, Kind::Ask(1)),
-        (1, Kind::Acquire(1)),
-        (0, Kind::Ask(1)),
-        (1, Kind::Ask(0)),
-    ];
-    let holder_arrived = [
-        (0, Kind::Ask(0)),
-        (0, Kind::Acquire(0)),
-        (1, Kind::Ask(0)),
-        (0, Kind::Arrive),
-        (2, Kind::Ask(0)),
-    ];
-    let flags = [
-        (0, Kind::Set(1)),
-        (1, Kind::Watch(1)),
-        (2, Kind::Watch(3)),
-        (3, Kind::Arrive),
-    ];
-    let free = [
-        (0, Kind::Ask(0)),
-        (0, Kind::Acquire(0)),
-        (1, Kind::Ask(0)),
-        (2, Kind::Ask(0)),
-        (0, Kind::Release(0)),
-    ];
-    let arrived = [
-        (0, Kind::Arrive),
-        (1, Kind::Arrive),
-        (0, Kind::Depart),
-        (0, Kind::Arrive),
-    ];
-    let histories: [(&[Row], &[Want<'_>]); 5] = [
-        (
-            &deadlock,
-            &[Want::Lock(1, Some(1), &[]), Want::Lock(0, Some(0), &[])],
-        ),
-        (
-            &holder_arrived,
-            &[
-                Want::Barrier(&[1, 2]),
-                Want::Lock(0, Some(0), &[]),
-                Want::Lock(0, Some(0), &[1]),
-            ],
-        ),
-        (
-            &flags,
-            &[
-                Want::Nothing,
-                Want::Flag(1, true),
-                Want::Flag(3, false),
-                Want::Barrier(&[0, 1, 2]),
-            ],
-        ),
-        (
-            &free,
-            &[
-                Want::Nothing,
-                Want::Lock(0, None, &[]),
-                Want::Lock(0, None, &[1]),
-                Want::Nothing,
-            ],
-        ),
-        (&arrived, &[Want::Barrier(&[1]), Want::Barrier(&[])]),
-    ];
-    for (rows, wants) in histories {
+    for (rows, wants) in STUCK {
         waiting(&rt, rows, wants)?;
     }
     Ok(())
@@ -559,75 +579,83 @@ fn leading<R: Abort + AllocGlobal>(
     Ok(())
 }
 
+/// A lock goes over three processors.
+const LOCK_WAYS: [Row; 8] = [
+    (0, Kind::Store(0, 7)),
+    (0, Kind::Release(0)),
+    (1, Kind::Acquire(0)),
+    (1, Kind::Load(0, 7)),
+    (1, Kind::Release(0)),
+    (0, Kind::Store(1, 1)),
+    (2, Kind::Acquire(0)),
+    (2, Kind::Load(0, 7)),
+];
+
+/// A flag leads on to another, and is awaited itself.
+const FLAG_WAYS: [Row; 7] = [
+    (0, Kind::Set(3)),
+    (1, Kind::Await(3)),
+    (1, Kind::Store(0, 1)),
+    (1, Kind::Set(4)),
+    (2, Kind::Await(4)),
+    (2, Kind::Load(0, 1)),
+    (2, Kind::Await(3)),
+];
+
+/// An episode of a barrier of two, and the next.
+const BARRIER_WAYS: [Row; 9] = [
+    (0, Kind::Store(0, 7)),
+    (0, Kind::Arrive),
+    (1, Kind::Arrive),
+    (1, Kind::Depart),
+    (1, Kind::Load(0, 7)),
+    (0, Kind::Depart),
+    (0, Kind::Arrive),
+    (1, Kind::Arrive),
+    (0, Kind::Depart),
+];
+
+/// Histories, with ways between their events, and events between which there is none.
+const WAYS: [(&[Row], &[WantedWay<'static>]); 3] = [
+    (
+        &LOCK_WAYS,
+        &[
+            (0, 3, Some(&[0, 1, 2, 3])),
+            (0, 7, Some(&[0, 1, 2, 4, 6, 7])),
+            (3, 7, Some(&[3, 4, 6, 7])),
+            (1, 2, Some(&[1, 2])),
+            (0, 5, Some(&[0, 5])),
+            (6, 6, Some(&[6])),
+            (5, 7, None),
+            (2, 5, None),
+            (2, 0, None),
+        ],
+    ),
+    (
+        &FLAG_WAYS,
+        &[
+            (0, 5, Some(&[0, 1, 3, 4, 5])),
+            (0, 6, Some(&[0, 1, 3, 4, 6])),
+            (4, 3, None),
+        ],
+    ),
+    (
+        &BARRIER_WAYS,
+        &[
+            (0, 4, Some(&[0, 1, 3, 4])),
+            (1, 3, Some(&[1, 3])),
+            (2, 8, Some(&[2, 5, 8])),
+            (4, 8, Some(&[4, 7, 8])),
+            (3, 6, None),
+        ],
+    ),
+];
+
 /// A way goes over each processor by the first of its events that is reached, and by the last hand-overs. None leads backwards, or to what was not
 /// heard of.
 #[test]
 fn ways(rt: HostRuntime) -> Result<(), Fail> {
-    let by_lock = [
-        (0, Kind::Store(0, 7)),
-        (0, Kind::Release(0)),
-        (1, Kind::Acquire(0)),
-        (1, Kind::Load(0, 7)),
-        (1, Kind::Release(0)),
-        (0, Kind::Store(1, 1)),
-        (2, Kind::Acquire(0)),
-        (2, Kind::Load(0, 7)),
-    ];
-    let by_flags = [
-        (0, Kind::Set(3)),
-        (1, Kind::Await(3)),
-        (1, Kind::Store(0, 1)),
-        (1, Kind::Set(4)),
-        (2, Kind::Await(4)),
-        (2, Kind::Load(0, 1)),
-        (2, Kind::Await(3)),
-    ];
-    let by_barrier = [
-        (0, Kind::Store(0, 7)),
-        (0, Kind::Arrive),
-        (1, Kind::Arrive),
-        (1, Kind::Depart),
-        (1, Kind::Load(0, 7)),
-        (0, Kind::Depart),
-        (0, Kind::Arrive),
-        (1, Kind::Arrive),
-        (0, Kind::Depart),
-    ];
-    let histories: [(&[Row], &[WantedWay<'_>]); 3] = [
-        (
-            &by_lock,
-            &[
-                (0, 3, Some(&[0, 1, 2, 3])),
-                (0, 7, Some(&[0, 1, 2, 4, 6, 7])),
-                (3, 7, Some(&[3, 4, 6, 7])),
-                (1, 2, Some(&[1, 2])),
-                (0, 5, Some(&[0, 5])),
-                (6, 6, Some(&[6])),
-                (5, 7, None),
-                (2, 5, None),
-                (2, 0, None),
-            ],
-        ),
-        (
-            &by_flags,
-            &[
-                (0, 5, Some(&[0, 1, 3, 4, 5])),
-                (0, 6, Some(&[0, 1, 3, 4, 6])),
-                (4, 3, None),
-            ],
-        ),
-        (
-            &by_barrier,
-            &[
-                (0, 4, Some(&[0, 1, 3, 4])),
-                (1, 3, Some(&[1, 3])),
-                (2, 8, Some(&[2, 5, 8])),
-                (4, 8, Some(&[4, 7, 8])),
-                (3, 6, None),
-            ],
-        ),
-    ];
-    for (rows, wants) in histories {
+    for (rows, wants) in WAYS {
         leading(&rt, rows, wants)?;
     }
     Ok(())
@@ -715,79 +743,91 @@ fn owes<R: Abort + AllocGlobal>(
     Ok(())
 }
 
-/// A fetch of the page, which counts nothing.
-fn fetch(page: usize) -> Kind {
-    Kind::Fetch {
-        writers: 0,
-        page,
-        records: 0,
-        words: 0,
-    }
-}
+/// A fetch of the first page, which counts nothing.
+const FIRST_FETCHED: Kind = Kind::Fetch {
+    writers: 0,
+    page: 0,
+    records: 0,
+    words: 0,
+};
+
+/// The same of the second page.
+const SECOND_FETCHED: Kind = Kind::Fetch {
+    writers: 0,
+    page: 1,
+    records: 0,
+    words: 0,
+};
+
+/// A lock goes over three processors, and then a flag brings the last what the first has stored since.
+const LOCK_RECORDS: [Row; 25] = [
+    (0, Kind::Store(0, 1)),
+    (0, Kind::Store(2, 1)),
+    (0, Kind::Ask(0)),
+    (0, Kind::Acquire(0)),
+    (0, Kind::Store(0, 2)),
+    (0, Kind::Release(0)),
+    (1, Kind::Store(1, 3)),
+    (1, Kind::Store(4, 3)),
+    (1, Kind::Ask(0)),
+    (1, Kind::Acquire(0)),
+    (1, Kind::Release(0)),
+    (2, Kind::Ask(0)),
+    (2, Kind::Acquire(0)),
+    (2, FIRST_FETCHED),
+    (2, Kind::Release(0)),
+    (0, Kind::Store(2, 5)),
+    (0, Kind::Store(0, 5)),
+    (0, Kind::Store(1, 5)),
+    (0, Kind::Set(0)),
+    (2, Kind::Watch(0)),
+    (2, Kind::Await(0)),
+    (2, SECOND_FETCHED),
+    (2, Kind::Ask(0)),
+    (2, Kind::Acquire(0)),
+    (2, SECOND_FETCHED),
+];
+
+/// Two store before the barrier, and one of them again behind its arrival.
+const BARRIER_RECORDS: [Row; 9] = [
+    (0, Kind::Store(0, 1)),
+    (1, Kind::Store(7, 1)),
+    (0, Kind::Arrive),
+    (1, Kind::Arrive),
+    (1, Kind::Store(7, 2)),
+    (2, Kind::Arrive),
+    (0, Kind::Depart),
+    (1, Kind::Depart),
+    (2, Kind::Depart),
+];
+
+/// Histories, with the events that bring records, and these.
+const RECORDS: [(&[Row], &[WantedDues<'static>]); 2] = [
+    (
+        &LOCK_RECORDS,
+        &[
+            (9, &[(0, 0, 2), (1, 0, 1)]),
+            (12, &[(0, 0, 2), (0, 1, 1), (1, 0, 1), (2, 1, 1)]),
+            (13, &[(0, 0, 2), (0, 1, 1)]),
+            (20, &[(0, 0, 1), (1, 0, 1)]),
+            (21, &[(1, 0, 2)]),
+        ],
+    ),
+    (
+        &BARRIER_RECORDS,
+        &[
+            (6, &[(3, 1, 1)]),
+            (7, &[(0, 0, 1)]),
+            (8, &[(0, 0, 1), (3, 1, 1)]),
+        ],
+    ),
+];
 
 /// By a lock and a flag: records of two writers, told of once, of each interval one whatever it stores; a fetch of those that
 /// are due, and of those that came in two parts. By the barrier: others' records, and not one's own.
 #[test]
 fn records(rt: HostRuntime) -> Result<(), Fail> {
-    let by_lock = [
-        (0, Kind::Store(0, 1)),
-        (0, Kind::Store(2, 1)),
-        (0, Kind::Ask(0)),
-        (0, Kind::Acquire(0)),
-        (0, Kind::Store(0, 2)),
-        (0, Kind::Release(0)),
-        (1, Kind::Store(1, 3)),
-        (1, Kind::Store(4, 3)),
-        (1, Kind::Ask(0)),
-        (1, Kind::Acquire(0)),
-        (1, Kind::Release(0)),
-        (2, Kind::Ask(0)),
-        (2, Kind::Acquire(0)),
-        (2, fetch(0)),
-        (2, Kind::Release(0)),
-        (0, Kind::Store(2, 5)),
-        (0, Kind::Store(0, 5)),
-        (0, Kind::Store(1, 5)),
-        (0, Kind::Set(0)),
-        (2, Kind::Watch(0)),
-        (2, Kind::Await(0)),
-        (2, fetch(1)),
-        (2, Kind::Ask(0)),
-        (2, Kind::Acquire(0)),
-        (2, fetch(1)),
-    ];
-    let by_barrier = [
-        (0, Kind::Store(0, 1)),
-        (1, Kind::Store(7, 1)),
-        (0, Kind::Arrive),
-        (1, Kind::Arrive),
-        (1, Kind::Store(7, 2)),
-        (2, Kind::Arrive),
-        (0, Kind::Depart),
-        (1, Kind::Depart),
-        (2, Kind::Depart),
-    ];
-    let histories: [(&[Row], &[WantedDues<'_>]); 2] = [
-        (
-            &by_lock,
-            &[
-                (9, &[(0, 0, 2), (1, 0, 1)]),
-                (12, &[(0, 0, 2), (0, 1, 1), (1, 0, 1), (2, 1, 1)]),
-                (13, &[(0, 0, 2), (0, 1, 1)]),
-                (20, &[(0, 0, 1), (1, 0, 1)]),
-                (21, &[(1, 0, 2)]),
-            ],
-        ),
-        (
-            &by_barrier,
-            &[
-                (6, &[(3, 1, 1)]),
-                (7, &[(0, 0, 1)]),
-                (8, &[(0, 0, 1), (3, 1, 1)]),
-            ],
-        ),
-    ];
-    for (rows, wants) in histories {
+    for (rows, wants) in RECORDS {
         owes(&rt, rows, wants)?;
     }
     Ok(())

@@ -1,17 +1,19 @@
-use Rattle.std.proofs.Common.{sym}
+use Rattle.std.proofs.Common.{◌++◌, ◌∷◌, [], subst}
 use Rattle.lrc_script.specs.Plan.{plan_of}
-use Rattle.conformance.specs.Schedules.{scheduled}
+use Rattle.lrc_sample.specs.Order.{TallyOrderStarted}
+use Rattle.lrc_sample.specs.Samples.{CameBySeed, outcomes_of, schedules_of}
 use Rattle.lrc_sample.specs.Tally.{tally_run_of}
-use Rattle.lrc_sample.proofs.Samples.{sample_made_next}
+use Rattle.lrc_sample.proofs.Samples.{made_many, sample_made_next}
 use Rattle.lrc_sample.proofs.sampling.run_once.Goals as goal
 
 pub returns-in-Ok : goal.returns-in-Ok
 returns-in-Ok g c =
     let s = plan_of c.args.script.now in
+    let came = CameBySeed g.T.Runs.followed g.T.Runs.drawn c.args.lock in
     let made = c.requires.made in
-    let o = c.in_ok-outcome.outcome in
-    let turns = c.in_ok-schedule.field-0.schedule.turns.items in
-    let one = c.in_ok-outcome.ensures (scheduled s turns) c.in_ok-schedule.ensures in
-    sample_made_next s (tally_run_of c.args.seed) o turns c.args.lines.now.items c.note.new.lines.items made one
-    (c.in-Ok.ensures.tally made.outcomes made.noted (sym made.are.many))
-    (c.in-Ok.ensures.shown s made.shown one)
+    let run = c.in_ok-schedule.field-0 in
+    let many = made_many came s (tally_run_of c.args.seed) c.args.lines.now.items made in
+    let noted = c.in-Ok.ensures.tally (outcomes_of s made.runs) made.noted many.0 in
+    sample_made_next came s c.args.seed run c.args.lines.now.items c.note.new.lines.items made c.in_ok-schedule.ensures
+    (subst (λ o. TallyOrderStarted (outcomes_of s made.runs ++ o ∷ []) c.note.new.lines.items) c.in_ok-outcome.ensures noted)
+    (c.in-Ok.ensures.shown (schedules_of made.runs) made.shown many.1)

@@ -1,6 +1,5 @@
 use Rattle.std.proofs.Common.{◌++◌, ◌∷◌, [], subst, sym, arith}
 use Rattle.lrc_sample.specs.Order.{TallyOrderStarted}
-use Rattle.lrc_sample.specs.Samples.{SampleShows}
 use Rattle.lrc_sample.specs.Tally.{AreLinesShown}
 use Rattle.lrc_sample.proofs.TallyLines.{tally_again_at, tally_few_at, tally_new_at, tally_shown_again, tally_shown_new}
 use Rattle.lrc_sample.proofs.tally.note.Goals as goal
@@ -13,9 +12,9 @@ overflow_add-index_mut c =
     omega (arith, few, c.requires)
 
 pub returns-in-Some-clause-shown : goal.returns-in-Some-clause-shown
-returns-in-Some-clause-shown c = λ s shown new.
+returns-in-Some-clause-shown c = λ schedules shown place.
     let found = rw c.deref.ensures.value at c.in-Some.ensures in
-    tally_shown_again (SampleShows s) c.args.lines.now.items c.args.outcome c.in-Some.place _ c.index_mut.result.now
+    tally_shown_again schedules c.args.schedule.turns.items c.args.lines.now.items c.args.outcome c.in-Some.place _ c.index_mut.result.now
     c.index_mut.ensures.value found shown
 
 pub returns-in-Some-clause-tally : goal.returns-in-Some-clause-tally
@@ -25,9 +24,9 @@ returns-in-Some-clause-tally c = λ outcomes is place.
     c.index_mut.ensures.value found is
 
 pub returns-in_ok-push-in-None-clause-shown : goal.returns-in_ok-push-in-None-clause-shown
-returns-in_ok-push-in-None-clause-shown c = λ s shown new.
-    subst (AreLinesShown (SampleShows s)) (sym c.in_ok-push-in-None.ensures.items)
-    (tally_shown_new (SampleShows s) c.args.lines.now.items c.args.outcome c.args.seed c.args.schedule shown new)
+returns-in_ok-push-in-None-clause-shown c = λ schedules shown place.
+    subst (AreLinesShown (schedules ++ c.args.schedule.turns.items ∷ [])) (sym c.in_ok-push-in-None.ensures.items)
+    (tally_shown_new schedules c.args.lines.now.items c.args.outcome c.args.seed c.args.schedule shown place)
 
 pub returns-in_ok-push-in-None-clause-tally : goal.returns-in_ok-push-in-None-clause-tally
 returns-in_ok-push-in-None-clause-tally c = λ outcomes is place.

@@ -1,7 +1,6 @@
 use Rattle.std.proofs.Common.{rules}
 use Rattle.std.proofs.lemmas.List.Sorted.{IsNonDecreasingBy-from_sort_by_key, answers_always}
 use Rattle.std.proofs.lemmas.Result.{on_ok_weaker}
-use Rattle.lrc_sample.specs.Samples.{SampleShows}
 use Rattle.lrc_sample.proofs.OrderingTally.{ordering_frequent_first, ordering_rarity, ordering_shown_moved, ordering_tally_moved}
 use Rattle.lrc_sample.proofs.tally.sort.Goals as goal
 
@@ -10,8 +9,8 @@ returns-clause-tally c = λ outcomes is.
     ordering_tally_moved outcomes c.args.lines.now.items c.sort_by_key.new.self.items c.sort_by_key.ensures.permutation is
 
 pub returns-clause-shown : goal.returns-clause-shown
-returns-clause-shown c = λ s is.
-    ordering_shown_moved (SampleShows s) c.args.lines.now.items c.sort_by_key.new.self.items c.sort_by_key.ensures.permutation is
+returns-clause-shown c = λ schedules is.
+    ordering_shown_moved schedules c.args.lines.now.items c.sort_by_key.new.self.items c.sort_by_key.ensures.permutation is
 
 pub returns-clause-order : goal.returns-clause-order
 returns-clause-order c =
