@@ -3,11 +3,11 @@ pub mod Heard
 pub mod EdgeLeadsOn
 pub mod LookedUpIndex
 pub mod FreshNews
-pub mod Waits
+pub mod StandingWaits
 pub mod HandOvers
 pub mod TakingRows
 pub mod ReachedPaths
-pub mod Dues
+pub mod OwingDues
 pub mod StoreRows
 pub mod Brought
 pub mod OriginSteps

@@ -86,7 +86,7 @@ module _ (s : Plan) (old new : List FlatState) (n : ℕ) (keeps : KeepsFound old
       → y.hang ≡ x.hang → SearchOutcomesNoted s x n → SearchOutcomesNoted s y n
   search_noted_kept x y is_old is_new outcomes hang noted =
       let shows = subst (λ ms. AreSearchOutcomesShown s ms n (map explored_outcome x.outcomes.keys)) is_old noted.shown in
-      let search_hung = subst (λ ms. MatchOption x.hang (NoneSearchedHangs s ms n) (HangsSearched s ms)) is_old noted.hang in
+      let hung = subst (λ ms. MatchOption x.hang (NoneSearchedHangs s ms n) (HangsSearched s ms)) is_old noted.hang in
       record {
         shown =
             subst (λ ms. AreSearchOutcomesShown s ms n (map explored_outcome y.outcomes.keys)) (sym is_new)
@@ -99,7 +99,7 @@ module _ (s : Plan) (old new : List FlatState) (n : ℕ) (keeps : KeepsFound old
             }));
         hang =
             subst (λ ms. MatchOption y.hang (NoneSearchedHangs s ms n) (HangsSearched s ms)) (sym is_new)
-            (subst (λ o. MatchOption o (NoneSearchedHangs s new n) (HangsSearched s new)) (sym hang) (search_hangs_kept x.hang search_hung));
+            (subst (λ o. MatchOption o (NoneSearchedHangs s new n) (HangsSearched s new)) (sym hang) (search_hangs_kept x.hang hung));
       }
 
   search_reduced_kept : (rows : List (Vec ScriptCall)) → IsSearchReduced s rows old n → IsSearchReduced s rows new n

@@ -217,8 +217,8 @@ tally_shown_again schedules turns lines o k d now read found shown a (j, has) =
           let is : counted now ≡ a = slice_get-set_found lines k (counted now) a
           (subst (λ n. slice_get (slice_set lines k (counted now)) n ≡ Some a) here has) in
           let P : TallyLine → Type 0 = λ l. slice_get schedules (tally_run_of l.seed) ≡ Some l.schedule.turns.items in
-          let tally_line_was : P now = subst P same (shown found.0 (k, found.1.0)) in
-          subst P is tally_line_was)
+          let was : P now = subst P same (shown found.0 (k, found.1.0)) in
+          subst P is was)
       | inr there ↦ shown a (j, sym (slice_get-set_other lines k j (counted now) there) ∙ has)
     ])
 

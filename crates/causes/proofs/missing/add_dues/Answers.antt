@@ -5,7 +5,7 @@ use Rattle.judge.specs.Sizes.{sizes_of}
 use Rattle.judge.specs.GapTally.{gap_tally_row_index}
 use Rattle.causes.specs.declared.missing.Due.{Due}
 use Rattle.causes.specs.Dues.{DuesBelow, IsOneOfDues}
-use Rattle.causes.proofs.Dues.{dues_below_next}
+use Rattle.causes.proofs.OwingDues.{dues_below_next}
 use Rattle.causes.proofs.missing.add_dues.Goals as goal
 use Rattle.causes.proofs.missing.add_dues.Goals.{in-Some+in_ok-push, in_default}
 

@@ -14,7 +14,7 @@ use Rattle.judge.specs.Miscounted.{IsMiscountWithin}
 use Rattle.judge.specs.Sizes.{sizes_of}
 use Rattle.causes.specs.declared.missing.Due.{Due}
 use Rattle.causes.specs.Dues.{AreDues}
-use Rattle.causes.proofs.Dues.{dues_quiet}
+use Rattle.causes.proofs.OwingDues.{dues_quiet}
 use Rattle.causes.proofs.missing.dues_at.Goals as goal
 
 -- the event at this place

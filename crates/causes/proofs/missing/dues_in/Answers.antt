@@ -1,7 +1,7 @@
 use Rattle.std.proofs.Common.{◌≡◌, ◌+◌, ◌*◌, subst, arith}
 use Rattle.judge.specs.Sizes.{sizes_of}
 use Rattle.causes.specs.Dues.{DuesBelow}
-use Rattle.causes.proofs.Dues.{dues_below_none}
+use Rattle.causes.proofs.OwingDues.{dues_below_none}
 use Rattle.std.proofs.Common.{refl}
 use Rattle.causes.proofs.missing.dues_in.Goals as goal
 

@@ -6,7 +6,7 @@ use Rattle.judge.specs.Miscounted.{IsMiscountWithin}
 use Rattle.judge.specs.Sizes.{sizes_of}
 use Rattle.causes.specs.declared.missing.Due.{Due}
 use Rattle.causes.specs.Dues.{AreAllDues, AreDues}
-use Rattle.causes.proofs.Dues.{dues_rows_next}
+use Rattle.causes.proofs.OwingDues.{dues_rows_next}
 use Rattle.causes.proofs.missing.dues_of.Goals as goal
 
 pub loop-place-init : goal.loop-place-init

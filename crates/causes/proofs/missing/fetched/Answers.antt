@@ -13,7 +13,7 @@ use Rattle.judge.specs.Sizes.{sizes_of}
 use Rattle.causes.specs.declared.missing.Due.{Due}
 use Rattle.causes.specs.declared.missing.Span.{Span}
 use Rattle.causes.specs.Dues.{DuesBelow, AreDues}
-use Rattle.causes.proofs.Dues.{all_dues_below, due_if_ok, due_in_fetch}
+use Rattle.causes.proofs.OwingDues.{all_dues_below, due_if_ok, due_in_fetch}
 use Rattle.causes.proofs.missing.fetched.Goals as goal
 
 -- the event at this place

@@ -1,6 +1,6 @@
 use Rattle.std.proofs.Common.{◌∙◌}
 use Rattle.judge.specs.Sizes.{sizes_of}
-use Rattle.causes.proofs.Dues.{due_none_between, due_none_counted}
+use Rattle.causes.proofs.OwingDues.{due_none_between, due_none_counted}
 use Rattle.causes.proofs.missing.found.Goals as goal
 use Rattle.causes.proofs.missing.found.Goals.{then-writer-span-via-then-writer-span, then-writer-span-via-else-writer-span+then-span-writer}
 

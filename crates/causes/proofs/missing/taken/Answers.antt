@@ -12,7 +12,7 @@ use Rattle.judge.specs.Sizes.{sizes_of}
 use Rattle.causes.specs.declared.missing.Due.{Due}
 use Rattle.causes.specs.declared.missing.Span.{Span}
 use Rattle.causes.specs.Dues.{DuesBelow, AreDues}
-use Rattle.causes.proofs.Dues.{all_dues_below, due_if_ok, due_in_taken, due_pages_within}
+use Rattle.causes.proofs.OwingDues.{all_dues_below, due_if_ok, due_in_taken, due_pages_within}
 use Rattle.causes.proofs.missing.taken.Goals as goal
 
 pub returns : goal.returns

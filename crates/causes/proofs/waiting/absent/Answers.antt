@@ -3,7 +3,7 @@ use Rattle.std.proofs.lemmas.List.{take_all}
 use Rattle.std.specs.Global.{Vec}
 use Rattle.journal.specs.Events.{count_of, is_depart}
 use Rattle.causes.specs.Waits.{AreThose, WaitsForAbsent}
-use Rattle.causes.proofs.Waits.{cause_waits_those_next, cause_waits_those_others}
+use Rattle.causes.proofs.StandingWaits.{cause_waits_those_next, cause_waits_those_others}
 use Rattle.causes.proofs.waiting.absent.Goals as goal
 use Rattle.causes.proofs.waiting.absent.Goals.{then-arrivals-departed+in_ok-push, else-arrivals-departed}
 

@@ -2,7 +2,7 @@ use Rattle.std.proofs.Common.{ℕ, ◌+◌, subst, sym, refl}
 use Rattle.std.specs.Global.{Vec}
 use Rattle.std.proofs.lemmas.Bool.{false≢true}
 use Rattle.causes.specs.Waits.{AreThose, WaitAsksBefore}
-use Rattle.causes.proofs.Waits.{cause_waits_those_next, cause_waits_those_others}
+use Rattle.causes.proofs.StandingWaits.{cause_waits_those_next, cause_waits_those_others}
 use Rattle.causes.proofs.waiting.earlier.Goals as goal
 use Rattle.causes.proofs.waiting.earlier.Goals.{then-asks_before+in_ok-push, else-asks_before}
 

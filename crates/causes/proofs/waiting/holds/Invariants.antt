@@ -1,5 +1,5 @@
 use Rattle.std.proofs.Common.{◌↔◌, IsTrue}
-use Rattle.causes.proofs.Waits.{WaitHoldsBelow}
+use Rattle.causes.proofs.StandingWaits.{WaitHoldsBelow}
 use Rattle.causes.proofs.waiting.holds.Given as goal
 
 abbrev pub invariant-loop-place : goal.invariant-loop-place

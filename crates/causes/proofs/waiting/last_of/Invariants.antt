@@ -1,4 +1,4 @@
-use Rattle.causes.proofs.Waits.{WaitLastBelow}
+use Rattle.causes.proofs.StandingWaits.{WaitLastBelow}
 use Rattle.causes.proofs.waiting.last_of.Given as goal
 
 abbrev pub invariant-loop-place : goal.invariant-loop-place

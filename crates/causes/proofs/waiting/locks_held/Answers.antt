@@ -3,7 +3,7 @@ use Rattle.std.specs.Global.{Vec}
 use Rattle.std.proofs.lemmas.Bool.{false≢true}
 use Rattle.journal.specs.WellFormed.{Holds}
 use Rattle.causes.specs.Waits.{AreThose}
-use Rattle.causes.proofs.Waits.{cause_waits_those_next, cause_waits_those_others}
+use Rattle.causes.proofs.StandingWaits.{cause_waits_those_next, cause_waits_those_others}
 use Rattle.causes.proofs.waiting.locks_held.Goals as goal
 use Rattle.causes.proofs.waiting.locks_held.Goals.{then-holds+in_ok-push, else-holds}
 

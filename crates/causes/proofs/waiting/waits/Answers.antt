@@ -1,6 +1,6 @@
 use Rattle.std.proofs.Common.{◌≡◌, length, subst, sym, arith}
 use Rattle.causes.specs.Waits.{AreWaits}
-use Rattle.causes.proofs.Waits.{cause_waits_rows_next}
+use Rattle.causes.proofs.StandingWaits.{cause_waits_rows_next}
 use Rattle.causes.proofs.waiting.waits.Goals as goal
 
 pub loop-by-preserved : goal.loop-by-preserved

@@ -67,7 +67,7 @@ last_race_nearest : (s : Plan) (a b : List Event) (x : Event) (i last : ℕ) →
     → ((m : ℕ) → length a < m → m < last → ¬ HappensBefore (a ++ x ∷ b) i m) → ⊥
 last_race_nearest s a b x i last r before reached none =
     r.shorter (a ++ b) (omega (arith, short)) (removed s a b x free r.begins) i low.0
-    (removal_race_left a b x (removed_others_behind a b x last_race_unreached) i low.0
+    (removal_race_left a b x (removed_others_behind a b x unreached) i low.0
     (subst (λ m. Race (a ++ x ∷ b) m (removal_lift (length a) low.0)) (sym (removal_lift_before (length a) i forward))
     (subst (Race (a ++ x ∷ b) i) (sym low.1) r.race)))
   where
@@ -85,7 +85,7 @@ last_race_nearest s a b x i last r before reached none =
         omega arith
 
     unreached : (m : ℕ) → ¬ HappensBefore (a ++ x ∷ b) (length a) m
-    last_race_unreached m h =
+    unreached m h =
         let ahead = before_goes_forward (a ++ x ∷ b) h in
         let within = before_ends_within (a ++ x ∷ b) h in
         let long = r.long in
@@ -108,7 +108,7 @@ last_race_nearest s a b x i last r before reached none =
         ]
 
     free : MayBeRemoved a b x
-    free = removed_without_race a b x last_race_unreached unraced
+    free = removed_without_race a b x unreached unraced
 
 -- what is reached stands in the history
 last_race_reached_at : (j : List Event) {i m : ℕ} → HappensBefore j i m → (f : Event) × At j m f
