@@ -4,7 +4,7 @@ ghost use Rattle.std.specs.Io.KnownBytes.{Appends, Keeps};
 ghost use Rattle.lrc_check.specs.Traces.Prelude.{IsNoTrace};
 ghost use Rattle.judge.specs.Prelude.{AreSizesSmall};
 ghost use Rattle.judge.specs.Prelude.{sizes_of as judged_sizes};
-ghost use Rattle.lrc_check.specs.Traces.Prelude.{IsTrace, bare, trace_sizes_head, sizes_of};
+ghost use Rattle.lrc_check.specs.Traces.Prelude.{IsTrace, bare, trace_sizes_head, trace_sizes_of};
 ghost use Rattle.lrc_script.specs.Prelude.{AreLawfulSizes};
 ghost use Rattle.lrc_check.specs.Prelude.{IsFoundBeforeOutput, IsChecked, IsFoundOf, IsFoundInTrace};
 
@@ -18,9 +18,9 @@ use std::alloc::Global;
 use std::io::Write;
 
 /// The trace's sizes, as they are judged by.
-fn sizes_for(sizes: crate::traces::trace::Sizes) -> judge::Sizes
-    requires { AreLawfulSizes (trace_sizes_head (sizes_of sizes)) }
-    ensures same { judged_sizes result ≡ sizes_of sizes }
+fn sizes_for(sizes: crate::traces::trace::TraceSizes) -> judge::Sizes
+    requires { AreLawfulSizes (trace_sizes_head (trace_sizes_of sizes)) }
+    ensures same { judged_sizes result ≡ trace_sizes_of sizes }
     ensures small { AreSizesSmall (judged_sizes result) }
 {
     judge::Sizes {
@@ -56,8 +56,8 @@ pub fn check_trace<W: Write>(
     rules: Rules,
     out: &mut W,
 ) -> Result<Checked, CheckFault>
-    requires { IsTrace (sizes_of labelled.now.trace.sizes) labelled.now.trace.events.items }
-    ensures found { IfOk result (IsChecked rules (sizes_of labelled.now.trace.sizes) labelled.now.trace.events.items) }
+    requires { IsTrace (trace_sizes_of labelled.now.trace.sizes) labelled.now.trace.events.items }
+    ensures found { IfOk result (IsChecked rules (trace_sizes_of labelled.now.trace.sizes) labelled.now.trace.events.items) }
     ensures refused { IfErr result (λ fault. IsFoundInTrace fault → ⊥) }
     ensures early { IfErr result
         (λ fault. IsFoundBeforeOutput fault → Keeps (W.contents out.old) (W.contents out.new)) }

@@ -1,7 +1,7 @@
 //! The program that judges traces, over its reader and its writers.
 ghost use Rattle.std.specs.Prelude.{◌≡◌, ◌≢◌, ◌⊎◌, ℕ, ◌<◌, ◌≤◌, List, Option, IfErr, IfOk, length, take};
 ghost use Rattle.std.specs.Io.KnownBytes.{Consumes, IsAtEnd, Keeps};
-ghost use Rattle.lrc_check.specs.Traces.Prelude.{IsTrace, sizes_of};
+ghost use Rattle.lrc_check.specs.Traces.Prelude.{IsTrace, trace_sizes_of};
 ghost use Rattle.lrc_check.specs.Prelude.{IsFoundInTrace};
 ghost use Rattle.lrc_commands.specs.Prelude.{HasTraceText, IsStatusBeforeAnswer, IsFaithfulTrace, IsInputsStatus, IsJudgedAs, IsNoTraceOf};
 ghost use Rattle.lrc_commands.specs.Prelude.{IsRacyTrace, IsTraceReadSoFar, IsUnfaithfulTrace, judged_model, judgement_in};
@@ -73,9 +73,9 @@ fn feed(alloc: Global, reading: Reading, piece: &[u8]) -> Reading
 
 /// What was read after the last piece.
 fn finish(reading: Reading) -> Result<LabelledTrace, CheckFault>
-    ensures trace { IfOk result (λ t. IsTrace (sizes_of t.trace.sizes) t.trace.events.items) }
+    ensures trace { IfOk result (λ t. IsTrace (trace_sizes_of t.trace.sizes) t.trace.events.items) }
     ensures text { IfOk result (λ t. (source left : Option (List ℕ)) → IsTraceReadSoFar source left reading
-        → IsAtEnd left → HasTraceText source (sizes_of t.trace.sizes) t.trace.events.items) }
+        → IsAtEnd left → HasTraceText source (trace_sizes_of t.trace.sizes) t.trace.events.items) }
     ensures refused { IfErr result (λ fault. IsFoundInTrace fault → (source left : Option (List ℕ))
         → IsTraceReadSoFar source left reading → IsAtEnd left → IsNoTraceOf source) }
 {
@@ -90,8 +90,8 @@ fn read_pieces<S: Read>(
     piece: &mut [u8],
 ) -> Result<LabelledTrace, StudyFault>
     requires { 0 < length piece.old }
-    ensures trace { IfOk result (λ t. IsTrace (sizes_of t.trace.sizes) t.trace.events.items) }
-    ensures text { IfOk result (λ t. HasTraceText (S.remaining source.old) (sizes_of t.trace.sizes) t.trace.events.items) }
+    ensures trace { IfOk result (λ t. IsTrace (trace_sizes_of t.trace.sizes) t.trace.events.items) }
+    ensures text { IfOk result (λ t. HasTraceText (S.remaining source.old) (trace_sizes_of t.trace.sizes) t.trace.events.items) }
     ensures refused { IfErr result (λ fault. IsInputsStatus fault → IsNoTraceOf (S.remaining source.old)) }
 {
     let mut reading = Ok(Reader::new(alloc));
@@ -116,8 +116,8 @@ fn room(alloc: Global, size: usize) -> Result<Vec<u8>, AllocError>
 
 /// Reads a trace, so that its text is never there as a whole.
 fn read_trace<S: Read>(alloc: Global, source: &mut S) -> Result<LabelledTrace, StudyFault>
-    ensures trace { IfOk result (λ t. IsTrace (sizes_of t.trace.sizes) t.trace.events.items) }
-    ensures text { IfOk result (λ t. HasTraceText (S.remaining source.old) (sizes_of t.trace.sizes) t.trace.events.items) }
+    ensures trace { IfOk result (λ t. IsTrace (trace_sizes_of t.trace.sizes) t.trace.events.items) }
+    ensures text { IfOk result (λ t. HasTraceText (S.remaining source.old) (trace_sizes_of t.trace.sizes) t.trace.events.items) }
     ensures refused { IfErr result (λ fault. IsInputsStatus fault → IsNoTraceOf (S.remaining source.old)) }
 {
     let mut piece = room(alloc, PIECE)?;

@@ -3,7 +3,7 @@ use Rattle.std.specs.Prelude.{ℕ, ◌≡◌, ◌+◌, ◌<◌, ◌≤◌, List,
 use Rattle.journal.specs.declared.event.Event.{Event}
 use Rattle.journal.specs.InRange.{ProcessorsInRange}
 use Rattle.lrc_picture.specs.declared.grid.Grid.{Grid}
-use Rattle.lrc_picture.specs.declared.layout.Layout.{Layout}
+use Rattle.lrc_picture.specs.declared.layout.DiagramLayout.{DiagramLayout}
 use Rattle.lrc_picture.specs.declared.marks.Mark.{Mark}
 use Rattle.lrc_picture.specs.Grid.{x_of, y_of, width_of, height_of}
 use Rattle.lrc_picture.specs.Layout.{IsLayoutOf}
@@ -23,5 +23,5 @@ pub record IsMarkInside (g : Grid) (m : Mark) : Type 0 where
 
 abbrev pub InsideLaw : Type 0
 InsideLaw =
-    (n : ℕ) (j : List Event) (l : Layout) (k : ℕ) (m : Mark) → ProcessorsInRange n j → IsLayoutOf n j l
+    (n : ℕ) (j : List Event) (l : DiagramLayout) (k : ℕ) (m : Mark) → ProcessorsInRange n j → IsLayoutOf n j l
     → slice_get l.marks.items k ≡ Some m → IsMarkInside l.grid m

@@ -6,7 +6,7 @@ use Rattle.journal.specs.declared.event.Event.{Event}
 use Rattle.journal.specs.Events.{At}
 use Rattle.journal.specs.InRange.{ProcessorsInRange}
 use Rattle.lrc_picture.specs.declared.grid.Grid.{Grid}
-use Rattle.lrc_picture.specs.declared.layout.Layout.{Layout}
+use Rattle.lrc_picture.specs.declared.layout.DiagramLayout.{DiagramLayout}
 use Rattle.lrc_picture.specs.Arrows.{ArePlaces}
 use Rattle.lrc_picture.specs.Label.{label_text}
 use Rattle.lrc_picture.specs.Marks.{AreMarks}
@@ -31,7 +31,7 @@ pub record IsGridOf (n : ℕ) (j : List Event) (g : Grid) : Type 0 where
   pub aside : g.side ≢ 0 → HasRoom j g.side
 
 -- such a grid, and a mark for each event
-pub record IsLayoutOf (n : ℕ) (j : List Event) (l : Layout) : Type 0 where
+pub record IsLayoutOf (n : ℕ) (j : List Event) (l : DiagramLayout) : Type 0 where
   pub grid : IsGridOf n j l.grid
   pub marks : AreMarks l.grid j l.marks.items
 

@@ -13,7 +13,7 @@ use std::alloc::{AllocError, Global};
 
 /// What stands where in a picture.
 #[derive(Drop)]
-pub struct Layout {
+pub struct DiagramLayout {
     pub grid: Grid,
     /// A mark for each event, in order.
     pub marks: Vec<Mark>,
@@ -69,7 +69,7 @@ pub fn lay_out(
     processors: usize,
     events: &[Event],
     incoming: &[Vec<usize>],
-) -> Result<Layout, AllocError>
+) -> Result<DiagramLayout, AllocError>
     requires { CanBeDrawn processors events.now incoming.now }
     ensures { IfOk result (IsLayoutOf processors events.now) }
 {
@@ -77,7 +77,7 @@ pub fn lay_out(
     let marks = marks(alloc, grid, events)?;
     let arrows = arrows(alloc, grid, events, incoming)?;
     let bars = bars(alloc, grid, events)?;
-    Ok(Layout {
+    Ok(DiagramLayout {
         grid,
         marks,
         arrows,

@@ -3,7 +3,7 @@
 use crate::arrows::Way;
 use crate::elements::{WordStyle, put_line, put_mark, put_words};
 use crate::grid::Point;
-use crate::layout::Layout;
+use crate::layout::DiagramLayout;
 use crate::marks::MarkShape;
 use crate::story::Story;
 use crate::svg::Svg;
@@ -76,7 +76,7 @@ fn meaning(sign: Sign) -> &'static str {
 }
 
 /// Whether a mark of this shape occurs.
-fn has_mark(layout: &Layout, shape: MarkShape) -> bool {
+fn has_mark(layout: &DiagramLayout, shape: MarkShape) -> bool {
     for mark in &layout.marks {
         if mark.shape == shape {
             return true;
@@ -86,7 +86,7 @@ fn has_mark(layout: &Layout, shape: MarkShape) -> bool {
 }
 
 /// Whether an arrow that looks so occurs.
-fn has_arrow(layout: &Layout, way: Way) -> bool {
+fn has_arrow(layout: &DiagramLayout, way: Way) -> bool {
     for arrow in &layout.arrows {
         if arrow.way == way {
             return true;
@@ -116,7 +116,7 @@ fn has_reads(story: &Story<'_>) -> bool {
 }
 
 /// Whether the sign occurs.
-fn occurs(sign: Sign, layout: &Layout, story: &Story<'_>) -> bool {
+fn occurs(sign: Sign, layout: &DiagramLayout, story: &Story<'_>) -> bool {
     match sign {
         Sign::Store => has_mark(layout, MarkShape::Disc),
         Sign::Load => has_mark(layout, MarkShape::Ring),
@@ -170,7 +170,7 @@ fn put_sign(text: &mut Svg, sign: Sign, y: usize) {
 }
 
 /// How high the legend is.
-pub fn legend_height(layout: &Layout, story: &Story<'_>) -> usize {
+pub fn legend_height(layout: &DiagramLayout, story: &Story<'_>) -> usize {
     let mut height: usize = 0;
     for sign in &SIGNS {
         if occurs(*sign, layout, story) {
@@ -181,7 +181,7 @@ pub fn legend_height(layout: &Layout, story: &Story<'_>) -> usize {
 }
 
 /// Puts the legend below this height: each sign that occurs, and what it means.
-pub fn put_legend(text: &mut Svg, layout: &Layout, story: &Story<'_>, top: usize) {
+pub fn put_legend(text: &mut Svg, layout: &DiagramLayout, story: &Story<'_>, top: usize) {
     let mut y = top;
     text.put("<g class=\"legend\">\n");
     for sign in &SIGNS {

@@ -12,7 +12,7 @@ use crate::elements::{
 use crate::grid::{Grid, Point};
 use crate::head::{put_head, put_title};
 use crate::label::put_label;
-use crate::layout::Layout;
+use crate::layout::DiagramLayout;
 use crate::legend::{legend_height, put_legend};
 use crate::looks::LOOKS;
 use crate::marks::{Mark, MarkShape};
@@ -220,7 +220,7 @@ fn put_events(text: &mut Svg, grid: Grid, story: &Story<'_>, marks: &[Mark])
 }
 
 /// Puts what lies below the marks: the processors' lines, bars and arrows, edges, and the first race.
-fn put_ground(text: &mut Svg, layout: &Layout, story: &Story<'_>)
+fn put_ground(text: &mut Svg, layout: &DiagramLayout, story: &Story<'_>)
     requires layout { IsLayoutOf story.now.processors story.now.events.now layout.now }
     requires race { ArrowInside (length story.now.events.now) story.now.race }
 {
@@ -232,7 +232,7 @@ fn put_ground(text: &mut Svg, layout: &Layout, story: &Story<'_>)
 }
 
 /// Puts what stands on the ground: events, and where the run can't go on who waits.
-fn put_figures(text: &mut Svg, layout: &Layout, story: &Story<'_>)
+fn put_figures(text: &mut Svg, layout: &DiagramLayout, story: &Story<'_>)
     requires drawn { CanBeDrawn story.now.processors story.now.events.now story.now.incoming.now }
     requires layout { IsLayoutOf story.now.processors story.now.events.now layout.now }
 {
@@ -244,7 +244,7 @@ fn put_figures(text: &mut Svg, layout: &Layout, story: &Story<'_>)
 }
 
 /// Below which height the legend stands.
-fn legend_top(layout: &Layout, story: &Story<'_>) -> usize {
+fn legend_top(layout: &DiagramLayout, story: &Story<'_>) -> usize {
     layout
         .grid
         .height()
@@ -252,7 +252,11 @@ fn legend_top(layout: &Layout, story: &Story<'_>) -> usize {
 }
 
 /// The text of the picture of this story. The only error is running out of memory.
-pub fn text_of(alloc: Global, layout: &Layout, story: &Story<'_>) -> Result<String, AllocError>
+pub fn text_of(
+    alloc: Global,
+    layout: &DiagramLayout,
+    story: &Story<'_>,
+) -> Result<String, AllocError>
     requires drawn { CanBeDrawn story.now.processors story.now.events.now story.now.incoming.now }
     requires layout { IsLayoutOf story.now.processors story.now.events.now layout.now }
     requires race { ArrowInside (length story.now.events.now) story.now.race }

@@ -9,7 +9,7 @@ use Rattle.lrc_check.specs.Traces.Begun.{IsTraceBegun, begun_text, trace_line_nu
 use Rattle.lrc_check.specs.Traces.Faults.{IsLastingFault, IsTraceFault}
 use Rattle.lrc_check.specs.Traces.Fed.{BeginsTrace, IsReadOf, StaysFault, TextRead, labels_with, text_with}
 use Rattle.lrc_check.specs.Traces.Labels.{bare, bare_line, by_lines, labels_of}
-use Rattle.lrc_check.specs.Traces.Sizes.{sizes_of}
+use Rattle.lrc_check.specs.Traces.Sizes.{trace_sizes_of}
 use Rattle.lrc_check.proofs.traces.Labelling.{by_lines_last, by_lines_on}
 use Rattle.lrc_check.proofs.traces.Places.{trace_fault_only, trace_first_fault, trace_next_fault}
 
@@ -37,7 +37,7 @@ line_fault f n before bytes line after whole cut lasts was more =
 pub memory_fault : (begun : Option Trace) (line : List ℕ) → IsTraceBegun begun → HasNo 10 line
     → IsLastingFault (begun_text begun ++ (line ++ 10 ∷ [])) (trace_line_number_after begun) NoMemory
 memory_fault None line h clean = trace_first_fault NoMemory line clean tt
-memory_fault (Some t) line h clean = trace_next_fault NoMemory (sizes_of t.sizes) t.events.items line h clean tt
+memory_fault (Some t) line h clean = trace_next_fault NoMemory (trace_sizes_of t.sizes) t.events.items line h clean tt
 
 -- the number and the fault of a line of which a growth was refused
 pub refused_label : (begun : Option Trace) (line : List ℕ) (e : ℕ × TraceFault) → IsTraceBegun begun → HasNo 10 line

@@ -13,7 +13,7 @@ use Rattle.lrc_report.proofs.Lines.{lines_append}
 use Rattle.lrc_check.specs.declared.traces.fault.TraceFault.{TraceFault}
 use Rattle.lrc_check.specs.declared.traces.fault.TraceFault.TheVariants.{Truncated, NoMemory}
 use Rattle.lrc_check.specs.declared.traces.trace.Trace.{Trace}
-use Rattle.lrc_check.specs.Traces.Sizes.{trace_sizes_head, sizes_of}
+use Rattle.lrc_check.specs.Traces.Sizes.{trace_sizes_head, trace_sizes_of}
 use Rattle.lrc_check.specs.Traces.Text.{trace_text_head_line, trace_text}
 use Rattle.lrc_check.specs.Traces.Lawful.{IsNoTrace, IsTrace, IsWithinTrace}
 use Rattle.lrc_check.specs.Traces.Begun.{IsTraceBegun, begun_text, trace_line_number_after}
@@ -200,7 +200,7 @@ pub trace_rest_fault : (begun : Option Trace) (rest : List ℕ) → IsTraceBegun
 trace_rest_fault None rest h clean some = inl (refl, clean)
 trace_rest_fault (Some t) rest h clean some =
     inr (
-      sizes_of t.sizes,
+      trace_sizes_of t.sizes,
       record {
         events = t.events.items;
         rest = rest;

@@ -1,11 +1,11 @@
 -- The sizes of a trace.
 use Rattle.journal.specs.Sizes.{Sizes}
 use Rattle.lrc_script.specs.Plan.{Plan, head_plan}
-use Rattle.lrc_check.specs.declared.traces.trace.Sizes as memory
+use Rattle.lrc_check.specs.declared.traces.trace.TraceSizes as memory
 
 -- the sizes in memory
-abbrev pub sizes_of : memory.Sizes → Sizes
-sizes_of s = record {
+abbrev pub trace_sizes_of : memory.Sizes → Sizes
+trace_sizes_of s = record {
   processors = s.processors;
   pages = s.pages;
   words = s.words;

@@ -3,25 +3,25 @@ ghost use Rattle.std.specs.Prelude.{◌≡◌, ℕ, List, [], ◌∷◌, ◌++�
 ghost use Rattle.lrc_script.specs.Prelude.{HasNoLineFeed};
 ghost use Rattle.lrc_check.specs.declared.traces.fault.TraceFault.TheVariants.{NoMemory, Truncated};
 ghost use Rattle.lrc_check.specs.Traces.Prelude.{TraceHasNoSizes, TraceLineHasSizes, IsTraceBegun, IsTraceFault, IsLastingFault, IsNoOtherTrace};
-ghost use Rattle.lrc_check.specs.Traces.Prelude.{IsNoTrace, IsTrace, bare, begun_text, labels_of, trace_line_number_after, sizes_of, trace_text};
+ghost use Rattle.lrc_check.specs.Traces.Prelude.{IsNoTrace, IsTrace, bare, begun_text, labels_of, trace_line_number_after, trace_sizes_of, trace_text};
 
 use crate::traces::fault::TraceFault;
 use crate::traces::labels::{Labels, split_label};
 use crate::traces::line::add;
-use crate::traces::trace::{Sizes, Trace};
+use crate::traces::trace::{Trace, TraceSizes};
 use lrc_script::line::split_line;
 use lrc_script::script::read_sizes;
 use std::alloc::Global;
 
 /// The trace without an event that begins with this line.
 fn begin(alloc: Global, line: &[u8]) -> Result<Trace, TraceFault>
-    ensures sizes { IfOk result (λ t. TraceLineHasSizes line.now (sizes_of t.sizes)) }
+    ensures sizes { IfOk result (λ t. TraceLineHasSizes line.now (trace_sizes_of t.sizes)) }
     ensures empty { IfOk result (λ t. t.events.items ≡ []) }
     ensures fault { IfErr result (λ e. TraceHasNoSizes e line.now) }
 {
     match read_sizes(alloc, line) {
         Ok(script) => Ok(Trace {
-            sizes: Sizes {
+            sizes: TraceSizes {
                 processors: script.processors,
                 pages: script.pages,
                 words: script.words,
@@ -126,9 +126,9 @@ pub fn end(begun: Option<Trace>, rest: &[u8]) -> Result<Trace, (usize, TraceFaul
     requires begun { IsTraceBegun begun }
     requires rest { HasNoLineFeed rest.now }
     ensures whole { IfOk result (λ _. rest.now ≡ []) }
-    ensures found { IfOk result (λ t. IsTrace (sizes_of t.sizes) t.events.items
-        × (begun_text begun ++ rest.now ≡ trace_text (sizes_of t.sizes) t.events.items)) }
-    ensures again { IfOk result (λ t. IsNoOtherTrace (begun_text begun ++ rest.now) (sizes_of t.sizes) t.events.items) }
+    ensures found { IfOk result (λ t. IsTrace (trace_sizes_of t.sizes) t.events.items
+        × (begun_text begun ++ rest.now ≡ trace_text (trace_sizes_of t.sizes) t.events.items)) }
+    ensures again { IfOk result (λ t. IsNoOtherTrace (begun_text begun ++ rest.now) (trace_sizes_of t.sizes) t.events.items) }
     ensures only { IfErr result (λ _. IsNoTrace (begun_text begun ++ rest.now)) }
     ensures truncated { IfErr result (λ e. e.1 ≡ Truncated) }
     ensures fault { IfErr result (λ e. IsTraceFault (begun_text begun ++ rest.now) e.0 e.1) }

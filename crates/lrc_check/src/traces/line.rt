@@ -2,12 +2,12 @@
 ghost use Rattle.std.specs.Prelude.{◌≡◌, IsTrue, ◌↔◌, [], ◌∷◌, IfOk, IfErr, IfSome, OnOk, MatchOption};
 ghost use Rattle.lrc_script.specs.Prelude.{AreLawfulSizes, parts_left_of_line};
 ghost use Rattle.lrc_check.specs.Traces.Prelude.{TraceLineGivesKind, HasNoTraceLineShape, TraceLineRead, IsCutLine, IsEventLine, IsNoTraceEvent, IsTraceLineShaped};
-ghost use Rattle.lrc_check.specs.Traces.Prelude.{TraceRefuses, trace_sizes_head, sizes_of};
+ghost use Rattle.lrc_check.specs.Traces.Prelude.{TraceRefuses, trace_sizes_head, trace_sizes_of};
 
 use crate::traces::fault::TraceFault;
 use crate::traces::names::EventName;
 use crate::traces::range::event_fault;
-use crate::traces::trace::Sizes;
+use crate::traces::trace::TraceSizes;
 use journal::{Event, Kind};
 use lrc_script::line::{
     few_numbers, is_separated, number, number_count, read_numbers, split_at_byte,
@@ -153,13 +153,13 @@ fn is_cut(line: &[u8]) -> bool
 /// Adds the event of a line to those before it.
 pub fn add(
     alloc: Global,
-    sizes: &Sizes,
+    sizes: &TraceSizes,
     events: &mut Vec<Event>,
     line: &[u8],
 ) -> Result<(), TraceFault>
-    requires { AreLawfulSizes (trace_sizes_head (sizes_of sizes.now)) }
-    ensures found { OnOk result (TraceLineRead (sizes_of sizes.now) events.old.items line.now events.new.items) }
-    ensures fault { IfErr result (λ e. TraceRefuses e (sizes_of sizes.now) events.old.items line.now) }
+    requires { AreLawfulSizes (trace_sizes_head (trace_sizes_of sizes.now)) }
+    ensures found { OnOk result (TraceLineRead (trace_sizes_of sizes.now) events.old.items line.now events.new.items) }
+    ensures fault { IfErr result (λ e. TraceRefuses e (trace_sizes_of sizes.now) events.old.items line.now) }
 {
     if events.is_empty() && is_cut(line) {
         return Err(TraceFault::Cut);

@@ -1,18 +1,18 @@
 //! Whether an event is within a cluster's sizes, and stands where its number says.
 ghost use Rattle.std.specs.Prelude.{IfSome, IfNone};
-ghost use Rattle.lrc_check.specs.Traces.Prelude.{TraceEventSays, IsDueOnTraceLine, IsTraceFaultPast, trace_sizes_head, sizes_of};
+ghost use Rattle.lrc_check.specs.Traces.Prelude.{TraceEventSays, IsDueOnTraceLine, IsTraceFaultPast, trace_sizes_head, trace_sizes_of};
 ghost use Rattle.journal.specs.WellFormed.{KindInRange};
 ghost use Rattle.lrc_script.specs.Prelude.{AreLawfulSizes};
 
 use crate::traces::fault::TraceFault;
-use crate::traces::trace::Sizes;
+use crate::traces::trace::TraceSizes;
 use journal::{Event, Kind, MOST_HELD};
 
 /// The fault of a kind that names an address, a page, a lock or a flag past the sizes.
-fn kind_fault(sizes: &Sizes, kind: Kind) -> Option<TraceFault>
-    requires { AreLawfulSizes (trace_sizes_head (sizes_of sizes.now)) }
-    ensures none { IfNone result (KindInRange (sizes_of sizes.now) kind) }
-    ensures some { IfSome result (λ f. IsTraceFaultPast f (sizes_of sizes.now) kind) }
+fn kind_fault(sizes: &TraceSizes, kind: Kind) -> Option<TraceFault>
+    requires { AreLawfulSizes (trace_sizes_head (trace_sizes_of sizes.now)) }
+    ensures none { IfNone result (KindInRange (trace_sizes_of sizes.now) kind) }
+    ensures some { IfSome result (λ f. IsTraceFaultPast f (trace_sizes_of sizes.now) kind) }
 {
     match kind {
         Kind::Load(address, _) | Kind::Store(address, _) => {
@@ -30,10 +30,15 @@ fn kind_fault(sizes: &Sizes, kind: Kind) -> Option<TraceFault>
 }
 
 /// Why the event of a line that gives this place can't stand behind `count` others.
-pub fn event_fault(sizes: &Sizes, count: usize, place: usize, event: &Event) -> Option<TraceFault>
-    requires { AreLawfulSizes (trace_sizes_head (sizes_of sizes.now)) }
-    ensures none { IfNone result (IsDueOnTraceLine (sizes_of sizes.now) count place event.now) }
-    ensures some { IfSome result (λ f. TraceEventSays f (sizes_of sizes.now) count place event.now) }
+pub fn event_fault(
+    sizes: &TraceSizes,
+    count: usize,
+    place: usize,
+    event: &Event,
+) -> Option<TraceFault>
+    requires { AreLawfulSizes (trace_sizes_head (trace_sizes_of sizes.now)) }
+    ensures none { IfNone result (IsDueOnTraceLine (trace_sizes_of sizes.now) count place event.now) }
+    ensures some { IfSome result (λ f. TraceEventSays f (trace_sizes_of sizes.now) count place event.now) }
 {
     if place != count {
         Some(TraceFault::BadPlace)

@@ -3,7 +3,7 @@ ghost use Rattle.std.specs.Prelude.{◌≡◌, ◌≢◌, ℕ, List, [], ◌++�
 ghost use Rattle.lrc_script.specs.Prelude.{HasNoLineFeed};
 ghost use Rattle.lrc_check.specs.declared.traces.fault.TraceFault.TheVariants.{NoMemory, Truncated};
 ghost use Rattle.lrc_check.specs.Traces.Prelude.{BeginsTrace, IsNoOtherTrace, IsNoTrace, IsReadOf, IsTrace, IsTraceBegun, IsTraceFault};
-ghost use Rattle.lrc_check.specs.Traces.Prelude.{StaysFault, bare, begun_text, labels_of, sizes_of, trace_text};
+ghost use Rattle.lrc_check.specs.Traces.Prelude.{StaysFault, bare, begun_text, labels_of, trace_sizes_of, trace_text};
 
 use crate::traces::begun::{end, next_number, read_lines};
 use crate::traces::fault::TraceFault;
@@ -127,11 +127,11 @@ impl Reader {
     ///
     /// `Truncated` alone, with the number of the line that has to be there or to end.
     pub fn finish(self) -> Result<LabelledTrace, (usize, TraceFault)>
-        ensures found { IfOk result (λ t. IsTrace (sizes_of t.trace.sizes) t.trace.events.items
+        ensures found { IfOk result (λ t. IsTrace (trace_sizes_of t.trace.sizes) t.trace.events.items
             × ((bytes : List ℕ) → IsReadOf bytes self
-            → bare bytes ≡ trace_text (sizes_of t.trace.sizes) t.trace.events.items)) }
+            → bare bytes ≡ trace_text (trace_sizes_of t.trace.sizes) t.trace.events.items)) }
         ensures again { IfOk result (λ t. (bytes : List ℕ) → IsReadOf bytes self
-            → IsNoOtherTrace (bare bytes) (sizes_of t.trace.sizes) t.trace.events.items) }
+            → IsNoOtherTrace (bare bytes) (trace_sizes_of t.trace.sizes) t.trace.events.items) }
         ensures labels { IfOk result (λ t. (bytes : List ℕ) → IsReadOf bytes self → t.labels ≡ labels_of bytes) }
         ensures only { IfErr result (λ _. (bytes : List ℕ) → IsReadOf bytes self → IsNoTrace (bare bytes)) }
         ensures truncated { IfErr result (λ e. e.1 ≡ Truncated) }

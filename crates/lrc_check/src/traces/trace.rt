@@ -1,7 +1,7 @@
 //! A trace: the sizes of a cluster, and its events in order.
 ghost use Rattle.std.specs.Prelude.{◌≡◌, ◌≢◌, IfOk, IfErr};
 ghost use Rattle.lrc_check.specs.declared.traces.fault.TraceFault.TheVariants.{NoMemory};
-ghost use Rattle.lrc_check.specs.Traces.Prelude.{IsTraceFault, IsNoOtherTrace, IsNoTrace, IsTrace, bare, labels_of, sizes_of, trace_text};
+ghost use Rattle.lrc_check.specs.Traces.Prelude.{IsTraceFault, IsNoOtherTrace, IsNoTrace, IsTrace, bare, labels_of, trace_sizes_of, trace_text};
 
 use crate::traces::begun::{end, read_lines};
 use crate::traces::fault::TraceFault;
@@ -12,7 +12,7 @@ use std::alloc::Global;
 /// The sizes of a cluster of `processors` processors that share `pages` pages of `words` words, `locks` locks and
 /// `flags` flags.
 #[derive(Clone, Copy, Debug, PartialEq, Eq)]
-pub struct Sizes {
+pub struct TraceSizes {
     pub processors: usize,
     pub pages: usize,
     pub words: usize,
@@ -23,7 +23,7 @@ pub struct Sizes {
 /// What happened in a cluster, as somebody tells it: its sizes, and its events in order.
 #[derive(Debug, PartialEq, Eq, Drop)]
 pub struct Trace {
-    pub sizes: Sizes,
+    pub sizes: TraceSizes,
     pub events: Vec<Event>,
 }
 
@@ -44,10 +44,10 @@ pub struct LabelledTrace {
 /// `NoMemory` comes where a growth was refused while that line was read.
 pub fn read(alloc: Global, bytes: &[u8]) -> Result<LabelledTrace, (usize, TraceFault)>
     // What is read is a trace, and the bytes are its text.
-    ensures found { IfOk result (λ t. IsTrace (sizes_of t.trace.sizes) t.trace.events.items
-        × (bare bytes.now ≡ trace_text (sizes_of t.trace.sizes) t.trace.events.items)) }
+    ensures found { IfOk result (λ t. IsTrace (trace_sizes_of t.trace.sizes) t.trace.events.items
+        × (bare bytes.now ≡ trace_text (trace_sizes_of t.trace.sizes) t.trace.events.items)) }
     // It is the one trace with this text.
-    ensures again { IfOk result (λ t. IsNoOtherTrace (bare bytes.now) (sizes_of t.trace.sizes) t.trace.events.items) }
+    ensures again { IfOk result (λ t. IsNoOtherTrace (bare bytes.now) (trace_sizes_of t.trace.sizes) t.trace.events.items) }
     // Each label is that of its line.
     ensures labels { IfOk result (λ t. t.labels ≡ labels_of bytes.now) }
     // No trace is refused, unless memory runs out.

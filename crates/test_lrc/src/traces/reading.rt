@@ -6,7 +6,7 @@ use super::bytes_of;
 use super::pieces::{CUTS, Cut, read_cut};
 use journal::{Event, Journal, Kind, MOST_HELD, MOST_PROCESSORS};
 use lrc_check::traces::fault::TraceFault;
-use lrc_check::traces::trace::{Sizes, read};
+use lrc_check::traces::trace::{TraceSizes, read};
 use lrc_report::Report;
 use lrc_report::render::render;
 use std::alloc::Global;
@@ -58,10 +58,10 @@ const LARGEST: [(usize, Kind); 14] = [
 ];
 
 /// Journals: the line of their sizes, these, how many addresses there are, and their events.
-const JOURNALS: [(&str, Sizes, usize, &[(usize, Kind)]); 3] = [
+const JOURNALS: [(&str, TraceSizes, usize, &[(usize, Kind)]); 3] = [
     (
         "cluster 1 1 1 0/",
-        Sizes {
+        TraceSizes {
             processors: 1,
             pages: 1,
             words: 1,
@@ -73,7 +73,7 @@ const JOURNALS: [(&str, Sizes, usize, &[(usize, Kind)]); 3] = [
     ),
     (
         "cluster 2 1 2 0 1/",
-        Sizes {
+        TraceSizes {
             processors: 2,
             pages: 1,
             words: 2,
@@ -85,7 +85,7 @@ const JOURNALS: [(&str, Sizes, usize, &[(usize, Kind)]); 3] = [
     ),
     (
         "cluster 16 64 64 32 32/",
-        Sizes {
+        TraceSizes {
             processors: 16,
             pages: 64,
             words: 64,
@@ -174,7 +174,7 @@ fn check<R: Abort>(
     rt: &R,
     alloc: Global,
     head: &str,
-    sizes: Sizes,
+    sizes: TraceSizes,
     journal: &Journal,
 ) -> Result<(), Fail> {
     let bytes = printed(alloc, head, journal)?;

@@ -6,7 +6,7 @@ use Rattle.lrc_check.specs.declared.traces.fault.TraceFault.TheVariants.{Truncat
 use Rattle.lrc_check.specs.declared.traces.trace.Trace.{Trace}
 use Rattle.lrc_check.specs.Traces.Begun.{IsTraceBegun, begun_text}
 use Rattle.lrc_check.specs.Traces.Lawful.{IsNoOtherTrace}
-use Rattle.lrc_check.specs.Traces.Sizes.{sizes_of}
+use Rattle.lrc_check.specs.Traces.Sizes.{trace_sizes_of}
 use Rattle.lrc_check.specs.Traces.Text.{trace_text}
 use Rattle.lrc_check.proofs.traces.Places.{trace_fault_only, trace_rest_fault}
 use Rattle.lrc_check.proofs.traces.Texts.{no_other_trace_text}
@@ -14,11 +14,11 @@ use Rattle.lrc_check.proofs.traces.begun.end.Goals as goal
 
 -- the trace that the lines are is the only one with their text
 alone : (begun : Option Trace) (rest : List ℕ) (e : ℕ × TraceFault) → IsTraceBegun begun → length rest ≡ 0
-    → IfOk (ok_or begun e) (λ t. IsNoOtherTrace (begun_text begun ++ rest) (sizes_of t.sizes) t.events.items)
+    → IfOk (ok_or begun e) (λ t. IsNoOtherTrace (begun_text begun ++ rest) (trace_sizes_of t.sizes) t.events.items)
 alone None rest e h none = tt
 alone (Some t) [] e h none =
-    let whole = trace_text (sizes_of t.sizes) t.events.items in
-    no_other_trace_text (sizes_of t.sizes) t.events.items (whole ++ []) h (append-nil whole)
+    let whole = trace_text (trace_sizes_of t.sizes) t.events.items in
+    no_other_trace_text (trace_sizes_of t.sizes) t.events.items (whole ++ []) h (append-nil whole)
 alone (Some t) (b ∷ rest) e h none = absurd (omega arith)
 
 pub returns-then-is_empty-clause-again : goal.returns-then-is_empty-clause-again

@@ -1,5 +1,5 @@
 use Rattle.std.proofs.Common.{◌≡◌, length, arith}
-use Rattle.lrc_check.specs.Traces.Sizes.{sizes_of}
+use Rattle.lrc_check.specs.Traces.Sizes.{trace_sizes_of}
 use Rattle.lrc_check.proofs.traces.Places.{trace_added_text, added_trace, trace_first_fault, trace_next_fault}
 use Rattle.lrc_check.proofs.traces.begun.read_line.Goals as goal
 
@@ -14,13 +14,13 @@ returns-in-Ok-add-clause-begun c =
 
 pub returns-in-Ok-add-clause-text : goal.returns-in-Ok-add-clause-text
 returns-in-Ok-add-clause-text c =
-    rw c.in-Some.is (trace_added_text (sizes_of c.in-Some.trace.sizes) c.in-Some.trace.events.items c.add.new.events.items
+    rw c.in-Some.is (trace_added_text (trace_sizes_of c.in-Some.trace.sizes) c.in-Some.trace.events.items c.add.new.events.items
     c.args.line.now c.in-Ok-add.ensures.found)
 
 pub returns-in-Err-add-clause-fault : goal.returns-in-Err-add-clause-fault
 returns-in-Err-add-clause-fault c =
     let count : c.len-number.result ≡ length c.in-Some.trace.events.items =
     omega (arith, c.len-number.ensures, c.in-Some.trace.events.ok.0) in
-    rw (c.in-Some.is, count) (trace_next_fault c.in-Err-add.fault (sizes_of c.in-Some.trace.sizes)
+    rw (c.in-Some.is, count) (trace_next_fault c.in-Err-add.fault (trace_sizes_of c.in-Some.trace.sizes)
     c.in-Some.trace.events.items c.args.line.now (rw c.in-Some.is at c.requires.begun) c.requires.one_line
     c.in-Err-add.ensures.fault)

@@ -3,7 +3,7 @@ use Rattle.std.proofs.lemmas.Result.{err_from_is_err_and}
 use Rattle.lrc_check.specs.Traces.Begun.{begun_text}
 use Rattle.lrc_check.specs.Traces.Fed.{IsReadOf}
 use Rattle.lrc_check.specs.Traces.Lawful.{IsNoOtherTrace, IsNoTrace}
-use Rattle.lrc_check.specs.Traces.Sizes.{sizes_of}
+use Rattle.lrc_check.specs.Traces.Sizes.{trace_sizes_of}
 use Rattle.lrc_check.proofs.traces.Feeding.{fault_same, labels_whole, text_whole}
 use Rattle.lrc_check.proofs.traces.Labelling.{bare_line_none}
 use Rattle.lrc_check.proofs.traces.reader.Reader.finish.Goals as goal
@@ -48,7 +48,7 @@ pub returns-clause-again : goal.returns-clause-again
 returns-clause-again c = λ bytes h.
     let lines = begun_text c.self.inside.begun in
     let left = rw c.deref.ensures.value at c.split_label.ensures.bare in
-    subst (λ (x : List ℕ). IsNoOtherTrace x (sizes_of c.in_ok-trace.trace.sizes) c.in_ok-trace.trace.events.items)
+    subst (λ (x : List ℕ). IsNoOtherTrace x (trace_sizes_of c.in_ok-trace.trace.sizes) c.in_ok-trace.trace.events.items)
     (ap (λ (x : List ℕ). lines ++ x) left
     ∙ text_whole lines c.self.inside.unfinished.items bytes c.self.invariant.1
     ((subst (IsReadOf bytes) (sym c.self.view_is) h).text []))
