@@ -31,7 +31,7 @@ def faults_of_use(files, scopes, use):
         return
     if not parts or parts[0] in ("declared", "contracts"):
         yield from faults_of_declared(files, crate, parts[1:], use)
-    elif parts[-1] in GOALS:
+    elif folder == "proofs" and parts[-1] in GOALS:
         if not is_function(files, crate, parts[:-1]):
             yield f"no function {use.path}"
     elif use.alias and not use.names:
@@ -62,7 +62,7 @@ def faults_of_declared(files, crate, parts, use):
     for at in range(len(names), -1, -1):
         text = module_file(files, crate, names[:at])
         if text is not None:
-            types = {it.name for it in rattle.items(text) if it.kind != "fn"}
+            types = {it.name for it in rattle.items(text) if it.kind != "fn"} | set(re.findall(r"\bconst (\w+):", text))
             wanted = names[at:at + 1] or [name for name, _ in use.names[:1]]
             if wanted and wanted[0] not in types:
                 yield f"no type {wanted[0]} in {use.path}"
