@@ -1,10 +1,10 @@
 -- The sizes of a trace.
 use Rattle.journal.specs.Sizes.{Sizes}
 use Rattle.lrc_script.specs.Plan.{Plan, head_plan}
-use Rattle.lrc_check.specs.declared.traces.trace.TraceSizes as memory
+use Rattle.lrc_check.specs.declared.traces.trace.TraceSizes.{TraceSizes}
 
 -- the sizes in memory
-abbrev pub trace_sizes_of : memory.Sizes → Sizes
+abbrev pub trace_sizes_of : TraceSizes → Sizes
 trace_sizes_of s = record {
   processors = s.processors;
   pages = s.pages;
