@@ -1,5 +1,6 @@
 """The sweep of texts: those of drawn scripts, with one byte, word or line of them edited."""
 import random
+import re
 from functools import partial
 
 import checks
@@ -24,11 +25,35 @@ def check_read(text, answer):
     checks.check_report(script, report, checks.inferred_base(script, report))
 
 
+def shown(line):
+    """A line as it is shown: an ASCII sign as itself, any other byte as a question mark."""
+    return "".join(chr(byte) if 32 <= byte <= 126 else "?" for byte in line)
+
+
+def check_hint(text, place, errors):
+    """Behind a script's fault stand its place, its line, and a caret under one of that line's bytes."""
+    lines = errors.splitlines()
+    expect(all(it.startswith("  ") for it in lines), f"each line behind a fault is indented, where these are {lines}")
+    line, at = text.split(b"\n")[place - 1], re.fullmatch("  standard input:([0-9]+):([0-9]+)", lines[0])
+    expect(at and int(at[1]) == place, f"line {place} is named, where {lines[0]!r} stands")
+    byte = int(at[2]) - 1
+    expect(byte <= len(line), f"a byte of the line is named, where {byte} stands")
+    if not line:
+        return
+    start, end, dots = (0, 72, "") if byte < 60 else (byte - 40, byte + 32, "..")
+    wanted = ["  " + dots + shown(line[start:end]) + (".." if len(line) > end else ""),
+              "  " + " " * (len(dots) + byte - start) + "^"]
+    expect(lines[1:3] == wanted, f"{wanted} are shown, where {lines[1:3]} stand")
+
+
 def check_text(text, finding, answer):
     """The program answers what the slow reader finds. A script that is read may be stuck."""
     if finding is not None:
         wanted = Answer(2, "", "lrc: line {}: {}\n".format(*finding))
-        expect(answer == wanted, f"the program answers {wanted.errors.strip()!r}, where it answers {answer}")
+        first, _, hint = answer.errors.partition("\n")
+        told = answer._replace(errors=first + "\n")
+        expect(told == wanted, f"the program answers {wanted.errors.strip()!r}, where it answers {answer}")
+        check_hint(text, finding[0], hint)
     elif answer.status == 3:
         is_stuck = not answer.output and answer.errors.endswith(": no progress\n")
         expect(is_stuck, f"the program reads the text, where it answers {answer}")

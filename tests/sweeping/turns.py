@@ -73,11 +73,12 @@ def later_line(answer):
 
 def other_fault(answer):
     """The next fault of the list."""
-    head, _, fault = answer.errors.strip().rpartition(": ")
+    first, _, hint = answer.errors.partition("\n")
+    head, _, fault = first.rpartition(": ")
     if answer.status != 2:
         return None
     after = grammar.FAULTS[(grammar.FAULTS.index(fault) + 1) % len(grammar.FAULTS)]
-    return answer._replace(errors=f"{head}: {after}\n")
+    return answer._replace(errors=f"{head}: {after}\n{hint}")
 
 
 REFUSED = instead(2, "", "lrc: line 1: line not understood\n")

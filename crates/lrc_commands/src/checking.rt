@@ -207,6 +207,6 @@ pub fn check_program<S: Read, W: Write, E: Write>(
         Ok(Judgement::Faithful) => 0,
         Ok(Judgement::Unfaithful) => UNFAITHFUL,
         Ok(Judgement::Racy) => RACY,
-        Err(fault) => fault.say(alloc, options.file.as_deref(), err),
+        Err(fault) => fault.say(alloc, options.file.as_deref(), &[], err),
     }
 }

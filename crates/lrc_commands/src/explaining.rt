@@ -108,6 +108,7 @@ fn explain_script<T: Runs, R: Wait, S: Read, W: Write>(
     alloc: Global,
     options: &ExplainOptions,
     source: &mut S,
+    refused: &mut Vec<u8>,
     out: &mut W,
 ) -> Result<Option<String>, StudyFault>
     ensures explained { IfOk result (λ line. IsExplained options.now.picture (is_some line)
@@ -116,7 +117,7 @@ fn explain_script<T: Runs, R: Wait, S: Read, W: Write>(
     ensures early { IfErr result
         (λ fault. IsStatusBeforeAnswer fault → Keeps (W.contents out.old) (W.contents out.new)) }
 {
-    let script = read_script(alloc, source)?;
+    let script = read_script(alloc, source, refused)?;
     print_run(runs, rt, alloc, options, &script, out)
 }
 
@@ -148,9 +149,12 @@ pub fn explain_program<T: Runs, R: Wait, S: Read, W: Write, E: Write>(
     // Of a run that ended, no line goes to the error output.
     ensures quiet { result ≡ 0 → Keeps (E.contents err.old) (E.contents err.new) }
 {
-    match explain_script(runs, rt, alloc, options, source, out) {
+    let mut refused = Vec::new(alloc);
+    match explain_script(runs, rt, alloc, options, source, &mut refused, out) {
         Ok(None) => 0,
         Ok(Some(line)) => say_line(Ok(line), HALTED, err),
-        Err(fault) => fault.of_told().say(alloc, options.file.as_deref(), err),
+        Err(fault) => fault
+            .of_told()
+            .say(alloc, options.file.as_deref(), &refused, err),
     }
 }

@@ -42,6 +42,7 @@ fn explore_script<S: Read, W: Write, P: Progress>(
     alloc: Global,
     options: &ExploreOptions,
     source: &mut S,
+    refused: &mut Vec<u8>,
     out: &mut W,
     progress: &mut P,
 ) -> Result<bool, StudyFault>
@@ -51,7 +52,7 @@ fn explore_script<S: Read, W: Write, P: Progress>(
     ensures early { IfErr result
         (λ fault. IsStatusBeforeAnswer fault → Keeps (W.contents out.old) (W.contents out.new)) }
 {
-    let script = read_script(alloc, source)?;
+    let script = read_script(alloc, source, refused)?;
     print_search(alloc, options, &script, out, progress)
 }
 
@@ -80,9 +81,10 @@ pub fn explore_program<S: Read, W: Write, E: Write, P: Progress>(
     ensures quiet { result ≡ 0 → Keeps (E.contents err.old) (E.contents err.new) }
     ensures quiet_too { result ≡ 7 → Keeps (E.contents err.old) (E.contents err.new) }
 {
-    match explore_script(alloc, options, source, out, progress) {
+    let mut refused = Vec::new(alloc);
+    match explore_script(alloc, options, source, &mut refused, out, progress) {
         Ok(true) => 0,
         Ok(false) => UNDECIDED,
-        Err(fault) => fault.say(alloc, options.file.as_deref(), err),
+        Err(fault) => fault.say(alloc, options.file.as_deref(), &refused, err),
     }
 }

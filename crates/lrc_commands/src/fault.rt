@@ -41,10 +41,11 @@ pub enum StudyFault {
 }
 
 impl StudyFault {
-    /// The line that standard error gets. The file is named as `ProgramFault::line` names it.
-    fn line(self, alloc: Global, file: Option<&str>) -> Result<String, AllocError> {
+    /// What standard error gets: a line, and behind that of a script with these bytes those that `ProgramFault::lines` adds.
+    /// The file is named as `ProgramFault::line` names it.
+    fn line(self, alloc: Global, file: Option<&str>, script: &[u8]) -> Result<String, AllocError> {
         match self {
-            StudyFault::Program(fault) => fault.line(alloc, file),
+            StudyFault::Program(fault) => fault.lines(alloc, file, script),
             StudyFault::Trace(line, fault) => format!(in alloc; "lrc: line {line}: {fault}\n"),
             StudyFault::Long => String::from_str(alloc, "lrc: trace too long\n"),
             StudyFault::Untold => String::from_str(alloc, "lrc: no journal of the run\n"),
@@ -77,12 +78,18 @@ impl StudyFault {
         }
     }
 
-    /// Says on `err` in one write why there is no answer, and answers the exit status. If there is no memory for the
+    /// Says on `err` in one write why there is no answer of the script with these bytes, and answers the exit status. If there is no memory for the
     /// line, it says that, with the status of that.
-    pub(crate) fn say<E: Write>(self, alloc: Global, file: Option<&str>, err: &mut E) -> u8
+    pub(crate) fn say<E: Write>(
+        self,
+        alloc: Global,
+        file: Option<&str>,
+        script: &[u8],
+        err: &mut E,
+    ) -> u8
         ensures { IsStudyStatusOf self result }
     {
-        say_line(self.line(alloc, file), self.status(), err)
+        say_line(self.line(alloc, file, script), self.status(), err)
     }
 }
 

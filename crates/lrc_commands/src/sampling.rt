@@ -47,6 +47,7 @@ fn sample_script<T: Runs, R: Wait, S: Read, W: Write>(
     alloc: Global,
     options: &SampleOptions,
     source: &mut S,
+    refused: &mut Vec<u8>,
     out: &mut W,
 ) -> Result<(), StudyFault>
     ensures sampled { OnOk result (IsSampled (CameBySeed T.followed T.drawn (lock_asked options.now.ticket))
@@ -55,7 +56,7 @@ fn sample_script<T: Runs, R: Wait, S: Read, W: Write>(
     ensures early { IfErr result
         (λ fault. IsStatusBeforeAnswer fault → Keeps (W.contents out.old) (W.contents out.new)) }
 {
-    let script = read_script(alloc, source)?;
+    let script = read_script(alloc, source, refused)?;
     print_sample(runs, rt, alloc, options, &script, out)
 }
 
@@ -81,8 +82,9 @@ pub fn sample_program<T: Runs, R: Wait, S: Read, W: Write, E: Write>(
     // If it was written, no line goes to the error output.
     ensures quiet { result ≡ 0 → Keeps (E.contents err.old) (E.contents err.new) }
 {
-    match sample_script(runs, rt, alloc, options, source, out) {
+    let mut refused = Vec::new(alloc);
+    match sample_script(runs, rt, alloc, options, source, &mut refused, out) {
         Ok(()) => 0,
-        Err(fault) => fault.say(alloc, options.file.as_deref(), err),
+        Err(fault) => fault.say(alloc, options.file.as_deref(), &refused, err),
     }
 }

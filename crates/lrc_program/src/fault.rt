@@ -6,6 +6,7 @@ ghost use Rattle.lrc_program.specs.declared.fault.ProgramFault.TheVariants as pr
 
 use book::Refused;
 use conformance::{Cause, Misfit, RunFault, ScheduleFault};
+use lrc_hints::hint::hint;
 use lrc_report::render::OutFault;
 use lrc_script::fault::ScriptFault;
 use std::alloc::{AllocError, Global};
@@ -54,6 +55,22 @@ impl ProgramFault {
             ),
             _ => format!(in alloc; "lrc: {self}\n"),
         }
+    }
+
+    /// The same of a script that has these bytes. If the fault is its own, lines follow that say where it is, show the line,
+    /// and say what may stand there and what the likely cause is.
+    pub fn lines(
+        self,
+        alloc: Global,
+        file: Option<&str>,
+        script: &[u8],
+    ) -> Result<String, AllocError> {
+        let mut lines = self.line(alloc, file)?;
+        if let ProgramFault::Script(line, fault) = self {
+            let hint = hint(alloc, file, script, line, fault)?;
+            lines.push_str(&hint)?;
+        }
+        Ok(lines)
     }
 
     /// The exit status: 5 for words or a script that can't be read and for a schedule that doesn't fit, 2 for a script that is refused, 3 for a run

@@ -98,14 +98,24 @@ fn report_of<T: Runs, R: Threads + Wait + Sync>(
     Ok(runs.run(rt, alloc, script, lock_of(options), options.tries)?)
 }
 
-/// Reads a script: all that the source has.
-pub fn read_script<S: Read>(alloc: Global, source: &mut S) -> Result<Script, ProgramFault>
+/// Reads a script: all that the source has. If that is no script's text, it is handed out as `refused`, so far as it was read.
+pub fn read_script<S: Read>(
+    alloc: Global,
+    source: &mut S,
+    refused: &mut Vec<u8>,
+) -> Result<Script, ProgramFault>
     ensures read { IfOk result (λ s. IsScriptRead (S.remaining source.old) (plan_of s)) }
     ensures refused { IfErr result (λ fault. IsScriptsStatus fault → IsNoScript (S.remaining source.old)) }
 {
     let mut bytes = Vec::new(alloc);
     source.take(MOST_READ).read_to_end(&mut bytes)?;
-    Ok(parse(alloc, &bytes)?)
+    match parse(alloc, &bytes) {
+        Ok(script) => Ok(script),
+        Err(fault) => {
+            *refused = bytes;
+            Err(ProgramFault::from(fault))
+        }
+    }
 }
 
 /// Runs a script and writes its report. It stands apart from the reading since nothing is to be dropped if the run
@@ -138,6 +148,7 @@ fn run_script<T: Runs, R: Threads + Wait + Sync, S: Read, W: Write>(
     alloc: Global,
     options: &Options,
     source: &mut S,
+    refused: &mut Vec<u8>,
     out: &mut W,
 ) -> Result<(), ProgramFault>
     requires { 0 < options.now.tries }
@@ -147,7 +158,7 @@ fn run_script<T: Runs, R: Threads + Wait + Sync, S: Read, W: Write>(
     ensures early { IfErr result
         (λ fault. IsStatusBeforeOutput fault → Keeps (W.contents out.old) (W.contents out.new)) }
 {
-    let script = read_script(alloc, source)?;
+    let script = read_script(alloc, source, refused)?;
     print_report(runs, rt, alloc, options, &script, out)
 }
 
@@ -177,7 +188,20 @@ pub fn say<E: Write>(alloc: Global, file: Option<&str>, fault: ProgramFault, err
     say_line(fault.line(alloc, file), fault.status(), err)
 }
 
-/// Runs the script of `source` as the options say: writes its report to `out`, or one line to `err`, and
+/// The same of a script that has these bytes: if the fault is its own, the lines about that follow.
+pub fn say_of_script<E: Write>(
+    alloc: Global,
+    file: Option<&str>,
+    script: &[u8],
+    fault: ProgramFault,
+    err: &mut E,
+) -> u8
+    ensures { IsStatusOf fault result }
+{
+    say_line(fault.lines(alloc, file, script), fault.status(), err)
+}
+
+/// Runs the script of `source` as the options say: writes its report to `out`, or why there is none to `err`, and
 /// answers the exit status. The file that the options name isn't opened here.
 pub fn program<T: Runs, R: Threads + Wait + Sync, S: Read, W: Write, E: Write>(
     runs: &T,
@@ -199,8 +223,9 @@ pub fn program<T: Runs, R: Threads + Wait + Sync, S: Read, W: Write, E: Write>(
     // If it was written, no line goes to the error output.
     ensures quiet { result ≡ 0 → Keeps (E.contents err.old) (E.contents err.new) }
 {
-    match run_script(runs, rt, alloc, options, source, out) {
+    let mut refused = Vec::new(alloc);
+    match run_script(runs, rt, alloc, options, source, &mut refused, out) {
         Ok(()) => 0,
-        Err(fault) => say(alloc, options.file.as_deref(), fault, err),
+        Err(fault) => say_of_script(alloc, options.file.as_deref(), &refused, fault, err),
     }
 }
