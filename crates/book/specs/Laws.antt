@@ -25,8 +25,8 @@ use Rattle.book.specs.Calls.{AllowsIdleBlockCall, AllowsBlockCall}
 use Rattle.book.specs.Told.{Represents}
 
 -- the records are those of p's open interval
-abbrev pub AreOpenRecordsByLaw : Sizes → List Event → ℕ → List Changes → Type 0
-AreOpenRecordsByLaw s h p records = AreIntervalContents s h p (count_of is_closing h p) records
+abbrev pub AreOpenRecords : Sizes → List Event → ℕ → List Changes → Type 0
+AreOpenRecords s h p records = AreIntervalContents s h p (count_of is_closing h p) records
 
 -- an empty book represents the empty history
 abbrev pub NewLaw : Type 0
@@ -45,35 +45,35 @@ LastLaw = (s : Sizes) (h block : List Event) (b : State) (p : ℕ) → Represent
 -- an ask of a lock that p doesn't hold
 abbrev pub AskLaw : Type 0
 AskLaw = (s : Sizes) (h block : List Event) (b : State) (p l : ℕ) (records : List Changes) → Represents s h b
-    → AllowsIdleBlockCall s b p block → AreOpenRecordsByLaw s (h ++ block) p records → l < s.locks → ¬ Holds h p l
+    → AllowsIdleBlockCall s b p block → AreOpenRecords s (h ++ block) p records → l < s.locks → ¬ Holds h p l
     → Represents s (did (h ++ block) p (Ask l)) (transition_asked (transition_handed_in b block) p l records)
 
 -- a release of a lock that p holds
 abbrev pub ReleaseLaw : Type 0
 ReleaseLaw = (s : Sizes) (h block : List Event) (b : State) (p l : ℕ) (records : List Changes) → Represents s h b
-    → AllowsIdleBlockCall s b p block → AreOpenRecordsByLaw s (h ++ block) p records → l < s.locks → Holds h p l
+    → AllowsIdleBlockCall s b p block → AreOpenRecords s (h ++ block) p records → l < s.locks → Holds h p l
     → Represents s (did (h ++ block) p (Release l)) (transition_released (transition_handed_in b block) p l records)
 
 -- an arrival
 abbrev pub ArriveLaw : Type 0
 ArriveLaw = (s : Sizes) (h block : List Event) (b : State) (p : ℕ) (records : List Changes) → Represents s h b
-    → AllowsIdleBlockCall s b p block → AreOpenRecordsByLaw s (h ++ block) p records
+    → AllowsIdleBlockCall s b p block → AreOpenRecords s (h ++ block) p records
     → Represents s (did (h ++ block) p Arrive) (transition_arrived (transition_handed_in b block) p records)
 
 -- a set of a flag
 abbrev pub SetLaw : Type 0
 SetLaw = (s : Sizes) (h block : List Event) (b : State) (p f : ℕ) (records : List Changes) → Represents s h b
-    → AllowsIdleBlockCall s b p block → AreOpenRecordsByLaw s (h ++ block) p records → f < s.flags
+    → AllowsIdleBlockCall s b p block → AreOpenRecords s (h ++ block) p records → f < s.flags
     → Represents s (did (h ++ block) p (Set f)) (transition_set (transition_handed_in b block) p f records)
 
 -- a watch of a flag
 abbrev pub WatchLaw : Type 0
 WatchLaw = (s : Sizes) (h block : List Event) (b : State) (p f : ℕ) (records : List Changes) → Represents s h b
-    → AllowsIdleBlockCall s b p block → AreOpenRecordsByLaw s (h ++ block) p records → f < s.flags
+    → AllowsIdleBlockCall s b p block → AreOpenRecords s (h ++ block) p records → f < s.flags
     → Represents s (did (h ++ block) p (Watch f)) (transition_watched (transition_handed_in b block) p f records)
 
 -- p's message lets p do what it waits for, has the time of what that brings, and what p lacks of it
-pub record IsMessageByLaw (s : Sizes) (h : List Event) (b : State) (p : ℕ) (k : Kind) (m : Letter) : Type 0 where
+pub record IsMessage (s : Sizes) (h : List Event) (b : State) (p : ℕ) (k : Kind) (m : Letter) : Type 0 where
   pub allowed : Allowed s h p k
   pub time : IsStamp s.processors h (Brings h p k) m.time
   pub notices : m.notices ≡ closings_between b.closed (state_time_of b p) m.time
@@ -82,7 +82,7 @@ pub record IsMessageByLaw (s : Sizes) (h : List Event) (b : State) (p : ℕ) (k 
 abbrev pub MessageLaw : Type 0
 MessageLaw = (s : Sizes) (h : List Event) (b : State) (p : ℕ) (k : Kind) (m : Letter) → Represents s h b
     → slice_get b.awaits p ≡ Some (Some k) → message_for b p k ≡ Some m
-    → IsMessageByLaw s h b p k m
+    → IsMessage s h b p k m
 
 -- a take of a grant, a departure or a flag's signal, with the trim after it
 abbrev pub TakeLaw : Type 0

@@ -9,7 +9,7 @@ pub use Rattle.book.specs.Told.{HoldsSome, Represents, IsToldBySome}
 pub use Rattle.book.specs.News.{news_of_notice}
 pub use Rattle.book.specs.Messages.{brought_by_message, message_has_come, message_among, message_for, sent_with_message, signal_message}
 pub use Rattle.book.specs.BookCut.{WasBookCut, book_cut_refusal}
-pub use Rattle.book.specs.Laws.{AreOpenRecordsByLaw, ArriveLaw, AskLaw, BookCutLaw, HandInLaw, LastLaw, MessageLaw, NewLaw}
+pub use Rattle.book.specs.Laws.{AreOpenRecords, ArriveLaw, AskLaw, BookCutLaw, HandInLaw, LastLaw, MessageLaw, NewLaw}
 pub use Rattle.book.specs.Laws.{NewsLaw, NewsOrderLaw, ReleaseLaw, SetLaw, TakeLaw, WatchLaw}
 pub use Rattle.book.specs.BookInvariant.{BookInvariant, book_state}
 pub use Rattle.book.specs.Refusals.{IsFullRefusal, IsRoomRefusal}

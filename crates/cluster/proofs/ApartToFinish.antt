@@ -15,7 +15,7 @@ use Rattle.cluster.specs.Copies.Local.{Local}
 use Rattle.cluster.specs.declared.keeper.View.{View}
 use Rattle.cluster.specs.Clusters.{SharedCluster}
 use Rattle.cluster.specs.KeptViews.{LockInvariant, KeptWithViews, ExtendsView, all_views_cut, view_having_seen}
-use Rattle.cluster.specs.Finishing.{AreAllToFinish, IsTakenApartToFinish, AreTakenApartToFinish, AreBlocksToFinish, IsFinishing, IsFinished}
+use Rattle.cluster.specs.Finishing.{AreAllToFinish, IsTakenApartToFinish, AreTakenApartToFinish, AreBlocksToFinish, IsFinishing, IsFinished, IsToFinish}
 use Rattle.cluster.proofs.FinishingLastBlocks.{last_blocks_mapped_at}
 use Rattle.cluster.proofs.FaithfulHistory.{faithful, history_journal}
 use Rattle.cluster.proofs.Sums.{same_sums}
@@ -151,13 +151,17 @@ module _ (c : SharedCluster) (ms : List Local) (cs : List (ChairToken State View
           λ p m at. (let x = apart_at p m at in let a = x.apart x.block x.block_at in let mine = all.each p m at in
           (a.sound, mine.number, mine.sizes));
       done = λ p m before at. absurd (omega (arith, before));
-      to_come = λ p m after at. (let g = apart_goes_on p m at in let mine = all.each p m at in record {
-        rest = g.rest;
-        begins = g.begins;
-        away = λ k e here is. g.away k e here (is ∙ mine.number);
-      });
+      to_come = λ p m after at. to_come p m at;
       in_turn = (kept.1, sym (append-nil kept.1));
+      goes_on = to_come;
     }
+      where
+        to_come : (p : ℕ) (m : Local) → slice_get ms p ≡ Some m → IsToFinish kept.1 m
+        to_come p m at = let g = apart_goes_on p m at in let mine = all.each p m at in record {
+          rest = g.rest;
+          begins = g.begins;
+          away = λ k e here is. g.away k e here (is ∙ mine.number);
+        }
 
 -- what is finished
 pub finished : (s : Sizes) (ms : List Local) (h : List Event) (b : State) (j : Log) → IsFinishing s ms (length ms) h b
@@ -173,7 +177,10 @@ finished s ms h b j fin same = record {
       omega arith);
   faithful = faithful s h fin.told.well_formed fin.explained fin.counted;
   each = λ p m at. fin.done p m (slice_get_within ms p m at) at;
-  in_turn =
-      subst (λ (xs : List Local). (front : List Event) × (h ≡ front ++ flat_map (λ (m : Local). m.block) xs))
-      (take-length ms) fin.in_turn;
+  in_turn = (
+    fin.in_turn.0,
+    fin.in_turn.1 ∙ ap (λ (xs : List Local). fin.in_turn.0 ++ flat_map (λ (m : Local). m.block) xs) (take-length ms),
+  );
+  goes_on = fin.goes_on;
+  own = λ p m at k e here. (let sound = fin.sound p m at in (sound.0.inner k e here).mine ∙ sound.1);
 }

@@ -88,6 +88,7 @@ module _ (s : Sizes) (ms : List Local) (k : ℕ) (b : State) (m : Local) (at : s
         ← append_assoc,
       ) (ap (λ (xs : List Event). xs ++ m.block) fin.in_turn.1),
     );
+    goes_on = fin.goes_on;
   }
     where
       more : take (k + 1) ms ≡ take k ms ++ m ∷ []

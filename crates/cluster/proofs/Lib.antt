@@ -12,6 +12,7 @@ pub mod Visiting
 pub mod UnchangedCalls
 pub mod FaithfulHistory
 pub mod Handing
+pub mod CatchingUp
 pub mod ClosingCalls
 pub mod Admitting
 pub mod TakenCalls

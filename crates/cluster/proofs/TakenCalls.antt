@@ -20,7 +20,7 @@ use Rattle.interval.specs.Closings.{closings_between}
 use Rattle.interval.specs.SentIntervals.{SentRecord}
 use Rattle.book.specs.Messages.{message_for}
 use Rattle.book.specs.Calls.{AllowsSomeTakeCall}
-use Rattle.book.specs.Laws.{IsMessageByLaw}
+use Rattle.book.specs.Laws.{IsMessage}
 use Rattle.book.specs.News.{news_of_page}
 use Rattle.book.specs.State.{State, state_time_of}
 use Rattle.book.specs.Told.{Represents}
@@ -93,7 +93,7 @@ module _ (m : Local) (sound : IsSound m) (b : State) (k : Kind) (waits : m.await
         take_law m.sizes (m.seen ++ f.rest) b m.number k x f.kept.told (taken_call_awaits_kind f) come)
 
     module _ (f : FindsOnEntering m b) where
-      pub message : IsMessageByLaw m.sizes (m.seen ++ f.rest) b m.number k x
+      pub message : IsMessage m.sizes (m.seen ++ f.rest) b m.number k x
       message = message_law m.sizes (m.seen ++ f.rest) b m.number k x f.kept.told (taken_call_awaits_kind f) come
 
       abbrev IsNewsOfTakenCall : ℕ → List ℕ → List SentRecord → Type 0
@@ -200,7 +200,7 @@ module _ {m : Local} {b : State} {k : Kind} {x : Letter} {after : ChairToken Sta
   abbrev f : FindsOnEntering m b
   f = t.visit.finds
 
-  brings : IsMessageByLaw m.sizes (m.seen ++ f.rest) b m.number k x
+  brings : IsMessage m.sizes (m.seen ++ f.rest) b m.number k x
   brings = message m sound b k t.waits x t.come f
 
   -- the timestamp of what it takes has an entry for each processor

@@ -42,7 +42,7 @@ visit_left_as {m} {b} {new} {last} {after} v is = subst (λ (n : State). Visit m
 module _ {m : Local} {old : ChairToken State View} (sound : IsSound m) (seated : IsSeated old m.number m.sizes)
     (is : m ≡ visiting_processor_on old m) where
   -- what the chair has seen is what p has
-  visit_view_is : chair_view old ≡ view_having_seen m.sizes m.seen m.cut m.own_cut
+  pub visit_view_is : chair_view old ≡ view_having_seen m.sizes m.seen m.cut m.own_cut
   visit_view_is =
       ap (λ (z : Sizes). view_having_seen z (chair_view old).seen (chair_view old).cut (chair_view old).own_cut) seated.shape_is
       ∙ ap₂ (λ (h : List Event) (n : ℕ). view_having_seen m.sizes h n (chair_view old).own_cut) (sym (ap (λ (x : Local). x.seen) is))

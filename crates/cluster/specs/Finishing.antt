@@ -35,8 +35,14 @@ pub record HasCallsToFinish (h : List Event) (m : Local) : Type 0 where
   pub begins : (rest : List Event) × (h ≡ m.seen ++ rest)
   pub calls_are : events_of h m.number ≡ calls m
 
+-- the history goes on without the processor, whose block is to come
+pub record IsToFinish (h : List Event) (m : Local) : Type 0 where
+  pub rest : List Event
+  pub begins : h ≡ m.seen ++ rest
+  pub away : (k : ℕ) (e : Event) → At rest k e → e.processor ≢ m.number
+
 -- the journal holds what is left, after their own cuts took off the rest, of a faithful history with the calls of all
--- processors, and at its end their open blocks in turn
+-- processors, and at its end their open blocks in turn; what stands before these goes on from what each had seen, without it
 pub record IsFinished (s : Sizes) (ms : List Local) (j : Log) : Type 0 where
   pub history : List Event
   pub taken : List Event
@@ -45,6 +51,8 @@ pub record IsFinished (s : Sizes) (ms : List Local) (j : Log) : Type 0 where
   pub faithful : IsFaithful s history
   pub each : (p : ℕ) (m : Local) → slice_get ms p ≡ Some m → HasCallsToFinish history m
   pub in_turn : (front : List Event) × (history ≡ front ++ flat_map (λ m. m.block) ms)
+  pub goes_on : (p : ℕ) (m : Local) → slice_get ms p ≡ Some m → IsToFinish in_turn.0 m
+  pub own : (p : ℕ) (m : Local) → slice_get ms p ≡ Some m → (k : ℕ) (e : Event) → At m.block k e → e.processor ≡ p
 
 -- a sound processor was taken apart into its chair and its open block
 pub record IsTakenApartToFinish (m : Local) (c : ChairToken State View) (block : List Event) : Type 0 where
@@ -61,12 +69,6 @@ pub record AreTakenApartToFinish (ms : List Local) (cs : List (ChairToken State 
   pub each : (p : ℕ) (m : Local) (c : ChairToken State View) (block : List Event) → slice_get ms p ≡ Some m
       → slice_get cs p ≡ Some c → slice_get blocks p ≡ Some block → IsTakenApartToFinish m c block
 
--- the history goes on without the processor, whose block is to come
-pub record IsToFinish (h : List Event) (m : Local) : Type 0 where
-  pub rest : List Event
-  pub begins : h ≡ m.seen ++ rest
-  pub away : (k : ℕ) (e : Event) → At rest k e → e.processor ≢ m.number
-
 -- the blocks of the first k processors are handed in
 pub record IsFinishing (s : Sizes) (ms : List Local) (k : ℕ) (h : List Event) (b : State) : Type 0 where
   pub told : Represents s h b
@@ -78,6 +80,7 @@ pub record IsFinishing (s : Sizes) (ms : List Local) (k : ℕ) (h : List Event) 
   pub done : (p : ℕ) (m : Local) → p < k → slice_get ms p ≡ Some m → HasCallsToFinish h m
   pub to_come : (p : ℕ) (m : Local) → k ≤ p → slice_get ms p ≡ Some m → IsToFinish h m
   pub in_turn : (front : List Event) × (h ≡ front ++ flat_map (λ m. m.block) (take k ms))
+  pub goes_on : (p : ℕ) (m : Local) → slice_get ms p ≡ Some m → IsToFinish in_turn.0 m
 
 -- these are the processors' blocks
 pub record AreBlocksToFinish (ms : List Local) (blocks : List (List Event)) : Type 0 where

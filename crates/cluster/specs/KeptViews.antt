@@ -78,3 +78,13 @@ pub record SeesView (found left : State) (p : ℕ) (old new : View) : Type 0 whe
   pub seen : new.seen ≡ history ++ view_added found.journal left.journal
   pub cut : new.cut ≡ left.journal.base.cut
   pub own_cut : new.own_cut + found.journal.base.cut ≡ old.own_cut + left.journal.base.cut
+
+-- p, with its view beside q's other one, has then seen the whole of a history that was kept with both
+pub record SeesBeside (p : ℕ) (old : View) (q : ℕ) (other new : View) : Type 0 where
+  pub history : List Event
+  pub book : State
+  pub views : List View
+  pub at : slice_get views p ≡ Some old
+  pub beside : slice_get views q ≡ Some other
+  pub kept : LockInvariant old.shape history book views
+  pub new_is : new ≡ record old { seen = history }

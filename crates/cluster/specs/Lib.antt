@@ -5,6 +5,7 @@ pub mod KeptViews
 pub mod Entering
 pub mod Covers
 pub mod Calls
+pub mod CatchingUp
 pub mod Closing
 pub mod Taking
 pub mod Waiting

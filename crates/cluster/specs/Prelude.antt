@@ -4,10 +4,11 @@ pub use Rattle.cluster.specs.Refusals.{access_refusal, arrive_refusal, ask_refus
 pub use Rattle.cluster.specs.Refusals.{fetch_refusal, flag_refusal, refusal_has_valid, refusal_is_waiting, refusal_page_of, release_refusal}
 pub use Rattle.cluster.specs.Refusals.{take_refusal}
 pub use Rattle.cluster.specs.Accesses.{HasWordToAccess, FetchDone, StoreAccessDone}
-pub use Rattle.cluster.specs.KeptViews.{KeptWithViews, SeesView, view_of_nothing, view_book_sizes}
+pub use Rattle.cluster.specs.KeptViews.{KeptWithViews, SeesBeside, SeesView, view_of_nothing, view_book_sizes}
 pub use Rattle.cluster.specs.Entering.{FindsBookOnEntering, HasEntered, HasLeftAfterEntering, IsCallOf, IsEnteringChairOf}
 pub use Rattle.cluster.specs.Covers.{HasCoverage}
 pub use Rattle.cluster.specs.Calls.{IsHandingCall, IsSameProcessorOfCall}
+pub use Rattle.cluster.specs.CatchingUp.{CatchesUp}
 pub use Rattle.cluster.specs.Closing.{IsClosingCall, MayMakeClosing}
 pub use Rattle.cluster.specs.Taking.{HasRoomToTake, IsTakingCall}
 pub use Rattle.cluster.specs.Waiting.{IsWaitingCall, waited_answer}

@@ -5,6 +5,7 @@ ghost use Rattle.cluster.specs.Copies.Prelude.{AreSoundSizes};
 ghost use Rattle.cluster.specs.Prelude.{AreClusterParts, AreNewClusterChairs, IsClusterSeated, IsNewCluster, IsClusterCovered};
 
 mod calls;
+mod catching_up;
 mod closing;
 mod cutting;
 mod entering;

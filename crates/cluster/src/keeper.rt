@@ -1,11 +1,11 @@
 //! What the book's lock keeps.
-ghost use Rattle.cluster.specs.Prelude.{KeptWithViews, view_of_nothing, view_book_sizes, SeesView};
+ghost use Rattle.cluster.specs.Prelude.{KeptWithViews, view_of_nothing, view_book_sizes, SeesBeside, SeesView};
 
 use crate::shape::Shape;
 use book::Book;
 use journal::Event;
 use std::collections::LinkedList;
-use turn::{ArrayLock, Keeper, Outcome, TicketLock, Turn};
+use turn::{ArrayLock, Keeper, Lesson, Outcome, TicketLock, Turn};
 
 /// What one processor knows of the book while it is outside: the sizes of its cluster, the history as its last call
 /// that entered left it, how many of its first events were cut off then, and how many its own cuts took off in all. It
@@ -41,6 +41,15 @@ impl Outcome<Book, View> for Looking {
     ghost use Rattle.cluster.specs.KeptViews.{SeesView};
 
     ghost then = { SeesView };
+}
+
+/// Of two processors in one thread's hands: the one has seen all that there is, and so all that the other has.
+pub(crate) struct LookingOver;
+
+impl Lesson<View> for LookingOver {
+    ghost use Rattle.cluster.specs.KeptViews.{SeesBeside};
+
+    ghost then = { SeesBeside };
 }
 
 /// A lock round the book, under this crate's rule. A lock of one's own that meets [`Turn`] gets it by an impl with nothing

@@ -7,7 +7,7 @@ use Rattle.journal.specs.declared.event.Kind.TheVariants as kind
 use Rattle.lrc_script.specs.declared.script.Instruction.{Instruction}
 use Rattle.lrc_script.specs.declared.script.Instruction.TheVariants.{Load, Store, Add, Acquire, Release, Barrier, Set, Await, Cut}
 use Rattle.conformance.specs.Begins.{BeginsSection}
-use Rattle.conformance.specs.Follows.{FollowsSection, followed_load}
+use Rattle.conformance.specs.Follows.{FollowsSection, load_of}
 use Rattle.conformance.specs.Instructions.{AreEventsOfInstruction, AreEventsOfInstructions}
 use Rattle.conformance.proofs.Instructions.{instructions-append, instructions-push, follows_section_instructions}
 
@@ -53,9 +53,9 @@ begins_whole section shown kinds are =
     let loads = begin_some_loads shown in
     let closing = kind.Arrive ∷ kind.Depart ∷ [] in
     record {
-      rest = map followed_load loads.0;
-      follows = follows_section_instructions section shown ((kinds ++ closing) ++ map followed_load loads.0) kinds loads.0 are
-          (append_assoc kinds closing (map followed_load loads.0)) loads.1;
+      rest = map load_of loads.0;
+      follows = follows_section_instructions section shown ((kinds ++ closing) ++ map load_of loads.0) kinds loads.0 are
+          (append_assoc kinds closing (map load_of loads.0)) loads.1;
     }
 
 -- the events of its first n instructions

@@ -7,7 +7,7 @@ use Rattle.journal.specs.declared.event.Kind.TheVariants as kind
 use Rattle.lrc_script.specs.declared.script.Instruction.{Instruction}
 use Rattle.lrc_script.specs.declared.script.Instruction.TheVariants.{Load, Store, Add, Acquire, Release, Barrier, Set, Await, Cut}
 use Rattle.conformance.specs.Instructions.{AreEventsOfInstruction, AreEventsOfInstructions}
-use Rattle.conformance.specs.Follows.{is_followed_fetch, followed_load, FollowsSection}
+use Rattle.conformance.specs.Follows.{is_fetch, load_of, FollowsSection}
 
 -- the events of these instructions, and of those that come after them
 pub instructions-append : (is js : List Instruction) (xs ys : List Kind) → AreEventsOfInstructions is xs → AreEventsOfInstructions js ys
@@ -32,18 +32,18 @@ instructions-push is i xs ks front last = instructions-append is (i ∷ []) xs k
 
 -- a section's events, the closing barrier and the loads of what is shown follow the section
 pub follows_section_instructions : (section : List Instruction) (shown : List ℕ) (kinds own : List Kind) (loads : List (ℕ × ℕ))
-    → AreEventsOfInstructions section own → kinds ≡ own ++ kind.Arrive ∷ kind.Depart ∷ map followed_load loads
+    → AreEventsOfInstructions section own → kinds ≡ own ++ kind.Arrive ∷ kind.Depart ∷ map load_of loads
     → map (λ (x : ℕ × ℕ). x.0) loads ≡ shown → FollowsSection section shown kinds
 follows_section_instructions section shown kinds own loads are is addresses =
     record { own = own; loads = loads; kinds_are = is; follows = are; addresses_are = addresses }
 
 -- none of these is a fetch
 abbrev pub NoInstructionFetches : List Kind → Type 0
-NoInstructionFetches kinds = filter (λ k. not (is_followed_fetch k)) kinds ≡ kinds
+NoInstructionFetches kinds = filter (λ k. not (is_fetch k)) kinds ≡ kinds
 
 pub instructions_no_fetch-append : (xs ys : List Kind) → NoInstructionFetches xs → NoInstructionFetches ys → NoInstructionFetches (xs ++ ys)
 instructions_no_fetch-append xs ys first second =
-    filter-append (λ k. not (is_followed_fetch k)) xs ys ∙ ap (λ zs. zs ++ filter (λ k. not (is_followed_fetch k)) ys) first
+    filter-append (λ k. not (is_fetch k)) xs ys ∙ ap (λ zs. zs ++ filter (λ k. not (is_fetch k)) ys) first
     ∙ ap (λ zs. xs ++ zs) second
 
 pub instruction_no_fetch : (i : Instruction) (kinds : List Kind) → AreEventsOfInstruction i kinds → NoInstructionFetches kinds
@@ -63,6 +63,6 @@ instructions_no_fetch [] kinds are = rw are refl
 instructions_no_fetch (i ∷ is) kinds are =
     rw are.2 (instructions_no_fetch-append are.0 are.1 (instruction_no_fetch i are.0 are.3) (instructions_no_fetch is are.1 are.4))
 
-pub instructions_no_fetch_loads : (loads : List (ℕ × ℕ)) → NoInstructionFetches (map followed_load loads)
+pub instructions_no_fetch_loads : (loads : List (ℕ × ℕ)) → NoInstructionFetches (map load_of loads)
 instructions_no_fetch_loads [] = refl
-instructions_no_fetch_loads (x ∷ loads) = ap (λ ks. followed_load x ∷ ks) (instructions_no_fetch_loads loads)
+instructions_no_fetch_loads (x ∷ loads) = ap (λ ks. load_of x ∷ ks) (instructions_no_fetch_loads loads)

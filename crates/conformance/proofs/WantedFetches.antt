@@ -3,11 +3,11 @@ use Rattle.std.proofs.Common.{ℕ, ◌≡◌, List, [], ◌∷◌, ◌++◌, fal
 use Rattle.journal.specs.declared.event.Event.{Event}
 use Rattle.journal.specs.declared.event.Kind.{Kind}
 use Rattle.journal.specs.declared.event.Kind.TheVariants.{Load, Store, Fetch}
-use Rattle.conformance.specs.Follows.{is_followed_fetch}
+use Rattle.conformance.specs.Follows.{is_fetch}
 use Rattle.conformance.specs.WantedFetches.{FetchesAreWanted, IsWantedAccess, IsWantedBy}
 
 -- what is no fetch is wanted, whatever comes next
-wanted_plain : (words : ℕ) (k : Kind) (next : List Event) → is_followed_fetch k ≡ false → IsWantedBy words k next
+wanted_plain : (words : ℕ) (k : Kind) (next : List Event) → is_fetch k ≡ false → IsWantedBy words k next
 wanted_plain words (Fetch writers page records sent) next is = absurd (cc)
 wanted_plain words _ next is = tt
 
@@ -25,11 +25,11 @@ wanted-append words (x ∷ xs) ys first last =
     (wanted_longer words x.kind xs ys first.0, wanted-append words xs ys first.1 last)
 
 -- one call that is no fetch
-pub wanted_one : (words : ℕ) (e : Event) → is_followed_fetch e.kind ≡ false → FetchesAreWanted words (e ∷ [])
+pub wanted_one : (words : ℕ) (e : Event) → is_fetch e.kind ≡ false → FetchesAreWanted words (e ∷ [])
 wanted_one words e is = (wanted_plain words e.kind [] is, tt)
 
 -- an access is no fetch
-wanted_access_plain : (words page : ℕ) (k : Kind) → IsWantedAccess words page k → is_followed_fetch k ≡ false
+wanted_access_plain : (words page : ℕ) (k : Kind) → IsWantedAccess words page k → is_fetch k ≡ false
 wanted_access_plain words page (Load a v) access = refl
 wanted_access_plain words page (Store a v) access = refl
 wanted_access_plain words page _ access = absurd access

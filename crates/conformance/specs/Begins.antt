@@ -4,7 +4,7 @@ use Rattle.journal.specs.declared.event.Event.{Event}
 use Rattle.journal.specs.declared.event.Kind.{Kind}
 use Rattle.lrc_script.specs.declared.script.Instruction.{Instruction}
 use Rattle.lrc_script.specs.Plan.{Plan}
-use Rattle.conformance.specs.Follows.{FollowsSection, followed_calls}
+use Rattle.conformance.specs.Follows.{FollowsSection, calls_of}
 
 -- with some calls more, these follow the section
 pub record BeginsSection (section : List Instruction) (shown : List ℕ) (kinds : List Kind) : Type 0 where
@@ -14,4 +14,4 @@ pub record BeginsSection (section : List Instruction) (shown : List ℕ) (kinds 
 -- each processor's calls begin its section
 abbrev pub BeginsScript : Plan → List Event → Type 0
 BeginsScript s h = (p : ℕ) (section : List Instruction) → slice_get s.sections p ≡ Some section
-    → BeginsSection section (cond (p == 0) s.shown []) (followed_calls h p)
+    → BeginsSection section (cond (p == 0) s.shown []) (calls_of h p)

@@ -2,7 +2,7 @@
 use Rattle.std.specs.Prelude.{ℕ, ◌≡◌, ◌==◌, cond, Option, Some, List, [], ◌++◌, map, slice_get}
 use Rattle.lrc_script.specs.Plan.{Plan}
 use Rattle.lrc_report.specs.declared.report.Report.{Report}
-use Rattle.conformance.specs.Follows.{followed_calls, followed_load}
+use Rattle.conformance.specs.Follows.{calls_of, load_of}
 use Rattle.conformance.specs.declared.ended.Ended.{Ended}
 use Rattle.conformance.specs.declared.ended.Ended.TheVariants.{Halted, Whole}
 use Rattle.conformance.specs.declared.ended.Halt.{Halt}
@@ -20,7 +20,7 @@ pub record IsReportByTurns (s : Plan) (orders : ℕ → List ℕ) (r : Report) :
   pub reached : AreReachedByTurns s orders report.history stages
   pub passed : (p : ℕ) (x : TurnStage) → slice_get stages p ≡ Some x → x.progress ≡ Passed
   pub calls_are : (p : ℕ) (x : TurnStage) → slice_get stages p ≡ Some x
-      → followed_calls report.history p ≡ x.calls ++ cond (p == 0) (map followed_load r.shown.items) []
+      → calls_of report.history p ≡ x.calls ++ cond (p == 0) (map load_of r.shown.items) []
 
 -- or its journal so far, which is a deadlock: in its history the processors have come so far
 pub record IsHaltByTurns (s : Plan) (orders : ℕ → List ℕ) (halt : Halt) : Type 0 where
@@ -28,7 +28,7 @@ pub record IsHaltByTurns (s : Plan) (orders : ℕ → List ℕ) (halt : Halt) : 
   pub least : halt.processor ≡ 0
   pub stages : List TurnStage
   pub reached : AreReachedByTurns s orders journal.history stages
-  pub calls_are : (p : ℕ) (x : TurnStage) → slice_get stages p ≡ Some x → followed_calls journal.history p ≡ x.calls
+  pub calls_are : (p : ℕ) (x : TurnStage) → slice_get stages p ≡ Some x → calls_of journal.history p ≡ x.calls
 
 -- one of the two
 abbrev pub IsEndByTurns : Plan → (ℕ → List ℕ) → Ended → Type 0

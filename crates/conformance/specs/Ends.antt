@@ -9,7 +9,7 @@ use Rattle.journal.specs.WellFormed.{WellFormed}
 use Rattle.lrc_script.specs.Lawful.{plan_addresses}
 use Rattle.lrc_script.specs.Plan.{Plan}
 use Rattle.conformance.specs.Begins.{BeginsScript}
-use Rattle.conformance.specs.Follows.{followed_plan_sizes}
+use Rattle.conformance.specs.Follows.{plan_sizes}
 use Rattle.conformance.specs.declared.ended.Ended.{Ended}
 use Rattle.conformance.specs.declared.ended.Ended.TheVariants.{Halted, Whole}
 use Rattle.conformance.specs.CutInstructions.{HasNoCutInstruction}
@@ -25,12 +25,12 @@ pub record IsJournalSoFar (s : Plan) (j : Log) : Type 0 where
   pub taken : List Event
   pub holds : HoldsRestOfHistory j taken history
   pub uncut : HasNoCutInstruction s → taken ≡ []
-  pub well_formed : WellFormed (followed_plan_sizes s) history
+  pub well_formed : WellFormed (plan_sizes s) history
   pub explained : Explained history
-  pub counted : AreCounted (followed_plan_sizes s) history
+  pub counted : AreCounted (plan_sizes s) history
   pub fetches : FetchesAreNeeded s history
   pub begins : BeginsScript s history
-  pub deadlock : IsDeadlock (followed_plan_sizes s) history
+  pub deadlock : IsDeadlock (plan_sizes s) history
 
 -- a report of the script, or such a journal, with the least processor that waits: in a deadlock that is processor 0
 abbrev pub IsEndOf : Plan → Ended → Type 0

@@ -7,12 +7,12 @@ use Rattle.journal.specs.Races.{Race, RaceFree}
 use Rattle.journal.specs.FlatMemory.{Replays}
 use Rattle.lrc_script.specs.Plan.{Plan}
 use Rattle.lrc_script.specs.Lawful.{plan_addresses}
-use Rattle.conformance.specs.Follows.{followed_plan_sizes, is_followed_fetch, Follows}
+use Rattle.conformance.specs.Follows.{plan_sizes, is_fetch, Follows}
 use Rattle.conformance.specs.Like.{SameButValues}
 
 -- the history is one of this script's on one flat memory
 pub record IsFlatRun (s : Plan) (g : List Event) : Type 0 where
-  pub well_formed : WellFormed (followed_plan_sizes s) g
+  pub well_formed : WellFormed (plan_sizes s) g
   pub follows : Follows s g
   pub replays : Replays (replicate (plan_addresses s) 0) g
 
@@ -24,7 +24,7 @@ pub record IsRecomputedFlat (s : Plan) (h g : List Event) : Type 0 where
 
 -- nothing is fetched in it
 abbrev pub FlatRunHasNoFetch : List Event → Type 0
-FlatRunHasNoFetch g = (i : ℕ) (e : Event) → At g i e → is_followed_fetch e.kind ≡ false
+FlatRunHasNoFetch g = (i : ℕ) (e : Event) → At g i e → is_fetch e.kind ≡ false
 
 -- whatever its order, the script doesn't race on one flat memory, of which nothing is fetched
 abbrev pub NeverRacesFlat : Plan → Type 0

@@ -1,6 +1,6 @@
 -- The words that contracts name, passed on from one place. Declares nothing.
 pub use Rattle.conformance.specs.Begins.{BeginsScript}
-pub use Rattle.conformance.specs.Follows.{followed_plan_sizes}
+pub use Rattle.conformance.specs.Follows.{plan_sizes}
 pub use Rattle.conformance.specs.Laws.{OnlyLaw, RaceFreeLaw, RecomputedLaw}
 pub use Rattle.conformance.specs.ByTurns.{IsEndByTurns, IsHaltByTurns, IsReportByTurns, IsStuckByTurns, turn_orders}
 pub use Rattle.conformance.specs.CutInstructions.{HasCutInstruction, HasNoCutInstruction}

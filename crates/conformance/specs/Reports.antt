@@ -12,7 +12,7 @@ use Rattle.journal.specs.Traffic.{messages, records, words}
 use Rattle.lrc_script.specs.Lawful.{plan_addresses}
 use Rattle.lrc_script.specs.Plan.{Plan}
 use Rattle.lrc_report.specs.declared.report.Report.{Report}
-use Rattle.conformance.specs.Follows.{followed_plan_sizes, Follows, followed_calls, followed_load}
+use Rattle.conformance.specs.Follows.{plan_sizes, Follows, calls_of, load_of}
 use Rattle.conformance.specs.FlatRuns.{IsRecomputedFlat}
 use Rattle.conformance.specs.CutInstructions.{HasNoCutInstruction}
 use Rattle.conformance.specs.WantedFetches.{FetchesAreWanted}
@@ -24,7 +24,7 @@ ReportHasRace h = (i k : ℕ) × Race h i k
 -- the shown words are the replies of processor 0's last loads
 pub record AreReportedReplies (calls : List Kind) (shown : List (ℕ × ℕ)) : Type 0 where
   pub front : List Kind
-  pub ends : calls ≡ front ++ map followed_load shown
+  pub ends : calls ≡ front ++ map load_of shown
 
 -- no processor fetches a page but right before an access to it
 abbrev pub FetchesAreNeeded : Plan → List Event → Type 0
@@ -33,15 +33,15 @@ FetchesAreNeeded s h = (p : ℕ) → p < s.processors → FetchesAreWanted s.wor
 -- the history is well formed, explained, fetches what is missing, where an access wants it, and follows the script, and
 -- its replies can be recomputed on one flat memory; the verdict, the shown words and the traffic are the history's
 pub record ReportsHistory (s : Plan) (r : Report) (h : List Event) : Type 0 where
-  pub well_formed : WellFormed (followed_plan_sizes s) h
+  pub well_formed : WellFormed (plan_sizes s) h
   pub explained : Explained h
-  pub counted : AreCounted (followed_plan_sizes s) h
+  pub counted : AreCounted (plan_sizes s) h
   pub fetches : FetchesAreNeeded s h
   pub follows : Follows s h
   pub recomputed : (g : List Event) × IsRecomputedFlat s h g
   pub racy : IsTrue r.racy ↔ ReportHasRace h
   pub shown_addresses : map (λ (x : ℕ × ℕ). x.0) r.shown.items ≡ s.shown
-  pub replies : AreReportedReplies (followed_calls h 0) r.shown.items
+  pub replies : AreReportedReplies (calls_of h 0) r.shown.items
   pub messages_are : r.traffic.messages ≡ messages h
   pub records_are : r.traffic.records ≡ records h
   pub words_are : r.traffic.words ≡ words h

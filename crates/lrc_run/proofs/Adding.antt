@@ -7,7 +7,7 @@ use Rattle.journal.specs.declared.event.Kind.{Kind}
 use Rattle.journal.specs.declared.event.Kind.TheVariants.{Load, Store, Fetch}
 use Rattle.journal.specs.DidEvent.{event}
 use Rattle.journal.specs.Events.{events_of}
-use Rattle.conformance.specs.Follows.{is_followed_fetch, followed_call_kinds}
+use Rattle.conformance.specs.Follows.{is_fetch, call_kinds}
 use Rattle.conformance.proofs.Calls.{followed_call_kinds-append, followed_call_kinds-one}
 use Rattle.book.specs.declared.refused.Refused.{Refused}
 use Rattle.book.specs.declared.refused.Refused.TheVariants.{OutOfRange, Invalid, Waiting, BlockFull}
@@ -137,12 +137,12 @@ adds_access_page m a page is = by _ (refusal_has_valid m (a / m.sizes.words)) (r
 pub none_adds : (m n : Local) → AddsCalls m n [] → MakesNone m n
 none_adds m n adds = record {
   same = adds.same;
-  none = ap followed_call_kinds (adds.calls_are ∙ append-nil (calls m));
+  none = ap call_kinds (adds.calls_are ∙ append-nil (calls m));
   uncut = adds.uncut;
 }
 
 -- one call that is no fetch
-pub tries_adds : {A : Type 0} (m n : Local) (r : Result A Refused) (k : A → Kind) → ((x : A) → is_followed_fetch (k x) ≡ false)
+pub tries_adds : {A : Type 0} (m n : Local) (r : Result A Refused) (k : A → Kind) → ((x : A) → is_fetch (k x) ≡ false)
     → AddsCallsBy m n r (λ x. k x ∷ []) → TriesCalls m n r (λ x. k x ∷ [])
 tries_adds m n (Ok x) k plain adds = makes_one m n (k x) (plain x) adds.same adds.sees adds.calls_are adds.uncut
 tries_adds m n (Err e) k plain adds = none_adds m n adds
@@ -155,7 +155,7 @@ none_adds_fetch {A} l m n r page e first is fetches =
 
 -- a fetch, and the access that wants it
 pub tries_adds_fetch : {A B : Type 0} (l m n : Local) (page : ℕ) (f : Result B Refused) {b : B} (r : Result A Refused)
-    (k : A → Kind) → f ≡ Ok b → MakesFetchBy l m f page → ((x : A) → is_followed_fetch (k x) ≡ false)
+    (k : A → Kind) → f ≡ Ok b → MakesFetchBy l m f page → ((x : A) → is_fetch (k x) ≡ false)
     → ((x : A) → IsWantedAccess l.sizes.words page (k x)) → AddsCallsBy m n r (λ x. k x ∷ []) → TriesCalls l n r (λ x. k x ∷ [])
 tries_adds_fetch {A} {B} l m n page f r k is fetches plain wants adds =
     by r (subst (λ (x : Result B Refused). MakesFetchBy l m x page) is fetches) adds
@@ -169,7 +169,7 @@ tries_adds_fetch {A} {B} l m n page f r k is fetches plain wants adds =
         record {
           same = both.same;
           sees = both.sees;
-          more = ap followed_call_kinds both.calls_are ∙ followed_call_kinds-append (calls l) (one ∷ two ∷ [])
+          more = ap call_kinds both.calls_are ∙ followed_call_kinds-append (calls l) (one ∷ two ∷ [])
               ∙ ap (λ ks. calls_made l ++ ks) (followed_call_kinds-one two (plain x));
           wanted = makes_more_wanted l n (one ∷ two ∷ []) both.same both.calls_are
               (wanted_access l.sizes.words page writers records words one two refl (wants x));
@@ -180,6 +180,6 @@ tries_adds_fetch {A} {B} l m n page f r k is fetches plain wants adds =
         let one = event l.number (Fetch writers page records words) in
         record {
           same = both.same;
-          none = ap followed_call_kinds both.calls_are ∙ followed_call_kinds-append (calls l) (one ∷ []) ∙ append-nil (calls_made l);
+          none = ap call_kinds both.calls_are ∙ followed_call_kinds-append (calls l) (one ∷ []) ∙ append-nil (calls_made l);
           uncut = both.uncut;
         }

@@ -23,21 +23,23 @@ use Rattle.journal.proofs.FromBase.Whole.{same_law}
 use Rattle.lrc_script.specs.declared.script.Instruction.{Instruction}
 use Rattle.lrc_script.specs.Lawful.{IsLawful}
 use Rattle.lrc_script.specs.Plan.{Plan}
-use Rattle.conformance.specs.Follows.{Follows, followed_calls, followed_call_kinds, followed_load, followed_plan_sizes}
+use Rattle.conformance.specs.Follows.{Follows, calls_of, call_kinds, load_of, plan_sizes}
 use Rattle.conformance.proofs.Recomputing.Recomputed.{recomputed_law, race_free_law}
 use Rattle.cluster.specs.Copies.Local.{Local}
 use Rattle.cluster.specs.Clusters.{SharedCluster}
 use Rattle.cluster.specs.Finishing.{AreAllToFinish, HasCallsToFinish, IsFinished, IsFinishingProcessor}
 use Rattle.lrc_report.specs.declared.report.Report.{Report}
 use Rattle.conformance.specs.CutInstructions.{HasNoCutInstruction}
-use Rattle.lrc_run.specs.FollowedReports.{HasFollowed, HaveFollowed, IsFollowedBeginning, IsReportAfter, IsReportWith}
+use Rattle.lrc_run.specs.FollowedReports.{EndsWithBlocks, HasFollowed, HaveFollowed, IsReportAfter, IsReportWith}
 use Rattle.lrc_run.specs.Laws.{RaceFreeReportLaw}
 use Rattle.conformance.specs.WantedFetches.{FetchesAreWanted}
 use Rattle.conformance.specs.Reports.{FetchesAreNeeded, ReportHasRace}
-use Rattle.lrc_run.specs.MakesCalls.{HaveMadeWalks, AreCallsWanted, MakesLoads, SeesMoreCalls, MakesWalk, calls_made, new_at_making_calls}
+use Rattle.lrc_run.specs.Turns.{HasSeenAll}
+use Rattle.lrc_run.specs.MakesCalls.{AreWalked, AreCallsWanted, MakesLoads, Walks, calls_made, new_at_call}
+use Rattle.lrc_run.proofs.EndingBlocks.{ends_before_loads, ends_with_blocks}
 
 -- one that walked is its cluster's
-pub followed_walked_of : (c : SharedCluster) (p : ℕ) (m : Local) (section : List Instruction) → MakesWalk (new_at_making_calls c p) m section
+pub followed_walked_of : (c : SharedCluster) (p : ℕ) (m : Local) (section : List Instruction) → Walks (new_at_call c p) m section
     → IsFinishingProcessor c p m
 followed_walked_of c p m section walks = record {
   lock = walks.makes.same.lock;
@@ -46,7 +48,7 @@ followed_walked_of c p m section walks = record {
 }
 
 -- it made its section and the closing barrier
-pub walk_followed : (c : SharedCluster) (p : ℕ) (m : Local) (section : List Instruction) → MakesWalk (new_at_making_calls c p) m section
+pub walk_followed : (c : SharedCluster) (p : ℕ) (m : Local) (section : List Instruction) → Walks (new_at_call c p) m section
     → HasFollowed section [] m
 walk_followed c p m section walks = record {
   own = walks.kinds;
@@ -63,15 +65,15 @@ pub loads_followed : (section : List Instruction) (m n : Local) (shown : List (�
 loads_followed section m n shown walked loads = record {
   own = walked.own;
   are = walked.are;
-  made_is = loads.more ∙ ap (λ ks. ks ++ map followed_load shown) walked.made_is
-      ∙ append_assoc walked.own (Arrive ∷ Depart ∷ []) (map followed_load shown);
+  made_is = loads.more ∙ ap (λ ks. ks ++ map load_of shown) walked.made_is
+      ∙ append_assoc walked.own (Arrive ∷ Depart ∷ []) (map load_of shown);
   wanted = loads.wanted walked.wanted;
   uncut = λ none. loads.uncut ∙ walked.uncut none;
 }
 
 -- a script's processor has a section
-pub walks_followed_at : (s : Plan) (c : SharedCluster) (ms : List Local) → IsLawful s → c.sizes ≡ followed_plan_sizes s → HaveMadeWalks c s.sections ms
-    → (p : ℕ) (m : Local) → slice_get ms p ≡ Some m → (section : List Instruction) × MakesWalk (new_at_making_calls c p) m section
+pub walks_followed_at : (s : Plan) (c : SharedCluster) (ms : List Local) → IsLawful s → c.sizes ≡ plan_sizes s → AreWalked c s.sections ms
+    → (p : ℕ) (m : Local) → slice_get ms p ≡ Some m → (section : List Instruction) × Walks (new_at_call c p) m section
 walks_followed_at s c ms lawful sizes walked p m here =
     let within = slice_get_within ms p m here in
     let one_each = lawful.but_uneven.one_each in
@@ -82,8 +84,8 @@ walks_followed_at s c ms lawful sizes walked p m here =
     (section, walked.each p section m (slice_get-get_or s.sections p [] below) here)
 
 -- a script has a processor 0
-pub first_followed_at : (s : Plan) (c : SharedCluster) (ms : List Local) (m : Local) → IsLawful s → c.sizes ≡ followed_plan_sizes s
-    → HaveMadeWalks c s.sections ms → m ≡ get_or ms 0 m → slice_get ms 0 ≡ Some m
+pub first_followed_at : (s : Plan) (c : SharedCluster) (ms : List Local) (m : Local) → IsLawful s → c.sizes ≡ plan_sizes s
+    → AreWalked c s.sections ms → m ≡ get_or ms 0 m → slice_get ms 0 ≡ Some m
 first_followed_at s c ms m lawful sizes walked is =
     let some = lawful.but_uneven.sizes.some_processors in
     let same = ap (λ (x : Sizes). x.processors) sizes in
@@ -92,7 +94,7 @@ first_followed_at s c ms m lawful sizes walked is =
 
 -- all have walked, and processor 0 has loaded what is shown
 pub have_followed : (s : Plan) (c : SharedCluster) (ms : List Local) (m n : Local) (shown : List (ℕ × ℕ)) → IsLawful s
-    → c.sizes ≡ followed_plan_sizes s → HaveMadeWalks c s.sections ms → slice_get ms 0 ≡ Some m → MakesLoads m n shown
+    → c.sizes ≡ plan_sizes s → AreWalked c s.sections ms → slice_get ms 0 ≡ Some m → MakesLoads m n shown
     → map (λ (x : ℕ × ℕ). x.0) shown ≡ s.shown → HaveFollowed s c (slice_set ms 0 n) shown
 have_followed s c ms m n shown lawful sizes walked at loads shows = record {
   lawful = lawful;
@@ -140,7 +142,7 @@ pub follows_all : (s : Plan) (c : SharedCluster) (ms : List Local) (shown : List
 follows_all s c ms shown h all has p section at = record {
   own = its.own;
   loads = cond (p == 0) shown [];
-  kinds_are = ap followed_call_kinds (ap (events_of h) (sym (all.all.each p m here).number) ∙ (has p m here).calls_are) ∙ its.made_is;
+  kinds_are = ap call_kinds (ap (events_of h) (sym (all.all.each p m here).number) ∙ (has p m here).calls_are) ∙ its.made_is;
   follows = its.are;
   addresses_are = shows (p == 0);
 }
@@ -154,10 +156,10 @@ follows_all s c ms shown h all has p section at = record {
         omega arith
 
     m : Local
-    m = get_or ms p (new_at_making_calls c p)
+    m = get_or ms p (new_at_call c p)
 
     here : slice_get ms p ≡ Some m
-    here = slice_get-get_or ms p (new_at_making_calls c p) within
+    here = slice_get-get_or ms p (new_at_call c p) within
 
     its : HasFollowed section (cond (p == 0) shown []) m
     its = all.each p section m at here
@@ -167,15 +169,15 @@ follows_all s c ms shown h all has p section at = record {
     shows false = refl
 
 -- a history with the calls of processors whose fetches are wanted fetches only what accesses want
-pub followed_needed_all : (s : Plan) (c : SharedCluster) (ms : List Local) (h : List Event) → c.sizes ≡ followed_plan_sizes s → AreAllToFinish c ms
+pub followed_needed_all : (s : Plan) (c : SharedCluster) (ms : List Local) (h : List Event) → c.sizes ≡ plan_sizes s → AreAllToFinish c ms
     → ((p : ℕ) (m : Local) → slice_get ms p ≡ Some m → HasCallsToFinish h m)
     → ((p : ℕ) (m : Local) → slice_get ms p ≡ Some m → AreCallsWanted m) → FetchesAreNeeded s h
 followed_needed_all s c ms h sizes all has wanted p less =
     let many = all.all in
     let same = ap (λ (x : Sizes). x.processors) sizes in
     let within : p < length ms = omega arith in
-    let m = get_or ms p (new_at_making_calls c p) in
-    let here = slice_get-get_or ms p (new_at_making_calls c p) within in
+    let m = get_or ms p (new_at_call c p) in
+    let here = slice_get-get_or ms p (new_at_call c p) within in
     let its = all.each p m here in
     subst₂ FetchesAreWanted (ap (λ (x : Sizes). x.words) (its.sizes ∙ sizes))
     (sym (has p m here).calls_are ∙ ap (events_of h) its.number) (wanted p m here)
@@ -199,7 +201,7 @@ needed_followed s c ms shown h all has = followed_needed_all s c ms h all.sizes 
 pub first_followed_calls : (s : Plan) (c : SharedCluster) (ms : List Local) (shown : List (ℕ × ℕ)) (h : List Event)
     → HaveFollowed s c ms shown
     → ((p : ℕ) (m : Local) → slice_get ms p ≡ Some m → HasCallsToFinish h m)
-    → (own : List Kind) × (followed_calls h 0 ≡ own ++ Arrive ∷ Depart ∷ map followed_load shown)
+    → (own : List Kind) × (calls_of h 0 ≡ own ++ Arrive ∷ Depart ∷ map load_of shown)
 first_followed_calls s c ms shown h all has =
     let sizes = all.lawful.but_uneven.sizes.some_processors in
     let same = ap (λ (x : Sizes). x.processors) all.sizes in
@@ -207,11 +209,11 @@ first_followed_calls s c ms shown h all has =
     let one_each = all.lawful.but_uneven.one_each in
     let some : 0 < length ms = omega arith in
     let listed : 0 < length s.sections = omega arith in
-    let m = get_or ms 0 (new_at_making_calls c 0) in
-    let here = slice_get-get_or ms 0 (new_at_making_calls c 0) some in
+    let m = get_or ms 0 (new_at_call c 0) in
+    let here = slice_get-get_or ms 0 (new_at_call c 0) some in
     let section = get_or s.sections 0 [] in
     let its = all.each 0 section m (slice_get-get_or s.sections 0 [] listed) here in
-    (its.own, ap followed_call_kinds (ap (events_of h) (sym (all.all.each 0 m here).number) ∙ (has 0 m here).calls_are) ∙ its.made_is)
+    (its.own, ap call_kinds (ap (events_of h) (sym (all.all.each 0 m here).number) ∙ (has 0 m here).calls_are) ∙ its.made_is)
 
 -- by the first race of what is left from its base, if there is one, the history has a race
 report_has_race : (s : Sizes) (b : Base) (c j : List Event) (o : Option (ℕ × ℕ)) → BaseSaysTheSame s b c j
@@ -288,7 +290,7 @@ report_is s c ms r o all finished race racy messages_are records_are words_are =
       shown_addresses = all.addresses_are;
       replies = record {
         front = first.0 ++ Arrive ∷ Depart ∷ [];
-        ends = first.1 ∙ sym (append_assoc first.0 (Arrive ∷ Depart ∷ []) (map followed_load r.shown.items));
+        ends = first.1 ∙ sym (append_assoc first.0 (Arrive ∷ Depart ∷ []) (map load_of r.shown.items));
       };
       messages_are = counts (λ e. messages_of e.kind) taken left r.traffic.messages r.journal.base.spent.messages
           messages_are
@@ -300,6 +302,7 @@ report_is s c ms r o all finished race racy messages_are records_are words_are =
     };
   };
   each = finished.each;
+  ends = ends_with_blocks s c ms r.journal all.sizes all.all finished;
 }
   where
     h : List Event
@@ -317,7 +320,7 @@ report_is s c ms r o all finished race racy messages_are records_are words_are =
     base : IsBaseOf r.journal.processors r.journal.addresses taken r.journal.base
     base = finished.journal.holds.base
 
-    well_formed : WellFormed (followed_plan_sizes s) h
+    well_formed : WellFormed (plan_sizes s) h
     well_formed = subst (λ (x : Sizes). WellFormed x h) all.sizes finished.faithful.well_formed
 
     same : BaseSaysTheSame c.sizes r.journal.base taken left
@@ -328,22 +331,15 @@ report_is s c ms r o all finished race racy messages_are records_are words_are =
     follows : Follows s h
     follows = follows_all s c ms r.shown.items h all finished.each
 
-    first : (own : List Kind) × (followed_calls h 0 ≡ own ++ Arrive ∷ Depart ∷ map followed_load r.shown.items)
+    first : (own : List Kind) × (calls_of h 0 ≡ own ++ Arrive ∷ Depart ∷ map load_of r.shown.items)
     first = first_followed_calls s c ms r.shown.items h all finished.each
-
--- what goes on from more goes on from less
-pub followed_begins_less : (m x : Local) (h : List Event) → SeesMoreCalls m x → IsFollowedBeginning x.seen h → IsFollowedBeginning m.seen h
-followed_begins_less m x h sees begins = (
-  sees.0 ++ begins.0,
-  begins.1 ∙ ap (λ es. es ++ begins.0) sees.1 ∙ append_assoc m.seen sees.0 begins.0,
-)
 
 -- of the processors as they were before processor 0 loaded what is shown
 pub report_after : (s : Plan) (c : SharedCluster) (ms : List Local) (m n : Local) (r : Report) → IsLawful s
-    → c.sizes ≡ followed_plan_sizes s → HaveMadeWalks c s.sections ms → slice_get ms 0 ≡ Some m → MakesLoads m n r.shown.items
+    → c.sizes ≡ plan_sizes s → AreWalked c s.sections ms → slice_get ms 0 ≡ Some m → MakesLoads m n r.shown.items
     → IsReportWith s r (slice_set ms 0 n) → IsReportAfter s r ms
 report_after s c ms m n r lawful sizes walked at loads told =
-    record { is = told.is; begin = begin; calls_are = calls_are }
+    record { is = told.is; calls_are = calls_are; ends = ends }
   where
     h : List Event
     h = told.is.history
@@ -351,33 +347,35 @@ report_after s c ms m n r lawful sizes walked at loads told =
     last : HasCallsToFinish h n
     last = told.each 0 n (slice_get-set_same ms 0 n (slice_get_within ms 0 m at))
 
-    begin : (p : ℕ) (x : Local) → slice_get ms p ≡ Some x → IsFollowedBeginning x.seen h
-    begin p x here = elim (cases_eq p 0) [
-      | inl is ↦ (let Q : ℕ → Type 0 = λ q. slice_get ms q ≡ Some x in
-          let P : Local → Type 0 = λ y. IsFollowedBeginning y.seen h in
-          subst P (same_Some m x (sym at ∙ subst Q is here)) (followed_begins_less m n h loads.sees last.begins))
-      | inr isnt ↦ (told.each p x (slice_get-set_other ms 0 p n isnt ∙ here)).begins
-    ]
+    number : (p : ℕ) (x : Local) → slice_get ms p ≡ Some x → x.number ≡ p
+    number p x here =
+        let w = walks_followed_at s c ms lawful sizes walked p x here in (followed_walked_of c p x w.0 w.1).number
 
-    first_are : followed_calls h 0 ≡ calls_made m ++ map followed_load r.shown.items
+    ends : HasSeenAll ms 0 → EndsWithBlocks s ms h
+    ends ahead =
+        ends_before_loads s ms m n (map load_of r.shown.items) h lawful.but_uneven.sizes.some_processors
+        (walked.all ∙ ap (λ (x : Sizes). x.processors) sizes) number at loads
+        (λ k e here. (told.is.tells.well_formed k e here).processor) ahead told.ends
+
+    first_are : calls_of h 0 ≡ calls_made m ++ map load_of r.shown.items
     first_are =
         let w = walks_followed_at s c ms lawful sizes walked 0 m at in
         let number = loads.same.number ∙ (followed_walked_of c 0 m w.0 w.1).number in
-        ap followed_call_kinds (ap (events_of h) (sym number) ∙ last.calls_are) ∙ loads.more
+        ap call_kinds (ap (events_of h) (sym number) ∙ last.calls_are) ∙ loads.more
 
     calls_are : (p : ℕ) (x : Local) → slice_get ms p ≡ Some x
-        → followed_calls h p ≡ calls_made x ++ cond (p == 0) (map followed_load r.shown.items) []
+        → calls_of h p ≡ calls_made x ++ cond (p == 0) (map load_of r.shown.items) []
     calls_are p x here = elim (cases_eq p 0) [
       | inl is ↦ (let Q : ℕ → Type 0 = λ q. slice_get ms q ≡ Some x in
           let same = same_Some m x (sym at ∙ subst Q is here) in
-          let P : ℕ → Type 0 = λ q. followed_calls h q ≡ calls_made x ++ cond (q == 0) (map followed_load r.shown.items) [] in
-          let R : Local → Type 0 = λ y. followed_calls h 0 ≡ calls_made y ++ map followed_load r.shown.items in
+          let P : ℕ → Type 0 = λ q. calls_of h q ≡ calls_made x ++ cond (q == 0) (map load_of r.shown.items) [] in
+          let R : Local → Type 0 = λ y. calls_of h 0 ≡ calls_made y ++ map load_of r.shown.items in
           subst P (sym is) (subst R same first_are))
       | inr isnt ↦ (let w = walks_followed_at s c ms lawful sizes walked p x here in
           let number = (followed_walked_of c p x w.0 w.1).number in
           let own = told.each p x (slice_get-set_other ms 0 p n isnt ∙ here) in
-          let none = cond-false (p == 0) (map followed_load r.shown.items) [] (ne_eqb p 0 isnt) in
-          ap followed_call_kinds (ap (events_of h) (sym number) ∙ own.calls_are) ∙ sym (append-nil (calls_made x))
+          let none = cond-false (p == 0) (map load_of r.shown.items) [] (ne_eqb p 0 isnt) in
+          ap call_kinds (ap (events_of h) (sym number) ∙ own.calls_are) ∙ sym (append-nil (calls_made x))
           ∙ ap (λ ks. calls_made x ++ ks) (sym none))
     ]
 

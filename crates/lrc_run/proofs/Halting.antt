@@ -21,7 +21,7 @@ use Rattle.lrc_script.specs.declared.script.Instruction.TheVariants.{Barrier, Cu
 use Rattle.lrc_script.specs.Lawful.{IsLawful}
 use Rattle.lrc_script.specs.Plan.{Plan}
 use Rattle.conformance.specs.Begins.{BeginsScript, BeginsSection}
-use Rattle.conformance.specs.Follows.{followed_calls, followed_call_kinds, followed_plan_sizes}
+use Rattle.conformance.specs.Follows.{calls_of, call_kinds, plan_sizes}
 use Rattle.conformance.specs.Instructions.{AreEventsOfInstruction, AreEventsOfInstructions}
 use Rattle.conformance.proofs.Begins.{begins_after, begins_front, begins_whole, begins_within}
 use Rattle.cluster.specs.Copies.Local.{Local}
@@ -34,7 +34,8 @@ use Rattle.conformance.specs.Turns.{instruction_at_turn}
 use Rattle.lrc_run.specs.FollowedReports.{IsHaltFollowedWith}
 use Rattle.lrc_run.specs.Steps.{AreAtSteps, IsAtStep}
 use Rattle.lrc_run.specs.Turns.{SeesDeadlockAtTurns}
-use Rattle.lrc_run.specs.MakesCalls.{AreCallsWanted, calls_made, new_at_making_calls}
+use Rattle.lrc_run.specs.MakesCalls.{AreCallsWanted, calls_made, new_at_call}
+use Rattle.lrc_run.proofs.EndingBlocks.{ends_with_blocks}
 use Rattle.lrc_run.proofs.FollowedReports.{followed_needed_all, followed_no_sum, followed_nothing_of}
 use Rattle.lrc_run.proofs.Stepping.{stepping_same_after}
 
@@ -43,7 +44,7 @@ halting_cut_of_front : (n : ℕ) (section : List Instruction) → HasCutInstruct
 halting_cut_of_front n section cut = (cut.0, slice_get-from_take section n cut.0 Cut cut.1)
 
 -- whoever is on its way cut nothing off but by a cut of its section
-halt_uncut : (c : SharedCluster) (p : ℕ) (m : Local) (section : List Instruction) (at : TurnProgress) → IsAtStep (new_at_making_calls c p) m section at
+halt_uncut : (c : SharedCluster) (p : ℕ) (m : Local) (section : List Instruction) (at : TurnProgress) → IsAtStep (new_at_call c p) m section at
     → ¬ HasCutInstruction section → m.own_cut ≡ 0
 halt_uncut c p m section (Next n) is none = is.0.makes.uncut (λ cut. none (halting_cut_of_front n section cut))
 halt_uncut c p m section (Waits n) is none =
@@ -52,7 +53,7 @@ halt_uncut c p m section Passed is none = is.makes.uncut none
 
 -- and its fetches are wanted
 halt_wanted : (c : SharedCluster) (p : ℕ) (m : Local) (section : List Instruction) (at : TurnProgress)
-    → IsAtStep (new_at_making_calls c p) m section at → AreCallsWanted m
+    → IsAtStep (new_at_call c p) m section at → AreCallsWanted m
 halt_wanted c p m section (Next n) is = is.0.makes.wanted tt
 halt_wanted c p m section (Waits n) is = is.0.begins.makes.wanted (is.0.done.makes.wanted tt)
 halt_wanted c p m section Passed is = is.makes.wanted tt
@@ -80,7 +81,7 @@ halt_waits_begins section shown n kinds first last within are two = cases (nat_l
 
 -- and what it made begins its section
 halt_begins : (c : SharedCluster) (p : ℕ) (m : Local) (section : List Instruction) (shown : List ℕ) (at : TurnProgress)
-    → IsAtStep (new_at_making_calls c p) m section at → BeginsSection section shown (calls_made m)
+    → IsAtStep (new_at_call c p) m section at → BeginsSection section shown (calls_made m)
 halt_begins c p m section shown (Next n) is =
     let P : List Kind → Type 0 = BeginsSection section shown in
     subst P (sym is.0.makes.more) (begins_after section shown n is.0.kinds is.0.are)
@@ -95,10 +96,10 @@ halt_begins c p m section shown (Waits n) is =
     begun.begins.are)
 
 -- each of the script's processors has a section, and is somewhere on its way through it
-halt_journal_at : (s : Plan) (c : SharedCluster) (ms : List Local) (all : List TurnProgress) → IsLawful s → c.sizes ≡ followed_plan_sizes s
+halt_journal_at : (s : Plan) (c : SharedCluster) (ms : List Local) (all : List TurnProgress) → IsLawful s → c.sizes ≡ plan_sizes s
     → AreAtSteps c s.sections ms all → (p : ℕ) (m : Local) → slice_get ms p ≡ Some m
     → (section : List Instruction) × (at : TurnProgress) × (slice_get s.sections p ≡ Some section)
-    × IsAtStep (new_at_making_calls c p) m section at
+    × IsAtStep (new_at_call c p) m section at
 halt_journal_at s c ms all lawful sizes way p m here =
     let within = slice_get_within ms p m here in
     let one_each = lawful.but_uneven.one_each in
@@ -114,14 +115,14 @@ halt_journal_at s c ms all lawful sizes way p m here =
     (section, at, its, way.each p section m at its here there)
 
 -- they are all of the cluster
-pub halted_all : (s : Plan) (c : SharedCluster) (ms : List Local) (all : List TurnProgress) → IsLawful s → c.sizes ≡ followed_plan_sizes s
+pub halted_all : (s : Plan) (c : SharedCluster) (ms : List Local) (all : List TurnProgress) → IsLawful s → c.sizes ≡ plan_sizes s
     → AreAtSteps c s.sections ms all → AreAllToFinish c ms
 halted_all s c ms all lawful sizes way = record { all = way.many; each = each }
   where
     each : (p : ℕ) (m : Local) → slice_get ms p ≡ Some m → IsFinishingProcessor c p m
     each p m here =
         let is = halt_journal_at s c ms all lawful sizes way p m here in
-        let same = stepping_same_after (new_at_making_calls c p) m is.0 is.1 is.3 in
+        let same = stepping_same_after (new_at_call c p) m is.0 is.1 is.3 in
         record { lock = same.lock; number = same.number; sizes = same.sizes }
 
 -- nothing comes after a deadlock
@@ -136,7 +137,7 @@ halt_deadlock_last s h front well_formed (e ∷ rest, is) stuck =
     absurd (deadlock_law s front e stuck (subst (λ es. MayFollow s es e) before (well_formed (length front) e at)))
 
 -- the journal of a finished cluster whose processors are on their way
-pub halted_is : (s : Plan) (c : SharedCluster) (ms : List Local) (all : List TurnProgress) (j : Log) → IsLawful s → c.sizes ≡ followed_plan_sizes s
+pub halted_is : (s : Plan) (c : SharedCluster) (ms : List Local) (all : List TurnProgress) (j : Log) → IsLawful s → c.sizes ≡ plan_sizes s
     → AreAtSteps c s.sections ms all → SeesDeadlockAtTurns ms → IsFinished c.sizes ms j → IsHaltFollowedWith s j ms
 halted_is s c ms all j lawful sizes way stuck finished = record {
   is = record {
@@ -154,20 +155,21 @@ halted_is s c ms all j lawful sizes way stuck finished = record {
     deadlock = deadlock;
   };
   each = finished.each;
+  ends = ends_with_blocks s c ms j sizes (halted_all s c ms all lawful sizes way) finished;
 }
   where
     h : List Event
     h = finished.history
 
-    well_formed : WellFormed (followed_plan_sizes s) h
+    well_formed : WellFormed (plan_sizes s) h
     well_formed = subst (λ (x : Sizes). WellFormed x h) sizes finished.faithful.well_formed
 
-    deadlock : IsDeadlock (followed_plan_sizes s) h
+    deadlock : IsDeadlock (plan_sizes s) h
     deadlock =
         let m = stuck.0 in
         let own = (halted_all s c ms all lawful sizes way).each 0 m stuck.1 in
         let P : Sizes → Type 0 = λ x. IsDeadlock x m.seen in
-        halt_deadlock_last (followed_plan_sizes s) h m.seen well_formed (finished.each 0 m stuck.1).begins
+        halt_deadlock_last (plan_sizes s) h m.seen well_formed (finished.each 0 m stuck.1).begins
         (subst P (own.sizes ∙ sizes) stuck.2)
 
     own : HasNoCutInstruction s → (p : ℕ) (m : Local) → slice_get ms p ≡ Some m → m.own_cut ≡ 0
@@ -189,13 +191,13 @@ halted_is s c ms all j lawful sizes way stuck finished = record {
         let long = way.long in
         let within : p < length ms = omega arith in
         let known : p < length all = omega arith in
-        let m = get_or ms p (new_at_making_calls c p) in
-        let here = slice_get-get_or ms p (new_at_making_calls c p) within in
+        let m = get_or ms p (new_at_call c p) in
+        let here = slice_get-get_or ms p (new_at_call c p) within in
         let there = slice_get-get_or all p Passed known in
         let shown = cond (p == 0) s.shown [] in
         let is = halt_begins c p m section shown (get_or all p Passed)
         (way.each p section m (get_or all p Passed) its here there) in
         let number = ((halted_all s c ms all lawful sizes way).each p m here).number in
-        let made_is : followed_calls h p ≡ calls_made m =
-        ap followed_call_kinds (ap (events_of h) (sym number) ∙ (finished.each p m here).calls_are) in
+        let made_is : calls_of h p ≡ calls_made m =
+        ap call_kinds (ap (events_of h) (sym number) ∙ (finished.each p m here).calls_are) in
         subst (BeginsSection section shown) (sym made_is) is

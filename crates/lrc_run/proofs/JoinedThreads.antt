@@ -8,7 +8,7 @@ use Rattle.cluster.specs.Copies.Local.{Local}
 use Rattle.cluster.specs.Clusters.{SharedCluster, IsNewCluster}
 use Rattle.conformance.specs.declared.cause.Cause.{Cause}
 use Rattle.lrc_run.specs.Threads.{ThreadErrand, AreThreadResults, AreThreadResultsOf, AreThreadsStarted, IsThreadResultOf}
-use Rattle.lrc_run.specs.MakesCalls.{HaveMadeWalks, MakesWalk, new_at_making_calls}
+use Rattle.lrc_run.specs.MakesCalls.{AreWalked, Walks, new_at_call}
 
 -- the item behind a front
 pub behind : {A : Type 0} (front rest all : List A) (x : A) → front ++ x ∷ rest ≡ all
@@ -76,10 +76,10 @@ joined_outcomes_of c ms sections threads outcomes new started are = record {
   where
     walks : (p : ℕ) (section : List Instruction) (m : Local) → slice_get sections p ≡ Some section
         → slice_get outcomes p ≡ Some (Ok m) → (thread : Option ThreadErrand) → slice_get threads p ≡ Some thread
-        → MakesWalk (new_at_making_calls c p) m section
+        → Walks (new_at_call c p) m section
     walks p section m at there None is = absurd (are.each p None (Ok m) is there)
     walks p section m at there (Some e) is =
-        subst₂ (λ old s. MakesWalk old m s) (new.each p e.processor (started.processors p e is))
+        subst₂ (λ old s. Walks old m s) (new.each p e.processor (started.processors p e is))
         (same_Some e.section section (sym (started.sections_are p e is) ∙ at)) (are.each p (Some e) (Ok m) is there)
 
 abbrev joined_all_ok : List Local → List (Result Local Cause)
@@ -88,7 +88,7 @@ joined_all_ok ms = map Ok ms
 -- where none failed, all have walked
 pub joined_all_walked : (c : SharedCluster) (sections : List (List Instruction)) (outcomes : List (Result Local Cause))
     (ms : List Local)
-    → AreThreadResults c sections outcomes → map Ok ms ≡ outcomes → HaveMadeWalks c sections ms
+    → AreThreadResults c sections outcomes → map Ok ms ≡ outcomes → AreWalked c sections ms
 joined_all_walked c sections outcomes ms are is = record {
   all = sym (oks_length ms) ∙ ap (λ (os : List (Result Local Cause)). length os) is ∙ are.all;
   each = λ p section m at there. are.each p section m at

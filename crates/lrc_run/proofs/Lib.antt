@@ -3,6 +3,9 @@ pub mod Adding
 pub mod Calling
 pub mod Stepping
 pub mod Turning
+pub mod MakingHistory
+pub mod EndingBlocks
+pub mod CatchingUp
 pub mod Waiting
 pub mod Exchanging
 pub mod FollowedReports

@@ -3,7 +3,7 @@ use Rattle.std.proofs.Common.{ℕ, ◌≡◌, ◌≤◌, Some, List, length, sli
 use Rattle.std.specs.Prelude.{◌↔◌}
 use Rattle.journal.specs.Sizes.{Sizes}
 use Rattle.lrc_script.specs.Plan.{Plan}
-use Rattle.conformance.specs.Follows.{followed_plan_sizes}
+use Rattle.conformance.specs.Follows.{plan_sizes}
 use Rattle.conformance.specs.Schedules.{IsScheduleFault}
 use Rattle.conformance.specs.declared.progress.TurnProgress.{TurnProgress}
 use Rattle.conformance.specs.declared.schedule.Misfit.TheVariants.{NoProcessor}
@@ -28,7 +28,7 @@ scheduling_turn_fault s turns n place p (fault.Misfit turn misfit) many at told 
 
 -- where there are so many processors
 pub scheduling_fault_at : (s : Plan) (c : SharedCluster) (turns : List ℕ) (ms : List Local) (all : List TurnProgress) (place p : ℕ)
-    (e : ScheduleFault) (n : ℕ) → n ≡ length ms → c.sizes ≡ followed_plan_sizes s → AreAtSteps c s.sections ms all
+    (e : ScheduleFault) (n : ℕ) → n ≡ length ms → c.sizes ≡ plan_sizes s → AreAtSteps c s.sections ms all
     → slice_get turns place ≡ Some p → IsScheduledTurnFault n place p e → IsScheduleFault s turns e
 scheduling_fault_at s c turns ms all place p e n long sizes way at told =
     scheduling_turn_fault s turns n place p e (long ∙ way.many ∙ ap (λ (x : Sizes). x.processors) sizes) at told

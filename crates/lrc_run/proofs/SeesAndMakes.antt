@@ -12,7 +12,7 @@ use Rattle.journal.specs.Waits.{awaited}
 use Rattle.lrc_script.specs.declared.script.Instruction.{Instruction}
 use Rattle.lrc_script.specs.declared.script.Instruction.TheVariants.{Barrier, Cut}
 use Rattle.conformance.specs.Instructions.{AreEventsOfInstruction}
-use Rattle.conformance.specs.Follows.{is_followed_fetch, followed_call_kinds}
+use Rattle.conformance.specs.Follows.{is_fetch, call_kinds}
 use Rattle.conformance.proofs.Calls.{followed_call_kinds-append, followed_call_kinds-one}
 use Rattle.conformance.proofs.Instructions.{NoInstructionFetches, instructions-push, instruction_no_fetch}
 use Rattle.book.specs.declared.refused.Refused.{Refused}
@@ -26,7 +26,7 @@ use Rattle.cluster.specs.Taking.{IsTakeLate, IsTakeDone, IsTakingCall, taking_aw
 use Rattle.conformance.specs.CutInstructions.{HasCutInstruction}
 use Rattle.conformance.specs.WantedFetches.{FetchesAreWanted}
 use Rattle.conformance.proofs.WantedFetches.{wanted-append, wanted_one}
-use Rattle.lrc_run.specs.MakesCalls.{AreCallsWanted, calls_made, MadeCalls, MakesBut, SeesMoreCalls, TriesCalls, MadeInstruction, BeginsCall, MakesItsWay, TriedToMakeTake, MakesAll, MakesWalk}
+use Rattle.lrc_run.specs.MakesCalls.{AreCallsWanted, calls_made, MadeCalls, MakesBut, SeesMoreCalls, TriesCalls, DidInstruction, BeginsCall, IsOnItsWay, TriedTake, MakesAll, Walks}
 
 pub sees_same_processor : (l m n : Local) → IsSameProcessorOfCall l m → IsSameProcessorOfCall m n → IsSameProcessorOfCall l n
 sees_same_processor l m n a b = record { lock = b.lock ∙ a.lock; number = b.number ∙ a.number; sizes = b.sizes ∙ a.sizes }
@@ -73,18 +73,18 @@ pub makes_same : (m n : Local) → IsSameProcessorOfCall m n → SeesMoreCalls m
 makes_same m n same sees e uncut = record {
   same = same;
   sees = sees;
-  more = ap followed_call_kinds e ∙ sym (append-nil (calls_made m));
+  more = ap call_kinds e ∙ sym (append-nil (calls_made m));
   wanted = makes_same_wanted m n same e;
   uncut = uncut;
 }
 
 -- one more event is one more call
-pub makes_one : (m n : Local) (k : Kind) → is_followed_fetch k ≡ false → IsSameProcessorOfCall m n → SeesMoreCalls m n
+pub makes_one : (m n : Local) (k : Kind) → is_fetch k ≡ false → IsSameProcessorOfCall m n → SeesMoreCalls m n
     → calls n ≡ calls m ++ event m.number k ∷ [] → n.own_cut ≡ m.own_cut → MadeCalls m n (k ∷ [])
 makes_one m n k is same sees e uncut = record {
   same = same;
   sees = sees;
-  more = ap followed_call_kinds e ∙ followed_call_kinds-append (calls m) (event m.number k ∷ [])
+  more = ap call_kinds e ∙ followed_call_kinds-append (calls m) (event m.number k ∷ [])
       ∙ ap (λ ks. calls_made m ++ ks) (followed_call_kinds-one (event m.number k) is);
   wanted = makes_more_wanted m n (event m.number k ∷ []) same e (wanted_one m.sizes.words (event m.number k) is);
   uncut = uncut;
@@ -168,7 +168,7 @@ sees_same_if_tried m n (Err e) kinds h = h.same
 
 -- a call that closes the interval was made, the block is handed in, and what comes next is awaited
 pub makes_closing_call : {A : Type 0} {first : Option Refused} {many : ℕ} {absent : Local → Type 0} (k : Kind)
-    (m n : Local) (r : Result A Refused) {x : A} → is_followed_fetch k ≡ false → r ≡ Ok x
+    (m n : Local) (r : Result A Refused) {x : A} → is_fetch k ≡ false → r ≡ Ok x
     → IsCall first many absent (IsClosedBy k) (event m.number k ∷ []) m n (result_err r)
     → MadeCalls m n (k ∷ []) × (n.block ≡ []) × (n.awaits ≡ awaited k)
 makes_closing_call {A} {first} {many} {absent} k m n r {x} plain is call =
@@ -188,22 +188,23 @@ makes_beginning_by k last i m n are next calls_made =
 
 -- or done
 pub makes_instruction_by : (k : Kind) (i : Instruction) (m n : Local) → AreEventsOfInstruction i (k ∷ [])
-    → MadeCalls m n (k ∷ []) × (n.block ≡ []) × (n.awaits ≡ awaited k) → MadeInstruction m n i
-makes_instruction_by k i m n are calls_made = record { kinds = k ∷ []; are = are; makes = makes_but calls_made.0 }
+    → MadeCalls m n (k ∷ []) × (n.block ≡ []) × (n.awaits ≡ awaited k) → DidInstruction m n i
+makes_instruction_by k i m n are calls_made =
+    record { kinds = k ∷ []; are = are; makes = makes_but calls_made.0; handed = λ _. calls_made.1 }
 
 -- of two kinds that are no fetches the last one isn't
-makes_no_fetch_last : (first last : Kind) → NoInstructionFetches (first ∷ last ∷ []) → is_followed_fetch last ≡ false
-makes_no_fetch_last first last none = cases (is_followed_fetch first) (is_followed_fetch last) refl refl none
+makes_no_fetch_last : (first last : Kind) → NoInstructionFetches (first ∷ last ∷ []) → is_fetch last ≡ false
+makes_no_fetch_last first last none = cases (is_fetch first) (is_fetch last) refl refl none
   where
-    cases : (f l : Bool) → is_followed_fetch first ≡ f → is_followed_fetch last ≡ l
+    cases : (f l : Bool) → is_fetch first ≡ f → is_fetch last ≡ l
         → cond (not f) (first ∷ cond (not l) (last ∷ []) []) (cond (not l) (last ∷ []) []) ≡ first ∷ last ∷ []
-        → is_followed_fetch last ≡ false
+        → is_fetch last ≡ false
     cases f false ef el e = el
     cases true true ef el e = absurd (cc)
     cases false true ef el e = absurd (cc)
 
 -- an instruction's events are no fetches, its last one too
-pub makes_last_no_fetch : (i : Instruction) (first last : Kind) → AreEventsOfInstruction i (first ∷ last ∷ []) → is_followed_fetch last ≡ false
+pub makes_last_no_fetch : (i : Instruction) (first last : Kind) → AreEventsOfInstruction i (first ∷ last ∷ []) → is_fetch last ≡ false
 makes_last_no_fetch i first last are = makes_no_fetch_last first last (instruction_no_fetch i (first ∷ last ∷ []) are)
 
 -- why a take is refused before it enters is never that it comes too early
@@ -230,13 +231,14 @@ sees_take_inside m n None is call = elim (call.err NotYet is refl) [
 
 -- a take of what hasn't come
 pub sees_nothing_taken : {A : Type 0} (m n : Local) (r : Result A Refused) → r ≡ Err NotYet
-    → IsTakingCall m n (result_err r) → TriedToMakeTake m n false
+    → IsTakingCall m n (result_err r) → TriedTake m n false
 sees_nothing_taken {A} m n r is call =
     let refused = subst (λ (x : Result A Refused). IsTakingCall m n (result_err x)) is call in
     let inside = sees_take_inside m n (refusal_or_spent (take_refusal m) m) refl refused in
     record {
       same = refused.same;
       sees = sees_refused m n inside.entered;
+      block_is = ap (λ (l : Local). l.block) inside.entered.after.same;
       yes = λ not. absurd (cc);
       no = λ not. record {
         calls_are = refused.kept (λ none. cc);
@@ -249,26 +251,28 @@ sees_nothing_taken {A} m n r is call =
 
 -- and of what has
 pub sees_taken_all : {A : Type 0} (m n : Local) (r : Result A Refused) {x : A} → r ≡ Ok x
-    → IsTakingCall m n (result_err r) → TriedToMakeTake m n true
+    → IsTakingCall m n (result_err r) → TriedTake m n true
 sees_taken_all {A} m n r {x} is call =
     let done = call.ok (rw is refl) in
     record {
       same = call.same;
       sees = sees_call (λ a b taken. sees_taken a b taken) call;
+      block_is = ap (λ (l : Local). l.block) done.0.after.after;
       yes = λ yes. done.2;
       no = λ no. absurd (cc);
       uncut = call.uncut;
     }
 
 -- what was begun is done by the take that finds what it awaits, and begun still by one that doesn't
-pub makes_its_way : (l m n : Local) (i : Instruction) (taken : Bool) → BeginsCall l m i → TriedToMakeTake m n taken
-    → MakesItsWay l n i taken
+pub makes_its_way : (l m n : Local) (i : Instruction) (taken : Bool) → BeginsCall l m i → TriedTake m n taken
+    → IsOnItsWay l n i taken
 makes_its_way l m n i true begun took = record {
   kinds = begun.first ∷ begun.last ∷ [];
   are = begun.are;
   makes = makes_but (makes_then l m n (begun.first ∷ []) (begun.last ∷ []) begun.makes
       (makes_one m n begun.last (makes_last_no_fetch i begun.first begun.last begun.are) took.same took.sees last
       took.uncut));
+  handed = λ _. took.block_is ∙ begun.handed;
 }
   where
     last : calls n ≡ calls m ++ event m.number begun.last ∷ []
@@ -298,7 +302,7 @@ makes_last_cut : (is : List Instruction) (i : Instruction) → i ≡ Cut → Has
 makes_last_cut is i cut = (length is, slice_get-last is i ∙ ap Some cut)
 
 -- and one more
-pub makes_all_more : (l m n : Local) (is : List Instruction) (i : Instruction) → MakesAll l m is → MadeInstruction m n i
+pub makes_all_more : (l m n : Local) (is : List Instruction) (i : Instruction) → MakesAll l m is → DidInstruction m n i
     → MakesAll l n (is ++ i ∷ [])
 makes_all_more l m n is i all one = record {
   kinds = all.kinds ++ one.kinds;
@@ -307,7 +311,7 @@ makes_all_more l m n is i all one = record {
 }
 
 -- a section and then a barrier
-pub makes_walk_by : (l m n : Local) (section : List Instruction) → MakesAll l m section → MadeInstruction m n Barrier → MakesWalk l n section
+pub makes_walk_by : (l m n : Local) (section : List Instruction) → MakesAll l m section → DidInstruction m n Barrier → Walks l n section
 makes_walk_by l m n section all last = record {
   kinds = all.kinds;
   are = all.are;
@@ -317,6 +321,6 @@ makes_walk_by l m n section all last = record {
 }
 
 pub makes_walk_where : {A E : Type 0} (l m n : Local) (section : List Instruction) (r : Result A E) → MakesAll l m section
-    → OnOk r (MadeInstruction m n Barrier) → OnOk r (MakesWalk l n section)
+    → OnOk r (DidInstruction m n Barrier) → OnOk r (Walks l n section)
 makes_walk_where l m n section (Ok x) all last = makes_walk_by l m n section all last
 makes_walk_where l m n section (Err e) all last = tt

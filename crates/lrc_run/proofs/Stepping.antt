@@ -14,7 +14,7 @@ use Rattle.lrc_script.specs.declared.script.Instruction.{Instruction}
 use Rattle.lrc_script.specs.declared.script.Instruction.TheVariants.{Barrier}
 use Rattle.lrc_script.specs.Lawful.{IsLawful}
 use Rattle.lrc_script.specs.Plan.{Plan, plan_sections}
-use Rattle.conformance.specs.Follows.{followed_plan_sizes}
+use Rattle.conformance.specs.Follows.{plan_sizes}
 use Rattle.cluster.specs.Copies.Local.{Local}
 use Rattle.cluster.specs.Calls.{IsSameProcessorOfCall}
 use Rattle.cluster.specs.Clusters.{IsNewCluster, SharedCluster}
@@ -22,13 +22,13 @@ use Rattle.conformance.specs.declared.progress.TurnProgress.{TurnProgress}
 use Rattle.conformance.specs.declared.progress.TurnProgress.TheVariants.{Next, Waits, Passed}
 use Rattle.conformance.specs.Turns.{instruction_at_turn, progress_after_turn}
 use Rattle.lrc_run.specs.Steps.{AreAtSteps, IsAtStep}
-use Rattle.lrc_run.specs.MakesCalls.{HaveMadeWalks, MakesAll, MadeInstruction, MakesItsWay, TriedToMakeTake, MakesWalk, new_at_making_calls}
+use Rattle.lrc_run.specs.MakesCalls.{AreWalked, MakesAll, DidInstruction, IsOnItsWay, TriedTake, Walks, new_at_call}
 use Rattle.lrc_run.proofs.SeesAndMakes.{makes_all_more, makes_all_none, makes_its_way, sees_same_processor, makes_walk_by}
 
 -- after instruction k was done, or begun
 pub stepping_after_instruction : (l m n : Local) (section : List Instruction) (k : ℕ) (done : Bool)
     → MakesAll l m (take k section)
-    → k ≤ length section → MakesItsWay m n (instruction_at_turn section k) done
+    → k ≤ length section → IsOnItsWay m n (instruction_at_turn section k) done
     → IsAtStep l n section (progress_after_turn section k done)
 stepping_after_instruction l m n section k false all within way = (record { between = m; done = all; begins = way }, within)
 stepping_after_instruction l m n section k true all within way = cases (nat_lt k (length section)) refl
@@ -46,13 +46,13 @@ stepping_after_instruction l m n section k true all within way = cases (nat_lt k
         let past : length section ≤ k = ltb-false k (length section) e in
         let same : k ≡ length section = omega arith in
         let P : List Instruction → Type 0 = λ is. MakesAll l m is in
-        let Q : Instruction → Type 0 = λ i. MadeInstruction m n i in
+        let Q : Instruction → Type 0 = λ i. DidInstruction m n i in
         makes_walk_by l m n section (subst P (ap (λ j. take j section) same ∙ take-length section) all)
         (subst Q (get_or_past section k Barrier past) way)
 
 -- and after a look for what it waits for
 pub stepping_after_look : (l m n : Local) (section : List Instruction) (k : ℕ) (taken : Bool) → IsAtStep l m section (Waits k)
-    → TriedToMakeTake m n taken → IsAtStep l n section (progress_after_turn section k taken)
+    → TriedTake m n taken → IsAtStep l n section (progress_after_turn section k taken)
 stepping_after_look l m n section k taken at took =
     let begun = at.0 in
     stepping_after_instruction l begun.between n section k taken begun.done at.1
@@ -73,10 +73,10 @@ pub stepping_start : (c : SharedCluster) (sections : List (List Instruction)) (m
 stepping_start c sections ms all new long first = record { many = new.all; long = long; each = each }
   where
     each : (p : ℕ) (section : List Instruction) (m : Local) (at : TurnProgress) → slice_get sections p ≡ Some section
-        → slice_get ms p ≡ Some m → slice_get all p ≡ Some at → IsAtStep (new_at_making_calls c p) m section at
+        → slice_get ms p ≡ Some m → slice_get all p ≡ Some at → IsAtStep (new_at_call c p) m section at
     each p section m at its here there =
-        let P : TurnProgress → Type 0 = λ x. IsAtStep (new_at_making_calls c p) m section x in
-        let none : MakesAll (new_at_making_calls c p) m (take 0 section) = makes_all_none (new_at_making_calls c p) m (new.each p m here) in
+        let P : TurnProgress → Type 0 = λ x. IsAtStep (new_at_call c p) m section x in
+        let none : MakesAll (new_at_call c p) m (take 0 section) = makes_all_none (new_at_call c p) m (new.each p m here) in
         subst P (sym (first p at there)) (none, omega arith)
 
 -- after the turn of one processor
@@ -91,12 +91,12 @@ stepping_turned c sections ms all p section m n at to way its here there turned 
   each = each;
 }
   where
-    mine : IsAtStep (new_at_making_calls c p) n section to
-    mine = turned (new_at_making_calls c p) (way.each p section m at its here there)
+    mine : IsAtStep (new_at_call c p) n section to
+    mine = turned (new_at_call c p) (way.each p section m at its here there)
 
     each : (q : ℕ) (other : List Instruction) (x : Local) (y : TurnProgress) → slice_get sections q ≡ Some other
         → slice_get (slice_set ms p n) q ≡ Some x → slice_get (slice_set all p to) q ≡ Some y
-        → IsAtStep (new_at_making_calls c q) x other y
+        → IsAtStep (new_at_call c q) x other y
     each q other x y its_too before after = elim (cases_eq q p) [
       | inl is ↦ (let S : ℕ → Type 0 = λ k. slice_get sections k ≡ Some other in
           let M : ℕ → Type 0 = λ k. slice_get (slice_set ms p n) k ≡ Some x in
@@ -104,30 +104,30 @@ stepping_turned c sections ms all p section m n at to way its here there turned 
           let one = same_Some section other (sym its ∙ subst S is its_too) in
           let two = slice_get-set_found ms p n x (subst M is before) in
           let three = slice_get-set_found all p to y (subst A is after) in
-          let first : IsAtStep (new_at_making_calls c p) n other to =
-          subst (λ (z : List Instruction). IsAtStep (new_at_making_calls c p) n z to) one mine in
-          let second : IsAtStep (new_at_making_calls c p) x other to = subst (λ (z : Local). IsAtStep (new_at_making_calls c p) z other to) two first in
-          let third : IsAtStep (new_at_making_calls c p) x other y =
-          subst (λ (z : TurnProgress). IsAtStep (new_at_making_calls c p) x other z) three second in
-          subst (λ (k : ℕ). IsAtStep (new_at_making_calls c k) x other y) (sym is) third)
+          let first : IsAtStep (new_at_call c p) n other to =
+          subst (λ (z : List Instruction). IsAtStep (new_at_call c p) n z to) one mine in
+          let second : IsAtStep (new_at_call c p) x other to = subst (λ (z : Local). IsAtStep (new_at_call c p) z other to) two first in
+          let third : IsAtStep (new_at_call c p) x other y =
+          subst (λ (z : TurnProgress). IsAtStep (new_at_call c p) x other z) three second in
+          subst (λ (k : ℕ). IsAtStep (new_at_call c k) x other y) (sym is) third)
       | inr isnt ↦ way.each q other x y its_too (sym (slice_get-set_other ms p q n isnt) ∙ before)
           (sym (slice_get-set_other all p q to isnt) ∙ after)
     ]
 
 -- all have passed the closing barrier
 pub stepping_passed : (c : SharedCluster) (sections : List (List Instruction)) (ms : List Local) (all : List TurnProgress)
-    → AreAtSteps c sections ms all → All (λ x. x ≡ Passed) all → HaveMadeWalks c sections ms
+    → AreAtSteps c sections ms all → All (λ x. x ≡ Passed) all → AreWalked c sections ms
 stepping_passed c sections ms all way passed = record { all = way.many; each = each }
   where
     each : (p : ℕ) (section : List Instruction) (m : Local) → slice_get sections p ≡ Some section
-        → slice_get ms p ≡ Some m → MakesWalk (new_at_making_calls c p) m section
+        → slice_get ms p ≡ Some m → Walks (new_at_call c p) m section
     each p section m its here =
         let within = slice_get_within ms p m here in
         let many = way.many in
         let long = way.long in
         let below : p < length all = omega arith in
         let there = slice_get-get_or all p Passed below in
-        let P : TurnProgress → Type 0 = λ x. IsAtStep (new_at_making_calls c p) m section x in
+        let P : TurnProgress → Type 0 = λ x. IsAtStep (new_at_call c p) m section x in
         subst P (passed p Passed below) (way.each p section m (get_or all p Passed) its here there)
 
 -- the same, where the list has it over and over
@@ -140,7 +140,7 @@ stepping_begin c sections ms all n new many are = stepping_start c sections ms a
 
 -- each that is on its way is the cluster's
 pub stepping_own_at : (s : Plan) (c : SharedCluster) (ms : List Local) (all : List TurnProgress) (p : ℕ) (m : Local) → IsLawful s
-    → c.sizes ≡ followed_plan_sizes s → AreAtSteps c s.sections ms all → slice_get ms p ≡ Some m → m.lock ≡ c.lock
+    → c.sizes ≡ plan_sizes s → AreAtSteps c s.sections ms all → slice_get ms p ≡ Some m → m.lock ≡ c.lock
 stepping_own_at s c ms all p m lawful sizes way here =
     let inside = slice_get_within ms p m here in
     let one_each = lawful.but_uneven.one_each in
@@ -151,13 +151,13 @@ stepping_own_at s c ms all p m lawful sizes way here =
     let known : p < length all = omega arith in
     let section = get_or s.sections p [] in
     let at = get_or all p Passed in
-    (stepping_same_after (new_at_making_calls c p) m section at
+    (stepping_same_after (new_at_call c p) m section at
     (way.each p section m at (slice_get-get_or s.sections p [] listed) here (slice_get-get_or all p Passed known))).lock
 
 -- the section that is read at this place
 pub stepping_section_read : (s : Plan) (c : SharedCluster) (ms : List Local) (all : List TurnProgress)
     (sections : List (Vec Instruction)) (p : ℕ)
-    (v : Vec Instruction) (section : List Instruction) → IsLawful s → c.sizes ≡ followed_plan_sizes s
+    (v : Vec Instruction) (section : List Instruction) → IsLawful s → c.sizes ≡ plan_sizes s
     → s.sections ≡ plan_sections sections
     → AreAtSteps c s.sections ms all → p < length ms → v ≡ get_or sections p v → section ≡ v.items
     → slice_get (plan_sections sections) p ≡ Some section

@@ -12,10 +12,10 @@ use Rattle.cluster.specs.declared.waited.Waited.TheVariants.{Stuck}
 use Rattle.cluster.specs.Refusals.{flush_refusal}
 use Rattle.cluster.specs.Waiting.{IsWaitingCall}
 use Rattle.cluster.specs.Taking.{taking_awaited_event}
-use Rattle.lrc_run.specs.Turns.{AreSeenAfterTurns, SeesDeadlockAtTurns, SeesOnlyMore}
-use Rattle.lrc_run.specs.MakesCalls.{SeesMoreCalls, TriedToMakeTake}
+use Rattle.lrc_run.specs.Turns.{AreSeenAfterTurns, HasSeenAll, SeesDeadlockAtTurns, SeesOnlyMore}
+use Rattle.lrc_run.specs.MakesCalls.{SeesMoreCalls, TriedTake}
 use Rattle.lrc_run.proofs.SeesAndMakes.{sees_same_processor, sees_same, sees_then}
-use Rattle.lrc_run.proofs.Turning.{turning_seen_same}
+use Rattle.lrc_run.proofs.Turning.{turning_same_on}
 
 -- whoever waits has seen no less
 sees_waiting : (m n : Local) (r : Result Waited Refused) → IsWaitingCall m n r → SeesMoreCalls m n
@@ -45,10 +45,11 @@ waits_on m n r call = record {
 }
 
 -- a take after a wait is one after what came before
-pub waiting_takes_on : (l m n : Local) (taken : Bool) → SeesOnlyMore l m → TriedToMakeTake m n taken → TriedToMakeTake l n taken
+pub waiting_takes_on : (l m n : Local) (taken : Bool) → SeesOnlyMore l m → TriedTake m n taken → TriedTake l n taken
 waiting_takes_on l m n taken on took = record {
   same = sees_same_processor l m n on.same took.same;
   sees = sees_then l m n on.sees took.sees;
+  block_is = took.block_is ∙ on.block_is;
   yes = λ yes. took.yes yes ∙ ap (λ es. es ++ taking_awaited_event m.number m.awaits) on.calls_are
       ∙ ap (λ p. calls l ++ taking_awaited_event p m.awaits) on.same.number
       ∙ ap (λ k. calls l ++ taking_awaited_event l.number k) on.awaits_is;
@@ -65,14 +66,24 @@ waiting_takes_on l m n taken on took = record {
 
 -- one of all saw on
 pub waiting_seen_at : (ms : List Local) (m n : Local) → slice_get ms 0 ≡ Some m → SeesOnlyMore m n → AreSeenAfterTurns ms (slice_set ms 0 n)
-waiting_seen_at ms m n at on = record { all = length-set ms 0 n; each = each }
+waiting_seen_at ms m n at on = record { on = record { all = length-set ms 0 n; each = each }; ahead = ahead }
   where
+    ahead : HasSeenAll ms 0 → HasSeenAll (slice_set ms 0 n) 0
+    ahead all x here q y there =
+        let P : Local → Type 0 = λ z. SeesMoreCalls y z in
+        subst P (slice_get-set_found ms 0 n x here) (elim (cases_eq q 0) [
+          | inl is ↦ (let N : ℕ → Type 0 = λ k. slice_get (slice_set ms 0 n) k ≡ Some y in
+              let Q : Local → Type 0 = λ z. SeesMoreCalls z n in
+              subst Q (slice_get-set_found ms 0 n y (subst N is there)) (sees_same n n refl))
+          | inr isnt ↦ sees_then y m n (all m at q y (sym (slice_get-set_other ms 0 q n isnt) ∙ there)) on.sees
+        ])
+
     each : (p : ℕ) (x y : Local) → slice_get ms p ≡ Some x → slice_get (slice_set ms 0 n) p ≡ Some y → SeesOnlyMore x y
     each p x y here there = elim (cases_eq p 0) [
       | inl is ↦ (let M : ℕ → Type 0 = λ k. slice_get ms k ≡ Some x in
           let N : ℕ → Type 0 = λ k. slice_get (slice_set ms 0 n) k ≡ Some y in
           subst₂ SeesOnlyMore (same_Some m x (sym at ∙ subst M is here)) (slice_get-set_found ms 0 n y (subst N is there)) on)
-      | inr isnt ↦ (turning_seen_same ms).each p x y here (sym (slice_get-set_other ms 0 p n isnt) ∙ there)
+      | inr isnt ↦ (turning_same_on ms).each p x y here (sym (slice_get-set_other ms 0 p n isnt) ∙ there)
     ]
 
 -- it sees a deadlock where it says so

@@ -1,5 +1,6 @@
 -- The end of a run.
 use Rattle.std.specs.Prelude.{ℕ, ◌≡◌, ◌==◌, All, cond, Some, List, [], ◌∷◌, ◌++◌, map, slice_get}
+use Rattle.std.specs.List.{range_with_len}
 use Rattle.journal.specs.declared.event.Event.{Event}
 use Rattle.journal.specs.declared.event.Kind.TheVariants.{Arrive, Depart}
 use Rattle.journal.specs.declared.event.Kind.{Kind}
@@ -7,60 +8,69 @@ use Rattle.lrc_script.specs.declared.script.Instruction.{Instruction}
 use Rattle.lrc_script.specs.Lawful.{IsLawful}
 use Rattle.lrc_script.specs.Plan.{Plan}
 use Rattle.lrc_report.specs.declared.report.Report.{Report}
-use Rattle.conformance.specs.Follows.{followed_calls, followed_load, followed_plan_sizes}
+use Rattle.conformance.specs.Follows.{calls_of, load_of, plan_sizes}
 use Rattle.conformance.specs.Instructions.{AreEventsOfInstructions}
 use Rattle.cluster.specs.Copies.Local.{Local}
 use Rattle.cluster.specs.Clusters.{SharedCluster}
-use Rattle.cluster.specs.Finishing.{AreAllToFinish, HasCallsToFinish}
+use Rattle.cluster.specs.Finishing.{AreAllToFinish, HasCallsToFinish, IsToFinish}
 use Rattle.conformance.specs.CutInstructions.{HasCutInstruction}
 use Rattle.conformance.specs.Ends.{IsJournalSoFar}
 use Rattle.conformance.specs.Reports.{IsReportOf}
+use Rattle.conformance.specs.Turns.{AreTurnParts}
 use Rattle.conformance.specs.declared.ended.Ended.{Ended}
 use Rattle.conformance.specs.declared.ended.Ended.TheVariants.{Halted, Whole}
 use Rattle.conformance.specs.declared.progress.TurnProgress.{TurnProgress}
 use Rattle.conformance.specs.declared.progress.TurnProgress.TheVariants.{Passed}
 use Rattle.journal.specs.Log.{Log}
 use Rattle.lrc_run.specs.MakesCalls.{AreCallsWanted, calls_made}
+use Rattle.lrc_run.specs.Turns.{HasSeenAll}
 
 -- all that a processor made is its section, the closing barrier and these loads, and fetches that they want, and it cut
 -- nothing off but by a cut of its section
 pub record HasFollowed (section : List Instruction) (loads : List (ℕ × ℕ)) (m : Local) : Type 0 where
   pub own : List Kind
   pub are : AreEventsOfInstructions section own
-  pub made_is : calls_made m ≡ own ++ Arrive ∷ Depart ∷ map followed_load loads
+  pub made_is : calls_made m ≡ own ++ Arrive ∷ Depart ∷ map load_of loads
   pub wanted : AreCallsWanted m
   pub uncut : ¬ HasCutInstruction section → m.own_cut ≡ 0
 
 -- all processors of the script's cluster, and processor 0 has loaded what is shown
 pub record HaveFollowed (s : Plan) (c : SharedCluster) (ms : List Local) (shown : List (ℕ × ℕ)) : Type 0 where
   pub lawful : IsLawful s
-  pub sizes : c.sizes ≡ followed_plan_sizes s
+  pub sizes : c.sizes ≡ plan_sizes s
   pub all : AreAllToFinish c ms
   pub each : (p : ℕ) (section : List Instruction) (m : Local) → slice_get s.sections p ≡ Some section
       → slice_get ms p ≡ Some m → HasFollowed section (cond (p == 0) shown []) m
   pub addresses_are : map (λ (x : ℕ × ℕ). x.0) shown ≡ s.shown
 
+-- the history ends with the open blocks of these processors by rising number, and what stands before these goes on from
+-- what each has seen, without it
+pub record EndsWithBlocks (s : Plan) (ms : List Local) (h : List Event) : Type 0 where
+  pub front : List Event
+  pub blocks : List Event
+  pub is : h ≡ front ++ blocks
+  pub goes_on : (p : ℕ) (m : Local) → slice_get ms p ≡ Some m → IsToFinish front m
+  pub parts : AreTurnParts (range_with_len 0 s.processors) blocks
+
 -- the report is of the script, and its history has the calls of these processors
 pub record IsReportWith (s : Plan) (r : Report) (ms : List Local) : Type 0 where
   pub is : IsReportOf s r
   pub each : (p : ℕ) (m : Local) → slice_get ms p ≡ Some m → HasCallsToFinish is.history m
+  pub ends : EndsWithBlocks s ms is.history
 
--- the history goes on from these events
-abbrev pub IsFollowedBeginning : List Event → List Event → Type 0
-IsFollowedBeginning events h = (rest : List Event) × (h ≡ events ++ rest)
-
--- the report is of the script, and its history goes on from what each of these processors has seen, with the calls that
--- each has made, and then of processor 0 the loads of what is shown
+-- the report is of the script, and its history has the calls that each of these processors has made, and then of
+-- processor 0 the loads of what is shown; and it ends with their blocks, if processor 0 has seen all
 pub record IsReportAfter (s : Plan) (r : Report) (ms : List Local) : Type 0 where
   pub is : IsReportOf s r
-  pub begin : (p : ℕ) (m : Local) → slice_get ms p ≡ Some m → IsFollowedBeginning m.seen is.history
   pub calls_are : (p : ℕ) (m : Local) → slice_get ms p ≡ Some m
-      → followed_calls is.history p ≡ calls_made m ++ cond (p == 0) (map followed_load r.shown.items) []
+      → calls_of is.history p ≡ calls_made m ++ cond (p == 0) (map load_of r.shown.items) []
+  pub ends : HasSeenAll ms 0 → EndsWithBlocks s ms is.history
 
 -- the journal so far is of the script, and its history has the calls of these processors
 pub record IsHaltFollowedWith (s : Plan) (j : Log) (ms : List Local) : Type 0 where
   pub is : IsJournalSoFar s j
   pub each : (p : ℕ) (m : Local) → slice_get ms p ≡ Some m → HasCallsToFinish is.history m
+  pub ends : EndsWithBlocks s ms is.history
 
 -- how the run ended of which these processors have come so far: all have passed the closing barrier, or it can't go on
 abbrev pub IsEndFollowedAfter : Plan → List Local → List TurnProgress → Ended → Type 0

@@ -8,17 +8,18 @@ use Rattle.journal.specs.declared.event.Event.{Event}
 use Rattle.lrc_script.specs.declared.script.Instruction.{Instruction}
 use Rattle.lrc_script.specs.declared.script.Instruction.TheVariants.{Cut}
 use Rattle.conformance.specs.Instructions.{AreEventsOfInstruction, AreEventsOfInstructions}
-use Rattle.conformance.specs.Follows.{followed_call_kinds, followed_load}
+use Rattle.conformance.specs.Follows.{call_kinds, load_of}
 use Rattle.cluster.specs.Copies.Local.{Local, calls, new_local}
 use Rattle.cluster.specs.Calls.{IsSameProcessorOfCall}
 use Rattle.cluster.specs.Clusters.{SharedCluster}
 use Rattle.cluster.specs.Taking.{IsTakeLate, taking_awaited_event}
 use Rattle.conformance.specs.CutInstructions.{HasCutInstruction}
+use Rattle.conformance.specs.Turns.{hands_in_by_turn}
 use Rattle.conformance.specs.WantedFetches.{FetchesAreWanted}
 
 -- a processor's accepted calls, its fetches aside
 abbrev pub calls_made : Local → List Kind
-calls_made m = followed_call_kinds (calls m)
+calls_made m = call_kinds (calls m)
 
 -- each fetch among its calls comes right before an access to its page
 abbrev pub AreCallsWanted : Local → Type 0
@@ -72,11 +73,12 @@ abbrev pub TriesCalls : {A : Type 0} → Local → Local → Result A Refused �
 TriesCalls old new (Ok x) kinds = MadeCalls old new (kinds x)
 TriesCalls old new (Err e) kinds = MakesNone old new
 
--- it has done this instruction, and cut nothing off but by a cut
-pub record MadeInstruction (old new : Local) (i : Instruction) : Type 0 where
+-- it has done this instruction, handed its block in if that does, and cut nothing off but by a cut
+pub record DidInstruction (old new : Local) (i : Instruction) : Type 0 where
   pub kinds : List Kind
   pub are : AreEventsOfInstruction i kinds
   pub makes : MakesBut (i ≡ Cut) old new kinds
+  pub handed : hands_in_by_turn i ≡ true → new.block ≡ []
 
 -- it has begun this instruction, handed its block in, and awaits the event that ends it
 pub record BeginsCall (old new : Local) (i : Instruction) : Type 0 where
@@ -88,23 +90,24 @@ pub record BeginsCall (old new : Local) (i : Instruction) : Type 0 where
   pub awaits : new.awaits ≡ Some last
 
 -- it has done this instruction, or begun it
-abbrev pub MakesItsWay : Local → Local → Instruction → Bool → Type 0
-MakesItsWay old new i true = MadeInstruction old new i
-MakesItsWay old new i false = BeginsCall old new i
+abbrev pub IsOnItsWay : Local → Local → Instruction → Bool → Type 0
+IsOnItsWay old new i true = DidInstruction old new i
+IsOnItsWay old new i false = BeginsCall old new i
 
 -- it is as it was, and what it awaits hasn't come by what it has seen
-pub record MakesNoneAndFindsNothing (old new : Local) : Type 0 where
+pub record FindsNothing (old new : Local) : Type 0 where
   pub calls_are : calls new ≡ calls old
   pub block_is : new.block ≡ old.block
   pub awaits_is : new.awaits ≡ old.awaits
   pub late : IsTakeLate new
 
 -- it has taken what it awaited, or that hadn't come
-pub record TriedToMakeTake (old new : Local) (taken : Bool) : Type 0 where
+pub record TriedTake (old new : Local) (taken : Bool) : Type 0 where
   pub same : IsSameProcessorOfCall old new
   pub sees : SeesMoreCalls old new
+  pub block_is : new.block ≡ old.block
   pub yes : taken ≡ true → calls new ≡ calls old ++ taking_awaited_event old.number old.awaits
-  pub no : taken ≡ false → MakesNoneAndFindsNothing old new
+  pub no : taken ≡ false → FindsNothing old new
   pub uncut : new.own_cut ≡ old.own_cut
 
 -- it has done these instructions
@@ -114,21 +117,21 @@ pub record MakesAll (old new : Local) (is : List Instruction) : Type 0 where
   pub makes : MakesBut (HasCutInstruction is) old new kinds
 
 -- it has done its section, and passed the closing barrier
-pub record MakesWalk (old new : Local) (section : List Instruction) : Type 0 where
+pub record Walks (old new : Local) (section : List Instruction) : Type 0 where
   pub kinds : List Kind
   pub are : AreEventsOfInstructions section kinds
   pub makes : MakesBut (HasCutInstruction section) old new (kinds ++ Arrive ∷ Depart ∷ [])
 
 -- it has loaded these words
 abbrev pub MakesLoads : Local → Local → List (ℕ × ℕ) → Type 0
-MakesLoads old new words = MadeCalls old new (map followed_load words)
+MakesLoads old new words = MadeCalls old new (map load_of words)
 
 -- processor p of the cluster, before its first call
-abbrev pub new_at_making_calls : SharedCluster → ℕ → Local
-new_at_making_calls c p = new_local c.lock p c.sizes
+abbrev pub new_at_call : SharedCluster → ℕ → Local
+new_at_call c p = new_local c.lock p c.sizes
 
 -- each of the cluster's processors has walked its section
-pub record HaveMadeWalks (c : SharedCluster) (sections : List (List Instruction)) (ms : List Local) : Type 0 where
+pub record AreWalked (c : SharedCluster) (sections : List (List Instruction)) (ms : List Local) : Type 0 where
   pub all : length ms ≡ c.sizes.processors
   pub each : (p : ℕ) (section : List Instruction) (m : Local) → slice_get sections p ≡ Some section
-      → slice_get ms p ≡ Some m → MakesWalk (new_at_making_calls c p) m section
+      → slice_get ms p ≡ Some m → Walks (new_at_call c p) m section

@@ -1,7 +1,7 @@
 -- The words that contracts name, passed on from one place. Declares nothing.
-pub use Rattle.lrc_run.specs.MakesCalls.{AddsCallsBy, HaveMadeWalks, MadeInstruction, MakesFetchBy, MakesItsWay, MakesLoads, MadeCalls, TriedToMakeTake, TriesCalls, MakesWalk}
+pub use Rattle.lrc_run.specs.MakesCalls.{AddsCallsBy, AreWalked, DidInstruction, MakesFetchBy, IsOnItsWay, MakesLoads, MadeCalls, TriedTake, TriesCalls, Walks}
 pub use Rattle.lrc_run.specs.Steps.{AreAtSteps, IsAtStep}
-pub use Rattle.lrc_run.specs.Turns.{AreSeenAfterTurns, AreTaken, AreTurned, HaveTakenTurnsRound, IsTurnOfRun, SeesDeadlockAtTurns, SeesOnlyMore, TakesTurn}
+pub use Rattle.lrc_run.specs.Turns.{AreSeenAfterTurns, AreTaken, AreTurned, HaveTakenTurnsRound, IsCaughtUp, IsTurnOfRun, SeesDeadlockAtTurns, SeesOnlyMore, TakesTurn}
 pub use Rattle.lrc_run.specs.Orders.{AreOrderedProcessors, chosen_order}
 pub use Rattle.lrc_run.specs.FollowedReports.{HaveFollowed, IsEndFollowedAfter, IsReportAfter, IsReportWith}
 pub use Rattle.conformance.specs.Orders.{ordered}

@@ -6,7 +6,7 @@ use Rattle.cluster.specs.Clusters.{SharedCluster}
 use Rattle.conformance.specs.declared.progress.TurnProgress.{TurnProgress}
 use Rattle.conformance.specs.declared.progress.TurnProgress.TheVariants.{Next, Waits, Passed}
 use Rattle.conformance.specs.Turns.{instruction_at_turn}
-use Rattle.lrc_run.specs.MakesCalls.{MakesAll, BeginsCall, MakesWalk, new_at_making_calls}
+use Rattle.lrc_run.specs.MakesCalls.{MakesAll, BeginsCall, Walks, new_at_call}
 
 -- it has done its first n instructions, and begun the next one
 pub record HasBegunStep (old new : Local) (section : List Instruction) (n : ℕ) : Type 0 where
@@ -18,7 +18,7 @@ pub record HasBegunStep (old new : Local) (section : List Instruction) (n : ℕ)
 abbrev pub IsAtStep : Local → Local → List Instruction → TurnProgress → Type 0
 IsAtStep old new section (Next n) = MakesAll old new (take n section) × (n ≤ length section)
 IsAtStep old new section (Waits n) = HasBegunStep old new section n × (n ≤ length section)
-IsAtStep old new section Passed = MakesWalk old new section
+IsAtStep old new section Passed = Walks old new section
 
 -- each of the cluster's processors has, from its start
 pub record AreAtSteps (c : SharedCluster) (sections : List (List Instruction)) (ms : List Local)
@@ -26,4 +26,4 @@ pub record AreAtSteps (c : SharedCluster) (sections : List (List Instruction)) (
   pub many : length ms ≡ c.sizes.processors
   pub long : length all ≡ c.sizes.processors
   pub each : (p : ℕ) (section : List Instruction) (m : Local) (at : TurnProgress) → slice_get sections p ≡ Some section
-      → slice_get ms p ≡ Some m → slice_get all p ≡ Some at → IsAtStep (new_at_making_calls c p) m section at
+      → slice_get ms p ≡ Some m → slice_get all p ≡ Some at → IsAtStep (new_at_call c p) m section at

@@ -12,19 +12,19 @@ use Rattle.conformance.specs.declared.progress.TurnProgress.TheVariants.{Next, W
 use Rattle.conformance.specs.ByTurns.{turn_orders}
 use Rattle.conformance.specs.Turns.{instruction_at_turn, progress_after_turn}
 use Rattle.lrc_run.specs.Steps.{AreAtSteps}
-use Rattle.lrc_run.specs.MakesCalls.{MakesItsWay, SeesMoreCalls, TriedToMakeTake}
+use Rattle.lrc_run.specs.MakesCalls.{IsOnItsWay, SeesMoreCalls, TriedTake}
 
 -- it has done instruction n, or begun it and looked in vain for what that waits for, and then is there
 pub record TurnGoesOn (section : List Instruction) (old : Local) (n : ℕ) (new : Local) (to : TurnProgress) : Type 0 where
   pub done : Bool
-  pub way : MakesItsWay old new (instruction_at_turn section n) done
+  pub way : IsOnItsWay old new (instruction_at_turn section n) done
   pub late : done ≡ false → IsTakeLate new
   pub to_is : to ≡ progress_after_turn section n done
 
 -- it has looked once for what instruction n waits for, and then is there
 pub record TurnLooks (section : List Instruction) (old : Local) (n : ℕ) (new : Local) (to : TurnProgress) : Type 0 where
   pub taken : Bool
-  pub takes : TriedToMakeTake old new taken
+  pub takes : TriedTake old new taken
   pub to_is : to ≡ progress_after_turn section n taken
 
 -- what a turn makes of a processor that is at this place, and where it is then
@@ -33,8 +33,40 @@ TakesTurn section old (Next n) new to = TurnGoesOn section old n new to
 TakesTurn section old (Waits n) new to = TurnLooks section old n new to
 TakesTurn section old Passed new to = (new ≡ old) × (to ≡ Passed)
 
+-- the processor at p has seen all that each has seen
+abbrev pub HasSeenAll : List Local → ℕ → Type 0
+HasSeenAll ms p = (m : Local) → slice_get ms p ≡ Some m → (q : ℕ) (x : Local) → slice_get ms q ≡ Some x → SeesMoreCalls x m
+
+-- it is as it was, except that it may have seen more of the history
+pub record SeesOnlyMore (old new : Local) : Type 0 where
+  pub same : IsSameProcessorOfCall old new
+  pub sees : SeesMoreCalls old new
+  pub calls_are : calls new ≡ calls old
+  pub block_is : new.block ≡ old.block
+  pub awaits_is : new.awaits ≡ old.awaits
+  pub uncut : new.own_cut ≡ old.own_cut
+
+-- each of them
+pub record AreSeenOn (old new : List Local) : Type 0 where
+  pub all : length new ≡ length old
+  pub each : (p : ℕ) (m n : Local) → slice_get old p ≡ Some m → slice_get new p ≡ Some n → SeesOnlyMore m n
+
+-- each of them, and if processor 0 had seen all that each had, it has again
+pub record AreSeenAfterTurns (old new : List Local) : Type 0 where
+  pub on : AreSeenOn old new
+  pub ahead : HasSeenAll old 0 → HasSeenAll new 0
+
+-- processor p alone has seen more, and so all that q has seen
+pub record IsCaughtUp (old : List Local) (p q : ℕ) (new : List Local) : Type 0 where
+  pub before : Local
+  pub after : Local
+  pub before_is : slice_get old p ≡ Some before
+  pub on : SeesOnlyMore before after
+  pub beyond : (x : Local) → slice_get old q ≡ Some x → SeesMoreCalls x after
+  pub new_is : new ≡ slice_set old p after
+
 -- the turn of processor p, and the others stay as they are and where they are
-pub record IsTurnOfRun (sections : List (List Instruction)) (p : ℕ) (old new : List Local) (all to : List TurnProgress)
+pub record IsOwnTurn (sections : List (List Instruction)) (p : ℕ) (old new : List Local) (all to : List TurnProgress)
     : Type 0 where
   pub section : List Instruction
   pub before : Local
@@ -48,6 +80,17 @@ pub record IsTurnOfRun (sections : List (List Instruction)) (p : ℕ) (old new :
   pub new_is : new ≡ slice_set old p after
   pub to_is : to ≡ slice_set all p next
 
+-- p takes its turn when it has seen all that each had seen, and then processor 0 sees all
+pub record IsTurnOfRun (sections : List (List Instruction)) (p : ℕ) (old new : List Local) (all to : List TurnProgress)
+    : Type 0 where
+  pub seen : List Local
+  pub turned : List Local
+  pub first : AreSeenOn old seen
+  pub turn : IsOwnTurn sections p seen turned all to
+  pub last : AreSeenOn turned new
+  pub latest : HasSeenAll old 0 → HasSeenAll seen p
+  pub ahead : HasSeenAll old 0 → HasSeenAll new 0
+
 -- the turns of these processors, one after another
 abbrev pub AreTurned : List (List Instruction) → List ℕ → List Local → List Local → List TurnProgress → List TurnProgress
     → Type 0
@@ -55,20 +98,6 @@ AreTurned sections [] old new all to = (new ≡ old) × (to ≡ all)
 AreTurned sections (p ∷ ps) old new all to =
     (between : List Local) × (half : List TurnProgress) × IsTurnOfRun sections p old between all half
     × AreTurned sections ps between new half to
-
--- it is as it was, except that it may have seen more of the history
-pub record SeesOnlyMore (old new : Local) : Type 0 where
-  pub same : IsSameProcessorOfCall old new
-  pub sees : SeesMoreCalls old new
-  pub calls_are : calls new ≡ calls old
-  pub block_is : new.block ≡ old.block
-  pub awaits_is : new.awaits ≡ old.awaits
-  pub uncut : new.own_cut ≡ old.own_cut
-
--- each of them
-pub record AreSeenAfterTurns (old new : List Local) : Type 0 where
-  pub all : length new ≡ length old
-  pub each : (p : ℕ) (m n : Local) → slice_get old p ≡ Some m → slice_get new p ≡ Some n → SeesOnlyMore m n
 
 -- a round: all have their turns in this order, and then may see more
 pub record IsTurnRound (sections : List (List Instruction)) (order : List ℕ) (old new : List Local) (all to : List TurnProgress)

@@ -1,9 +1,9 @@
 //! The end of a run: the shown loads, the journal and what the report says of it.
 ghost use Rattle.std.specs.Prelude.{◌≡◌, IfOk, ℕ, List, slice_set, slice_get, Some};
 ghost use Rattle.lrc_script.specs.Prelude.{IsLawful, Plan, plan_of};
-ghost use Rattle.conformance.specs.Prelude.{followed_plan_sizes};
+ghost use Rattle.conformance.specs.Prelude.{plan_sizes};
 ghost use Rattle.cluster.specs.Prelude.{AreAllToFinish};
-ghost use Rattle.lrc_run.specs.Prelude.{HaveMadeWalks, HaveFollowed, IsReportAfter, IsReportWith};
+ghost use Rattle.lrc_run.specs.Prelude.{AreWalked, HaveFollowed, IsReportAfter, IsReportWith};
 
 use crate::shown::show;
 use book::Refused;
@@ -23,8 +23,8 @@ pub(crate) fn conclude<T: BookTurn + Drop, R: Wait>(
     script: &Script,
 ) -> Result<Report, Refused>
     requires lawful { IsLawful (plan_of script.now) }
-    requires sizes { cluster.sizes ≡ followed_plan_sizes (plan_of script.now) }
-    requires walked { HaveMadeWalks cluster (plan_of script.now).sections processors.items }
+    requires sizes { cluster.sizes ≡ plan_sizes (plan_of script.now) }
+    requires walked { AreWalked cluster (plan_of script.now).sections processors.items }
     ensures { IfOk result (λ r. IsReportAfter (plan_of script.now) r processors.items) }
 {
     let shown = show(rt, alloc, &cluster, &mut processors[0], &script.shown)?;

@@ -8,14 +8,15 @@
 //! **What is proved.** Whatever the lock, the order of the threads and the seed: a report that is answered is one of
 //! the plan. Its history's replies can be recomputed on one flat memory, with the same races; if the script never races
 //! there, the verdict is race-free and the history replays (module `laws`). Which fault a run tells, of those that its
-//! processors met. By turns: each round is in the order that the seed draws, by the generator's own definitions, and
-//! the processors come to what their turns make of them; a take that came too early found its processor not ready. If a
-//! run by turns says that it can't go on, its history is a deadlock: each processor waits, and none is ready.
+//! processors met. By turns: each round is in the order that the seed draws, by the generator's own definitions; the
+//! processors come to what their turns make of them, and the history is made of what the turns hand in, one after another;
+//! a take that came too early found its processor not ready by it. If a run by turns says that it can't go on, its history
+//! is a deadlock: each processor waits, and none is ready.
 //! By a schedule, given or answered of turns that were drawn, the same holds of its turns and of the rounds behind them.
 //!
 //! **What is only tested** (in `test_lrc`): that no run is refused needlessly, and that its threads get on side by
-//! side; that the gate is asked before each instruction; that nobody sleeps for ever; that the calls of one turn of
-//! `step` stand in the history before those of the next; and in which orders turns are drawn, but for the first.
+//! side; that the gate is asked before each instruction; that nobody sleeps for ever; when a full block is handed in; and in
+//! which orders turns are drawn, but for the first.
 #![tactic(auto)]
 
 mod course;

@@ -1,7 +1,7 @@
 //! Runs of scripts with each processor on a thread of its own.
 ghost use Rattle.std.specs.Prelude.{◌≡◌, ◌^◌, ◌<◌, ◌≤◌, IfOk};
 ghost use Rattle.lrc_script.specs.Prelude.{IsLawful, plan_of};
-ghost use Rattle.conformance.specs.Prelude.{followed_plan_sizes};
+ghost use Rattle.conformance.specs.Prelude.{plan_sizes};
 ghost use Rattle.lrc_run.specs.Prelude.{IsReportOf, AreThreadResults};
 
 mod threads;
@@ -82,7 +82,7 @@ fn walk_script<T: BookTurn + Send + Drop, R: Threads + Wait + Sync, G: Gate + Sy
 ) -> Result<(Cluster<T>, Vec<Result<Processor<T>, Cause>>), Cause>
     requires lawful { IsLawful (plan_of script.now) }
     requires entries { T.ENTRIES ≤ 2 ^ 40 }
-    ensures sizes { IfOk result (λ r. r.0.sizes ≡ followed_plan_sizes (plan_of script.now)) }
+    ensures sizes { IfOk result (λ r. r.0.sizes ≡ plan_sizes (plan_of script.now)) }
     ensures outcomes { IfOk result (λ r. AreThreadResults r.0 (plan_of script.now).sections r.1.items) }
 {
     let (cluster, processors) = Cluster::<T>::new(

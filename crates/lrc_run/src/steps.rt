@@ -3,7 +3,7 @@ ghost use Rattle.std.specs.Prelude.{◌≡◌, ◌≢◌, ◌≤◌, ◌<◌, �
 ghost use Rattle.cluster.specs.Copies.Prelude.{Local};
 ghost use Rattle.std.specs.List.{range_with_len};
 ghost use Rattle.lrc_script.specs.Prelude.{IsLawful, plan_of};
-ghost use Rattle.conformance.specs.Prelude.{followed_plan_sizes};
+ghost use Rattle.conformance.specs.Prelude.{plan_sizes};
 ghost use Rattle.cluster.specs.Prelude.{IsNewCluster};
 ghost use Rattle.conformance.specs.declared.cause.Cause.TheVariants as cause;
 ghost use Rattle.conformance.specs.declared.progress.TurnProgress.TheVariants as progress;
@@ -11,11 +11,13 @@ ghost use Rattle.conformance.specs.Prelude.{IsEndByTurns, IsReportByTurns, IsStu
 ghost use Rattle.lrc_run.specs.Prelude.{AreOrderedProcessors, AreAtSteps, AreSeenAfterTurns, AreTurned, HaveTakenTurnsRound, IsEndFollowedAfter};
 ghost use Rattle.lrc_run.specs.Prelude.{IsTurnOfRun, SeesDeadlockAtTurns};
 
+mod catching_up;
 mod drawn;
 mod pace;
 mod scheduled;
 mod turns;
 
+use self::catching_up::{catch_first_up, catch_up_with_first};
 pub use self::drawn::{step_drawn, step_drawn_with};
 pub use self::scheduled::{step_by, step_by_with};
 use self::turns::take_turn;
@@ -115,7 +117,7 @@ fn end_run<T: BookTurn + Drop, R: Wait>(
     passed: bool,
 ) -> Result<Ended, RunFault>
     requires lawful { IsLawful (plan_of script.now) }
-    requires sizes { cluster.sizes ≡ followed_plan_sizes (plan_of script.now) }
+    requires sizes { cluster.sizes ≡ plan_sizes (plan_of script.now) }
     requires way { AreAtSteps cluster (plan_of script.now).sections processors.items all.now }
     requires whole { passed ≡ true → All (λ x. x ≡ progress.Passed) all.now }
     requires stuck { passed ≡ false → SeesDeadlockAtTurns processors.items }
@@ -152,7 +154,7 @@ fn new_cluster<T: BookTurn>(
     script: &Script,
 ) -> Result<(Cluster<T>, Vec<Processor<T>>), RunFault>
     requires { T.ENTRIES ≤ 2 ^ 40 }
-    ensures sizes { IfOk result (λ r. r.0.sizes ≡ followed_plan_sizes (plan_of script.now)) }
+    ensures sizes { IfOk result (λ r. r.0.sizes ≡ plan_sizes (plan_of script.now)) }
     ensures new { IfOk result (λ r. IsNewCluster r.0 r.1.items) }
     ensures err { IfErr result (λ fault. fault.cause ≢ cause.Stuck) }
 {
@@ -180,7 +182,7 @@ fn go_round<T: BookTurn, R: Wait>(
     seed: Option<u64>,
 ) -> Result<bool, RunFault>
     requires lawful { IsLawful (plan_of script.now) }
-    requires sizes { cluster.now.sizes ≡ followed_plan_sizes (plan_of script.now) }
+    requires sizes { cluster.now.sizes ≡ plan_sizes (plan_of script.now) }
     requires way { AreAtSteps cluster.now (plan_of script.now).sections processors.old.items
         all.old.items }
     ensures gone { IfOk result (λ _. HaveTakenTurnsRound cluster.now (plan_of script.now) seed processors.old.items
@@ -296,7 +298,7 @@ fn round<T: BookTurn, R: Wait>(
     list: &[usize],
 ) -> Result<bool, RunFault>
     requires lawful { IsLawful (plan_of script.now) }
-    requires sizes { cluster.now.sizes ≡ followed_plan_sizes (plan_of script.now) }
+    requires sizes { cluster.now.sizes ≡ plan_sizes (plan_of script.now) }
     requires list { AreOrderedProcessors (vec_len processors.old) list.now }
     requires way { AreAtSteps cluster.now (plan_of script.now).sections processors.old.items
         all.old.items }
@@ -313,7 +315,8 @@ fn round<T: BookTurn, R: Wait>(
     Ok(moved)
 }
 
-/// The turn of processor `p`: whether it got on.
+/// The turn of processor `p`: whether it got on. It sees all that others have done before its turn, and processor 0 then
+/// sees what it has done.
 fn turn_at<T: BookTurn, R: Wait>(
     rt: &R,
     cluster: &Cluster<T>,
@@ -323,7 +326,7 @@ fn turn_at<T: BookTurn, R: Wait>(
     p: usize,
 ) -> Result<bool, RunFault>
     requires lawful { IsLawful (plan_of script.now) }
-    requires sizes { cluster.now.sizes ≡ followed_plan_sizes (plan_of script.now) }
+    requires sizes { cluster.now.sizes ≡ plan_sizes (plan_of script.now) }
     requires within { p < vec_len processors.old }
     requires way { AreAtSteps cluster.now (plan_of script.now).sections processors.old.items
         all.old.items }
@@ -335,9 +338,11 @@ fn turn_at<T: BookTurn, R: Wait>(
     ensures err { IfErr result (λ fault. fault.cause ≢ cause.Stuck) }
 {
     let section = &script.sections[p];
+    catch_up_with_first(cluster, processors, p);
     match take_turn(rt, cluster, &mut processors[p], section, all[p]) {
         Ok(outcome) => {
             let (progress, moved) = outcome;
+            catch_first_up(cluster, processors, p);
             all[p] = progress;
             Ok(moved)
         }

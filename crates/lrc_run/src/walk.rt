@@ -1,7 +1,7 @@
 //! A processor's way through its section.
 ghost use Rattle.std.specs.Prelude.{◌≡◌, IfOk, OnOk};
 ghost use Rattle.cluster.specs.Prelude.{IsSameProcessorOfCall};
-ghost use Rattle.lrc_run.specs.Prelude.{MadeInstruction, TriedToMakeTake, MakesWalk};
+ghost use Rattle.lrc_run.specs.Prelude.{DidInstruction, TriedTake, Walks};
 
 mod accesses;
 mod instructions;
@@ -30,7 +30,7 @@ pub(crate) fn walk<T: BookTurn, R: Wait, G: Gate>(
 ) -> Result<(), Cause>
     requires own { processor.old.lock ≡ cluster.now.lock }
     ensures same { IsSameProcessorOfCall processor.old processor.new }
-    ensures ok { OnOk result (MakesWalk processor.old processor.new section.now) }
+    ensures ok { OnOk result (Walks processor.old processor.new section.now) }
 {
     for (index, instruction) in section.iter().enumerate() {
         course.gate.pass(processor.number(), index + 1)?;
@@ -50,7 +50,7 @@ fn perform<T: BookTurn, R: Wait>(
 ) -> Result<(), Cause>
     requires own { processor.old.lock ≡ cluster.now.lock }
     ensures same { IsSameProcessorOfCall processor.old processor.new }
-    ensures ok { OnOk result (MadeInstruction processor.old processor.new instruction) }
+    ensures ok { OnOk result (DidInstruction processor.old processor.new instruction) }
 {
     if begin(rt, cluster, processor, instruction)? {
         return Ok(());
@@ -75,7 +75,7 @@ fn look_again<T: BookTurn, R: Wait>(
 ) -> Result<bool, Cause>
     requires own { processor.old.lock ≡ cluster.now.lock }
     ensures same { IsSameProcessorOfCall processor.old processor.new }
-    ensures ok { IfOk result (λ taken. TriedToMakeTake processor.old processor.new taken) }
+    ensures ok { IfOk result (λ taken. TriedTake processor.old processor.new taken) }
 {
     match cluster.wait(rt, processor)? {
         Waited::MayHaveCome => Ok(end(rt, cluster, processor)?),

@@ -4,7 +4,7 @@ ghost use Rattle.lrc_script.specs.Prelude.{IsLawful, plan_of};
 ghost use Rattle.lrc_sample.specs.Prelude.{CameBySeed, IsSampleMade, IsSampleOf, IsSampleRun, outcome_of_end, tally_run_of};
 
 use crate::outcome::{Answers, SampleOutcome};
-use crate::tally::{TallyLine, note, sort};
+use crate::tally::{TallyLine, note, sort_tally};
 use conformance::{Cause, DrawnRun, Ended, LockChoice, RunFault, Runs, Schedule, ScheduleFault};
 use lrc_script::script::Script;
 use std::alloc::{AllocError, Global};
@@ -26,7 +26,7 @@ fn no_memory(error: AllocError) -> RunFault {
 }
 
 /// What a run came to: a run that can't go on is stuck.
-fn outcome_of(alloc: Global, script: &Script, ended: Ended) -> Result<SampleOutcome, RunFault>
+fn sampled_outcome(alloc: Global, script: &Script, ended: Ended) -> Result<SampleOutcome, RunFault>
     ensures { IfOk result (λ outcome. outcome ≡ outcome_of_end script.now.processors ended) }
 {
     match ended {
@@ -39,7 +39,7 @@ fn outcome_of(alloc: Global, script: &Script, ended: Ended) -> Result<SampleOutc
 }
 
 /// Runs the script by the turns that the seed draws, or without one in rounds by rising number.
-fn run_of<T: Runs, R: Wait>(
+fn sampled_run<T: Runs, R: Wait>(
     runs: &T,
     rt: &R,
     alloc: Global,
@@ -79,8 +79,8 @@ fn run_once<T: Runs, R: Wait>(
     ensures { OnOk result (IsSampleMade (CameBySeed T.followed T.drawn lock) (plan_of script.now) (tally_run_of seed + 1)
         lines.new.items) }
 {
-    let DrawnRun { schedule, ended } = run_of(runs, rt, alloc, script, lock, seed)?;
-    let outcome = outcome_of(alloc, script, ended)?;
+    let DrawnRun { schedule, ended } = sampled_run(runs, rt, alloc, script, lock, seed)?;
+    let outcome = sampled_outcome(alloc, script, ended)?;
     match note(lines, outcome, seed, schedule) {
         Ok(()) => Ok(()),
         Err(error) => Err(no_memory(error)),
@@ -116,7 +116,7 @@ pub fn sample<T: Runs, R: Wait>(
             &mut lines,
         )?;
     }
-    match sort(&mut lines) {
+    match sort_tally(&mut lines) {
         Ok(()) => Ok(Sampled { lines }),
         Err(error) => Err(no_memory(error)),
     }

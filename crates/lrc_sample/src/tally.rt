@@ -20,7 +20,7 @@ pub struct TallyLine {
 }
 
 /// The place of the outcome's line. It compares with each line: kinds are few.
-fn find(lines: &[TallyLine], outcome: &SampleOutcome) -> Option<usize>
+fn find_in_tally(lines: &[TallyLine], outcome: &SampleOutcome) -> Option<usize>
     ensures { MatchOption result
         ((k : ℕ) (line : TallyLine) → slice_get lines.now k ≡ Some line → line.outcome ≢ outcome.now)
         (λ k. (line : TallyLine) × ((slice_get lines.now k ≡ Some line) × (line.outcome ≡ outcome.now))) }
@@ -46,7 +46,7 @@ pub fn note(
     ensures tally { OnOk result ((outcomes : List SampleOutcome) → TallyOrderStarted outcomes lines.old.items
         → tally_run_of seed ≡ length outcomes → TallyOrderStarted (outcomes ++ outcome ∷ []) lines.new.items) }
 {
-    match find(lines, &outcome) {
+    match find_in_tally(lines, &outcome) {
         Some(place) => lines[place].times += 1,
         None => lines.push(TallyLine {
             outcome,
@@ -59,7 +59,7 @@ pub fn note(
 }
 
 /// Puts the most frequent first. Those that came as often stay in their order.
-pub fn sort(lines: &mut Vec<TallyLine>) -> Result<(), AllocError>
+pub fn sort_tally(lines: &mut Vec<TallyLine>) -> Result<(), AllocError>
     requires { sum_by tally_times_of lines.old.items < 2 ^ 64 }
     ensures tally { (outcomes : List SampleOutcome) → TallyCountsRuns outcomes lines.old.items
         → TallyCountsRuns outcomes lines.new.items }

@@ -26,24 +26,28 @@ pub enum TextFault {
 }
 
 /// Adds a shown address with its last word.
-fn put_word(text: &mut String, address: usize, word: u32) -> Result<(), AllocError>
+fn put_word_text(text: &mut String, address: usize, word: u32) -> Result<(), AllocError>
     ensures { OnOk result (string_bytes text.new ≡ string_bytes text.old ++ word_text (address, word)) }
 {
     write!(text, " {address} {word}")
 }
 
 /// Adds the shown addresses with their last words.
-fn put_words(text: &mut String, words: &[(usize, u32)]) -> Result<(), AllocError>
+fn put_words_text(text: &mut String, words: &[(usize, u32)]) -> Result<(), AllocError>
     ensures { OnOk result (string_bytes text.new ≡ string_bytes text.old ++ flat_map word_text words.now) }
 {
     for (address, word) in words {
-        put_word(text, *address, *word)?;
+        put_word_text(text, *address, *word)?;
     }
     Ok(())
 }
 
 /// Adds a processor, where the reply before is another's.
-fn put_owner(text: &mut String, last: Option<usize>, processor: usize) -> Result<(), AllocError>
+fn put_owner_text(
+    text: &mut String,
+    last: Option<usize>,
+    processor: usize,
+) -> Result<(), AllocError>
     ensures { OnOk result (string_bytes text.new ≡ string_bytes text.old ++ owner_text last processor) }
 {
     match last {
@@ -53,42 +57,42 @@ fn put_owner(text: &mut String, last: Option<usize>, processor: usize) -> Result
 }
 
 /// Adds a word that a load answered.
-fn put_answer(text: &mut String, word: u32) -> Result<(), AllocError>
+fn put_answer_text(text: &mut String, word: u32) -> Result<(), AllocError>
     ensures { OnOk result (string_bytes text.new ≡ string_bytes text.old ++ (codes " " ++ decimal word)) }
 {
     write!(text, " {word}")
 }
 
 /// Adds what the loads answered: `p1` before the replies of processor 1.
-fn put_replies(text: &mut String, replies: &[Reply]) -> Result<(), AllocError>
+fn put_replies_text(text: &mut String, replies: &[Reply]) -> Result<(), AllocError>
     ensures { OnOk result (string_bytes text.new
         ≡ string_bytes text.old ++ replies_text None replies.now) }
 {
     let mut last = None;
     for reply in replies {
         let Reply { processor, word } = *reply;
-        put_owner(text, last, processor)?;
-        put_answer(text, word)?;
+        put_owner_text(text, last, processor)?;
+        put_answer_text(text, word)?;
         last = Some(processor);
     }
     Ok(())
 }
 
 /// The same behind `replies`, if there are some.
-fn put_all_replies(text: &mut String, replies: &[Reply]) -> Result<(), AllocError>
+fn put_all_replies_text(text: &mut String, replies: &[Reply]) -> Result<(), AllocError>
     ensures { OnOk result (string_bytes text.new ≡ string_bytes text.old ++ all_replies_text replies.now) }
 {
     match replies {
         [] => Ok(()),
         [_, ..] => {
             text.push_str(" replies")?;
-            put_replies(text, replies)
+            put_replies_text(text, replies)
         }
     }
 }
 
 /// Adds the verdict, the words and the replies.
-fn put_answers(text: &mut String, answers: &Answers) -> Result<(), AllocError>
+fn put_answers_text(text: &mut String, answers: &Answers) -> Result<(), AllocError>
     ensures { OnOk result (string_bytes text.new ≡ string_bytes text.old ++ answers_text answers.now) }
 {
     text.push_str(if answers.is_racy() {
@@ -96,22 +100,22 @@ fn put_answers(text: &mut String, answers: &Answers) -> Result<(), AllocError>
     } else {
         "race-free words"
     })?;
-    put_words(text, answers.words())?;
-    put_all_replies(text, answers.replies())
+    put_words_text(text, answers.words())?;
+    put_all_replies_text(text, answers.replies())
 }
 
 /// Adds what a run came to.
-fn put_outcome(text: &mut String, outcome: &SampleOutcome) -> Result<(), AllocError>
+fn put_outcome_text(text: &mut String, outcome: &SampleOutcome) -> Result<(), AllocError>
     ensures { OnOk result (string_bytes text.new ≡ string_bytes text.old ++ outcome_text outcome.now) }
 {
     match outcome {
-        SampleOutcome::Ended(answers) => put_answers(text, answers),
+        SampleOutcome::Ended(answers) => put_answers_text(text, answers),
         SampleOutcome::Stuck(processor) => write!(text, "stuck {processor}"),
     }
 }
 
 /// Adds how often an outcome came.
-fn put_times(text: &mut String, times: u64) -> Result<(), AllocError>
+fn put_times_text(text: &mut String, times: u64) -> Result<(), AllocError>
     ensures { OnOk result (string_bytes text.new
         ≡ string_bytes text.old ++ (codes "result " ++ (decimal times ++ codes " "))) }
 {
@@ -119,22 +123,22 @@ fn put_times(text: &mut String, times: u64) -> Result<(), AllocError>
 }
 
 /// Adds a line.
-fn put_line(text: &mut String, line: &TallyLine) -> Result<(), AllocError>
+fn put_line_text(text: &mut String, line: &TallyLine) -> Result<(), AllocError>
     ensures { OnOk result (string_bytes text.new ≡ string_bytes text.old ++ tally_line_text line.now) }
 {
-    put_times(text, line.times)?;
-    put_outcome(text, &line.outcome)?;
+    put_times_text(text, line.times)?;
+    put_outcome_text(text, &line.outcome)?;
     text.push_str(" schedule ")?;
     line.schedule.put(text)?;
     text.push_str("\n")
 }
 
 /// Adds all lines.
-fn put_lines(text: &mut String, lines: &[TallyLine]) -> Result<(), AllocError>
+fn put_lines_text(text: &mut String, lines: &[TallyLine]) -> Result<(), AllocError>
     ensures { OnOk result (string_bytes text.new ≡ string_bytes text.old ++ flat_map tally_line_text lines.now) }
 {
     for line in lines {
-        put_line(text, line)?;
+        put_line_text(text, line)?;
     }
     Ok(())
 }
@@ -156,7 +160,7 @@ fn text_of(alloc: Global, sampled: &Sampled) -> Result<String, AllocError>
 {
     let runs = runs_of(&sampled.lines);
     let mut text = format!(in alloc; "runs {runs}\n")?;
-    put_lines(&mut text, &sampled.lines)?;
+    put_lines_text(&mut text, &sampled.lines)?;
     Ok(text)
 }
 

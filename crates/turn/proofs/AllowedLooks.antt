@@ -1,7 +1,8 @@
 -- Each step of the lock is one that the table allows.
-use Rattle.std.proofs.Common.{◌≡◌, ◌≢◌, ℕ, ◌+◌, ◌%◌, ◌^◌, ◌<◌, List, [], ◌∷◌, map, set, get_or, Bool, true, false, eq-eqb, ne_eqb, Option, Some, slice_get, MatchBool, unwrap_or, refl, sym, ap, ◌∙◌, subst, subst₂, arith}
+use Rattle.std.proofs.Common.{◌≡◌, ◌≢◌, ℕ, ◌+◌, ◌%◌, ◌^◌, ◌<◌, List, [], ◌∷◌, map, set, get_or, Bool, true, false, eq-eqb, ne_eqb, Option, Some, slice_get, MatchBool, unwrap_or, refl, sym, ap, ap₂, ◌∙◌, subst, subst₂, arith}
 use Rattle.std.specs.Bool.{OnTrue, OnFalse}
 use Rattle.std.proofs.lemmas.List.{set-get_or, get_or-set_other}
+use Rattle.std.proofs.lemmas.Option.{same_Some}
 use mathlib.Core.Option as maybe
 use mathlib.Core.Option.{some, none}
 use native.Mathlib.Decide.{ℕ_discrete}
@@ -11,15 +12,17 @@ use Rattle.atomic_table.specs.Table.{State, Me, Act, keeps, takes, gives, Valid,
 use Rattle.turn.specs.declared.chair.ChairStage.{ChairStage}
 use Rattle.turn.specs.declared.chair.ChairStage.TheVariants.{Outside, Waiting, Inside}
 use Rattle.turn.specs.declared.chair.ChairState.{ChairState}
+use Rattle.turn.specs.declared.chair.ChairGuest.{ChairGuest}
 use Rattle.turn.specs.declared.chair.ChairRun.{ChairRun}
-use Rattle.turn.specs.Chairs.{ChairMayHandIn}
-use Rattle.turn.specs.ChairRuns.{one_chair, DealtChairs}
+use Rattle.turn.specs.Chairs.{ChairMayConfer, ChairMayHandIn}
+use Rattle.turn.specs.ChairRuns.{chair_guest, one_chair, hosts_chair, DealtChairs}
 use Rattle.turn.specs.Tickets.{ticket_shelf, ticket_chair_state, ticket_view_of, TicketTurns}
 use Rattle.turn.specs.Boards.{IsBoard}
-use Rattle.turn.specs.SeatSteps.{seat_with, seat_at_stage, IsSeatAtStage, DrawStep, StepsIn, LookStep, LeaveStep}
+use Rattle.turn.specs.SeatSteps.{seat_with, seat_at_stage, seat_hosting, IsSeatAtStage, DrawStep, StepsIn, LookStep, TalkStep, LeaveStep}
 use Rattle.turn.proofs.ListItems.{item_got, item_of_map, item_set_again}
 use Rattle.turn.proofs.Places.{at_place, place_moved}
-use Rattle.turn.proofs.NumbersServed.{draws_number, served_not_out, enters_served, leaves_number, served}
+use Rattle.turn.proofs.Guests.{hosting, host_at_place, guest_at_place, host_moved}
+use Rattle.turn.proofs.NumbersServed.{changes_view, draws_number, served_not_out, enters_served, leaves_number, served}
 
 look_waiting_once : {B : Type 0} (g : ChairStage B) (m k : ℕ) → g ≡ Waiting m → g ≡ Waiting k → m ≡ k
 look_waiting_once g m k d e = let both : Waiting m ≡ Waiting k = sym d ∙ e in cc
@@ -150,6 +153,42 @@ module _ (B V : Type 0) (fact : B → List V → Type 0) (width : ℕ) (shows : 
       let mine = item_got table.views id me.0 seen in
       dite (ℕ_discrete (get_or table.words (at m) 0) m)
       (allowed_look_finds_own m me sits table dealt mine) (allowed_look_finds_other m me sits table dealt mine)
+
+  -- a talk with a guest
+  pub talks_allowed : (then : ℕ → V → ℕ → V → V → Type 0) (me other : AllowedLookHold) → IsSeatAtStage Outside me
+      → IsSeatAtStage Outside other → ChairMayConfer fact then me.0.place me.0.lead.view other.0.place other.0.lead.view
+      → Allows Rule slots id (seat_hosting me other) 0 (λ k. k) (λ _ after. TalkStep then (seat_hosting me other) after)
+  talks_allowed then me other sits beside may table dealt long seen fit =
+      let place = me.0.place in
+      let there = other.0.place in
+      let turns = dealt.keeps in
+      let chair : ChairState B V = ticket_chair_state Outside me.0.lead.entries me.0.lead.view in
+      let guest : ChairState B V = ticket_chair_state Outside other.0.lead.entries other.0.lead.view in
+      let mine : slice_get table.views id ≡ Some (hosting place chair there guest) =
+      item_got table.views id (hosts_chair me.0 other.0) seen
+      ∙ ap₂ (λ (x y : AllowedLookHold). Some (hosts_chair x.0 y.0)) sits beside in
+      let here = host_at_place dealt id place there chair guest mine in
+      let yonder = guest_at_place dealt id place there chair guest mine in
+      let told = may turns.book (map ticket_view_of dealt.chairs) (item_of_map ticket_view_of dealt.chairs place chair here)
+      (item_of_map ticket_view_of dealt.chairs there guest yonder.0) turns.kept in
+      let now : ChairState B V = ticket_chair_state Outside me.0.lead.entries told.0 in (
+        hosting place now there guest,
+        keeps,
+        tt,
+        subst (λ (words : List ℕ). Rule (record {
+          words = words;
+          homes = table.homes;
+          views = set table.views id (hosting place now there guest);
+        })) (sym (set-get_or table.words 0 0))
+            (host_moved dealt id place there chair guest mine now table.words table.homes
+            (changes_view board turns place chair here told.0 refl told.2)),
+        λ (g : ChairGuest (ChairState B V)) (e : Some (chair_guest other.0.place other.0.lead) ≡ Some g). (
+          told.0,
+          subst (λ (x : ChairGuest (ChairState B V)). then place me.0.lead.view x.place x.chair.view told.0)
+              (same_Some (chair_guest other.0.place other.0.lead) g e) told.1,
+          sym (ap₂ (λ (x y : AllowedLookHold). (record (hosts_chair x.0 y.0) { lead = now }, me.1)) sits beside),
+        ),
+      )
 
   pub leaves_allowed : (then : B → B → ℕ → V → V → Type 0) (m : ℕ) (found book : B) (me : AllowedLookHold)
       → me ≡ ((seat_at_stage (Inside m found) me).0, (0, Some book) ∷ [])

@@ -60,7 +60,7 @@ module _ (B V : Type 0) (fact : B → List V → Type 0) (shows : List ℕ → �
   dealing_begins zero words book v any room next shown keeps = absurd (omega arith)
   dealing_begins (suc n) words book v any room next shown keeps =
       opens_places (Option B) (ChairState B V) (suc n) (TicketTurns fact shows limit) words (Some book ∷ [])
-      (fresh_seat_run v 0 (suc n)) refl refl (length-replicate (suc n) (fresh_seat {B = B} v))
+      (fresh_seat_run v 0 (suc n)) refl refl refl (length-replicate (suc n) (fresh_seat {B = B} v))
       (dealing_first_turns (suc n) words book v room next shown keeps)
 
   -- the slot of the last table has the book, and the fact holds of it and the chairs' views

@@ -263,6 +263,54 @@ module _ {B V : Type 0} {fact : B → List V → Type 0} {width : ℕ} {shows : 
             turns.kept;
       }
 
+  -- a chair outside changes its view
+  pub changes_view : (w : V) → chair.stage ≡ Outside → fact turns.book (set (map ticket_view_of chairs) place w)
+      → TicketTurns fact shows limit words homes (set chairs place (ticket_chair_state Outside chair.entries w))
+  changes_view w out keeps =
+      let now : ChairState B V = ticket_chair_state Outside chair.entries w in
+      let sums = tickets_drawn-set_served chairs place chair now here in
+      let as_many : tickets_drawn (set chairs place now) ≡ tickets_drawn chairs = omega arith in
+      let more : tickets_drawn chairs ≤ tickets_drawn (set chairs place now) = omega arith in
+      let none_yet : ticket_number chair.stage ≡ None = ap ticket_number out in
+      record {
+        serving = turns.serving;
+        book = turns.book;
+        out = turns.out;
+        room = subst (λ (n : ℕ). n * limit < 2 ^ 64) (sym (length-set chairs place now)) turns.room;
+        within = served_each_set (λ _ x. x.entries ≤ limit) chairs place now (turns.within place chair here)
+            (λ j x _ e. turns.within j x e);
+        next_is = turns.next_is ∙ sym as_many;
+        shown = turns.shown;
+        behind = let b = turns.behind in omega arith;
+        fits = served_each_set (λ _ x. FitsTickets turns.serving (tickets_drawn (set chairs place now)) turns.out turns.book x.stage)
+            chairs place now tt
+            (λ j x _ e. fits_more_numbers turns.serving (tickets_drawn chairs) (tickets_drawn (set chairs place now)) turns.out turns.book
+            x.stage more (turns.fits j x e));
+        apart = λ i j n f g.
+            let back : ((l : ℕ) → HasTicket (set chairs place now) l n → HasTicket chairs l n) = λ l h. ⊎_elim
+            (λ (p : (l ≡ place) × (None ≡ Some n)). absurd (none-some n p.1))
+            (λ (p : (l ≢ place) × HasTicket chairs l n). p.1)
+            (number_set chairs place now l n h) in
+            turns.apart i j n (back i f) (back j g);
+        queued = λ n low high. let q = turns.queued n low (omega arith) in (
+          q.0,
+          number_else chairs place now q.0 n (λ z. none-some n
+              (sym none_yet ∙ number_known chairs place chair q.0 n here q.1 z)) q.1,
+        );
+        lies = turns.lies;
+        taken = λ o. let q = turns.taken o in (
+          q.0,
+          q.1,
+          q.2,
+          item_set_else chairs place q.0 now (λ z. served_inside_outside q.1 turns.book
+              (sym q.4 ∙ ap (λ (y : ChairState B V). y.stage)
+              (item_once chairs place q.2 chair (subst (λ (i : ℕ). slice_get chairs i ≡ Some q.2) z q.3) here) ∙ out))
+              ∙ q.3,
+          q.4,
+        );
+        kept = subst (λ (vs : List V). fact turns.book vs) (sym (map-set ticket_view_of chairs place now)) keeps;
+      }
+
   pub leaves_number : (m : ℕ) (found handed : B) (w : V) (words' : List ℕ) → chair.stage ≡ Inside m found → shows words'
       (m + 1)
       → get_or words' 0 0 ≡ get_or words 0 0 → fact handed (set (map ticket_view_of chairs) place w)

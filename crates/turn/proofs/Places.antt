@@ -1,29 +1,38 @@
 -- What a seat does to the chairs at its places: it changes one, gives one away, takes one in, and knows them all
 -- once it has all.
-use Rattle.std.proofs.Common.{◌≡◌, ◌≢◌, ℕ, zero, suc, ◌+◌, List, [], ◌∷◌, map, length, set, slice_get, Some, Bool, true, false, cond, eqb, eq-eqb, ne_eqb, refl, sym, ap, ◌∙◌, subst, ⊎_elim, add-zero, arith}
+use Rattle.std.proofs.Common.{◌≡◌, ◌≢◌, ℕ, zero, suc, ◌+◌, List, [], ◌∷◌, map, length, set, slice_get, Some, None, Bool, true, false, cond, eqb, eq-eqb, ne_eqb, refl, sym, ap, ◌∙◌, subst, ⊎_elim, add-zero, arith}
 use Rattle.std.proofs.Math.ListN.{length-set}
 use mathlib.Core.Option.{Option, some}
 use Rattle.std.proofs.lemmas.Option.{same_Some, none-some, slice_get_within}
 use Rattle.atomic_table.specs.Table.{State, opening, Splits, Joins}
+use Rattle.turn.specs.declared.chair.ChairGuest.{ChairGuest}
 use Rattle.turn.specs.declared.chair.ChairRun.{ChairRun}
-use Rattle.turn.specs.ChairRuns.{one_chair, chairs_of, chairs_after_first, rest_of_chairs, first_chair, both_chairs, KnowsChairs, DealtChairs}
+use Rattle.turn.specs.ChairRuns.{one_chair, chairs_of, chairs_after_first, rest_of_chairs, first_chair, both_chairs, KnowsChairs, KnowsGuest, DealtChairs}
 use Rattle.turn.proofs.ListItems.{item_got, item_of_set, item_set_here, item_set_else, item_at_end, same_list}
 
 -- f with one place given to another seat
-place_given : (ℕ → ℕ) → ℕ → ℕ → ℕ → ℕ
+pub place_given : (ℕ → ℕ) → ℕ → ℕ → ℕ → ℕ
 place_given f p id k = cond (eqb k p) id (f k)
 
-place_given_here : (f : ℕ → ℕ) (p id k : ℕ) → k ≡ p → place_given f p id k ≡ id
+pub place_given_here : (f : ℕ → ℕ) (p id k : ℕ) → k ≡ p → place_given f p id k ≡ id
 unfolding place_given
 place_given_here f p id k e = ap (λ (b : Bool). cond b id (f k)) (eq-eqb k p e)
 
-place_given_else : (f : ℕ → ℕ) (p id k : ℕ) → k ≢ p → place_given f p id k ≡ f k
+pub place_given_else : (f : ℕ → ℕ) (p id k : ℕ) → k ≢ p → place_given f p id k ≡ f k
 unfolding place_given
 place_given_else f p id k n = ap (λ (b : Bool). cond b id (f k)) (ne_eqb k p n)
 
 module _ (C : Type 0) where
+  -- a run without a guest
+  pub no_guest : (chairs : List C) (owner : ℕ → ℕ) (id : ℕ) (h : ChairRun C) → h.guest ≡ None → KnowsGuest chairs owner id h
+  no_guest chairs owner id h none g e = absurd (none-some g (sym none ∙ e))
+
+  rest_has_no_guest : (p : ℕ) (c : C) (cs : List C) → (chairs_after_first p c cs).guest ≡ None
+  rest_has_no_guest p c [] = refl
+  rest_has_no_guest p c (y ∷ ys) = refl
+
   -- one more place: the chairs of a run of one
-  only : (P : ℕ → C → Type 0) (c : C) → P 0 c → (j : ℕ) (d : C) → slice_get (c ∷ []) j ≡ Some d → P j d
+  pub only : (P : ℕ → C → Type 0) (c : C) → P 0 c → (j : ℕ) (d : C) → slice_get (c ∷ []) j ≡ Some d → P j d
   only P c here zero d e = subst (λ (x : C). P 0 x) (same_Some c d e) here
   only P c here (suc j) d e = absurd (none-some d e)
 
@@ -62,6 +71,22 @@ module _ {S C : Type 0} {n : ℕ} {core : List ℕ → List (Option S) → List 
       (item_set_else dealt.chairs place (h.place + i) now apart ∙ theirs.0, theirs.1))
       (item_of_set s.views id j (one_chair place now) h e)
 
+  moved_place_guests : (now : C) → slice_get s.views id ≡ Some (one_chair place chair) → (j : ℕ) (h : ChairRun C)
+      → slice_get (set s.views id (one_chair place now)) j ≡ Some h → h.live ≡ true
+      → KnowsGuest (set dealt.chairs place now) dealt.owner j h
+  moved_place_guests now at j h e live =
+      let mine = dealt.known id (one_chair place chair) at refl zero chair refl in
+      ⊎_elim
+      (λ (own : (j ≡ id) × (one_chair place now ≡ h)).
+      subst (λ (g : ChairRun C). KnowsGuest (set dealt.chairs place now) dealt.owner j g) own.1
+      (no_guest C (set dealt.chairs place now) dealt.owner j (one_chair place now) refl))
+      (λ (other : (j ≢ id) × (slice_get s.views j ≡ Some h)). λ (g : ChairGuest C) (f : h.guest ≡ Some g).
+      let theirs = dealt.guests j h other.1 live g f in
+      let apart : g.place ≢ place = λ same. other.0
+      (sym theirs.1 ∙ ap dealt.owner (same ∙ sym (add-zero place)) ∙ mine.1) in
+      (item_set_else dealt.chairs place g.place now apart ∙ theirs.0, theirs.1, theirs.2))
+      (item_of_set s.views id j (one_chair place now) h e)
+
   -- a seat with one place changes its chair
   pub place_moved : (now : C) (words : List ℕ) (homes : List (Option S)) → slice_get s.views id ≡ Some (one_chair place chair)
       → core words homes (set dealt.chairs place now)
@@ -71,6 +96,7 @@ module _ {S C : Type 0} {n : ℕ} {core : List ℕ → List (Option S) → List 
     owner = dealt.owner;
     all = length-set dealt.chairs place now ∙ dealt.all;
     known = moved_place_known now at;
+    guests = moved_place_guests now at;
     keeps = keeps;
   }
 
@@ -132,6 +158,23 @@ module _ (S C : Type 0) (n : ℕ) (core : List ℕ → List (Option S) → List 
             (subst (λ (i : ℕ). KnowsChairs dealt.chairs owner i (first_chair run)) (sym (last.0 ∙ long))
             (first_place_known table dealt id run live at new)))
             (item_at_end kept (first_chair run) h j e);
+        guests = λ j h e alive. ⊎_elim
+            (λ (old : slice_get kept j ≡ Some h). ⊎_elim
+            (λ (own : (j ≡ id) × (rest_of_chairs run ≡ h)).
+            subst (λ (g : ChairRun C). KnowsGuest dealt.chairs owner j g) own.1
+            (no_guest C dealt.chairs owner j (rest_of_chairs run)
+            (rest_has_no_guest C (run.place + 1) run.lead run.others)))
+            (λ (other : (j ≢ id) × (slice_get table.views j ≡ Some h)). λ (g : ChairGuest C) (f : h.guest ≡ Some g).
+            let theirs = dealt.guests j h other.1 alive g f in
+            let mine = dealt.known id run at live zero run.lead refl in
+            let apart : g.place ≢ run.place = λ same. other.0
+            (sym theirs.1 ∙ ap dealt.owner (same ∙ sym (add-zero run.place)) ∙ mine.1) in
+            (theirs.0, place_given_else dealt.owner run.place new g.place apart ∙ theirs.1, theirs.2))
+            (item_of_set table.views id j (rest_of_chairs run) h old))
+            (λ (last : (j ≡ length kept) × (first_chair run ≡ h)).
+            subst (λ (g : ChairRun C). KnowsGuest dealt.chairs owner j g) last.1
+            (no_guest C dealt.chairs owner j (first_chair run) refl))
+            (item_at_end kept (first_chair run) h j e);
         keeps = dealt.keeps;
       }
 
@@ -173,14 +216,27 @@ module _ (S C : Type 0) (n : ℕ) (core : List ℕ → List (Option S) → List 
             (theirs.0, place_given_else dealt.owner lower.place id (h.place + i) apart ∙ theirs.1))
             (item_of_set table.views id j both h left.1))
             (item_of_set (set table.views id both) other j spent h e);
+        guests = λ j h e up. ⊎_elim
+            (λ (gone : (j ≡ other) × (spent ≡ h)). let off : h.live ≡ false =
+            ap (λ (g : ChairRun C). g.live) (sym gone.1) ∙ dead in cc)
+            (λ (left : (j ≢ other) × (slice_get (set table.views id both) j ≡ Some h)). ⊎_elim
+            (λ (own : (j ≡ id) × (both ≡ h)). subst (λ (g : ChairRun C). KnowsGuest dealt.chairs owner j g) own.1
+            (no_guest C dealt.chairs owner j both refl))
+            (λ (third : (j ≢ id) × (slice_get table.views j ≡ Some h)). λ (g : ChairGuest C) (f : h.guest ≡ Some g).
+            let theirs = dealt.guests j h third.1 up g f in
+            let apart : g.place ≢ lower.place = λ same. left.0
+            (sym theirs.1 ∙ ap dealt.owner (same ∙ sym (add-zero lower.place)) ∙ first.1) in
+            (theirs.0, place_given_else dealt.owner lower.place id g.place apart ∙ theirs.1, theirs.2))
+            (item_of_set table.views id j both h left.1))
+            (item_of_set (set table.views id both) other j spent h e);
         keeps = dealt.keeps;
       }
 
   -- the table at the start: one seat has all places
   pub opens_places : (words : List ℕ) (slots : List S) (run : ChairRun C) → run.live ≡ true → run.place ≡ 0
-      → length (chairs_of run) ≡ n → core words (map some slots) (chairs_of run) → DealtChairs n core
-      (opening words slots run)
-  opens_places words slots run live first all keeps = record {
+      → run.guest ≡ None → length (chairs_of run) ≡ n → core words (map some slots) (chairs_of run)
+      → DealtChairs n core (opening words slots run)
+  opens_places words slots run live first alone all keeps = record {
     chairs = chairs_of run;
     owner = λ _. 0;
     all = all;
@@ -190,6 +246,8 @@ module _ (S C : Type 0) (n : ℕ) (core : List ℕ → List (Option S) → List 
               (let z : i ≡ run.place + i = omega arith in z) f,
           refl,
         )) j h e;
+    guests = λ j h e up. only (ChairRun C) (λ i g. KnowsGuest (chairs_of run) (λ _. 0) i g) run
+        (no_guest C (chairs_of run) (λ _. 0) 0 run alone) j h e;
     keeps = keeps;
   }
 

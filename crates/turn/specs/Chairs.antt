@@ -66,6 +66,13 @@ module _ {B V : Type 0} where
   abbrev pub ChairStands : (B → List V → Type 0) → B → ℕ → V → Type 0
   ChairStands fact b p v = (views : List V) × (slice_get views p ≡ Some v) × fact b views
 
+  -- whatever the book and the other views are: if the fact holds of them, with v at the place p and u at q, it holds
+  -- with some new view at p that is told of
+  abbrev pub ChairMayConfer : (B → List V → Type 0) → (ℕ → V → ℕ → V → V → Type 0) → ℕ → V → ℕ → V → Type 0
+  ChairMayConfer fact then p v q u =
+      (book : B) (views : List V) → slice_get views p ≡ Some v → slice_get views q ≡ Some u → fact book views
+      → (w : V) × then p v q u w × fact book (slice_set views p w)
+
   -- whatever the other views are: if the fact held of the book as it was found, some new view is told of and
   -- keeps it with the book handed in
   abbrev pub ChairMayHandIn : (B → List V → Type 0) → (B → B → ℕ → V → V → Type 0) → B → B → ℕ → V → Type 0

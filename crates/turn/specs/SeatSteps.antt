@@ -4,10 +4,11 @@ use Rattle.atomic_table.specs.Table.{Me}
 use Rattle.turn.specs.declared.chair.ChairStage.{ChairStage}
 use Rattle.turn.specs.declared.chair.ChairStage.TheVariants.{Outside, Waiting, Inside}
 use Rattle.turn.specs.declared.chair.ChairState.{ChairState}
+use Rattle.turn.specs.declared.chair.ChairGuest.{ChairGuest}
 use Rattle.turn.specs.declared.chair.ChairRun.{ChairRun}
 use Rattle.turn.specs.Stages.{stage_carries}
 use Rattle.turn.specs.Chairs.{ChairStands}
-use Rattle.turn.specs.ChairRuns.{chair_run, one_chair}
+use Rattle.turn.specs.ChairRuns.{chair_run, hosts_chair, one_chair}
 use Rattle.turn.specs.Tickets.{ticket_chair_state}
 
 module _ {B V : Type 0} where
@@ -49,6 +50,18 @@ module _ {B V : Type 0} where
       → Me (Option B) (ChairRun (ChairState B V)) → Type 0
   LookStep fact me found after = (m : ℕ) → me.0.lead.stage ≡ Waiting m
       → MatchBool (found == m) (StepsIn fact m me after) (after ≡ me)
+
+  -- a seat that has another's first chair as its guest
+  abbrev pub seat_hosting : Me (Option B) (ChairRun (ChairState B V)) → Me (Option B) (ChairRun (ChairState B V))
+      → Me (Option B) (ChairRun (ChairState B V))
+  seat_hosting me other = (hosts_chair me.0 other.0, me.1)
+
+  -- a talk with the guest: the seat's own chair, which is outside, has a new view by both places and views
+  abbrev pub TalkStep : (ℕ → V → ℕ → V → V → Type 0) → Me (Option B) (ChairRun (ChairState B V))
+      → Me (Option B) (ChairRun (ChairState B V)) → Type 0
+  TalkStep then me after = (g : ChairGuest (ChairState B V)) → me.0.guest ≡ Some g
+      → (w : V) × then me.0.place me.0.lead.view g.place g.chair.view w
+      × (after ≡ (record me.0 { lead = ticket_chair_state Outside me.0.lead.entries w }, me.1))
 
   -- a leave: the chair, which was inside with the book found, is outside with a new view, and the slot is given back
   -- with the book

@@ -1,5 +1,5 @@
 //! What a thread enters with: its chair, and what it has while it is inside.
-ghost use Rattle.std.specs.Prelude.{◌≡◌, ◌+◌, ◌^◌, ◌<◌, ◌≤◌, nat_le, true, []};
+ghost use Rattle.std.specs.Prelude.{◌≡◌, ◌+◌, ◌^◌, ◌<◌, ◌≤◌, nat_le, true, [], None};
 ghost use Rattle.turn.specs.declared.chair.ChairStage.TheVariants.{Outside};
 ghost use Rattle.turn.specs.Stages.{stage_carries};
 
@@ -23,13 +23,20 @@ pub struct ChairState<B, V> {
     pub view: V,
 }
 
-/// The chairs of a seat of the table, for proofs alone: `lead` has `place`, and `others` have the places after it. Of a
-/// seat that is not live nothing is known.
+/// A chair that a seat of the table has besides its own ones, for proofs alone.
+pub struct ChairGuest<C> {
+    pub place: u64,
+    pub chair: C,
+}
+
+/// The chairs of a seat of the table, for proofs alone: `lead` has `place`, and `others` have the places after it; the
+/// guest, if there is one, stands at another place. Of a seat that is not live nothing is known.
 pub struct ChairRun<C> {
     pub live: bool,
     pub place: u64,
     pub lead: C,
     pub others: LinkedList<C>,
+    pub guest: Option<ChairGuest<C>>,
 }
 
 /// The token with which one thread enters one lock, over the book `B` under the keeper `K`.
@@ -41,7 +48,7 @@ pub struct ChairToken<B, V> {
     pub(crate) seat: Seat<Option<B>, ChairRun<ChairState<B, V>>>,
     pub(crate) entries: u64,
     pub(crate) limit: u64,
-    ghost single: { (seat.me.0.live ≡ true) × (seat.me.0.others ≡ []) },
+    ghost single: { (seat.me.0.live ≡ true) × (seat.me.0.others ≡ []) × (seat.me.0.guest ≡ None) },
     ghost counted: { (entries ≡ seat.me.0.lead.entries) × (entries ≤ limit) },
     ghost carries: { seat.me.1 ≡ stage_carries seat.me.0.lead.stage },
 }

@@ -1,7 +1,7 @@
 //! The contract of the lock round the book.
 ghost use Rattle.std.specs.Prelude.{◌≡◌, ℕ, List, ◌+◌, ◌*◌, ◌^◌, ◌<◌, ◌≤◌, length, map, replicate, IfOk, IfErr};
 ghost use Rattle.turn.specs.Prelude.{ChairLockId, lock, chair_place, chair_view, entries, IsChairOutside, IsChairInside, IsSameChair, AreFreshChairs};
-ghost use Rattle.turn.specs.Prelude.{AreAllChairs, ChairStands, ChairMayHandIn};
+ghost use Rattle.turn.specs.Prelude.{AreAllChairs, ChairStands, ChairMayConfer, ChairMayHandIn};
 
 use crate::chair::{Chair, Held, Spent};
 use std::alloc::{AllocError, Global};
@@ -32,6 +32,14 @@ pub trait Outcome<B, V> {
     ghost then: { B → B → ℕ → V → V → Type 0 };
 }
 
+/// What one chair learns of another: the relation between its place and its old view, the other's place and view, and its
+/// new view.
+pub trait Lesson<V> {
+    ghost use Rattle.std.specs.Prelude.{ℕ, ◌<◌};
+
+    ghost then: { ℕ → V → ℕ → V → V → Type 0 };
+}
+
 /// A lock round one value, the book, under a keeper.
 ///
 /// Nothing is promised of progress, fairness or time: `enter` may never return.
@@ -41,7 +49,7 @@ pub trait Outcome<B, V> {
 pub trait Turn<B, K: Keeper<B>>: Sized + Sync {
     ghost use Rattle.std.specs.Prelude.{◌≡◌, ℕ, ◌+◌, ◌*◌, ◌^◌, ◌<◌, ◌≤◌, length, map, replicate, IfOk, IfErr};
     ghost use Rattle.turn.specs.Chairs.{ChairLockId, lock, chair_place, chair_view, entries, IsChairOutside, IsChairInside, IsSameChair};
-    ghost use Rattle.turn.specs.Chairs.{AreFreshChairs, AreAllChairs, ChairStands, ChairMayHandIn};
+    ghost use Rattle.turn.specs.Chairs.{AreFreshChairs, AreAllChairs, ChairStands, ChairMayConfer, ChairMayHandIn};
 
     /// How often a chair may enter.
     const ENTRIES: u64;
@@ -87,6 +95,20 @@ pub trait Turn<B, K: Keeper<B>>: Sized + Sync {
             × IsChairOutside chair.new }
         ensures then { (found : B) → IsChairInside chair.old held found
             → M.then found book (chair_place chair.old) (chair_view chair.old) (chair_view chair.new) };
+
+    /// Gives the chair a new view, by what both chairs know, which are in one thread's hands. So what a thread knows by one
+    /// chair it can know by another. It waits for nothing, enters nothing and takes no memory.
+    fn confer<M: Lesson<K::View>>(&self, chair: &mut Chair<B, K>, other: &mut Chair<B, K>)
+        requires own { (lock chair.old ≡ id self.now) × (lock other.old ≡ id self.now) }
+        requires outside { IsChairOutside chair.old × IsChairOutside other.old }
+        requires may { ChairMayConfer K.fact M.then (chair_place chair.old) (chair_view chair.old)
+            (chair_place other.old) (chair_view other.old) }
+        ensures same { IsSameChair chair.old chair.new × (entries chair.new ≡ entries chair.old)
+            × IsChairOutside chair.new }
+        ensures then { M.then (chair_place chair.old) (chair_view chair.old) (chair_place other.old)
+            (chair_view other.old) (chair_view chair.new) }
+        ensures other { IsSameChair other.old other.new × (entries other.new ≡ entries other.old)
+            × IsChairOutside other.new × (chair_view other.new ≡ chair_view other.old) };
 
     /// Takes the lock apart, with all its chairs in the order of their places. It waits for nothing and takes no memory.
     fn close(self, chairs: Vec<Chair<B, K>>) -> B

@@ -17,6 +17,7 @@
 //! | look | a load of `serving` that finds another number | a load of the own word that finds another number |
 //! | enter | a load of `serving` that finds the own number | a load of the own word that finds the own number |
 //! | leave | `fetch_add` on `serving`, after the book was put back | a store of the next number into its own word, likewise |
+//! | talk | a load of `next`, by which a chair outside is told what another one of its thread knows | the same |
 //!
 //! Who waits looks again and again, and sleeps between two looks after a while. Who leaves wakes the next one.
 //!
@@ -24,7 +25,8 @@
 //! or `IsInside` with the book that it took; of a lock its `id`, `size` and `ENTRIES`. Lists are read by `slice_get`.
 //!
 //! **What is proved**: the lock invariant whenever the lock is free; [`Spent`] exactly after that many entries, with
-//! nothing changed; `turns_law` of both locks, that the numbers are served in turn and one chair at most is inside.
+//! nothing changed; `turns_law` of both locks, that the numbers are served in turn and one chair at most is inside; that
+//! [`Turn::confer`] gives a chair what both chairs know, and so what a thread left by one of them.
 //!
 //! **What is only tested**: that waiting chairs get in, though their threads sleep; the words of both boards. Fairness, time
 //! and that `enter` returns are neither proved nor promised.
@@ -38,5 +40,5 @@ mod lock_words;
 mod sleepers;
 
 pub use chair::{Chair, ChairToken, Held, Spent};
-pub use contract::{Keeper, Outcome, Turn};
+pub use contract::{Keeper, Lesson, Outcome, Turn};
 pub use lock::{ArrayLock, TicketLock};

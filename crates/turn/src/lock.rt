@@ -5,7 +5,7 @@ ghost use Rattle.std.specs.Bool.{OnTrue, OnFalse};
 ghost use Rattle.turn.specs.declared.chair.ChairStage.TheVariants.{Outside, Waiting, Inside};
 
 use crate::chair::{Chair, ChairRun, ChairState, ChairToken, Held, Spent};
-use crate::contract::{Keeper, Outcome, Turn};
+use crate::contract::{Keeper, Lesson, Outcome, Turn};
 use crate::lock_words::{ArrayBoard, Board, BoardLayout, Change, TicketBoard};
 use crate::sleepers::{Sleepers, low_half};
 use atomic_table::{Join, Play, Seat, Split, Table, TableRule};
@@ -84,6 +84,42 @@ impl<B, K: Keeper<B>> Join<ChairRun<ChairState<B, K::View>>> for Gather<K> {
     ghost spent = { chair_run false 0 (fresh_seat K.nobody) [] };
 }
 
+// A seat takes in another's one chair as its guest.
+struct Host<K> {
+    keeper: PhantomData<K>,
+}
+
+impl<B, K: Keeper<B>> Join<ChairRun<ChairState<B, K::View>>> for Host<K> {
+    ghost use Rattle.std.specs.Prelude.{false};
+    ghost use Rattle.turn.specs.ChairRuns.{chair_run, hosts_chair};
+    ghost use Rattle.turn.specs.SeatSteps.{fresh_seat};
+
+    ghost both = { λ h g. hosts_chair h g };
+
+    ghost spent = { chair_run false 0 (fresh_seat K.nobody) [] };
+}
+
+// A seat's guest goes to a new seat.
+struct Dismiss;
+
+impl<C> Split<ChairRun<C>> for Dismiss {
+    ghost use Rattle.turn.specs.ChairRuns.{first_chair, guest_run};
+
+    ghost left = { λ h. first_chair h };
+
+    ghost right = { λ h. guest_run h };
+}
+
+struct Talk<M> {
+    lesson: PhantomData<M>,
+}
+
+impl<B, V, M: Lesson<V>> Play<Option<B>, ChairRun<ChairState<B, V>>> for Talk<M> {
+    ghost use Rattle.turn.specs.SeatSteps.{TalkStep};
+
+    ghost then = { λ _ before _ after. TalkStep M.then before after };
+}
+
 struct StepOut<M> {
     outcome: PhantomData<M>,
 }
@@ -123,7 +159,7 @@ pub type ArrayLock<B, K, const ENTRIES: u64> = TurnLock<B, K, ArrayBoard, ENTRIE
 impl<B, K: Keeper<B>, W: Board, const ENTRIES: u64> TurnLock<B, K, W, ENTRIES> {
     ghost use Rattle.turn.specs.SeatSteps.{fresh_seat_run, seat_with, seat_at_stage, IsSeatAtStage, StepsIn};
     ghost use Rattle.turn.specs.ChairRuns.{chairs_of};
-    ghost use Rattle.turn.specs.Chairs.{chair_lock_id, chair_state_of, AreFreshChairs, AreAllChairs, ChairStands, ChairMayHandIn};
+    ghost use Rattle.turn.specs.Chairs.{chair_lock_id, chair_state_of, AreFreshChairs, AreAllChairs, ChairStands, ChairMayConfer, ChairMayHandIn};
 
     // The step 'draw': one addition to the next number. The chair waits with the number found.
     fn draw(&self, seat: &mut LockSeat<B, K::View>) -> u64
@@ -262,6 +298,33 @@ impl<B, K: Keeper<B>, W: Board, const ENTRIES: u64> TurnLock<B, K, W, ENTRIES> {
         W::pass::<_, _, _, _, StepOut<M>>(&self.table.shared, seat, self.layout.seats, number);
     }
 
+    // Takes the other seat's chair in as a guest, makes the step 'talk', which is a load, and lets the guest go.
+    fn confer_at<M: Lesson<K::View>>(
+        &self,
+        seat: &mut LockSeat<B, K::View>,
+        other: &mut LockSeat<B, K::View>,
+    )
+        requires own { (seat.old.table_id ≡ self.now.table.shared.table_id)
+            × (other.old.table_id ≡ self.now.table.shared.table_id) }
+        requires outside { IsSeatAtStage Outside seat.old.me × IsSeatAtStage Outside other.old.me }
+        requires may { ChairMayConfer K.fact M.then seat.old.me.0.place seat.old.me.0.lead.view
+            other.old.me.0.place other.old.me.0.lead.view }
+        ensures own { (seat.new.table_id ≡ seat.old.table_id) × (other.new.table_id ≡ other.old.table_id) }
+        ensures outside { seat.new.me
+            ≡ seat_with seat.old.me.0.place Outside seat.old.me.0.lead.entries
+            seat.new.me.0.lead.view }
+        ensures then { M.then seat.old.me.0.place seat.old.me.0.lead.view other.old.me.0.place
+            other.old.me.0.lead.view seat.new.me.0.lead.view }
+        ensures other { other.new.me ≡ other.old.me }
+    {
+        W::lawful(self.layout.seats);
+        let shared = &self.table.shared;
+        let guest = shared.split_seat::<Deal>(other);
+        shared.join_seat::<Host<K>>(seat, guest);
+        shared.load::<Talk<M>>(seat, NEXT);
+        *other = shared.split_seat::<Dismiss>(seat);
+    }
+
     // Wakes the thread that sleeps at the next number's word. It comes after the step 'leave': sleepers are looked for last.
     fn wake_next_turn(&self, number: u64)
         requires { number + 1 < 2 ^ 64 }
@@ -368,6 +431,10 @@ impl<B: Send, K: Keeper<B>, W: Board + Sync, const ENTRIES: u64> Turn<B, K>
         let Held { number } = held;
         self.hand_in::<M>(&mut chair.seat, number, book);
         self.wake_next_turn(number);
+    }
+
+    fn confer<M: Lesson<K::View>>(&self, chair: &mut Chair<B, K>, other: &mut Chair<B, K>) {
+        self.confer_at::<M>(&mut chair.seat, &mut other.seat);
     }
 
     fn close(self, chairs: Vec<Chair<B, K>>) -> B

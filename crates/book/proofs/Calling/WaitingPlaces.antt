@@ -80,12 +80,6 @@ waits_map awaits p a = (
 abbrev pub AreWaitingPlacesFound : (ℕ → Type 0) → ℕ → List ℕ → Type 0
 AreWaitingPlacesFound Q n found = (q : ℕ) → Has found q ↔ ((q < n) × Q q)
 
-pub waiting_places_none_found : (Q : ℕ → Type 0) (found : List ℕ) → found ≡ [] → AreWaitingPlacesFound Q 0 found
-waiting_places_none_found Q found is q = (
-  (λ has. absurd (has-nil q (subst (λ (xs : List ℕ). Has xs q) is has))),
-  (λ both. absurd (omega (arith, both.0))),
-)
-
 -- one more is
 pub waiting_places_one_found : (Q : ℕ → Type 0) (n : ℕ) (old new : List ℕ) → ((q : ℕ) → Q q → q < most_processors) → AreWaitingPlacesFound Q n old
     → ((q : ℕ) → Has new q ↔ (((q ≡ n) × (q < most_processors)) ⊎ Has old q)) → (n < most_processors → Q n)
@@ -180,45 +174,3 @@ place_added marks p lt q = (there, back)
           | inr apart ↦ at_place (slice_set marks p true) q (slice_get-set_other marks p q true apart
               ∙ subst (λ (m : ℕ). slice_get marks m ≡ Some true) is w.1)
         ]
-
--- the first mark, and what is left without it
-pub record IsFirstPlace (n : ℕ) (marks : List Bool) (p : ℕ) : Type 0 where
-  pub place : ℕ
-  pub is : p ≡ n + place
-  pub within : place < length marks
-  pub first : waiters_from n marks ≡ p ∷ waiters_from n (slice_set marks place false)
-
-first_place_from : (n : ℕ) (marks : List Bool) (p : ℕ) → position_from (λ b. b) n marks ≡ Some p → IsFirstPlace n marks p
-first_place_from n [] p is = absurd (none-some p is)
-first_place_from n (true ∷ marks) p is =
-    let same = same_Some n p is in
-    record {
-      place = 0;
-      is = omega arith;
-      within = omega arith;
-      first = ap (λ (m : ℕ). m ∷ waiters_from (n + 1) marks) same;
-    }
-first_place_from n (false ∷ marks) p is =
-    let f = first_place_from (n + 1) marks p is in
-    let at = f.is in
-    let lt = f.within in
-    record { place = suc f.place; is = omega arith; within = omega arith; first = f.first }
-
-pub first_place : (marks : List Bool) (p : ℕ) → position_from (λ b. b) 0 marks ≡ Some p
-    → (p < length marks) × (waiters_from 0 marks ≡ p ∷ waiters_from 0 (slice_set marks p false))
-first_place marks p is =
-    let f = first_place_from 0 marks p is in
-    let at = f.is in
-    let lt = f.within in
-    let same : f.place ≡ p = omega arith in (
-      omega arith,
-      f.first ∙ ap (λ (k : ℕ). p ∷ waiters_from 0 (slice_set marks k false)) same,
-    )
-
-no_place_from : (n : ℕ) (marks : List Bool) → position_from (λ b. b) n marks ≡ None → waiters_from n marks ≡ []
-no_place_from n [] is = refl
-no_place_from n (true ∷ marks) is = absurd (none-some n (sym is))
-no_place_from n (false ∷ marks) is = no_place_from (n + 1) marks is
-
-pub no_place : (marks : List Bool) → position_from (λ b. b) 0 marks ≡ None → waiters_from 0 marks ≡ []
-no_place marks is = no_place_from 0 marks is

@@ -31,7 +31,7 @@ use Rattle.book.specs.State.{State, state_time_of}
 use Rattle.book.specs.Transitions.{transition_barrier_left, transition_joined, transition_received, transition_trimmed, transition_taken}
 use Rattle.book.specs.Messages.{signal_message, message_for, message_has_come}
 use Rattle.book.specs.Told.{Represents}
-use Rattle.book.specs.Laws.{IsMessageByLaw}
+use Rattle.book.specs.Laws.{IsMessage}
 use Rattle.book.proofs.Parts.Each.{each_set, each_kept, each_item_at, each_is_at}
 use Rattle.book.proofs.Parts.Mail.{mail_lets_posted, mail_kept, own_mail_none}
 use Rattle.book.proofs.Parts.Flags.{flags_kept}
@@ -203,7 +203,7 @@ module _ (s : Sizes) (h : List Event) (b : State) (p : ℕ) (told : Represents s
       each_item_at s.processors (IsMail s h) b.transit p None told.transit lt ∙ ap (λ (o : Option Letter). Some o) is
 
   mail_message_is : (k : Kind) (m : Letter) → slice_get b.awaits p ≡ Some (Some k) → slice_index_or b.transit p None ≡ Some m
-      → IsMessageByLaw s h b p k m
+      → IsMessage s h b p k m
   mail_message_is k m waits is =
       let lt = times_is_processor s h b p (Some k) told waits in
       let at = taking_mail_at m lt is in
@@ -224,12 +224,12 @@ module _ (s : Sizes) (h : List Event) (b : State) (p : ℕ) (told : Represents s
         (told.well_formed last.0 (event p (Watch f)) last.1.does).in_range
 
     signal_message_is : (m : Letter) (o : Option (List ℕ)) → slice_get b.flags f ≡ Some o
-        → option_map (λ (t : List ℕ). signal_message b.closed t (state_time_of b p)) o ≡ Some m → IsMessageByLaw s h b p (Await f) m
+        → option_map (λ (t : List ℕ). signal_message b.closed t (state_time_of b p)) o ≡ Some m → IsMessage s h b p (Await f) m
     signal_message_is m None at is = absurd (none-some m is)
     signal_message_is m (Some t) at is =
         let last = last_flag_watch h p f (told.awaits.each p (Some (Await f)) waits) in
         let flag : IsFlag s.processors h f (Some t) = told.flags.each f (Some t) at in
-        subst (IsMessageByLaw s h b p (Await f)) (same_Some (signal_message b.closed t (state_time_of b p)) m is)
+        subst (IsMessage s h b p (Await f)) (same_Some (signal_message b.closed t (state_time_of b p)) m is)
         (record { allowed = (last.0, flag.0.0, flag.0.1.0, last.1, flag.0.1.1); time = flag.1; notices = refl })
 
     -- who waits for a flag has no mail
@@ -254,7 +254,7 @@ module _ (s : Sizes) (h : List Event) (b : State) (p : ℕ) (told : Represents s
 
   -- p's message lets p go on
   pub message_is : (k : Kind) (m : Letter) → slice_get b.awaits p ≡ Some (Some k) → message_for b p k ≡ Some m
-      → IsMessageByLaw s h b p k m
+      → IsMessage s h b p k m
   message_is (Await f) m waits is = signal_message_is f waits m (slice_index_or b.flags f None) (taking_flag_at f waits) is
   message_is _ m waits is = mail_message_is _ m waits is
 

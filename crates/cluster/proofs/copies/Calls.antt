@@ -20,7 +20,7 @@ use Rattle.transit.specs.Letters.{Letter}
 use Rattle.book.specs.News.{news_of_page}
 use Rattle.book.specs.State.{State, state_time_of}
 use Rattle.book.specs.Messages.{message_for, sent_with_message, brought_by_message}
-use Rattle.book.specs.Laws.{IsMessageByLaw}
+use Rattle.book.specs.Laws.{IsMessage}
 use Rattle.book.specs.Told.{Represents}
 use Rattle.book.proofs.Told.Whole.{take_law, message_law, news_law, news_order_law}
 use Rattle.cluster.specs.Copies.PageReplica.{Copied}
@@ -76,7 +76,7 @@ module _ (m : Local) (sound : IsSound m) (k : Kind) (waits : m.awaits ≡ Some k
       called_awaits_here = at ∙ ap (λ (w : Option Kind). Some w) waits
 
       -- what has come lets it go on, and says what that brings
-      pub message : IsMessageByLaw m.sizes m.seen b m.number k x
+      pub message : IsMessage m.sizes m.seen b m.number k x
       message = message_law m.sizes m.seen b m.number k x told called_awaits_here come
 
       abbrev IsNewsOfCalled : ℕ → List ℕ → List SentRecord → Type 0

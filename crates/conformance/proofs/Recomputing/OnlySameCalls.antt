@@ -11,7 +11,7 @@ use Rattle.journal.specs.InRange.{ProcessorsInRange}
 use Rattle.base.specs.LastWritten.{wrote}
 use Rattle.lrc_script.specs.Plan.{Plan}
 use Rattle.lrc_script.specs.Lawful.{plan_addresses, IsLawful}
-use Rattle.conformance.specs.Follows.{is_followed_fetch, followed_calls, Follows}
+use Rattle.conformance.specs.Follows.{is_fetch, calls_of, Follows}
 use Rattle.conformance.specs.Like.{like_without_value, event_like_without_value, SameButValues}
 use Rattle.conformance.specs.Laws.{OnlyLaw}
 use Rattle.conformance.proofs.Calls.{calls_of_first, calls_of_first-fetch, calls_of_first-other}
@@ -42,10 +42,10 @@ same_first memory reply (s ∷ steps) k l ks ls first second answer other =
     same_call memory reply s k l first.0 second.0 answer other
 
 -- a fetch has no value
-fetch_same : (k l : Kind) → is_followed_fetch k ≡ true → like_without_value k ≡ like_without_value l → k ≡ l
+fetch_same : (k l : Kind) → is_fetch k ≡ true → like_without_value k ≡ like_without_value l → k ≡ l
 fetch_same k l is same = sym (exact_if_like l k (sym same) (plain_fetch k is))
   where
-    plain_fetch : (x : Kind) → is_followed_fetch x ≡ true → like_has_value x ≡ false
+    plain_fetch : (x : Kind) → is_fetch x ≡ true → like_has_value x ≡ false
     plain_fetch (Load a v) h = sym h
     plain_fetch (Store a v) h = sym h
     plain_fetch _ h = refl
@@ -67,24 +67,24 @@ recomputing_rest_steps reply (s ∷ steps) k kinds h = h.1
 abbrev FirstCalls : ℕ → List Event → (ℕ → DueToRedo) → Type 0
 FirstCalls n es due = (p : ℕ) → p < n → RedoingCallsRight es due p
 
-after_call : (n p : ℕ) (k : Kind) (es : List Event) (due : ℕ → DueToRedo) → is_followed_fetch k ≡ false
+after_call : (n p : ℕ) (k : Kind) (es : List Event) (due : ℕ → DueToRedo) → is_fetch k ≡ false
     → FirstCalls n (event p k ∷ es) due → FirstCalls n es (called due p k)
 after_call n p k es due call calls =
     redo_updated_each due p (record { steps = recomputing_rest_of (due p).steps; reply = step_reply_after (due p).reply k }) P own others
   where
     P : ℕ → DueToRedo → Type 0
-    P q d = q < n → AreSteps d.reply d.steps (followed_calls es q)
+    P q d = q < n → AreSteps d.reply d.steps (calls_of es q)
 
-    own : p < n → AreSteps (step_reply_after (due p).reply k) (recomputing_rest_of (due p).steps) (followed_calls es p)
+    own : p < n → AreSteps (step_reply_after (due p).reply k) (recomputing_rest_of (due p).steps) (calls_of es p)
     own inside =
         let now = subst (AreSteps (due p).reply (due p).steps) (calls_of_first p k es call) (calls p inside) in
-        recomputing_rest_steps (due p).reply (due p).steps k (followed_calls es p) now
+        recomputing_rest_steps (due p).reply (due p).steps k (calls_of es p) now
 
     others : (q : ℕ) → p ≢ q → q < n → RedoingCallsRight es due q
     others q apart inside =
         subst (AreSteps (due q).reply (due q).steps) (calls_of_first-other p q k es apart) (calls q inside)
 
-recomputing_after_fetch : (n p : ℕ) (k : Kind) (es : List Event) (due : ℕ → DueToRedo) → is_followed_fetch k ≡ true
+recomputing_after_fetch : (n p : ℕ) (k : Kind) (es : List Event) (due : ℕ → DueToRedo) → is_fetch k ≡ true
     → FirstCalls n (event p k ∷ es) due → FirstCalls n es due
 recomputing_after_fetch n p k es due is calls q inside =
     subst (AreSteps (due q).reply (due q).steps) (calls_of_first-fetch p q k es is) (calls q inside)
@@ -96,7 +96,7 @@ IsOnly n f = (g : List Event) (memory : List ℕ) (due : ℕ → DueToRedo) → 
 
 -- with the first event the same
 same_rest : (n p : ℕ) (k : Kind) (f g : List Event) (memory : List ℕ) (due : ℕ → DueToRedo) (fetches : Bool)
-    → is_followed_fetch k ≡ fetches → IsOnly n f → ProcessorsInRange n (event p k ∷ f) → SameButValues f g
+    → is_fetch k ≡ fetches → IsOnly n f → ProcessorsInRange n (event p k ∷ f) → SameButValues f g
     → Replays memory (event p k ∷ f) → Replays memory (event p k ∷ g) → FirstCalls n (event p k ∷ f) due
     → FirstCalls n (event p k ∷ g) due → f ≡ g
 same_rest n p k f g memory due true is only inside like first second calls others =
@@ -110,7 +110,7 @@ same_rest n p k f g memory due false is only inside like first second calls othe
 
 -- the first events are the same
 same_kind : (n p : ℕ) (k l : Kind) (f g : List Event) (memory : List ℕ) (due : ℕ → DueToRedo) (fetches : Bool)
-    → is_followed_fetch k ≡ fetches → like_without_value k ≡ like_without_value l → p < n
+    → is_fetch k ≡ fetches → like_without_value k ≡ like_without_value l → p < n
     → Replays memory (event p k ∷ f) → Replays memory (event p l ∷ g) → FirstCalls n (event p k ∷ f) due
     → FirstCalls n (event p l ∷ g) due → k ≡ l
 same_kind n p k l f g memory due true is like inside first second calls others = fetch_same k l is like
@@ -118,7 +118,7 @@ same_kind n p k l f g memory due false is like inside first second calls others 
     let steps : List Kind → Type 0 = AreSteps (due p).reply (due p).steps in
     let mine = subst steps (calls_of_first p k f is) (calls p inside) in
     let theirs = subst steps (calls_of_first p l g (sym (replaying_fetch_like k l like) ∙ is)) (others p inside) in
-    same_first memory (due p).reply (due p).steps k l (followed_calls f p) (followed_calls g p) mine theirs
+    same_first memory (due p).reply (due p).steps k l (calls_of f p) (calls_of g p) mine theirs
     (replay_answers_first memory p k f first) (replay_answers_first memory p l g second)
 
 -- so all are
@@ -137,7 +137,7 @@ same_events n (e ∷ f) (x ∷ g) memory due inside like first second calls othe
     let right : Q e.processor = subst Q (sym mine) others in
     let within = inside 0 e refl in
     let kind =
-    same_kind n e.processor e.kind x.kind f g memory due (is_followed_fetch e.kind) refl kinds within first replays calls
+    same_kind n e.processor e.kind x.kind f g memory due (is_fetch e.kind) refl kinds within first replays calls
     right in
     let R : Kind → Type 0 = λ k. Replays memory (event e.processor k ∷ g) in
     let S : Kind → Type 0 = λ k. FirstCalls n (event e.processor k ∷ g) due in
@@ -145,7 +145,7 @@ same_events n (e ∷ f) (x ∷ g) memory due inside like first second calls othe
     let due_too = subst S (sym kind) right in
     let only = same_events n f in
     let rest =
-    same_rest n e.processor e.kind f g memory due (is_followed_fetch e.kind) refl only inside tails first again calls due_too in
+    same_rest n e.processor e.kind f g memory due (is_fetch e.kind) refl only inside tails first again calls due_too in
     ap₂ (λ y ys. y ∷ ys) (ap₂ event mine kind) rest
 
 -- what p of a lawful script has to call
@@ -157,7 +157,7 @@ calls_right s f lawful follows p inside =
     let one_each = lawful.but_uneven.one_each in
     let at = slice_get-get_or s.sections p [] (omega arith) in
     let section = get_or s.sections p [] in
-    section_steps section (cond (p == 0) s.shown []) (followed_calls f p) 0 (follows p section at)
+    section_steps section (cond (p == 0) s.shown []) (calls_of f p) 0 (follows p section at)
 
 -- flat runs of a lawful script that are alike are the same
 pub only_law : OnlyLaw

@@ -15,7 +15,7 @@ use Rattle.journal.proofs.Flat.FlatMemory.{flat_memory}
 use Rattle.lrc_script.specs.declared.script.Instruction.{Instruction}
 use Rattle.lrc_script.specs.Plan.{Plan}
 use Rattle.lrc_script.specs.Lawful.{plan_addresses}
-use Rattle.conformance.specs.Follows.{followed_plan_sizes, followed_calls, Follows}
+use Rattle.conformance.specs.Follows.{plan_sizes, calls_of, Follows}
 use Rattle.conformance.specs.Laws.{RecomputedLaw, RaceFreeLaw}
 use Rattle.conformance.proofs.Like.Order.{race_like}
 use Rattle.conformance.proofs.Like.WellFormed.{well_formed_like}
@@ -34,7 +34,7 @@ recomputed_steps_at (Some section) shown kinds = steps_of_section section shown
 
 abbrev recomputed_due : Plan → List Event → ℕ → DueToRedo
 recomputed_due s h p =
-    record { steps = recomputed_steps_at (slice_get s.sections p) (cond (p == 0) s.shown []) (followed_calls h p); reply = 0 }
+    record { steps = recomputed_steps_at (slice_get s.sections p) (cond (p == 0) s.shown []) (calls_of h p); reply = 0 }
 
 recomputed_calls_due : (s : Plan) (h : List Event) → Follows s h → CallsDueToRedo h (recomputed_due s h)
 recomputed_calls_due s h follows p = (0, by_section (slice_get s.sections p) refl)
@@ -43,27 +43,27 @@ recomputed_calls_due s h follows p = (0, by_section (slice_get s.sections p) ref
     shown = cond (p == 0) s.shown []
 
     by_section : (o : Option (List Instruction)) → slice_get s.sections p ≡ o
-        → AreSteps 0 (recomputed_steps_at o shown (followed_calls h p)) (followed_calls h p)
-    by_section None at = plain_steps 0 (followed_calls h p)
-    by_section (Some section) at = section_steps section shown (followed_calls h p) 0 (follows p section at)
+        → AreSteps 0 (recomputed_steps_at o shown (calls_of h p)) (calls_of h p)
+    by_section None at = plain_steps 0 (calls_of h p)
+    by_section (Some section) at = section_steps section shown (calls_of h p) 0 (follows p section at)
 
 -- who calls what is due follows the script
 recomputed_calls_follow : (s : Plan) (h g : List Event)
-    → ((p : ℕ) → AreSteps 0 (recomputed_due s h p).steps (followed_calls g p)) → Follows s g
+    → ((p : ℕ) → AreSteps 0 (recomputed_due s h p).steps (calls_of g p)) → Follows s g
 recomputed_calls_follow s h g calls p section at =
     let shown : List ℕ = cond (p == 0) s.shown [] in
-    let P : Option (List Instruction) → Type 0 = λ o. AreSteps 0 (recomputed_steps_at o shown (followed_calls h p)) (followed_calls g p) in
-    section_told section shown (followed_calls g p) 0 (subst P at (calls p))
+    let P : Option (List Instruction) → Type 0 = λ o. AreSteps 0 (recomputed_steps_at o shown (calls_of h p)) (calls_of g p) in
+    section_told section shown (calls_of g p) 0 (subst P at (calls p))
 
 recomputed_address_inside : (s : Sizes) (k : Kind) → KindInRange s k → AddressInRange (addresses_of s) k
 recomputed_address_inside s (Load a v) h = h
 recomputed_address_inside s (Store a v) h = h
 recomputed_address_inside s _ h = tt
 
-recomputed_addresses_inside : (s : Plan) (h : List Event) → WellFormed (followed_plan_sizes s) h
+recomputed_addresses_inside : (s : Plan) (h : List Event) → WellFormed (plan_sizes s) h
     → AddressesInRange (length {A = ℕ} (replicate (plan_addresses s) 0)) h
 recomputed_addresses_inside s h well i e at =
-    rw length-replicate (recomputed_address_inside (followed_plan_sizes s) e.kind (well i e at).in_range)
+    rw length-replicate (recomputed_address_inside (plan_sizes s) e.kind (well i e at).in_range)
 
 -- each history that follows a script can be recomputed
 pub recomputed_law : RecomputedLaw
@@ -73,7 +73,7 @@ recomputed_law s h well follows =
       record {
         like = again.like;
         flat = record {
-          well_formed = well_formed_like (followed_plan_sizes s) h again.events again.like well;
+          well_formed = well_formed_like (plan_sizes s) h again.events again.like well;
           follows = recomputed_calls_follow s h again.events again.calls;
           replays = again.replays;
         };

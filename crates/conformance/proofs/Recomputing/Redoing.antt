@@ -10,7 +10,7 @@ use Rattle.journal.specs.DidEvent.{event}
 use Rattle.journal.specs.FlatMemory.{flat_write, Replays}
 use Rattle.journal.specs.InRange.{AddressesInRange}
 use Rattle.base.specs.LastWritten.{wrote}
-use Rattle.conformance.specs.Follows.{is_followed_fetch, followed_calls}
+use Rattle.conformance.specs.Follows.{is_fetch, calls_of}
 use Rattle.conformance.specs.Like.{SameButValues}
 use Rattle.conformance.proofs.Calls.{calls_of_first, calls_of_first-fetch, calls_of_first-other}
 use Rattle.conformance.proofs.Script.Steps.{Step, step_reply_after, AreSteps, no_steps}
@@ -23,11 +23,11 @@ pub record DueToRedo : Type 0 where
 
 -- each processor calls what is due, whatever it was answered before
 abbrev pub CallsDueToRedo : List Event → (ℕ → DueToRedo) → Type 0
-CallsDueToRedo es due = (p : ℕ) → (reply : ℕ) × AreSteps reply (due p).steps (followed_calls es p)
+CallsDueToRedo es due = (p : ℕ) → (reply : ℕ) × AreSteps reply (due p).steps (calls_of es p)
 
 -- and what p calls is what is due after the reply that it was given last
 abbrev pub RedoingCallsRight : List Event → (ℕ → DueToRedo) → ℕ → Type 0
-RedoingCallsRight es due p = AreSteps (due p).reply (due p).steps (followed_calls es p)
+RedoingCallsRight es due p = AreSteps (due p).reply (due p).steps (calls_of es p)
 
 -- the events on the flat memory, from the replies that were given last
 pub record RedoneOnFlatMemory (memory : List ℕ) (due : ℕ → DueToRedo) (es : List Event) : Type 0 where
@@ -65,12 +65,12 @@ redo_inside_rest : (memory : List ℕ) (x e : Event) (es : List Event) → Addre
 redo_inside_rest memory x e es inside i f at = rw (length-replaying_wrote memory x) (inside (suc i) f at)
 
 -- a fetch stays
-redo_fetch : (memory : List ℕ) (due : ℕ → DueToRedo) (p : ℕ) (k : Kind) (es : List Event) → is_followed_fetch k ≡ true
+redo_fetch : (memory : List ℕ) (due : ℕ → DueToRedo) (p : ℕ) (k : Kind) (es : List Event) → is_fetch k ≡ true
     → AddressesInRange (length memory) (event p k ∷ es) → CallsDueToRedo (event p k ∷ es) due → CanRedo es
     → RedoneOnFlatMemory memory due (event p k ∷ es)
 redo_fetch memory due p k es is inside calls redo =
     let e = event p k in
-    let same : (q : ℕ) (gs : List Event) → followed_calls (e ∷ gs) q ≡ followed_calls gs q =
+    let same : (q : ℕ) (gs : List Event) → calls_of (e ∷ gs) q ≡ calls_of gs q =
     λ q gs. calls_of_first-fetch p q k gs is in
     let later : CallsDueToRedo es due =
     λ q. ((calls q).0, subst (AreSteps (calls q).0 (due q).steps) (same q es) (calls q).1) in
@@ -84,7 +84,7 @@ redo_fetch memory due p k es is inside calls redo =
 
 -- a call of p is made of its first step
 redo_step : (memory : List ℕ) (due : ℕ → DueToRedo) (p old : ℕ) (k : Kind) (es : List Event) (s : Step) (steps : List Step)
-    → is_followed_fetch k ≡ false → (due p).steps ≡ s ∷ steps → AreSteps old (s ∷ steps) (k ∷ followed_calls es p)
+    → is_fetch k ≡ false → (due p).steps ≡ s ∷ steps → AreSteps old (s ∷ steps) (k ∷ calls_of es p)
     → AddressesInRange (length memory) (event p k ∷ es) → CallsDueToRedo (event p k ∷ es) due → CanRedo es
     → RedoneOnFlatMemory memory due (event p k ∷ es)
 redo_step memory due p old k es s steps call first is inside calls redo =
@@ -102,14 +102,14 @@ redo_step memory due p old k es s steps call first is inside calls redo =
     then = record { steps = steps; reply = step_reply_after (due p).reply made.kind }
 
     -- what another has still to call is the same without this call
-    theirs : (q : ℕ) → p ≢ q → (reply : ℕ) × AreSteps reply (due q).steps (followed_calls es q)
+    theirs : (q : ℕ) → p ≢ q → (reply : ℕ) × AreSteps reply (due q).steps (calls_of es q)
     theirs q apart =
         let c = calls q in
         (c.0, subst (AreSteps c.0 (due q).steps) (calls_of_first-other p q k es apart) c.1)
 
     later : CallsDueToRedo es (redo_updated due p then)
     later =
-        let P : ℕ → DueToRedo → Type 0 = λ q d. (reply : ℕ) × AreSteps reply d.steps (followed_calls es q) in
+        let P : ℕ → DueToRedo → Type 0 = λ q d. (reply : ℕ) × AreSteps reply d.steps (calls_of es q) in
         redo_updated_each due p then P (step_reply_after old k, is.1) theirs
 
     rest : RedoneOnFlatMemory (wrote memory (flat_write made.kind)) (redo_updated due p then) es
@@ -119,14 +119,14 @@ redo_step memory due p old k es s steps call first is inside calls redo =
 
     own : RedoingCallsRight (event p made.kind ∷ rest.events) due p
     own =
-        let P : DueToRedo → Type 0 = λ d. AreSteps d.reply d.steps (followed_calls rest.events p) in
+        let P : DueToRedo → Type 0 = λ d. AreSteps d.reply d.steps (calls_of rest.events p) in
         let mine = subst P (redo_updated_at due p then) (rest.calls p) in
-        let both : AreSteps (due p).reply (s ∷ steps) (made.kind ∷ followed_calls rest.events p) = (made.is, mine) in
+        let both : AreSteps (due p).reply (s ∷ steps) (made.kind ∷ calls_of rest.events p) = (made.is, mine) in
         rw (first, calls_of_first p made.kind rest.events (sym (replaying_fetch_like k made.kind made.like) ∙ call)) both
 
     others : (q : ℕ) → p ≢ q → RedoingCallsRight (event p made.kind ∷ rest.events) due q
     others q apart =
-        let P : DueToRedo → Type 0 = λ d. AreSteps d.reply d.steps (followed_calls rest.events q) in
+        let P : DueToRedo → Type 0 = λ d. AreSteps d.reply d.steps (calls_of rest.events q) in
         let same = subst P (redo_updated_off due p q then apart) (rest.calls q) in
         rw (calls_of_first-other p q made.kind rest.events apart) same
 
@@ -137,19 +137,19 @@ redo_step memory due p old k es s steps call first is inside calls redo =
     ]
 
 -- a call of p
-redo_call : (memory : List ℕ) (due : ℕ → DueToRedo) (p : ℕ) (k : Kind) (es : List Event) → is_followed_fetch k ≡ false
+redo_call : (memory : List ℕ) (due : ℕ → DueToRedo) (p : ℕ) (k : Kind) (es : List Event) → is_fetch k ≡ false
     → AddressesInRange (length memory) (event p k ∷ es) → CallsDueToRedo (event p k ∷ es) due → CanRedo es
     → RedoneOnFlatMemory memory due (event p k ∷ es)
 redo_call memory due p k es call inside calls redo =
     by_steps (due p).steps refl (subst (AreSteps (calls p).0 (due p).steps) (calls_of_first p k es call) (calls p).1)
   where
-    by_steps : (steps : List Step) → (due p).steps ≡ steps → AreSteps (calls p).0 steps (k ∷ followed_calls es p)
+    by_steps : (steps : List Step) → (due p).steps ≡ steps → AreSteps (calls p).0 steps (k ∷ calls_of es p)
         → RedoneOnFlatMemory memory due (event p k ∷ es)
     by_steps [] first is = absurd is
     by_steps (s ∷ steps) first is = redo_step memory due p (calls p).0 k es s steps call first is inside calls redo
 
 redo_first : (memory : List ℕ) (due : ℕ → DueToRedo) (e : Event) (es : List Event) (fetches : Bool)
-    → is_followed_fetch e.kind ≡ fetches → AddressesInRange (length memory) (e ∷ es) → CallsDueToRedo (e ∷ es) due → CanRedo es
+    → is_fetch e.kind ≡ fetches → AddressesInRange (length memory) (e ∷ es) → CallsDueToRedo (e ∷ es) due → CanRedo es
     → RedoneOnFlatMemory memory due (e ∷ es)
 redo_first memory due e es true is inside calls redo = redo_fetch memory due e.processor e.kind es is inside calls redo
 redo_first memory due e es false is inside calls redo = redo_call memory due e.processor e.kind es is inside calls redo
@@ -163,4 +163,4 @@ redo [] memory due inside calls =
       replays = λ i p a v does. absurd (none-some (event p (Load a v)) does);
       calls = λ p. no_steps (calls p).0 (due p).reply (due p).steps (calls p).1;
     }
-redo (e ∷ es) memory due inside calls = redo_first memory due e es (is_followed_fetch e.kind) refl inside calls (redo es)
+redo (e ∷ es) memory due inside calls = redo_first memory due e es (is_fetch e.kind) refl inside calls (redo es)

@@ -9,7 +9,7 @@ use Rattle.journal.specs.FlatMemory.{flat_write, Replays, AnswersFlatWord}
 use Rattle.journal.specs.InRange.{AddressInRange}
 use Rattle.base.specs.LastWritten.{wrote}
 use Rattle.base.proofs.LastWritten.{length-written}
-use Rattle.conformance.specs.Follows.{is_followed_fetch}
+use Rattle.conformance.specs.Follows.{is_fetch}
 use Rattle.conformance.specs.Like.{like_without_value, SameButValues}
 use Rattle.conformance.proofs.Script.Steps.{Step, IsStep}
 use Rattle.conformance.proofs.Script.Steps.Step.{plain, adds}
@@ -30,16 +30,16 @@ remade_by_replaying memory old reply (plain c) (Load a v) inside is =
 remade_by_replaying memory old reply (plain c) k inside is = record { kind = k; like = refl; answers = tt; is = is }
 
 -- what it is made of is a fetch only where it is one
-pub replaying_fetch_like : (a b : Kind) → like_without_value a ≡ like_without_value b → is_followed_fetch a ≡ is_followed_fetch b
-replaying_fetch_like a b same = sym (plain_fetch a) ∙ ap is_followed_fetch same ∙ plain_fetch b
+pub replaying_fetch_like : (a b : Kind) → like_without_value a ≡ like_without_value b → is_fetch a ≡ is_fetch b
+replaying_fetch_like a b same = sym (plain_fetch a) ∙ ap is_fetch same ∙ plain_fetch b
   where
-    plain_fetch : (k : Kind) → is_followed_fetch (like_without_value k) ≡ is_followed_fetch k
+    plain_fetch : (k : Kind) → is_fetch (like_without_value k) ≡ is_fetch k
     plain_fetch (Load a v) = refl
     plain_fetch (Store a v) = refl
     plain_fetch _ = refl
 
 -- a fetch answers nothing
-pub replay_fetch_answers : (memory : List ℕ) (k : Kind) → is_followed_fetch k ≡ true → AnswersFlatWord memory k
+pub replay_fetch_answers : (memory : List ℕ) (k : Kind) → is_fetch k ≡ true → AnswersFlatWord memory k
 replay_fetch_answers memory (Load a v) is = absurd (cc)
 replay_fetch_answers memory _ is = tt
 

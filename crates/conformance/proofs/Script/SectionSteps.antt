@@ -6,7 +6,7 @@ use Rattle.journal.specs.declared.event.Kind.TheVariants as kind
 use Rattle.lrc_script.specs.declared.script.Instruction.{Instruction}
 use Rattle.lrc_script.specs.declared.script.Instruction.TheVariants.{Load, Store, Add, Acquire, Release, Barrier, Set, Await, Cut}
 use Rattle.conformance.specs.Instructions.{AreEventsOfInstruction, AreEventsOfInstructions}
-use Rattle.conformance.specs.Follows.{followed_load, FollowsSection}
+use Rattle.conformance.specs.Follows.{load_of, FollowsSection}
 use Rattle.conformance.proofs.Script.Steps.{Step, step_without_reply, step_reply_after, IsStep, AreSteps, steps-append, step_halves, one_step, two_steps}
 use Rattle.conformance.proofs.Script.Steps.Step.{plain, adds}
 
@@ -56,7 +56,7 @@ all_steps (i ∷ is) kinds reply are =
     rw are.2 (steps-append reply (steps_of i) (steps_of_all is) are.0 are.1 first more)
 
 loads_steps : (loads : List (ℕ × ℕ)) (reply : ℕ)
-    → AreSteps reply (section_load_steps (map (λ (x : ℕ × ℕ). x.0) loads)) (map followed_load loads)
+    → AreSteps reply (section_load_steps (map (λ (x : ℕ × ℕ). x.0) loads)) (map load_of loads)
 loads_steps [] reply = tt
 loads_steps (x ∷ loads) reply = (refl, loads_steps loads x.1)
 
@@ -65,7 +65,7 @@ pub section_steps : (section : List Instruction) (shown : List ℕ) (kinds : Lis
     → FollowsSection section shown kinds → AreSteps reply (steps_of_section section shown) kinds
 section_steps section shown kinds reply f =
     let rest : List ℕ → List Step = λ addresses. plain kind.Arrive ∷ plain kind.Depart ∷ section_load_steps addresses in
-    let ends : List Kind = kind.Arrive ∷ kind.Depart ∷ map followed_load f.loads in
+    let ends : List Kind = kind.Arrive ∷ kind.Depart ∷ map load_of f.loads in
     let end : (last : ℕ) → AreSteps last (rest shown) ends =
     λ last. rw (← f.addresses_are) (refl, (refl, loads_steps f.loads last)) in
     let own = all_steps section f.own reply f.follows in
@@ -137,7 +137,7 @@ all_steps_told (i ∷ is) kinds reply h =
 -- loads of these addresses
 record AreSectionLoads (shown : List ℕ) (kinds : List Kind) : Type 0 where
   loads : List (ℕ × ℕ)
-  are : kinds ≡ map followed_load loads
+  are : kinds ≡ map load_of loads
   addresses_are : map (λ (x : ℕ × ℕ). x.0) loads ≡ shown
 
 load_steps_told : (shown : List ℕ) (kinds : List Kind) (reply : ℕ) → AreSteps reply (section_load_steps shown) kinds

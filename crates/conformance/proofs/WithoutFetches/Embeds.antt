@@ -8,22 +8,22 @@ use Rattle.journal.specs.declared.event.Kind.{Kind}
 use Rattle.journal.specs.Events.{At, count_of}
 use Rattle.journal.proofs.Order.CountedAndNumbered.{count_of-append}
 use Rattle.base.proofs.SlicesAndCounts.{slice_get-take, slice_get-take_within, slice_get-from_take}
-use Rattle.conformance.specs.Follows.{is_followed_fetch}
+use Rattle.conformance.specs.Follows.{is_fetch}
 
 -- the history without its fetches
 abbrev pub without_fetches : List Event → List Event
-without_fetches h = filter (λ (e : Event). not (is_followed_fetch e.kind)) h
+without_fetches h = filter (λ (e : Event). not (is_fetch e.kind)) h
 
 -- g's events stand in h in their order, and h has only fetches besides
 pub record Embeds (g h : List Event) : Type 0 where
   pub place : ℕ → ℕ
   pub rises : (m k : ℕ) → m < k → place m < place k
   pub there : (m : ℕ) (e : Event) → At g m e → At h (place m) e
-  pub back : (n : ℕ) (e : Event) → At h n e → is_followed_fetch e.kind ≡ false → (m : ℕ) × (place m ≡ n) × At g m e
+  pub back : (n : ℕ) (e : Event) → At h n e → is_fetch e.kind ≡ false → (m : ℕ) × (place m ≡ n) × At g m e
 
 -- no fetch is of these kinds
 abbrev pub NoneFetches : (Kind → Bool) → Type 0
-NoneFetches is = (k : Kind) → is_followed_fetch k ≡ true → is k ≡ false
+NoneFetches is = (k : Kind) → is_fetch k ≡ true → is k ≡ false
 
 -- each processor has as many events of such kinds in both
 abbrev pub EmbedsCountsSame : List Event → List Event → Type 0
@@ -53,7 +53,7 @@ embeds_take g h x m = record { place = x.place; rises = x.rises; there = there; 
         let less = x.rises i m (slice_get-take_within g m i e at) in
         slice_get-take h (x.place m) (x.place i) less ∙ x.there i e (slice_get-from_take g m i e at)
 
-    back : (n : ℕ) (e : Event) → At (take (x.place m) h) n e → is_followed_fetch e.kind ≡ false
+    back : (n : ℕ) (e : Event) → At (take (x.place m) h) n e → is_fetch e.kind ≡ false
         → (i : ℕ) × (x.place i ≡ n) × At (take m g) i e
     back n e at call =
         let less = slice_get-take_within h (x.place m) n e at in
@@ -67,7 +67,7 @@ count_without_fetches : (is : Kind → Bool) (e : Event) (es : List Event) (p : 
     → count_of is (e ∷ es) p ≡ count_of is (e ∷ []) p + count_of is es p
 count_without_fetches is e es p = count_of-append is (e ∷ []) es p
 
-pub count_fetch : (is : Kind → Bool) (e : Event) (p : ℕ) → NoneFetches is → is_followed_fetch e.kind ≡ true
+pub count_fetch : (is : Kind → Bool) (e : Event) (p : ℕ) → NoneFetches is → is_fetch e.kind ≡ true
     → count_of is (e ∷ []) p ≡ 0
 count_fetch is e p none fetches = cases (e.processor == p)
   where
@@ -114,7 +114,7 @@ embeds_call e g h x =
     there zero f at = at
     there (suc m) f at = x.embeds.there m f at
 
-    back : (n : ℕ) (f : Event) → At (e ∷ h) n f → is_followed_fetch f.kind ≡ false
+    back : (n : ℕ) (f : Event) → At (e ∷ h) n f → is_fetch f.kind ≡ false
         → (m : ℕ) × (embeds_shifted x.embeds.place m ≡ n) × At (e ∷ g) m f
     back zero f at call = (zero, refl, at)
     back (suc n) f at call = let b = x.embeds.back n f at call in (suc b.0, ap suc b.1, b.2)
@@ -128,7 +128,7 @@ embeds_call e g h x =
         omega (arith, one, other, same)
 
 -- with a fetch before the whole
-fetch_of : (e : Event) (g h : List Event) → is_followed_fetch e.kind ≡ true → IsWithoutFetchesOf g h → IsWithoutFetchesOf g (e ∷ h)
+fetch_of : (e : Event) (g h : List Event) → is_fetch e.kind ≡ true → IsWithoutFetchesOf g h → IsWithoutFetchesOf g (e ∷ h)
 fetch_of e g h fetches x =
     record {
       embeds = record { place = λ m. suc (x.embeds.place m); rises = rises; there = x.embeds.there; back = back };
@@ -138,10 +138,10 @@ fetch_of e g h fetches x =
     rises : (m k : ℕ) → m < k → suc (x.embeds.place m) < suc (x.embeds.place k)
     rises m k less = let more = x.embeds.rises m k less in omega arith
 
-    back : (n : ℕ) (f : Event) → At (e ∷ h) n f → is_followed_fetch f.kind ≡ false
+    back : (n : ℕ) (f : Event) → At (e ∷ h) n f → is_fetch f.kind ≡ false
         → (m : ℕ) × (suc (x.embeds.place m) ≡ n) × At g m f
     back zero f at call =
-        let same = ap (λ (y : Event). is_followed_fetch y.kind) (same_Some e f at) in
+        let same = ap (λ (y : Event). is_fetch y.kind) (same_Some e f at) in
         absurd (false≢true (sym call ∙ sym same ∙ fetches))
     back (suc n) f at call = let b = x.embeds.back n f at call in (b.0, ap suc b.1, b.2)
 
@@ -153,21 +153,21 @@ fetch_of e g h fetches x =
         omega (arith, other, fetch, same)
 
 -- a fetch is left out, and a call is not
-fetch_out : (e : Event) (h : List Event) → is_followed_fetch e.kind ≡ true → without_fetches (e ∷ h) ≡ without_fetches h
-fetch_out e h is = cond-false (not (is_followed_fetch e.kind)) (e ∷ without_fetches h) (without_fetches h) (ap not is)
+fetch_out : (e : Event) (h : List Event) → is_fetch e.kind ≡ true → without_fetches (e ∷ h) ≡ without_fetches h
+fetch_out e h is = cond-false (not (is_fetch e.kind)) (e ∷ without_fetches h) (without_fetches h) (ap not is)
 
-call_kept_without_fetches : (e : Event) (h : List Event) → is_followed_fetch e.kind ≡ false → without_fetches (e ∷ h) ≡ e ∷ without_fetches h
-call_kept_without_fetches e h is = cond-true (not (is_followed_fetch e.kind)) (e ∷ without_fetches h) (without_fetches h) (ap not is)
+call_kept_without_fetches : (e : Event) (h : List Event) → is_fetch e.kind ≡ false → without_fetches (e ∷ h) ≡ e ∷ without_fetches h
+call_kept_without_fetches e h is = cond-true (not (is_fetch e.kind)) (e ∷ without_fetches h) (without_fetches h) (ap not is)
 
 -- what holds of nothing, of a list with a fetch before it, and of one with a call before it, holds of what is left
 pub by_events_without_fetches : (P : List Event → List Event → Type 0) → P [] []
-    → ((e : Event) (h : List Event) → is_followed_fetch e.kind ≡ true → P (without_fetches h) h → P (without_fetches h) (e ∷ h))
-    → ((e : Event) (h : List Event) → is_followed_fetch e.kind ≡ false → P (without_fetches h) h → P (e ∷ without_fetches h) (e ∷ h))
+    → ((e : Event) (h : List Event) → is_fetch e.kind ≡ true → P (without_fetches h) h → P (without_fetches h) (e ∷ h))
+    → ((e : Event) (h : List Event) → is_fetch e.kind ≡ false → P (without_fetches h) h → P (e ∷ without_fetches h) (e ∷ h))
     → (h : List Event) → P (without_fetches h) h
 by_events_without_fetches P none fetch call [] = none
-by_events_without_fetches P none fetch call (e ∷ h) = cases (is_followed_fetch e.kind) refl (by_events_without_fetches P none fetch call h)
+by_events_without_fetches P none fetch call (e ∷ h) = cases (is_fetch e.kind) refl (by_events_without_fetches P none fetch call h)
   where
-    cases : (b : Bool) → is_followed_fetch e.kind ≡ b → P (without_fetches h) h → P (without_fetches (e ∷ h)) (e ∷ h)
+    cases : (b : Bool) → is_fetch e.kind ≡ b → P (without_fetches h) h → P (without_fetches (e ∷ h)) (e ∷ h)
     cases true is x = subst (λ (g : List Event). P g (e ∷ h)) (sym (fetch_out e h is)) (fetch e h is x)
     cases false is x = subst (λ (g : List Event). P g (e ∷ h)) (sym (call_kept_without_fetches e h is)) (call e h is x)
 

@@ -9,7 +9,7 @@ use Rattle.journal.specs.HappensBeforeEdges.{Link, Edge, HappensBefore}
 use Rattle.journal.specs.HappensBeforeEdges.Link.{same, lets, meets}
 use Rattle.journal.specs.HappensBeforeEdges.HappensBefore.{edge, on}
 use Rattle.journal.specs.Races.{Race}
-use Rattle.conformance.specs.Follows.{is_followed_fetch}
+use Rattle.conformance.specs.Follows.{is_fetch}
 use Rattle.conformance.proofs.WithoutFetches.Embeds.{IsWithoutFetchesOf, NoneFetches, embeds_rising}
 
 pub without_fetches_arrival : NoneFetches is_arrive
@@ -50,7 +50,7 @@ before_with_fetches g h x (edge {i} {k} e) = edge (edge_with_fetches g h x i k e
 before_with_fetches g h x (on {i} {m} {k} b e) = on (before_with_fetches g h x b) (edge_with_fetches g h x m k e)
 
 -- what has an address is no fetch
-pub access_no_fetch : (k : Kind) (a : ℕ) → address_of k ≡ Some a → is_followed_fetch k ≡ false
+pub access_no_fetch : (k : Kind) (a : ℕ) → address_of k ≡ Some a → is_fetch k ≡ false
 access_no_fetch (Fetch w n r d) a at = absurd (none-some a at)
 access_no_fetch _ a at = refl
 

@@ -9,7 +9,7 @@ use Rattle.journal.specs.FlatMemory.{flat_write, Replays}
 use Rattle.base.specs.LastWritten.{wrote}
 use Rattle.lrc_script.specs.Plan.{Plan}
 use Rattle.lrc_script.specs.Lawful.{plan_addresses}
-use Rattle.conformance.specs.Follows.{followed_plan_sizes, is_followed_fetch, followed_calls}
+use Rattle.conformance.specs.Follows.{plan_sizes, is_fetch, calls_of}
 use Rattle.conformance.specs.FlatRuns.{IsFlatRun, FlatRunHasNoFetch}
 use Rattle.conformance.proofs.Calls.{calls_of_first, calls_of_first-fetch, calls_of_first-other}
 use Rattle.conformance.proofs.Recomputing.Replaying.{replay_answers_first, replays_rest, replays_first}
@@ -20,43 +20,43 @@ use Rattle.conformance.proofs.WithoutFetches.WellFormed.{well_formed_without_fet
 pub no_fetch_in : (h : List Event) → FlatRunHasNoFetch (without_fetches h)
 no_fetch_in = by_events_without_fetches (λ g h. FlatRunHasNoFetch g) (λ i e at. absurd (none-some e at)) (λ e h is x. x) call
   where
-    call : (e : Event) (h : List Event) → is_followed_fetch e.kind ≡ false → FlatRunHasNoFetch (without_fetches h)
+    call : (e : Event) (h : List Event) → is_fetch e.kind ≡ false → FlatRunHasNoFetch (without_fetches h)
         → FlatRunHasNoFetch (e ∷ without_fetches h)
-    call e h is x zero f at = subst (λ (y : Event). is_followed_fetch y.kind ≡ false) (same_Some e f at) is
+    call e h is x zero f at = subst (λ (y : Event). is_fetch y.kind ≡ false) (same_Some e f at) is
     call e h is x (suc i) f at = x i f at
 
 -- each processor's calls are the same
-pub calls_without_fetches : (p : ℕ) (h : List Event) → followed_calls (without_fetches h) p ≡ followed_calls h p
-calls_without_fetches p = by_events_without_fetches (λ g h. followed_calls g p ≡ followed_calls h p) refl fetch call
+pub calls_without_fetches : (p : ℕ) (h : List Event) → calls_of (without_fetches h) p ≡ calls_of h p
+calls_without_fetches p = by_events_without_fetches (λ g h. calls_of g p ≡ calls_of h p) refl fetch call
   where
-    fetch : (e : Event) (h : List Event) → is_followed_fetch e.kind ≡ true → followed_calls (without_fetches h) p ≡ followed_calls h p
-        → followed_calls (without_fetches h) p ≡ followed_calls (e ∷ h) p
+    fetch : (e : Event) (h : List Event) → is_fetch e.kind ≡ true → calls_of (without_fetches h) p ≡ calls_of h p
+        → calls_of (without_fetches h) p ≡ calls_of (e ∷ h) p
     fetch e h is same = same ∙ sym (calls_of_first-fetch e.processor p e.kind h is)
 
-    own : (e : Event) (h : List Event) → is_followed_fetch e.kind ≡ false
-        → followed_calls (without_fetches h) e.processor ≡ followed_calls h e.processor
-        → followed_calls (e ∷ without_fetches h) e.processor ≡ followed_calls (e ∷ h) e.processor
+    own : (e : Event) (h : List Event) → is_fetch e.kind ≡ false
+        → calls_of (without_fetches h) e.processor ≡ calls_of h e.processor
+        → calls_of (e ∷ without_fetches h) e.processor ≡ calls_of (e ∷ h) e.processor
     own e h is same =
         calls_of_first e.processor e.kind (without_fetches h) is ∙ ap (λ ks. e.kind ∷ ks) same
         ∙ sym (calls_of_first e.processor e.kind h is)
 
-    other : (e : Event) (h : List Event) → e.processor ≢ p → followed_calls (without_fetches h) p ≡ followed_calls h p
-        → followed_calls (e ∷ without_fetches h) p ≡ followed_calls (e ∷ h) p
+    other : (e : Event) (h : List Event) → e.processor ≢ p → calls_of (without_fetches h) p ≡ calls_of h p
+        → calls_of (e ∷ without_fetches h) p ≡ calls_of (e ∷ h) p
     other e h apart same =
         calls_of_first-other e.processor p e.kind (without_fetches h) apart ∙ same
         ∙ sym (calls_of_first-other e.processor p e.kind h apart)
 
-    call : (e : Event) (h : List Event) → is_followed_fetch e.kind ≡ false → followed_calls (without_fetches h) p ≡ followed_calls h p
-        → followed_calls (e ∷ without_fetches h) p ≡ followed_calls (e ∷ h) p
+    call : (e : Event) (h : List Event) → is_fetch e.kind ≡ false → calls_of (without_fetches h) p ≡ calls_of h p
+        → calls_of (e ∷ without_fetches h) p ≡ calls_of (e ∷ h) p
     call e h is same = elim (cases_eq e.processor p) [
-      | inl mine ↦ (let P : ℕ → Type 0 = λ q. followed_calls (without_fetches h) q ≡ followed_calls h q in
-          let Q : ℕ → Type 0 = λ q. followed_calls (e ∷ without_fetches h) q ≡ followed_calls (e ∷ h) q in
+      | inl mine ↦ (let P : ℕ → Type 0 = λ q. calls_of (without_fetches h) q ≡ calls_of h q in
+          let Q : ℕ → Type 0 = λ q. calls_of (e ∷ without_fetches h) q ≡ calls_of (e ∷ h) q in
           subst Q mine (own e h is (subst P (sym mine) same)))
       | inr apart ↦ other e h apart same
     ]
 
 -- a fetch writes nothing
-fetch_writes : (memory : List ℕ) (k : Kind) → is_followed_fetch k ≡ true → wrote memory (flat_write k) ≡ memory
+fetch_writes : (memory : List ℕ) (k : Kind) → is_fetch k ≡ true → wrote memory (flat_write k) ≡ memory
 fetch_writes memory (Fetch w n r d) is = refl
 fetch_writes memory (Store a v) is = absurd (cc)
 fetch_writes memory _ is = refl
@@ -66,14 +66,14 @@ pub replays_without_fetches : (h : List Event) (memory : List ℕ) → Replays m
 replays_without_fetches = by_events_without_fetches (λ g h. (memory : List ℕ) → Replays memory h → Replays memory g)
     (λ memory replays. replays) fetch call
   where
-    fetch : (e : Event) (h : List Event) → is_followed_fetch e.kind ≡ true
+    fetch : (e : Event) (h : List Event) → is_fetch e.kind ≡ true
         → ((memory : List ℕ) → Replays memory h → Replays memory (without_fetches h)) → (memory : List ℕ)
         → Replays memory (e ∷ h) → Replays memory (without_fetches h)
     fetch e h is more memory replays =
         let rest = replays_rest memory e h replays in
         more memory (subst (λ (m : List ℕ). Replays m h) (fetch_writes memory e.kind is) rest)
 
-    call : (e : Event) (h : List Event) → is_followed_fetch e.kind ≡ false
+    call : (e : Event) (h : List Event) → is_fetch e.kind ≡ false
         → ((memory : List ℕ) → Replays memory h → Replays memory (without_fetches h)) → (memory : List ℕ)
         → Replays memory (e ∷ h) → Replays memory (e ∷ without_fetches h)
     call e h is more memory replays =
@@ -85,7 +85,7 @@ replays_without_fetches = by_events_without_fetches (λ g h. (memory : List ℕ)
 pub run_without_fetches : (s : Plan) (h : List Event) → IsFlatRun s h → IsFlatRun s (without_fetches h)
 run_without_fetches s h run =
     record {
-      well_formed = well_formed_without_fetches (followed_plan_sizes s) (without_fetches h) h (without_fetches_of h) run.well_formed;
+      well_formed = well_formed_without_fetches (plan_sizes s) (without_fetches h) h (without_fetches_of h) run.well_formed;
       follows = λ p section at. rw (calls_without_fetches p h) (run.follows p section at);
       replays = replays_without_fetches h (replicate (plan_addresses s) 0) run.replays;
     }

@@ -10,7 +10,7 @@ use Rattle.journal.specs.Sizes.{Sizes}
 use Rattle.journal.specs.WellFormed.{Does, LastIs, Holds, MayBeGranted, AllArrived, AnswersCall, Allowed, MayFollow, WellFormed}
 use Rattle.journal.proofs.Journals.WellFormedLast.{well_formed_take}
 use Rattle.base.proofs.SlicesAndCounts.{slice_get-take, slice_get-take_within, slice_get-from_take}
-use Rattle.conformance.specs.Follows.{is_followed_fetch}
+use Rattle.conformance.specs.Follows.{is_fetch}
 use Rattle.conformance.proofs.WithoutFetches.Embeds.{Embeds, IsWithoutFetchesOf, EmbedsCountsSame, embeds_take, embeds_rising}
 use Rattle.conformance.proofs.WithoutFetches.Order.{without_fetches_arrival, without_fetches_departure}
 
@@ -22,20 +22,20 @@ waits (Watch f) = true
 waits k = false
 
 -- what answers it is no fetch
-answer_no_fetch : (k c : Kind) → waits k ≡ true → AnswersCall k c → is_followed_fetch c ≡ false
-answer_no_fetch (Ask l) c is answers = ap is_followed_fetch answers
-answer_no_fetch Arrive c is answers = ap is_followed_fetch answers
-answer_no_fetch (Watch f) c is answers = ap is_followed_fetch answers
+answer_no_fetch : (k c : Kind) → waits k ≡ true → AnswersCall k c → is_fetch c ≡ false
+answer_no_fetch (Ask l) c is answers = ap is_fetch answers
+answer_no_fetch Arrive c is answers = ap is_fetch answers
+answer_no_fetch (Watch f) c is answers = ap is_fetch answers
 answer_no_fetch _ c is answers = absurd (false≢true is)
 
 -- p calls nothing after place i
 abbrev NoCallButFetchesAfter : List Event → ℕ → ℕ → Type 0
-NoCallButFetchesAfter h p i = (m : ℕ) (f : Event) → i < m → At h m f → is_followed_fetch f.kind ≡ false → f.processor ≢ p
+NoCallButFetchesAfter h p i = (m : ℕ) (f : Event) → i < m → At h m f → is_fetch f.kind ≡ false → f.processor ≢ p
 
 -- p's last event before place m is a call that waits: so what p does at m is no fetch
 no_fetch_at : (s : Sizes) (h : List Event) (p i : ℕ) (k : Kind) (m : ℕ) (f : Event) → WellFormed s h → waits k ≡ true
     → Does h i p k → i < m → At h m f → f.processor ≡ p
-    → ((n : ℕ) (e : Event) → n < m → i < n → At h n e → e.processor ≢ p) → is_followed_fetch f.kind ≡ false
+    → ((n : ℕ) (e : Event) → n < m → i < n → At h n e → e.processor ≢ p) → is_fetch f.kind ≡ false
 no_fetch_at s h p i k m f well waiting does after at mine none =
     answer_no_fetch k f.kind waiting ((well m f at).answers i k (subst (λ q. LastIs (take m h) q i k) (sym mine) last))
   where
@@ -73,7 +73,7 @@ last_with_fetches s g h x p i k well waiting l =
         l.last b.0 f (embeds_rising g h x i b.0 (omega arith)) b.2
 
 -- and without the fetches where it waits in the whole
-pub last_without_fetches : (g h : List Event) (x : Embeds g h) (p n : ℕ) (k : Kind) → is_followed_fetch k ≡ false → LastIs h p n k
+pub last_without_fetches : (g h : List Event) (x : Embeds g h) (p n : ℕ) (k : Kind) → is_fetch k ≡ false → LastIs h p n k
     → (i : ℕ) × (x.place i ≡ n) × LastIs g p i k
 last_without_fetches g h x p n k call l =
     let b = x.back n (event p k) l.does call in

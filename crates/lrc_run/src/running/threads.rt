@@ -3,7 +3,7 @@ ghost use Rattle.std.specs.Prelude.{◌≡◌, ◌≤◌, [], IfOk, IfSome, leng
 ghost use Rattle.std.specs.Thread.{IsSend, IsSync};
 ghost use Rattle.lrc_script.specs.Prelude.{plan_sections};
 ghost use Rattle.cluster.specs.Prelude.{IsNewCluster};
-ghost use Rattle.lrc_run.specs.Prelude.{AreThreadResults, AreThreadResultsOf, AreThreadsStarted, IsThreadResultOf, MakesWalk};
+ghost use Rattle.lrc_run.specs.Prelude.{AreThreadResults, AreThreadResultsOf, AreThreadsStarted, IsThreadResultOf, Walks};
 
 use crate::course::Course;
 use crate::gate::Gate;
@@ -29,9 +29,9 @@ struct SectionWalked<T: BookTurn> {
 
 impl<T: BookTurn> Promise<Result<Processor<T>, Cause>> for SectionWalked<T> {
     ghost use Rattle.std.specs.Prelude.{IfOk};
-    ghost use Rattle.lrc_run.specs.MakesCalls.{MakesWalk};
+    ghost use Rattle.lrc_run.specs.MakesCalls.{Walks};
 
-    ghost kept_by = { λ p r. IfOk r (λ m. MakesWalk p.was.value m p.section.value.items) };
+    ghost kept_by = { λ p r. IfOk r (λ m. Walks p.was.value m p.section.value.items) };
 }
 
 /// A processor's thread, if it could be started. Contracts see it as what it was started with.
@@ -75,7 +75,7 @@ fn walked<T: BookTurn, R: Wait, G: Gate>(
     section: &[Instruction],
 ) -> ThreadResult<T>
     requires own { processor.lock ≡ cluster.now.lock }
-    ensures { IfOk result (λ m. MakesWalk processor m section.now) }
+    ensures { IfOk result (λ m. Walks processor m section.now) }
 {
     let number = processor.number();
     match walk(rt, cluster, &mut processor, course, section) {
@@ -125,7 +125,7 @@ fn start<'s, 'x: 's, T: BookTurn + Send + Drop, R: Threads + Wait + Sync, G: Gat
         promise,
         move || -> ThreadResult<T>
             requires own { processor.lock ≡ cluster.now.lock }
-            ensures { IfOk result (λ m. MakesWalk processor m section.entry.now) }
+            ensures { IfOk result (λ m. Walks processor m section.entry.now) }
         { walked(rt, cluster, processor, course, section) },
     );
     let handle = started.ok();

@@ -2,7 +2,7 @@
 ghost use Rattle.std.specs.Prelude.{◌≡◌, ◌≢◌, ◌<◌, ◌≤◌, ◌^◌, ◌++◌, ◌∷◌, [], IfErr, IfOk, IfSome, List, OnOk, false, length, slice_index_or, true, vec_len};
 ghost use Rattle.lrc_script.specs.Prelude.{IsLawful, plan_of};
 ghost use Rattle.conformance.specs.declared.cause.Cause.TheVariants as cause;
-ghost use Rattle.conformance.specs.Prelude.{IsEndByTurns, followed_plan_sizes, scheduled};
+ghost use Rattle.conformance.specs.Prelude.{IsEndByTurns, plan_sizes, scheduled};
 ghost use Rattle.conformance.specs.declared.progress.TurnProgress.{TurnProgress as AProgress};
 ghost use Rattle.cluster.specs.Copies.Prelude.{Local};
 ghost use Rattle.lrc_run.specs.Prelude.{AreAtSteps, AreSeenAfterTurns, AreTaken, IsTurnOfRun, chosen_order};
@@ -70,7 +70,7 @@ fn wander<T: BookTurn, R: Wait>(
     seed: u64,
 ) -> Result<Vec<usize>, RunFault>
     requires lawful { IsLawful (plan_of script.now) }
-    requires sizes { cluster.now.sizes ≡ followed_plan_sizes (plan_of script.now) }
+    requires sizes { cluster.now.sizes ≡ plan_sizes (plan_of script.now) }
     requires way { AreAtSteps cluster.now (plan_of script.now).sections processors.old.items
         all.old.items }
     ensures way { OnOk result (AreAtSteps cluster.now (plan_of script.now).sections processors.new.items
@@ -104,7 +104,7 @@ fn go_on<T: BookTurn, R: Wait>(
     turns: &mut Vec<usize>,
 ) -> Result<bool, RunFault>
     requires lawful { IsLawful (plan_of script.now) }
-    requires sizes { cluster.now.sizes ≡ followed_plan_sizes (plan_of script.now) }
+    requires sizes { cluster.now.sizes ≡ plan_sizes (plan_of script.now) }
     requires way { AreAtSteps cluster.now (plan_of script.now).sections processors.old.items
         all.old.items }
     requires some { 0 < pace.old.turns }
@@ -181,7 +181,7 @@ fn first_on<T: BookTurn, R: Wait>(
     order: &[usize],
 ) -> Result<Option<usize>, RunFault>
     requires lawful { IsLawful (plan_of script.now) }
-    requires sizes { cluster.now.sizes ≡ followed_plan_sizes (plan_of script.now) }
+    requires sizes { cluster.now.sizes ≡ plan_sizes (plan_of script.now) }
     requires way { AreAtSteps cluster.now (plan_of script.now).sections processors.old.items
         all.old.items }
     ensures way { OnOk result (AreAtSteps cluster.now (plan_of script.now).sections processors.new.items
@@ -209,7 +209,7 @@ fn tried_at<T: BookTurn, R: Wait>(
     p: usize,
 ) -> Result<bool, RunFault>
     requires lawful { IsLawful (plan_of script.now) }
-    requires sizes { cluster.now.sizes ≡ followed_plan_sizes (plan_of script.now) }
+    requires sizes { cluster.now.sizes ≡ plan_sizes (plan_of script.now) }
     requires way { AreAtSteps cluster.now (plan_of script.now).sections processors.old.items
         all.old.items }
     ensures way { OnOk result (AreAtSteps cluster.now (plan_of script.now).sections processors.new.items

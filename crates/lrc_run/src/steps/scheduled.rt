@@ -1,7 +1,7 @@
 //! All processors by turns on one thread, as a schedule has them.
 ghost use Rattle.std.specs.Prelude.{◌≡◌, ◌≢◌, ◌<◌, ◌≤◌, ◌^◌, IfErr, IfOk, OnOk, vec_len};
 ghost use Rattle.lrc_script.specs.Prelude.{IsLawful, plan_of};
-ghost use Rattle.conformance.specs.Prelude.{IsEndByTurns, IsScheduleFault, followed_plan_sizes, scheduled};
+ghost use Rattle.conformance.specs.Prelude.{IsEndByTurns, IsScheduleFault, plan_sizes, scheduled};
 ghost use Rattle.conformance.specs.declared.schedule.Misfit.TheVariants as misfit;
 ghost use Rattle.lrc_run.specs.Prelude.{AreAtSteps, AreTaken, IsScheduledTurnFault, IsTurnOfRun};
 
@@ -68,7 +68,7 @@ fn follow<T: BookTurn, R: Wait>(
     turns: &[usize],
 ) -> Result<(), ScheduleFault>
     requires lawful { IsLawful (plan_of script.now) }
-    requires sizes { cluster.now.sizes ≡ followed_plan_sizes (plan_of script.now) }
+    requires sizes { cluster.now.sizes ≡ plan_sizes (plan_of script.now) }
     requires way { AreAtSteps cluster.now (plan_of script.now).sections processors.old.items
         all.old.items }
     ensures way { OnOk result (AreAtSteps cluster.now (plan_of script.now).sections processors.new.items
@@ -97,7 +97,7 @@ fn follow_at<T: BookTurn, R: Wait>(
     p: usize,
 ) -> Result<(), ScheduleFault>
     requires lawful { IsLawful (plan_of script.now) }
-    requires sizes { cluster.now.sizes ≡ followed_plan_sizes (plan_of script.now) }
+    requires sizes { cluster.now.sizes ≡ plan_sizes (plan_of script.now) }
     requires way { AreAtSteps cluster.now (plan_of script.now).sections processors.old.items
         all.old.items }
     requires few { place < 2 ^ 63 }

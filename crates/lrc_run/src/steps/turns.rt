@@ -1,7 +1,7 @@
 //! A processor's turn.
 ghost use Rattle.std.specs.Prelude.{◌≡◌, IfOk, false};
 ghost use Rattle.cluster.specs.Taking.{IsTakeLate};
-ghost use Rattle.lrc_run.specs.Prelude.{MakesItsWay, SeesOnlyMore, TakesTurn, instruction_at_turn, progress_after_turn};
+ghost use Rattle.lrc_run.specs.Prelude.{IsOnItsWay, SeesOnlyMore, TakesTurn, instruction_at_turn, progress_after_turn};
 
 use crate::walk::{begin, end};
 use book::Refused;
@@ -67,7 +67,7 @@ fn go_on_with_turn<T: BookTurn, R: Wait>(
     instruction: Instruction,
 ) -> Result<bool, Refused>
     requires own { processor.old.lock ≡ cluster.now.lock }
-    ensures way { IfOk result (λ done. MakesItsWay processor.old processor.new instruction done) }
+    ensures way { IfOk result (λ done. IsOnItsWay processor.old processor.new instruction done) }
     ensures late { IfOk result (λ done. done ≡ false → IsTakeLate processor.new) }
 {
     if begin(rt, cluster, processor, instruction)? {

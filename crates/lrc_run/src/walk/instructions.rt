@@ -2,7 +2,7 @@
 //! waits for.
 ghost use Rattle.std.specs.Prelude.{◌≡◌, IfOk, OnOk, [], not};
 ghost use Rattle.cluster.specs.Prelude.{IsSameProcessorOfCall};
-ghost use Rattle.lrc_run.specs.Prelude.{MadeInstruction, MakesItsWay, TriedToMakeTake};
+ghost use Rattle.lrc_run.specs.Prelude.{DidInstruction, IsOnItsWay, TriedTake};
 ghost use Rattle.lrc_script.specs.declared.script.Instruction.TheVariants as instruction;
 ghost use Rattle.lrc_run.specs.Waiting.{waits};
 
@@ -22,7 +22,7 @@ pub(crate) fn begin<T: BookTurn, R: Wait>(
 ) -> Result<bool, Refused>
     requires own { processor.old.lock ≡ cluster.now.lock }
     ensures same { IsSameProcessorOfCall processor.old processor.new }
-    ensures ok { IfOk result (λ done. MakesItsWay processor.old processor.new instruction done) }
+    ensures ok { IfOk result (λ done. IsOnItsWay processor.old processor.new instruction done) }
 {
     call(rt, cluster, processor, instruction)?;
     Ok(!waits(instruction))
@@ -48,7 +48,7 @@ fn call<T: BookTurn, R: Wait>(
 ) -> Result<(), Refused>
     requires own { processor.old.lock ≡ cluster.now.lock }
     ensures same { IsSameProcessorOfCall processor.old processor.new }
-    ensures ok { OnOk result (MakesItsWay processor.old processor.new instruction
+    ensures ok { OnOk result (IsOnItsWay processor.old processor.new instruction
         (not (waits instruction))) }
 {
     match instruction {
@@ -76,7 +76,7 @@ fn cut<T: BookTurn, R: Wait>(
 ) -> Result<(), Refused>
     requires own { processor.old.lock ≡ cluster.now.lock }
     ensures same { IsSameProcessorOfCall processor.old processor.new }
-    ensures ok { OnOk result (MadeInstruction processor.old processor.new instruction.Cut) }
+    ensures ok { OnOk result (DidInstruction processor.old processor.new instruction.Cut) }
 {
     match cluster.cut(rt, processor) {
         Err(Refused::NoEpisode | Refused::Racy(_, _)) => Ok(()),
@@ -92,7 +92,7 @@ pub(crate) fn end<T: BookTurn, R: Wait>(
 ) -> Result<bool, Refused>
     requires own { processor.old.lock ≡ cluster.now.lock }
     ensures same { IsSameProcessorOfCall processor.old processor.new }
-    ensures ok { IfOk result (λ taken. TriedToMakeTake processor.old processor.new taken) }
+    ensures ok { IfOk result (λ taken. TriedTake processor.old processor.new taken) }
 {
     match cluster.take(rt, processor) {
         Ok(()) => Ok(true),

@@ -5,7 +5,7 @@ use Rattle.journal.specs.Sizes.{Sizes}
 use Rattle.page.specs.RisingChanges.{Changes}
 use Rattle.interval.specs.SentIntervals.{SentPagesRise}
 use Rattle.book.specs.Calls.{AllowsIdleBlockCall}
-use Rattle.book.specs.Laws.{AreOpenRecordsByLaw}
+use Rattle.book.specs.Laws.{AreOpenRecords}
 use Rattle.book.specs.State.{State}
 use Rattle.book.specs.Told.{Represents}
 
@@ -29,5 +29,5 @@ MadeFrom old history new = (new.sizes ≡ old.sizes) × (new.history ≡ history
 pub record MayCloseHere (t : Telling) (p : ℕ) (block : List Event) (records : List Changes) : Type 0 where
   pub may : AllowsIdleBlockCall t.sizes t.book p block
   pub short : length block ≤ 256
-  pub are : AreOpenRecordsByLaw t.sizes (t.history ++ block) p records
+  pub are : AreOpenRecords t.sizes (t.history ++ block) p records
   pub rising : SentPagesRise records

@@ -5,7 +5,7 @@ ghost use Rattle.std.specs.Arc.{arc_value};
 ghost use Rattle.journal.specs.Prelude.{event, did, WasCut, IsCutFault, IsDeadlock};
 ghost use Rattle.journal.specs.declared.event.Kind.{Kind as AKind};
 ghost use Rattle.interval.specs.Prelude.{SentPagesRise, is_closing_of_page};
-ghost use Rattle.book.specs.Prelude.{IsInnerCall, AllowsIdleBlockCall, AllowsBlockCall, AreOpenRecordsByLaw, brought_by_message, HoldsSome};
+ghost use Rattle.book.specs.Prelude.{IsInnerCall, AllowsIdleBlockCall, AllowsBlockCall, AreOpenRecords, brought_by_message, HoldsSome};
 ghost use Rattle.test_memory.specs.Histories.Prelude.{MadeFrom, MayCloseHere};
 
 use crate::histories::history::{awaited_by, holds, note, note_closing, open_of};

@@ -1,4 +1,4 @@
-use Rattle.std.proofs.Common.{◌≡◌, List, [], length, subst, arith}
+use Rattle.std.proofs.Common.{◌≡◌, List, length, subst, arith}
 use Rattle.std.specs.Prelude.{IfOk}
 use Rattle.lrc_script.specs.Plan.{plan_of}
 use Rattle.conformance.specs.ByTurns.{IsEndByTurns, turn_orders}

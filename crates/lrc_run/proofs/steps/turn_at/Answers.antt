@@ -1,29 +1,70 @@
-use Rattle.std.proofs.Common.{◌<◌, length, refl, arith}
+use Rattle.std.proofs.Common.{◌<◌, length, refl, slice_set, arith}
 use Rattle.std.proofs.lemmas.Option.{slice_get_read}
 use Rattle.lrc_script.specs.Plan.{plan_of}
+use Rattle.lrc_run.specs.Steps.{AreAtSteps}
+use Rattle.lrc_run.specs.Turns.{IsOwnTurn}
 use Rattle.lrc_run.proofs.Stepping.{stepping_own_at, stepping_progress_read, stepping_section_read}
-use Rattle.lrc_run.proofs.Turning.{turning_one_seen, turning_set_same}
+use Rattle.lrc_run.proofs.Turning.{caught_up_on, turn_way_seen, turning_in_hand, turning_locks, turning_on_then, turning_one_seen, turning_set_same}
+use Rattle.lrc_run.proofs.steps.turn_at.Given as given
 use Rattle.lrc_run.proofs.steps.turn_at.Goals as goal
+use Rattle.lrc_run.proofs.steps.turn_at.Goals.{After-catch_up_with_first}
+
+-- the processors once p has caught up
+way_seen : (g : given.Over) (c : After-catch_up_with_first g)
+    → AreAtSteps c.args.cluster.now (plan_of c.args.script.now).sections c.catch_up_with_first.new.processors.items
+    c.args.all.now.items
+way_seen g c =
+    let ms = c.args.processors.now.items in
+    let seen = c.catch_up_with_first.new.processors.items in
+    turn_way_seen c.args.cluster.now (plan_of c.args.script.now).sections ms seen c.args.all.now.items c.requires.way
+    (caught_up_on ms seen c.args.p 0 c.catch_up_with_first.ensures)
+
+pub catch_up_with_first-requires-clause-own : goal.catch_up_with_first-requires-clause-own
+catch_up_with_first-requires-clause-own g c κs within = λ q m here.
+    stepping_own_at (plan_of c.args.script.now) c.args.cluster.now c.args.processors.now.items c.args.all.now.items q m
+    c.requires.lawful c.requires.sizes c.requires.way here
 
 pub take_turn-requires-clause-own : goal.take_turn-requires-clause-own
 take_turn-requires-clause-own g c κs within =
-    let ms = c.args.processors.now.items in
+    let seen = c.catch_up_with_first.new.processors.items in
     let p = c.args.p in
     let m = c.index_mut.result.now in
-    let inside : p < length ms = omega (arith, c.requires.within) in
-    stepping_own_at (plan_of c.args.script.now) c.args.cluster.now ms c.args.all.now.items p m c.requires.lawful c.requires.sizes
-    c.requires.way (slice_get_read ms (length ms) p m refl inside c.index_mut.ensures.value)
+    let on = caught_up_on c.args.processors.now.items seen p 0 c.catch_up_with_first.ensures in
+    let same = on.all in
+    let inside : p < length seen = omega (arith, c.requires.within) in
+    stepping_own_at (plan_of c.args.script.now) c.args.cluster.now seen c.args.all.now.items p m c.requires.lawful c.requires.sizes
+    (way_seen g (goal.at.take_turn-requires-clause-own g c).After-catch_up_with_first)
+    (slice_get_read seen (length seen) p m refl inside c.index_mut.ensures.value)
+
+pub catch_first_up-requires-clause-own : goal.catch_first_up-requires-clause-own
+catch_first_up-requires-clause-own g c κs within =
+    let seen = c.catch_up_with_first.new.processors.items in
+    let p = c.args.p in
+    let m = c.index_mut.result.now in
+    let on = caught_up_on c.args.processors.now.items seen p 0 c.catch_up_with_first.ensures in
+    let same = on.all in
+    let inside : p < length seen = omega (arith, c.requires.within) in
+    let way = way_seen g (goal.at.catch_first_up-requires-clause-own g c).After-catch_up_with_first in
+    turning_locks c.args.cluster.now.lock seen p m c.take_turn.new.processor c.deref.result.now c.index.result.now c.in-Ok.outcome.0
+    (slice_get_read seen (length seen) p m refl inside c.index_mut.ensures.value) c.in-Ok.ensures.turn (λ q x here.
+    stepping_own_at (plan_of c.args.script.now) c.args.cluster.now seen c.args.all.now.items q x c.requires.lawful
+    c.requires.sizes way here)
 
 pub returns-in-Ok-clause-turn : goal.returns-in-Ok-clause-turn
 returns-in-Ok-clause-turn g c =
     let s = plan_of c.args.script.now in
     let ms = c.args.processors.now.items in
+    let seen = c.catch_up_with_first.new.processors.items in
     let all = c.args.all.now.items in
     let p = c.args.p in
     let m = c.index_mut.result.now in
     let section = c.deref.result.now in
     let at = c.index.result.now in
+    let on = caught_up_on ms seen p 0 c.catch_up_with_first.ensures in
+    let same = on.all in
     let inside : p < length ms = omega (arith, c.requires.within) in
+    let within : p < length seen = omega arith in
+    let turn : IsOwnTurn s.sections p seen (slice_set seen p c.take_turn.new.processor) all (slice_set all p c.in-Ok.outcome.0) =
     record {
       section = section;
       before = m;
@@ -33,24 +74,38 @@ returns-in-Ok-clause-turn g c =
       section_is = stepping_section_read s c.args.cluster.now ms all c.args.script.now.sections.items p
           c.index-section.result.now section c.requires.lawful c.requires.sizes refl c.requires.way inside
           c.index-section.ensures c.deref.ensures.value;
-      before_is = slice_get_read ms (length ms) p m refl inside c.index_mut.ensures.value;
+      before_is = slice_get_read seen (length seen) p m refl within c.index_mut.ensures.value;
       at_is = stepping_progress_read c.args.cluster.now s.sections ms all p at c.requires.way inside c.index.ensures;
       takes = c.in-Ok.ensures.turn;
       new_is = refl;
       to_is = refl;
-    }
+    } in
+    turning_in_hand s.sections ms seen (slice_set seen p c.take_turn.new.processor) c.catch_first_up.new.processors.items p all
+    (slice_set all p c.in-Ok.outcome.0) c.catch_up_with_first.ensures turn c.catch_first_up.ensures
 
 pub returns-in-Ok-clause-vain : goal.returns-in-Ok-clause-vain
 returns-in-Ok-clause-vain g c = λ no.
     let ms = c.args.processors.now.items in
+    let seen = c.catch_up_with_first.new.processors.items in
+    let turned = slice_set seen c.args.p c.take_turn.new.processor in
     let all = c.args.all.now.items in
     let p = c.args.p in
-    let m = c.index_mut.result.now in
+    let at = c.index.result.now in
+    let turn = returns-in-Ok-clause-turn g c in
     let inside : p < length ms = omega (arith, c.requires.within) in
-    let vain = c.in-Ok.ensures.vain no in (
-      turning_one_seen ms p m c.take_turn.new.processor (slice_get_read ms (length ms) p m refl inside c.index_mut.ensures.value)
-          vain.0,
-      turning_set_same all p c.index.result.now c.in-Ok.outcome.0
-          (stepping_progress_read c.args.cluster.now (plan_of c.args.script.now).sections ms all p c.index.result.now c.requires.way
-          inside c.index.ensures) vain.1,
+    let first = caught_up_on ms seen p 0 c.catch_up_with_first.ensures in
+    let same = first.all in
+    let within : p < length seen = omega arith in
+    let vain = c.in-Ok.ensures.vain no in
+    let one = turning_one_seen seen p c.index_mut.result.now c.take_turn.new.processor
+    (slice_get_read seen (length seen) p c.index_mut.result.now refl within c.index_mut.ensures.value) vain.0 in
+    let last = caught_up_on turned c.catch_first_up.new.processors.items 0 p c.catch_first_up.ensures in (
+      record {
+        on = turning_on_then ms seen c.catch_first_up.new.processors.items first
+            (turning_on_then seen turned c.catch_first_up.new.processors.items one last);
+        ahead = turn.ahead;
+      },
+      turning_set_same all p at c.in-Ok.outcome.0
+          (stepping_progress_read c.args.cluster.now (plan_of c.args.script.now).sections ms all p at c.requires.way inside
+          c.index.ensures) vain.1,
     )

@@ -1,5 +1,5 @@
 use Rattle.std.proofs.Common.{rules, ◌≡◌, Bool, false, true, subst}
-use Rattle.lrc_run.specs.MakesCalls.{MakesItsWay, TriedToMakeTake}
+use Rattle.lrc_run.specs.MakesCalls.{IsOnItsWay, TriedTake}
 use Rattle.lrc_run.proofs.SeesAndMakes.{makes_its_way}
 use Rattle.lrc_run.proofs.walk.perform.Goals as goal
 
@@ -7,14 +7,14 @@ pub returns-then-branch-2-clause-ok : goal.returns-then-branch-2-clause-ok
 returns-then-branch-2-clause-ok g c =
     let begun : c.in_ok-begin.field-0 ≡ false = search rules in
     let taken : c.in_ok-end.field-0 ≡ true = search rules in
-    let P : Bool → Type 0 = λ b. MakesItsWay c.args.processor.now c.begin.new.processor c.args.instruction b in
-    let Q : Bool → Type 0 = λ b. TriedToMakeTake c.begin.new.processor c.end.new.processor b in
+    let P : Bool → Type 0 = λ b. IsOnItsWay c.args.processor.now c.begin.new.processor c.args.instruction b in
+    let Q : Bool → Type 0 = λ b. TriedTake c.begin.new.processor c.end.new.processor b in
     makes_its_way c.args.processor.now c.begin.new.processor c.end.new.processor c.args.instruction true
     (subst P begun c.in_ok-begin.ensures.ok) (subst Q taken c.in_ok-end.ensures.ok)
 
 pub returns-then-branch-3-clause-ok : goal.returns-then-branch-3-clause-ok
 returns-then-branch-3-clause-ok g c =
     let taken : c.in_ok-look_again.field-0 ≡ true = search rules in
-    let P : Bool → Type 0 = λ b. TriedToMakeTake c.loop.processor c.look_again.new.processor b in
+    let P : Bool → Type 0 = λ b. TriedTake c.loop.processor c.look_again.new.processor b in
     makes_its_way c.args.processor.now c.loop.processor c.look_again.new.processor c.args.instruction true
     c.loop.invariant.begun (subst P taken c.in_ok-look_again.ensures.ok)

@@ -25,8 +25,8 @@ loop-seed-preserved g c =
     subst (λ n. IsSampleMade came (plan_of c.args.script.now) (n + 1 + 1) c.run_once-in-loop-seed.new.lines.items)
     c.from.ensures c.in_ok-run_once-2.ensures
 
-pub sort-requires : goal.sort-requires
-sort-requires g c =
+pub sort_tally-requires : goal.sort_tally-requires
+sort_tally-requires g c =
     sample_made_few (CameBySeed g.T.Runs.followed g.T.Runs.drawn c.args.lock) (plan_of c.args.script.now)
     (c.loop-seed.seed + 1) c.loop-seed.lines.items (omega (arith, c.loop-seed.auto.seed-end, c.ranges.seeds.fits))
     c.loop-seed.invariant
@@ -35,7 +35,7 @@ pub returns-in-Ok : goal.returns-in-Ok
 returns-in-Ok g c =
     let came = CameBySeed g.T.Runs.followed g.T.Runs.drawn c.args.lock in
     let last : c.loop-seed.seed ≡ c.args.seeds = omega (arith, c.loop-seed.auto.seed-end, c.loop-seed-test.false) in
-    subst (λ n. IsSampleOf came (plan_of c.args.script.now) (n + 1) record { lines = c.sort.new.lines }) last
+    subst (λ n. IsSampleOf came (plan_of c.args.script.now) (n + 1) record { lines = c.sort_tally.new.lines }) last
     (sample_of came (plan_of c.args.script.now) (c.loop-seed.seed + 1) c.loop-seed.lines.items
-    record { lines = c.sort.new.lines } c.loop-seed.invariant c.sort.ensures.tally c.sort.ensures.shown
+    record { lines = c.sort_tally.new.lines } c.loop-seed.invariant c.sort_tally.ensures.tally c.sort_tally.ensures.shown
     c.in-Ok.ensures.order)

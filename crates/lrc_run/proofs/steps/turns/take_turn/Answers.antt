@@ -3,7 +3,7 @@ use Rattle.lrc_script.specs.declared.script.Instruction.{Instruction}
 use Rattle.conformance.specs.declared.progress.TurnProgress.{TurnProgress}
 use Rattle.conformance.specs.Turns.{progress_after_turn}
 use Rattle.lrc_run.specs.Turns.{TakesTurn}
-use Rattle.lrc_run.specs.MakesCalls.{MakesItsWay}
+use Rattle.lrc_run.specs.MakesCalls.{IsOnItsWay}
 use Rattle.lrc_run.proofs.Turning.{turning_look_seen, turning_sees_more}
 use Rattle.lrc_run.proofs.steps.turns.take_turn.Goals as goal
 
@@ -16,7 +16,7 @@ returns-in_ok-done-in-Next-clause-turn g c =
     let P : TurnProgress → Type 0 = λ x. TakesTurn section m x n c.progress_after_turn.result in
     subst P (sym c.in-Next.is) (record {
       done = done;
-      way = subst (λ (i : Instruction). MakesItsWay m n i done) c.instruction_at_turn.ensures
+      way = subst (λ (i : Instruction). IsOnItsWay m n i done) c.instruction_at_turn.ensures
           c.in_ok-done-in-Next.ensures.way;
       late = c.in_ok-done-in-Next.ensures.late;
       to_is = c.progress_after_turn.ensures;

@@ -14,7 +14,7 @@ returns-in-Store-clause-ok g c =
     let a = c.in-Store.address in
     let v = c.in-Store.value in
     rw c.in-Store.is (call_done_tries (kind.Store a v ∷ []) (instruction.Store a v) c.args.processor.now
-    c.store.new.processor c.store.result refl c.store.ensures)
+    c.store.new.processor c.store.result refl refl c.store.ensures)
 
 pub returns-in-Add-clause-ok : goal.returns-in-Add-clause-ok
 returns-in-Add-clause-ok g c =

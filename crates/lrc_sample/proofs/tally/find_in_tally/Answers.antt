@@ -1,7 +1,7 @@
 use Rattle.std.proofs.Common.{length, refl, arith}
 use Rattle.std.proofs.lemmas.Option.{slice_get_read, slice_get_within}
 use Rattle.lrc_sample.proofs.TallyLines.{tally_none_more}
-use Rattle.lrc_sample.proofs.tally.find.Goals as goal
+use Rattle.lrc_sample.proofs.tally.find_in_tally.Goals as goal
 
 pub loop-place-preserved : goal.loop-place-preserved
 loop-place-preserved c =

@@ -2,7 +2,7 @@ use Rattle.std.proofs.Common.{rules}
 use Rattle.std.proofs.lemmas.List.Sorted.{IsNonDecreasingBy-from_sort_by_key, answers_always}
 use Rattle.std.proofs.lemmas.Result.{on_ok_weaker}
 use Rattle.lrc_sample.proofs.OrderingTally.{ordering_frequent_first, ordering_rarity, ordering_shown_moved, ordering_tally_moved}
-use Rattle.lrc_sample.proofs.tally.sort.Goals as goal
+use Rattle.lrc_sample.proofs.tally.sort_tally.Goals as goal
 
 pub returns-clause-tally : goal.returns-clause-tally
 returns-clause-tally c = λ outcomes is.
