@@ -1,18 +1,18 @@
 -- What a fetch brings of a word. A store of another processor to the page is in the gap where the number of its interval
 -- lies between the fetch's timestamps (`brought_between`). Of one processor's stores the last of these is applied last,
 -- since its intervals are closed in order (`brought_last`); of all it is found by comparing (`later_of_two`).
-use Rattle.std.proofs.Common.{◌≡◌, ◌≢◌, ℕ, ◌+◌, ◌/◌, ◌<◌, ◌≤◌, ◌↔◌, ◌⊎◌, inl, inr, List, Option, Some, length, slice_get, slice_index, take, subst, sym, refl, ap, ◌∙◌, arith}
-use Rattle.std.specs.Prelude.{None, MatchOption}
+use Rattle.std.proofs.Common.{◌≡◌, ◌≢◌, ℕ, ◌+◌, ◌/◌, ◌<◌, ◌≤◌, ◌↔◌, inl, inr, List, Option, Some, length, slice_get, slice_index, take, subst, sym, refl, ap, ◌∙◌, arith}
+use Rattle.std.specs.Prelude.{None}
 use Rattle.std.proofs.lemmas.Bool.{cases_eq, cases_lt}
 use Rattle.std.proofs.lemmas.Option.{same_Some}
-use Rattle.base.proofs.SlicesAndCounts.{slice_get-take, slice_get-take_within, slice_get-from_take}
+use Rattle.base.proofs.SlicesAndCounts.{slice_get-take, slice_get-take_within}
 use Rattle.journal.specs.declared.event.Event.{Event}
 use Rattle.journal.specs.declared.event.Kind.TheVariants.{Fetch, Store}
 use Rattle.journal.specs.PageImages.{InGap}
 use Rattle.journal.specs.DidEvent.{event}
 use Rattle.journal.specs.Events.{count_of, interval_at, is_closing}
 use Rattle.journal.specs.Sizes.{Sizes}
-use Rattle.journal.specs.Times.{ClosesAt, IsTimeOf}
+use Rattle.journal.specs.Times.{IsTimeOf}
 use Rattle.journal.specs.WellFormed.{Does}
 use Rattle.journal.proofs.CopyOfPage.Brought.{brought_gap_is}
 use Rattle.journal.proofs.CopyOfPage.Stores.{stores_to}

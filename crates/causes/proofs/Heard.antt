@@ -65,32 +65,6 @@ heard_all j q k n (Some i) le old = record {
   last = λ m a does h. (let lt = before_goes_forward j h in old.last m a (omega arith) does h);
 }
 
--- where nothing was cut off, the first race from there is the first race
-pub heard_first_race_whole : (size : ℕ) (j : List Event) (i k : ℕ) → IsFirstRaceFrom (no_base size) j i k → IsFirstRace j i k
-heard_first_race_whole size j i k f = record {
-  race = (uncut_race size j i k).1 f.race;
-  least_second = λ m n r. f.least_second m n ((uncut_race size j m n).0 r);
-  least_first = λ m r. f.least_first m ((uncut_race size j m k).0 r);
-}
-
-pub heard_race_free_whole : (size : ℕ) (j : List Event) → RaceFreeFrom (no_base size) j → RaceFree j
-heard_race_free_whole size j free i k r = free i k ((uncut_race size j i k).0 r)
-
-heard_race_base : (size : ℕ) (j : List Event) (o : Option (ℕ × ℕ))
-    → MatchOption o (RaceFreeFrom (no_base size) j) (λ r. IsFirstRaceFrom (no_base size) j r.0 r.1)
-    → MatchOption o (RaceFree j) (λ r. IsFirstRace j r.0 r.1)
-heard_race_base size j None free = heard_race_free_whole size j free
-heard_race_base size j (Some r) first = heard_first_race_whole size j r.0 r.1 first
-
--- what a journal of the whole history says of its first race is the history's
-pub heard_race_whole : (log : Log) (j : List Event) (o : Option (ℕ × ℕ)) → HoldsHistory log j
-    → MatchOption o (RaceFreeFrom log.base log.events) (λ r. IsFirstRaceFrom log.base log.events r.0 r.1)
-    → MatchOption o (RaceFree j) (λ r. IsFirstRace j r.0 r.1)
-heard_race_whole log j o holds tells =
-    heard_race_base log.addresses j o
-    (subst₂ (λ (b : Base) (xs : List Event). MatchOption o (RaceFreeFrom b xs) (λ r. IsFirstRaceFrom b xs r.0 r.1))
-    holds.whole holds.history tells)
-
 -- the events of a race: they are of two processors, and the second one takes nothing
 pub record AreHeardApart (j : List Event) (i k : ℕ) (e : Event) : Type 0 where
   pub within : i < length j

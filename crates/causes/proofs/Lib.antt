@@ -8,6 +8,10 @@ pub mod HandOvers
 pub mod TakingRows
 pub mod ReachedPaths
 pub mod OwingDues
+pub mod NoticeRows
+pub mod StaleCopies
 pub mod StoreRows
 pub mod Brought
 pub mod OriginSteps
+pub mod RecordRows
+pub mod WrittenWords

@@ -1,17 +1,15 @@
 -- The origins of words as the history goes on. An event that writes no word of the copy keeps the word's origin; one that
 -- does is the new one's. A fetch writes the words of its page one after the other: those below an address are done.
-use Rattle.std.proofs.Common.{◌≡◌, ◌≢◌, ℕ, ◌+◌, ◌*◌, ◌-◌, ◌/◌, ◌<◌, ◌≤◌, inl, inr, List, [], ◌∷◌, ◌++◌, Option, Some, length, replicate, slice_get, slice_set, take, subst, sym, refl, ap, ◌∙◌, arith}
+use Rattle.std.proofs.Common.{◌≡◌, ◌≢◌, ℕ, ◌+◌, ◌*◌, ◌-◌, ◌/◌, ◌<◌, ◌≤◌, inl, inr, List, [], ◌∷◌, ◌++◌, Option, Some, length, slice_get, slice_set, subst, sym, refl, ap, ◌∙◌, arith}
 use Rattle.std.specs.Prelude.{None}
 use Rattle.std.proofs.lemmas.Bool.{cases_eq, cases_lt}
 use Rattle.std.proofs.lemmas.List.{length-set}
 use Rattle.std.proofs.lemmas.Nat.{div-mul-add}
-use Rattle.std.proofs.lemmas.Option.{none-some, slice_get_within}
+use Rattle.std.proofs.lemmas.Option.{slice_get_within}
 use Rattle.base.proofs.SlicesAndCounts.{slice_push_cases}
-use Rattle.base.proofs.SliceSets.{slice_get-set_found, slice_get-set_other, slice_get-replicate_found}
+use Rattle.base.proofs.SliceSets.{slice_get-set_found, slice_get-set_other}
 use Rattle.journal.specs.declared.event.Event.{Event}
-use Rattle.journal.specs.declared.event.Kind.{Kind}
 use Rattle.journal.specs.declared.event.Kind.TheVariants.{Fetch, Load, Store}
-use Rattle.journal.specs.PageImages.{FetchesPage}
 use Rattle.journal.specs.DidEvent.{event}
 use Rattle.journal.specs.Events.{At}
 use Rattle.journal.specs.Sizes.{Sizes}
@@ -187,7 +185,7 @@ origins_fetched_next s j k p from a words r low le now old = record {
     ]
 
 -- the words of a page
-origin_in_page : (a w n : ℕ) → 0 < w → a / w ≡ n → (n * w ≤ a) × (a < n * w + w)
+pub origin_in_page : (a w n : ℕ) → 0 < w → a / w ≡ n → (n * w ≤ a) × (a < n * w + w)
 origin_in_page a w n some is = subst (λ m. (m * w ≤ a) × (a < m * w + w)) is (omega arith, omega arith)
 
 -- all words of the page

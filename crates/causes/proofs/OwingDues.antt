@@ -28,7 +28,7 @@ use Rattle.journal.proofs.Order.CountedAndNumbered.{numbered_at_within, count_of
 use Rattle.journal.proofs.Passes.NextClocks.{front_next}
 use Rattle.journal.proofs.Times.PushesCovered.{covered}
 use Rattle.judge.specs.Gaps.{GapFetchedUpTo, GapStoresInPage}
-use Rattle.judge.specs.Miscounted.{IsMiscountWithin}
+use Rattle.judge.specs.Miscounted.{IsEventInSizes}
 use Rattle.judge.specs.GapTally.{gap_tally_row_index}
 use Rattle.judge.proofs.Counts.{count_some, count_unique}
 use Rattle.judge.proofs.InGaps.{own_none_in_gap, stored_is_in_gap}
@@ -41,7 +41,7 @@ abbrev pub DueBetween : Sizes → List Event → ℕ → ℕ → (ℕ → ℕ) �
 DueBetween s j n q f t m = GapStoresInPage s j n q m × (f q ≤ m) × (m < t q)
 
 -- what another's copy lacks of q lies between its last fetch and now
-due_lacks_is : (s : Sizes) (j : List Event) (p n q m : ℕ) (f t : ℕ → ℕ) → q ≢ p → GapFetchedUpTo s j p n f → IsTimeOf j p t
+pub due_lacks_is : (s : Sizes) (j : List Event) (p n q m : ℕ) (f t : ℕ → ℕ) → q ≢ p → GapFetchedUpTo s j p n f → IsTimeOf j p t
     → DueLacks s j p n q m ↔ DueBetween s j n q f t m
 due_lacks_is s j p n q m f t apart fetched time = (
   λ g. (let h = (stored_is_in_gap s j p n q m g.0 f t fetched time apart).0 g.1 in ((g.0, h.0), h.1, h.2)),
@@ -49,12 +49,12 @@ due_lacks_is s j p n q m f t apart fetched time = (
 )
 
 -- nobody lacks what it stored itself
-due_lacks_own : (s : Sizes) (j : List Event) (p n q m : ℕ) → DueLacks s j p n q m → q ≢ p
+pub due_lacks_own : (s : Sizes) (j : List Event) (p n q m : ℕ) → DueLacks s j p n q m → q ≢ p
 due_lacks_own s j p n q m g is =
     own_none_in_gap s j p n m g.0 (subst (λ x. StoredInGapOfImage s j p n (x, m, g.0)) is g.1)
 
 -- who stored it is a processor
-due_lacks_low : (s : Sizes) (j : List Event) (p n q m : ℕ) → ProcessorsInRange 16 j → DueLacks s j p n q m → q < 16
+pub due_lacks_low : (s : Sizes) (j : List Event) (p n q m : ℕ) → ProcessorsInRange 16 j → DueLacks s j p n q m → q < 16
 due_lacks_low s j p n q m low g = low g.1.0 (event q (Store g.0 g.1.1)) g.1.2
 
 -- what p comes to lack of q by an event that takes lies between its timestamps before and after it
@@ -117,12 +117,12 @@ due_comes_is s j p n q m k f t takes before after apart = (there, back)
         )
 
 -- an event that is no fetch tells of what a copy comes to lack
-due_told_is : (s : Sizes) (j : List Event) (k p : ℕ) (kind : Kind) (n q m : ℕ)
+pub due_told_is : (s : Sizes) (j : List Event) (k p : ℕ) (kind : Kind) (n q m : ℕ)
     → ((w l r d : ℕ) → kind ≢ Fetch w l r d) → IsDueToldBy s j k p kind n q m ↔ DueComesToLack s j k p n q m
 due_told_is s j k p (Fetch w l r d) n q m none = absurd (none w l r d refl)
 due_told_is s j k p _ n q m none = ((λ h. h), λ h. h)
 
-due_not_fetch : (k : Kind) → is_taking k ≡ true → (w l r d : ℕ) → k ≢ Fetch w l r d
+pub due_not_fetch : (k : Kind) → is_taking k ≡ true → (w l r d : ℕ) → k ≢ Fetch w l r d
 due_not_fetch k takes w l r d is = true≢false (sym takes ∙ ap is_taking is)
 
 due_positive : (n : ℕ) → n ≢ 0 → 0 < n
@@ -183,6 +183,33 @@ due_in_fetch s j k e w n r d span kind reader first end low fetched time x = (th
           count = count_of_same Told In x.records (λ m. ((is page apart m).1, (is page apart m).0)) told;
         }
 
+-- of another's intervals, those between the timestamps round an event that takes are those that it tells of
+pub due_taken_is : (s : Sizes) (j : List Event) (k : ℕ) (e : Event) (n q m : ℕ) (span : Span) → At j k e
+    → is_taking e.kind ≡ true → q ≢ e.processor → IsTimeOf (take k j) e.processor (slice_index span.from)
+    → IsTimeOf (take (k + 1) j) e.processor (slice_index span.to)
+    → DueBetween s (take (k + 1) j) n q (slice_index span.from) (slice_index span.to) m
+    ↔ IsDueToldBy s j k e.processor e.kind n q m
+due_taken_is s j k e n q m span at takes apart before after =
+    let told = due_told_is s j k p e.kind n q m (due_not_fetch e.kind takes) in
+    let both = comes in
+    ((λ h. told.1 (both.1 h)), λ h. both.0 (told.0 h))
+  where
+    p : ℕ
+    p = e.processor
+
+    Range : List Event → Type 0
+    Range h =
+        (DueLacks s h p n q m × (¬ DueLacks s (take k j) p n q m))
+        ↔ DueBetween s h n q (slice_index span.from) (slice_index span.to) m
+
+    comes : Range (take (k + 1) j)
+    comes =
+        let next : take (k + 1) j ≡ take k j ++ e ∷ [] = front_next j k e at in
+        let later : IsTimeOf (take k j ++ e ∷ []) p (slice_index span.to) =
+        subst (λ h. IsTimeOf h p (slice_index span.to)) next after in
+        subst Range (sym next)
+        (due_comes_is s (take k j) p n q m e.kind (slice_index span.from) (slice_index span.to) takes before later apart)
+
 -- what there is in the span of the timestamps round an event that takes is what it tells of
 pub due_in_taken : (s : Sizes) (j : List Event) (k : ℕ) (e : Event) (span : Span) → At j k e → is_taking e.kind ≡ true
     → span.reader ≡ e.processor → span.first ≡ 0 → span.end ≡ s.pages → ProcessorsInRange 16 (take (k + 1) j)
@@ -201,25 +228,8 @@ due_in_taken s j k e span at takes reader first end low pages before after x = (
     In : ℕ → Type 0
     In m = DueBetween s (take (k + 1) j) x.page x.writer (slice_index span.from) (slice_index span.to) m
 
-    Range : List Event → ℕ → Type 0
-    Range h m =
-        (DueLacks s h p x.page x.writer m × (¬ DueLacks s (take k j) p x.page x.writer m))
-        ↔ DueBetween s h x.page x.writer (slice_index span.from) (slice_index span.to) m
-
-    comes : x.writer ≢ p → (m : ℕ) → Range (take (k + 1) j) m
-    comes apart m =
-        let next : take (k + 1) j ≡ take k j ++ e ∷ [] = front_next j k e at in
-        let later : IsTimeOf (take k j ++ e ∷ []) p (slice_index span.to) =
-        subst (λ h. IsTimeOf h p (slice_index span.to)) next after in
-        subst (λ h. Range h m) (sym next)
-        (due_comes_is s (take k j) p x.page x.writer m e.kind (slice_index span.from) (slice_index span.to) takes before
-        later apart)
-
     is : x.writer ≢ p → (m : ℕ) → In m ↔ Told m
-    is apart m =
-        let told = due_told_is s j k p e.kind x.page x.writer m (due_not_fetch e.kind takes) in
-        let both = comes apart m in
-        ((λ h. told.1 (both.1 h)), λ h. both.0 (told.0 h))
+    is apart m = due_taken_is s j k e x.page x.writer m span at takes apart before after
 
     there : IsDueInSpan s (take (k + 1) j) span x → IsDueRecord s j k e x
     there y =
@@ -233,7 +243,7 @@ due_in_taken s j k e span at takes reader first end low pages before after x = (
         let one = count_some Told x.records y.count (due_positive x.records y.some) in
         let told = (due_told_is s j k p e.kind x.page x.writer one.0 (due_not_fetch e.kind takes)).0 one.1 in
         let apart = due_lacks_own s (take (k + 1) j) p x.page x.writer one.0 told.0 in
-        let in_page = (comes apart one.0).0 told in
+        let in_page = (is apart one.0).1 one.1 in
         let page = pages x.page x.writer one.0 in_page.0 in
         record {
           low = due_lacks_low s (take (k + 1) j) p x.page x.writer one.0 low told.0;
@@ -244,13 +254,12 @@ due_in_taken s j k e span at takes reader first end low pages before after x = (
           count = count_of_same Told In x.records (λ m. ((is apart m).1, (is apart m).0)) y.count;
         }
 
--- an event that neither takes nor fetches tells of nothing
-pub dues_quiet : (s : Sizes) (j : List Event) (k : ℕ) (e : Event) → At j k e → is_taking e.kind ≡ false
-    → ((w l r d : ℕ) → e.kind ≢ Fetch w l r d) → AreDues s j k e []
-dues_quiet s j k e at quiet none = record {
-  has = λ x. ((λ h. absurd (none-some x h.1)), λ y. absurd (nothing x y));
-  order = λ m n x y lt to. absurd (none-some x to);
-}
+-- an event that neither takes nor fetches tells of no interval
+pub due_none_told : (s : Sizes) (j : List Event) (k : ℕ) (e : Event) → At j k e → is_taking e.kind ≡ false
+    → ((w l r d : ℕ) → e.kind ≢ Fetch w l r d) → (n q m : ℕ) → IsDueToldBy s j k e.processor e.kind n q m → ⊥
+due_none_told s j k e at quiet none n q m one =
+    let told = (due_told_is s j k p e.kind n q m none).0 one in
+    told.1 (same (subst (λ h. DueLacks s h p n q m) next told.0))
   where
     p : ℕ
     p = e.processor
@@ -259,29 +268,37 @@ dues_quiet s j k e at quiet none = record {
     next = front_next j k e at
 
     block : IsBlock p (e ∷ [])
-    block m f here = elim (slice_push_cases [] e m f here) [
+    block i f here = elim (slice_push_cases [] e i f here) [
       | inl old ↦ absurd (let lt = old.0 in omega arith)
       | inr new ↦ (sym (ap (λ (x : Event). x.processor) new.1), sym (ap (λ (x : Event). is_taking x.kind) new.1) ∙ quiet)
     ]
 
-    away : (n m w r d : ℕ) → ¬ Does (e ∷ []) m p (Fetch w n r d)
-    away n m w r d here = elim (slice_push_cases [] e m (event p (Fetch w n r d)) here) [
+    away : (i w r d : ℕ) → ¬ Does (e ∷ []) i p (Fetch w n r d)
+    away i w r d here = elim (slice_push_cases [] e i (event p (Fetch w n r d)) here) [
       | inl old ↦ (let lt = old.0 in omega arith)
       | inr new ↦ none w n r d (ap (λ (x : Event). x.kind) new.1)
     ]
 
-    same : (n q m : ℕ) → DueLacks s (take k j ++ e ∷ []) p n q m → DueLacks s (take k j) p n q m
-    same n q m g = (
+    same : DueLacks s (take k j ++ e ∷ []) p n q m → DueLacks s (take k j) p n q m
+    same g = (
       g.0,
       (gap_stored_longer s (take k j) (e ∷ []) p n
-          (λ i. gap_block s (take k j) (e ∷ []) p n i block (λ m w r d. away n m w r d)) (q, m, g.0)).0 g.1,
+          (λ i. gap_block s (take k j) (e ∷ []) p n i block away) (q, m, g.0)).0 g.1,
     )
 
+-- and so of nothing
+pub dues_quiet : (s : Sizes) (j : List Event) (k : ℕ) (e : Event) → At j k e → is_taking e.kind ≡ false
+    → ((w l r d : ℕ) → e.kind ≢ Fetch w l r d) → AreDues s j k e []
+dues_quiet s j k e at quiet none = record {
+  has = λ x. ((λ h. absurd (none-some x h.1)), λ y. absurd (nothing x y));
+  order = λ m n x y lt to. absurd (none-some x to);
+}
+  where
     nothing : (x : Due) → IsDueRecord s j k e x → ⊥
     nothing x y =
-        let one = count_some (IsDueToldBy s j k p e.kind x.page x.writer) x.records y.count (due_positive x.records y.some) in
-        let told = (due_told_is s j k p e.kind x.page x.writer one.0 none).0 one.1 in
-        told.1 (same x.page x.writer one.0 (subst (λ h. DueLacks s h p x.page x.writer one.0) next told.0))
+        let one =
+        count_some (IsDueToldBy s j k e.processor e.kind x.page x.writer) x.records y.count (due_positive x.records y.some) in
+        due_none_told s j k e at quiet none x.page x.writer one.0 one.1
 
 -- what there is below the span's end is all of it
 pub all_dues_below : (s : Sizes) (j h : List Event) (k : ℕ) (e : Event) (span : Span) (dues : List Due)
@@ -348,7 +365,7 @@ due_none_counted s j span x n q r y page writer count none =
     ∙ none)
 
 -- a page that somebody stores in is one of the pages
-pub due_pages_within : (s : Sizes) (j : List Event) (k : ℕ) → ((i : ℕ) (e : Event) → At j i e → IsMiscountWithin s e)
+pub due_pages_within : (s : Sizes) (j : List Event) (k : ℕ) → ((i : ℕ) (e : Event) → At j i e → IsEventInSizes s e)
     → (n q m : ℕ) → GapStoresInPage s (take k j) n q m → n < s.pages
 due_pages_within s j k within n q m x =
     let a = x.0 in

@@ -8,8 +8,14 @@ pub mod Takings
 pub mod Paths
 pub mod Dues
 pub mod Waits
+pub mod Apart
 pub mod Stores
 pub mod Origins
 pub mod OriginSteps
 pub mod Explanation
+pub mod Part
+pub mod Notices
+pub mod Records
+pub mod States
+pub mod Writing
 pub mod Prelude

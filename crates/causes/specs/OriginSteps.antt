@@ -1,5 +1,5 @@
 -- What is found on the way to the origins of words.
-use Rattle.std.specs.Prelude.{ℕ, ◌≡◌, ◌≢◌, ◌⊎◌, ◌+◌, ◌*◌, ◌^◌, ◌<◌, ◌≤◌, List, Option, Some, None, MatchOption, length, slice_get, slice_index, take}
+use Rattle.std.specs.Prelude.{ℕ, ◌≡◌, ◌⊎◌, ◌+◌, ◌*◌, ◌^◌, ◌<◌, ◌≤◌, List, Option, Some, None, MatchOption, length, slice_get, slice_index, take}
 use Rattle.journal.specs.declared.event.Event.{Event}
 use Rattle.journal.specs.PageImages.{FetchesPage}
 use Rattle.journal.specs.InRange.{ProcessorsInRange}

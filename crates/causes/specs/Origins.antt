@@ -1,6 +1,6 @@
 -- Where the words of copies come from: a fetch brings the stores of its gap, and applies them in the order in which their
 -- intervals were closed.
-use Rattle.std.specs.Prelude.{ℕ, ◌≡◌, ◌⊎◌, ◌/◌, ◌<◌, List, Option, Some, None, MatchOption, slice_get, take, vec_len}
+use Rattle.std.specs.Prelude.{ℕ, ◌≡◌, ◌⊎◌, ◌/◌, ◌<◌, List, Option, Some, None, MatchOption, slice_get, take}
 use Rattle.journal.specs.declared.event.Event.{Event}
 use Rattle.journal.specs.declared.event.Kind.TheVariants.{Load, Store}
 use Rattle.journal.specs.PageImages.{FetchesPage, InGap}

@@ -13,10 +13,10 @@ use Rattle.causes.specs.declared.waiting.Wait.TheVariants.{Nothing, Lock, Flag, 
 abbrev pub WaitsWithoutEvents : List Event → ℕ → Type 0
 WaitsWithoutEvents j p = (m : ℕ) (e : Event) → At j m e → e.processor ≢ p
 
--- these are the processors below n of which this holds, rising
-pub record AreThose (holds : ℕ → Type 0) (n : ℕ) (processors : List ℕ) : Type 0 where
-  pub has : (q : ℕ) → Has processors q ↔ ((q < n) × holds q)
-  pub order : InOrder (λ p q. p < q) processors
+-- these are the numbers below n of which this holds, rising
+pub record AreThose (holds : ℕ → Type 0) (n : ℕ) (those : List ℕ) : Type 0 where
+  pub has : (q : ℕ) → Has those q ↔ ((q < n) × holds q)
+  pub order : InOrder (λ p q. p < q) those
 
 -- q's ask of l is open and stands before place i
 abbrev pub WaitAsksBefore : List Event → ℕ → ℕ → ℕ → Type 0

@@ -3,7 +3,7 @@ ghost use Rattle.std.specs.Prelude.{ℕ, ◌≤◌, IfOk, length};
 ghost use Rattle.base.specs.Prelude.{most_held};
 ghost use Rattle.journal.specs.Events.{At};
 ghost use Rattle.journal.specs.declared.event.Event.{Event};
-ghost use Rattle.judge.specs.Prelude.{AreSizesSmall, IsMiscountWithin, sizes_of};
+ghost use Rattle.judge.specs.Prelude.{AreSizesSmall, IsEventInSizes, sizes_of};
 ghost use Rattle.causes.specs.Prelude.{IsExplanation};
 
 use crate::answers::loads;
@@ -40,7 +40,7 @@ pub struct Explanation {
 pub fn explain(alloc: Global, sizes: Sizes, events: &[Event]) -> Result<Explanation, AllocError>
     requires sizes { AreSizesSmall (sizes_of sizes) }
     requires few { length events.now ≤ most_held }
-    requires within { (k : ℕ) (e : Event) → At events.now k e → IsMiscountWithin (sizes_of sizes) e }
+    requires within { (k : ℕ) (e : Event) → At events.now k e → IsEventInSizes (sizes_of sizes) e }
     ensures { IfOk result (IsExplanation (sizes_of sizes) events.now) }
 {
     let addresses = sizes.pages * sizes.words;

@@ -1,12 +1,14 @@
 //! Why the events of a history went as they did: which store each load answers, what keeps the accesses of its first
-//! race apart, which events let one through that waited, by which way one reaches another, which records came with it, and
-//! what each processor waits for at the end.
+//! race apart, which events let one through that waited, by which way one reaches another, which records came with it, the
+//! protocol's state at each, and what each processor waits for at the end. A `Part` of a history has the events of some
+//! processors from one place to another.
 //!
 //! **What contracts see.** `IsSource` of specs/Source says what each source of a load means, `IsHeard` of specs/Heard
 //! which event of another processor is the last one heard of, `EdgeFromOther` of specs/Edges which events have an edge to
 //! one, `IsNews` of specs/News which of these its processor had not heard of, `AreHandOvers` of specs/HandOvers which of
 //! those are the last ones, `IsWay` of specs/Paths what a way along edges is, `AreDues` of specs/Dues which records an event
-//! tells of, `IsOrigin` of specs/Origins from which store the word of a copy comes, `IsWait` of specs/Waits what each thing
+//! tells of, `IsOrigin` of specs/Origins from which store the word of a copy comes, `IsEventState` of specs/States what the
+//! protocol's state at an event is, `IsWait` of specs/Waits what each thing
 //! that a processor waits for means; all in journal's words of happens-before, latest stores, races, gaps of copies and who
 //! holds a lock. The histories need not be ones that a cluster can make.
 //!
@@ -18,7 +20,9 @@
 //! which event. `way` has, of two events, a way along edges from the one to the other, exactly where the one is the other or
 //! happens before it; `Ways` finds many. `dues` has, of each event that takes, exactly the records that its processor's
 //! copies lack after it and did not lack before, and of each fetch those that its copy of the page lacked, by page and
-//! writer. `waits` has, of each processor, what it waits for at the end: a lock, who holds it and whose asks of it are
+//! writer. `states` has, of each event that is asked for, its processor's timestamp after it, the interval that it lies in, that
+//! one's records if it closes it, exactly the write notices that it brings, and exactly the pages of which its processor's copy
+//! is stale after it, and dirty. `waits` has, of each processor, what it waits for at the end: a lock, who holds it and whose asks of it are
 //! earlier; a flag, and whether it is set; or exactly the processors that have not arrived. `explain` has what `loads`,
 //! `race`, `incoming` and `waits` tell.
 //!
@@ -26,29 +30,42 @@
 #![tactic(auto)]
 
 mod answers;
+mod apart;
+mod copies;
 mod explaining;
 mod handing;
 mod index;
 mod leading;
 mod missing;
 mod news;
+mod notices;
 mod originating;
+mod part;
 mod paths;
 mod racing;
 mod reaching;
+mod records;
 mod source;
+mod state;
 mod stores;
 mod takings;
 mod waiting;
+mod writing;
 
 pub use answers::loads;
+pub use apart::{RaceApart, race_apart};
 pub use explaining::{Explanation, explain};
 pub use handing::hand_overs;
 pub use leading::edges;
 pub use missing::{Due, dues};
 pub use news::incoming;
+pub use notices::WriteNotice;
 pub use originating::{WordOrigin, origins};
+pub use part::Part;
 pub use paths::{Ways, way};
 pub use racing::{FirstRace, race};
+pub use records::PageRecord;
 pub use source::Source;
+pub use state::{EventState, states};
 pub use waiting::{Wait, locks_held, waits};
+pub use writing::{WrittenWord, written_words};

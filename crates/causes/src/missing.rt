@@ -5,7 +5,7 @@ ghost use Rattle.journal.specs.declared.event.Event.{Event};
 ghost use Rattle.journal.specs.declared.event.Kind.TheVariants.{Fetch};
 ghost use Rattle.journal.specs.Events.{At};
 ghost use Rattle.journal.specs.Prelude.{IsTimeOf, is_taking};
-ghost use Rattle.judge.specs.Prelude.{AreSizesSmall, IsMiscountWithin, TellsGaps, gap_tally_row_index, sizes_of};
+ghost use Rattle.judge.specs.Prelude.{AreSizesSmall, GapFetchedUpTo, IsEventInSizes, TellsGaps, gap_tally_row_index, sizes_of};
 ghost use Rattle.causes.specs.Prelude.{AreAllDues, DuesBelow, AreDues, IsOneOfDues};
 
 use crate::takings::takes;
@@ -36,6 +36,46 @@ pub(crate) struct Span {
     pub(crate) from: Clock,
     /// Of each processor the interval after the last one.
     pub(crate) to: Clock,
+}
+
+/// What a fetch of the page by this processor brings, if it comes next.
+pub(crate) fn fetch_span(gaps: &Gaps, reader: usize, page: usize) -> Span
+    requires tells { (j : List Event) × TellsGaps j gaps.now }
+    requires reader { reader < 16 }
+    requires page { page < gaps.now.sizes.pages }
+    ensures reader { result.reader ≡ reader }
+    ensures first { result.first ≡ page }
+    ensures end { result.end ≡ page + 1 }
+    ensures from { (j : List Event) → TellsGaps j gaps.now
+        → GapFetchedUpTo (sizes_of gaps.now.sizes) j reader page (slice_index result.from) }
+    ensures to { (j : List Event) → TellsGaps j gaps.now → IsTimeOf j reader (slice_index result.to) }
+{
+    Span {
+        reader,
+        first: page,
+        end: page + 1,
+        from: *gaps.last_fetch(reader, page),
+        to: *gaps.time(reader),
+    }
+}
+
+/// What this processor, whose timestamp was this, got word of since.
+pub(crate) fn taking_span(gaps: &Gaps, reader: usize, before: &Clock) -> Span
+    requires tells { (j : List Event) × TellsGaps j gaps.now }
+    requires reader { reader < 16 }
+    ensures reader { result.reader ≡ reader }
+    ensures first { result.first ≡ 0 }
+    ensures end { result.end ≡ gaps.now.sizes.pages }
+    ensures from { result.from ≡ before.now }
+    ensures to { (j : List Event) → TellsGaps j gaps.now → IsTimeOf j reader (slice_index result.to) }
+{
+    Span {
+        reader,
+        first: 0,
+        end: gaps.pages(),
+        from: *before,
+        to: *gaps.time(reader),
+    }
 }
 
 /// What there is of the page and the writer in the span.
@@ -113,14 +153,7 @@ fn fetched(
     ensures { IfOk result (λ v. (e : Event) → At events.now place e
         → AreDues (sizes_of gaps.now.sizes) events.now place e v.items) }
 {
-    let reader = events[place].processor;
-    let span = Span {
-        reader,
-        first: page,
-        end: page + 1,
-        from: *gaps.last_fetch(reader, page),
-        to: *gaps.time(reader),
-    };
+    let span = fetch_span(gaps, events[place].processor, page);
     dues_in(alloc, gaps, &span)
 }
 
@@ -136,21 +169,14 @@ fn taken(
     requires few { length events.now ≤ most_held }
     requires tells { TellsGaps (take (place + 1) events.now) gaps.now }
     requires place { place < length events.now }
-    requires within { (k : ℕ) (e : Event) → At events.now k e → IsMiscountWithin (sizes_of gaps.now.sizes) e }
+    requires within { (k : ℕ) (e : Event) → At events.now k e → IsEventInSizes (sizes_of gaps.now.sizes) e }
     requires takes { (e : Event) → At events.now place e → is_taking e.kind ≡ true }
     requires before { (e : Event) → At events.now place e
         → IsTimeOf (take place events.now) e.processor (slice_index before.now) }
     ensures { IfOk result (λ v. (e : Event) → At events.now place e
         → AreDues (sizes_of gaps.now.sizes) events.now place e v.items) }
 {
-    let reader = events[place].processor;
-    let span = Span {
-        reader,
-        first: 0,
-        end: gaps.pages(),
-        from: *before,
-        to: *gaps.time(reader),
-    };
+    let span = taking_span(gaps, events[place].processor, before);
     dues_in(alloc, gaps, &span)
 }
 
@@ -164,7 +190,7 @@ fn dues_at(
 ) -> Result<Vec<Due>, AllocError>
     requires few { length events.now ≤ most_held }
     requires place { place < length events.now }
-    requires within { (k : ℕ) (e : Event) → At events.now k e → IsMiscountWithin (sizes_of gaps.old.sizes) e }
+    requires within { (k : ℕ) (e : Event) → At events.now k e → IsEventInSizes (sizes_of gaps.old.sizes) e }
     requires so_far { TellsGaps (take place events.now) gaps.old }
     ensures sizes { gaps.new.sizes ≡ gaps.old.sizes }
     ensures tells { OnOk result (TellsGaps (take (place + 1) events.now) gaps.new) }
@@ -189,7 +215,7 @@ fn dues_at(
 /// Takes note of all events, and answers of which records each tells. The gaps tell nothing so far.
 fn dues_of(alloc: Global, gaps: &mut Gaps, events: &[Event]) -> Result<Vec<Vec<Due>>, AllocError>
     requires few { length events.now ≤ most_held }
-    requires within { (k : ℕ) (e : Event) → At events.now k e → IsMiscountWithin (sizes_of gaps.old.sizes) e }
+    requires within { (k : ℕ) (e : Event) → At events.now k e → IsEventInSizes (sizes_of gaps.old.sizes) e }
     requires start { TellsGaps [] gaps.old }
     ensures long { IfOk result (λ v. vec_len v ≡ length events.now) }
     ensures dues { IfOk result (λ v. AreAllDues (sizes_of gaps.old.sizes) events.now v.items) }
@@ -210,7 +236,7 @@ fn dues_of(alloc: Global, gaps: &mut Gaps, events: &[Event]) -> Result<Vec<Vec<D
 pub fn dues(alloc: Global, sizes: Sizes, events: &[Event]) -> Result<Vec<Vec<Due>>, AllocError>
     requires sizes { AreSizesSmall (sizes_of sizes) }
     requires few { length events.now ≤ most_held }
-    requires within { (k : ℕ) (e : Event) → At events.now k e → IsMiscountWithin (sizes_of sizes) e }
+    requires within { (k : ℕ) (e : Event) → At events.now k e → IsEventInSizes (sizes_of sizes) e }
     ensures long { IfOk result (λ v. vec_len v ≡ length events.now) }
     ensures dues { IfOk result (λ v. AreAllDues (sizes_of sizes) events.now v.items) }
 {

@@ -5,7 +5,7 @@ ghost use Rattle.journal.specs.declared.event.Event.{Event};
 ghost use Rattle.journal.specs.PageImages.{FetchesPage};
 ghost use Rattle.journal.specs.Events.{At};
 ghost use Rattle.journal.specs.Sizes.{Sizes as SizesOf};
-ghost use Rattle.judge.specs.Prelude.{AreSizesSmall, IsMiscountWithin, TellsGaps, sizes_of};
+ghost use Rattle.judge.specs.Prelude.{AreSizesSmall, IsEventInSizes, TellsGaps, sizes_of};
 ghost use Rattle.causes.specs.declared.originating.WordOrigin.{WordOrigin};
 ghost use Rattle.causes.specs.Prelude.{AreOrigins, AreOriginsBefore, AreOriginsPartFetched, IsOriginFetch, IsOriginLaterApplied};
 ghost use Rattle.causes.specs.Prelude.{IsOriginLookedUp, IsOriginAfter, IsOriginAt, OriginLastApplied};
@@ -167,7 +167,7 @@ fn fetch_at(gaps: &Gaps, place: usize, reader: usize, page: usize) -> PageFetch
 }
 
 /// Takes note of the event at this place, the next one. The gaps tell what stands before it.
-fn note_words(
+pub(crate) fn note_words(
     words: &mut [Option<WordOrigin>],
     looked: &LookedUp,
     gaps: &Gaps,
@@ -176,7 +176,7 @@ fn note_words(
     size: usize,
 )
     requires place { place < length events.now }
-    requires within { (k : ℕ) (e : Event) → At events.now k e → IsMiscountWithin (sizes_of gaps.now.sizes) e }
+    requires within { (k : ℕ) (e : Event) → At events.now k e → IsEventInSizes (sizes_of gaps.now.sizes) e }
     requires tells { TellsGaps (take place events.now) gaps.now }
     requires looked { IsOriginLookedUp events.now looked.now }
     requires addresses { looked.now.stores.addresses ≡ gaps.now.sizes.pages * gaps.now.sizes.words }
@@ -204,9 +204,9 @@ fn note_words(
 fn origin_at(words: &[Option<WordOrigin>], events: &[Event], place: usize) -> Option<WordOrigin>
     requires place { place < length events.now }
     requires so_far { (s : SizesOf) × AreOriginsBefore s events.now place words.now
-        × ((k : ℕ) (e : Event) → At events.now k e → IsMiscountWithin s e) × (s.processors ≤ 16) }
+        × ((k : ℕ) (e : Event) → At events.now k e → IsEventInSizes s e) × (s.processors ≤ 16) }
     ensures { (s : SizesOf) → AreOriginsBefore s events.now place words.now
-        → ((k : ℕ) (e : Event) → At events.now k e → IsMiscountWithin s e) → s.processors ≤ 16
+        → ((k : ℕ) (e : Event) → At events.now k e → IsEventInSizes s e) → s.processors ≤ 16
         → IsOriginAt s events.now place result }
 {
     let event = events[place];
@@ -226,7 +226,7 @@ fn all_origins(
     sizes: Sizes,
 ) -> Result<Vec<Option<WordOrigin>>, AllocError>
     requires few { length events.now ≤ most_held }
-    requires within { (k : ℕ) (e : Event) → At events.now k e → IsMiscountWithin (sizes_of sizes) e }
+    requires within { (k : ℕ) (e : Event) → At events.now k e → IsEventInSizes (sizes_of sizes) e }
     requires sizes { gaps.old.sizes ≡ sizes }
     requires start { TellsGaps [] gaps.old }
     requires looked { IsOriginLookedUp events.now looked.now }
@@ -245,7 +245,7 @@ fn all_origins(
 }
 
 /// So many words without origins.
-fn no_origins(alloc: Global, count: usize) -> Result<Vec<Option<WordOrigin>>, AllocError>
+pub(crate) fn no_origins(alloc: Global, count: usize) -> Result<Vec<Option<WordOrigin>>, AllocError>
     ensures long { IfOk result (λ v. vec_len v ≡ count) }
     ensures none { IfOk result (λ v. (n : ℕ) (o : Option WordOrigin) → slice_get v.items n ≡ Some o → o ≡ None) }
 {
@@ -271,7 +271,7 @@ pub fn origins(
 ) -> Result<Vec<Option<WordOrigin>>, AllocError>
     requires sizes { AreSizesSmall (sizes_of sizes) }
     requires few { length events.now ≤ most_held }
-    requires within { (k : ℕ) (e : Event) → At events.now k e → IsMiscountWithin (sizes_of sizes) e }
+    requires within { (k : ℕ) (e : Event) → At events.now k e → IsEventInSizes (sizes_of sizes) e }
     ensures long { IfOk result (λ v. vec_len v ≡ length events.now) }
     ensures origins { IfOk result (λ v. AreOrigins (sizes_of sizes) events.now v.items) }
 {

@@ -5,13 +5,12 @@ ghost use Rattle.journal.specs.declared.event.Event.{Event};
 ghost use Rattle.journal.specs.declared.event.Kind.{Kind};
 ghost use Rattle.journal.specs.Events.{At, interval_at};
 ghost use Rattle.journal.specs.WellFormed.{Does};
-ghost use Rattle.journal.specs.Log.{HoldsHistory};
 ghost use Rattle.journal.specs.Prelude.{AddressesInRange, HappensBefore, IsFirstRace, ProcessorsInRange};
 ghost use Rattle.journal.specs.Prelude.{RaceFree, is_closing, is_taking};
 ghost use Rattle.causes.specs.Prelude.{IsFirstRaceTold, IsHeard};
 
 use crate::index::closes;
-use journal::{Clocks, Event, Journal};
+use journal::{Clocks, Event, first_race_of};
 use std::alloc::{AllocError, Global};
 
 /// The first race of a history.
@@ -55,7 +54,7 @@ fn last_heard(events: &[Event], by: usize, second: usize, limit: usize) -> Optio
 
 /// The last event of the processor `by` that happens before the second place, where another processor's event stands
 /// that takes nothing.
-fn heard(
+pub(crate) fn heard(
     alloc: Global,
     processors: usize,
     events: &[Event],
@@ -77,50 +76,12 @@ fn heard(
     Ok(last_heard(events, by, second, time[by] as usize))
 }
 
-/// The events in a journal of which nothing was cut off.
-fn journal_of(
-    alloc: Global,
-    processors: usize,
-    addresses: usize,
-    events: &[Event],
-) -> Result<Journal, AllocError>
-    requires few { length events.now ≤ most_held }
-    requires few_processors { processors ≤ most_processors }
-    requires addresses { AddressesInRange addresses events.now }
-    requires processors { ProcessorsInRange processors events.now }
-    ensures { IfOk result (λ j. HoldsHistory j events.now) }
-{
-    let mut journal = Journal::new(alloc, processors, addresses)?;
-    journal.reserve(events.len())?;
-    for event in events {
-        journal.append(*event);
-    }
-    Ok(journal)
-}
-
-/// The places of the first race, by a journal of the events.
-fn first_race_of(
-    alloc: Global,
-    processors: usize,
-    addresses: usize,
-    events: &[Event],
-) -> Result<Option<(usize, usize)>, AllocError>
-    requires few { length events.now ≤ most_held }
-    requires few_processors { processors ≤ most_processors }
-    requires addresses { AddressesInRange addresses events.now }
-    requires processors { ProcessorsInRange processors events.now }
-    ensures { IfOk result (λ o. MatchOption o (RaceFree events.now) (λ r. IsFirstRace events.now r.0 r.1)) }
-{
-    let journal = journal_of(alloc, processors, addresses, events)?;
-    journal.first_race()
-}
-
 /// The first race of a history of `processors` processors, at most `MOST_PROCESSORS`, and `addresses` addresses: the
-/// pair with the least second place and, among these, the least first one, as `Journal::first_race` answers it, and the
+/// pair with the least second place and, among these, the least first one, as `journal::first_race_of` answers it, and the
 /// last event of the first one's processor that the second one's processor had heard of. None where there is no race.
 /// The only error is running out of memory.
 ///
-/// It takes time as `Journal::first_race` does, and memory for a copy of the events besides.
+/// It takes time as `Journal::first_race` does.
 pub fn race(
     alloc: Global,
     processors: usize,

@@ -14,7 +14,7 @@ use Rattle.judge.specs.declared.why.Why.{Why}
 use Rattle.judge.specs.declared.why.Why.TheVariants.{NoSuchProcessor, OutOfRange, Waits, AsksWhatItHolds, NotAsked}
 use Rattle.judge.specs.declared.why.Why.TheVariants.{HeldBy, AskedEarlier, NotHeld, NotArrived, NotSet}
 use Rattle.judge.specs.Lax.{LaxAllowed, LaxLaw, LaxMayFollow}
-use Rattle.judge.specs.Why.{IsWhy, WhyWaitsFor, WhyLaw}
+use Rattle.judge.specs.Why.{IsWhy, AwaitsKind, WhyLaw}
 
 -- what is allowed is so in the lax sense
 pub refusing_lax_allowed : (s : Sizes) (j : List Event) (p : ℕ) (k : Kind) → Allowed s j p k → LaxAllowed s j p k
@@ -41,7 +41,7 @@ refusing_answers_kind _ k b waits is = absurd (none-some k waits)
 
 -- who may take waits for that
 refusing_waits_taking : (s : Sizes) (j : List Event) (p : ℕ) (k : Kind) → IsTrue (is_taking k) → LaxAllowed s j p k
-    → WhyWaitsFor j p k
+    → AwaitsKind j p k
 refusing_waits_taking s j p (Acquire l) takes a = record { place = a.0.0; kind = Ask l; last = a.0.1; awaits = refl }
 refusing_waits_taking s j p Depart takes a = record { place = a.0; kind = Arrive; last = a.1; awaits = refl }
 refusing_waits_taking s j p (Await f) takes a = record { place = a.0; kind = Watch f; last = a.3; awaits = refl }

@@ -16,7 +16,7 @@ use Rattle.judge.specs.declared.why.Why.{Why}
 use Rattle.judge.specs.declared.why.Why.TheVariants.{NoSuchProcessor, OutOfRange, Waits, AsksWhatItHolds, NotAsked}
 use Rattle.judge.specs.declared.why.Why.TheVariants.{HeldBy, AskedEarlier, NotHeld, NotArrived, NotSet}
 use Rattle.judge.specs.Lax.{LaxAllowed, MayFollowOrLax}
-use Rattle.judge.specs.Why.{IsBehindWhy, IsFirstTrueWhy, IsInTurnWhy, IsWhyVerdict, IsWhy, WhyWaitsFor, number, why_rank}
+use Rattle.judge.specs.Why.{IsAskedBehind, IsFirstTrueWhy, IsInTurn, IsWhyVerdict, IsWhy, AwaitsKind, number, why_rank}
 use Rattle.judge.specs.FrontTells.{TellsFirstAsk, TellsFlagSet, TellsNobodyAsks}
 use Rattle.judge.proofs.Refusing.{refusing_lax_allowed}
 
@@ -32,14 +32,14 @@ verdict_answers_of Arrive b f = f Depart refl
 verdict_answers_of (Watch g) b f = f (Await g) refl
 verdict_answers_of _ b f = tt
 
-verdict_answers_all : (s : Sizes) (j : List Event) (e : Event) → IsInTurnWhy s j e → (i : ℕ) (a : Kind)
+verdict_answers_all : (s : Sizes) (j : List Event) (e : Event) → IsInTurn s j e → (i : ℕ) (a : Kind)
     → LastIs j e.processor i a → AnswersCall a e.kind
 verdict_answers_all s j e turn i a last =
     verdict_answers_of a e.kind
     (λ k waits. turn.answers k (record { place = i; kind = a; last = last; awaits = waits }))
 
 -- an event in its turn that is allowed may come next
-verdict_may_in : (lax : Bool) (s : Sizes) (j : List Event) (e : Event) → IsInTurnWhy s j e → VerdictAllows lax s j e.processor e.kind
+verdict_may_in : (lax : Bool) (s : Sizes) (j : List Event) (e : Event) → IsInTurn s j e → VerdictAllows lax s j e.processor e.kind
     → MayFollowOrLax lax s j e
 verdict_may_in true s j e turn allowed = record {
   processor = turn.processor;
@@ -55,7 +55,7 @@ verdict_may_in false s j e turn allowed = record {
 }
 
 -- the reasons of an event in its turn are these at least
-in_turn : (lax : Bool) (s : Sizes) (j : List Event) (e : Event) (v : Why) → IsInTurnWhy s j e → IsWhy lax s j e v
+in_turn : (lax : Bool) (s : Sizes) (j : List Event) (e : Event) (v : Why) → IsInTurn s j e → IsWhy lax s j e v
     → 3 ≤ why_rank v
 in_turn lax s j e NoSuchProcessor turn is = absurd (let lt = turn.processor in omega arith)
 in_turn lax s j e OutOfRange turn is = absurd (is turn.in_range)
@@ -77,7 +77,7 @@ verdict_out_of_range lax s j e lt is = record { is_true = is; first = λ v w. (l
 
 -- its processor waits for another event
 pub verdict_waits_for_other : (lax : Bool) (s : Sizes) (j : List Event) (e : Event) (k : Kind) → e.processor < s.processors
-    → KindInRange s e.kind → WhyWaitsFor j e.processor k → e.kind ≢ k → IsFirstTrueWhy lax s j e (Waits k)
+    → KindInRange s e.kind → AwaitsKind j e.processor k → e.kind ≢ k → IsFirstTrueWhy lax s j e (Waits k)
 verdict_waits_for_other lax s j e k lt range waits isnt =
     record { is_true = (waits, isnt); first = λ v w. (least v w, λ same. omega arith) }
   where
@@ -87,28 +87,28 @@ verdict_waits_for_other lax s j e k lt range waits isnt =
     least _ w = omega arith
 
 -- what a processor waits for after its last event is one thing
-pub verdict_waits_one : (j : List Event) (p : ℕ) (a b : Kind) → WhyWaitsFor j p a → WhyWaitsFor j p b → a ≡ b
+pub verdict_waits_one : (j : List Event) (p : ℕ) (a b : Kind) → AwaitsKind j p a → AwaitsKind j p b → a ≡ b
 verdict_waits_one j p a b x y =
     let one = last_unique j p x.place y.place x.kind y.kind x.last y.last in
     same_Some a b (sym x.awaits ∙ ap awaited one.1 ∙ y.awaits)
 
 -- calls of a processor that waits for nothing
 module _ (lax : Bool) (s : Sizes) (j : List Event) (p : ℕ) where
-  pub verdict_asks_held : (l : ℕ) → IsInTurnWhy s j (event p (Ask l)) → Holds j p l
+  pub verdict_asks_held : (l : ℕ) → IsInTurn s j (event p (Ask l)) → Holds j p l
       → IsFirstTrueWhy lax s j (event p (Ask l)) AsksWhatItHolds
   verdict_asks_held l turn holds = record {
     is_true = (l, refl, holds);
     first = λ v w. (in_turn lax s j (event p (Ask l)) v turn w, λ same. omega arith);
   }
 
-  pub verdict_asks_free : (l : ℕ) → IsInTurnWhy s j (event p (Ask l)) → (¬ Holds j p l) → MayFollowOrLax lax s j (event p (Ask l))
+  pub verdict_asks_free : (l : ℕ) → IsInTurn s j (event p (Ask l)) → (¬ Holds j p l) → MayFollowOrLax lax s j (event p (Ask l))
   verdict_asks_free l turn free = verdict_may_in lax s j (event p (Ask l)) turn (go lax)
     where
       go : (lax : Bool) → VerdictAllows lax s j p (Ask l)
       go true = free
       go false = free
 
-  pub verdict_releases_held : (l : ℕ) → IsInTurnWhy s j (event p (Release l)) → Holds j p l
+  pub verdict_releases_held : (l : ℕ) → IsInTurn s j (event p (Release l)) → Holds j p l
       → MayFollowOrLax lax s j (event p (Release l))
   verdict_releases_held l turn holds = verdict_may_in lax s j (event p (Release l)) turn (go lax)
     where
@@ -116,7 +116,7 @@ module _ (lax : Bool) (s : Sizes) (j : List Event) (p : ℕ) where
       go true = holds
       go false = holds
 
-  pub verdict_releases_free : (l : ℕ) → IsInTurnWhy s j (event p (Release l)) → (¬ Holds j p l)
+  pub verdict_releases_free : (l : ℕ) → IsInTurn s j (event p (Release l)) → (¬ Holds j p l)
       → IsFirstTrueWhy lax s j (event p (Release l)) NotHeld
   verdict_releases_free l turn free =
       record { is_true = (l, refl, free); first = λ v w. (least v w, λ same. omega arith) }
@@ -135,7 +135,7 @@ module _ (lax : Bool) (s : Sizes) (j : List Event) (p : ℕ) where
 -- takings of a processor that waits for them
 module _ (lax : Bool) (s : Sizes) (j : List Event) (p : ℕ) where
   -- what is refused of it is refused for what it lacks
-  verdict_lacks : (k : Kind) (v : Why) → IsTrue (is_taking k) → IsInTurnWhy s j (event p k) → WhyWaitsFor j p k
+  verdict_lacks : (k : Kind) (v : Why) → IsTrue (is_taking k) → IsInTurn s j (event p k) → AwaitsKind j p k
       → IsWhy lax s j (event p k) v → 5 ≤ why_rank v
   verdict_lacks k NoSuchProcessor takes turn waits w =
       absurd (let le = in_turn lax s j (event p k) NoSuchProcessor turn w in omega arith)
@@ -148,7 +148,7 @@ module _ (lax : Bool) (s : Sizes) (j : List Event) (p : ℕ) where
   verdict_lacks k NotAsked takes turn waits w = absurd (w.1 waits)
   verdict_lacks k _ takes turn waits w = omega arith
 
-  pub verdict_held_by : (l q : ℕ) → IsInTurnWhy s j (event p (Acquire l)) → WhyWaitsFor j p (Acquire l) → Holds j q l
+  pub verdict_held_by : (l q : ℕ) → IsInTurn s j (event p (Acquire l)) → AwaitsKind j p (Acquire l) → Holds j q l
       → IsFirstTrueWhy lax s j (event p (Acquire l)) (HeldBy q)
   verdict_held_by l q turn waits holds =
       record {
@@ -156,7 +156,7 @@ module _ (lax : Bool) (s : Sizes) (j : List Event) (p : ℕ) where
         first = λ v w. (verdict_lacks (Acquire l) v refl turn waits w, λ same. omega arith);
       }
 
-  pub verdict_not_arrived : (q : ℕ) → IsInTurnWhy s j (event p Depart) → WhyWaitsFor j p Depart → q < s.processors
+  pub verdict_not_arrived : (q : ℕ) → IsInTurn s j (event p Depart) → AwaitsKind j p Depart → q < s.processors
       → count_of is_arrive j q ≤ count_of is_depart j p
       → ((r : ℕ) → r < q → count_of is_depart j p < count_of is_arrive j r)
       → IsFirstTrueWhy lax s j (event p Depart) (NotArrived q)
@@ -178,7 +178,7 @@ module _ (lax : Bool) (s : Sizes) (j : List Event) (p : ℕ) where
       ]
       least_number _ w same = absurd (omega arith)
 
-  pub verdict_departs : IsInTurnWhy s j (event p Depart) → WhyWaitsFor j p Depart
+  pub verdict_departs : IsInTurn s j (event p Depart) → AwaitsKind j p Depart
       → ((r : ℕ) → r < s.processors → count_of is_depart j p < count_of is_arrive j r)
       → MayFollowOrLax lax s j (event p Depart)
   verdict_departs turn waits all = verdict_may_in lax s j (event p Depart) turn (go lax)
@@ -199,7 +199,7 @@ module _ (lax : Bool) (s : Sizes) (j : List Event) (p : ℕ) where
       go true = (waits.place, last, enough)
       go false = (waits.place, last, enough)
 
-  pub verdict_not_set : (f : ℕ) → IsInTurnWhy s j (event p (Await f)) → WhyWaitsFor j p (Await f) → (¬ TellsFlagSet j f)
+  pub verdict_not_set : (f : ℕ) → IsInTurn s j (event p (Await f)) → AwaitsKind j p (Await f) → (¬ TellsFlagSet j f)
       → IsFirstTrueWhy lax s j (event p (Await f)) NotSet
   verdict_not_set f turn waits unset =
       record {
@@ -215,7 +215,7 @@ module _ (lax : Bool) (s : Sizes) (j : List Event) (p : ℕ) where
       least NotSet w = omega arith
       least v w = absurd (let le = verdict_lacks (Await f) v refl turn waits w in omega arith)
 
-  pub verdict_awaits_set : (f : ℕ) → IsInTurnWhy s j (event p (Await f)) → WhyWaitsFor j p (Await f) → TellsFlagSet j f
+  pub verdict_awaits_set : (f : ℕ) → IsInTurn s j (event p (Await f)) → AwaitsKind j p (Await f) → TellsFlagSet j f
       → MayFollowOrLax lax s j (event p (Await f))
   verdict_awaits_set f turn waits set = verdict_may_in lax s j (event p (Await f)) turn (go lax)
     where
@@ -233,8 +233,8 @@ module _ (lax : Bool) (s : Sizes) (j : List Event) (p : ℕ) where
       go false = (waits.place, set.0, set.1, last, set.2)
 
 -- acquires
-module _ (s : Sizes) (j : List Event) (p l : ℕ) (turn : IsInTurnWhy s j (event p (Acquire l)))
-    (waits : WhyWaitsFor j p (Acquire l)) (free : (q : ℕ) → ¬ Holds j q l) where
+module _ (s : Sizes) (j : List Event) (p l : ℕ) (turn : IsInTurn s j (event p (Acquire l)))
+    (waits : AwaitsKind j p (Acquire l)) (free : (q : ℕ) → ¬ Holds j q l) where
   verdict_asked : (a : Kind) → awaited a ≡ Some (Acquire l) → a ≡ Ask l
   verdict_asked (Ask m) is = let e = same_Some (Acquire m) (Acquire l) is in cc
   verdict_asked Arrive is = absurd (let e = same_Some Depart (Acquire l) is in cc)
@@ -279,7 +279,7 @@ module _ (s : Sizes) (j : List Event) (p l : ℕ) (turn : IsInTurnWhy s j (event
         | inr apart ↦ (let le = x.first p waits.place verdict_last_ask in omega arith)
       ]
 
-      is_behind : IsBehindWhy j p l q i
+      is_behind : IsAskedBehind j p l q i
       is_behind = record { place = waits.place; asked = verdict_last_ask; earlier = x.asks; before = before }
 
       least : (v : Why) → IsWhy false s j (event p (Acquire l)) v → 6 ≤ why_rank v
@@ -306,7 +306,7 @@ verdict_free_allowed s j p Depart asks releases quiet = absurd (false≢true (sy
 verdict_free_allowed s j p (Await f) asks releases quiet = absurd (false≢true (sym quiet))
 verdict_free_allowed s j p _ asks releases quiet = tt
 
-pub calls : (lax : Bool) (s : Sizes) (j : List Event) (e : Event) → IsInTurnWhy s j e → ((l : ℕ) → e.kind ≢ Ask l)
+pub calls : (lax : Bool) (s : Sizes) (j : List Event) (e : Event) → IsInTurn s j e → ((l : ℕ) → e.kind ≢ Ask l)
     → ((l : ℕ) → e.kind ≢ Release l) → is_taking e.kind ≡ false → MayFollowOrLax lax s j e
 calls lax s j e turn asks releases quiet = verdict_may_in lax s j e turn (go lax)
   where
@@ -331,12 +331,12 @@ verdict_awaited_takes Arrive k is = subst (λ b. IsTrue (is_taking b)) (same_Som
 verdict_awaited_takes (Watch f) k is = subst (λ b. IsTrue (is_taking b)) (same_Some (Await f) k is) refl
 verdict_awaited_takes _ k is = absurd (none-some k is)
 
-pub verdict_waits_takes : (j : List Event) (p : ℕ) (k : Kind) → WhyWaitsFor j p k → IsTrue (is_taking k)
+pub verdict_waits_takes : (j : List Event) (p : ℕ) (k : Kind) → AwaitsKind j p k → IsTrue (is_taking k)
 verdict_waits_takes j p k waits = verdict_awaited_takes waits.kind k waits.awaits
 
 -- an event of a processor that waits for it, or for nothing, is in its turn
 pub verdict_turn_for : (s : Sizes) (j : List Event) (e : Event) (k : Kind) → e.processor < s.processors
-    → KindInRange s e.kind → WhyWaitsFor j e.processor k → e.kind ≡ k → IsInTurnWhy s j e
+    → KindInRange s e.kind → AwaitsKind j e.processor k → e.kind ≡ k → IsInTurn s j e
 verdict_turn_for s j e k lt range waits is = record {
   processor = lt;
   in_range = range;
@@ -344,14 +344,14 @@ verdict_turn_for s j e k lt range waits is = record {
 }
 
 pub verdict_turn_idle : (s : Sizes) (j : List Event) (e : Event) → e.processor < s.processors → KindInRange s e.kind
-    → ((k : Kind) → ¬ WhyWaitsFor j e.processor k) → IsInTurnWhy s j e
+    → ((k : Kind) → ¬ AwaitsKind j e.processor k) → IsInTurn s j e
 verdict_turn_idle s j e lt range idle =
     record { processor = lt; in_range = range; answers = λ b waits. absurd (idle b waits) }
 
 -- what is said of an event by its kind
 pub verdict_by_kind : (lax : Bool) (s : Sizes) (j : List Event) (e : Event) (k : Kind) (o : Option Why) → e.kind ≡ k
-    → IsInTurnWhy s j e
-    → (IsInTurnWhy s j (event e.processor k) → IsWhyVerdict lax s j (event e.processor k) o) → IsWhyVerdict lax s j e o
+    → IsInTurn s j e
+    → (IsInTurn s j (event e.processor k) → IsWhyVerdict lax s j (event e.processor k) o) → IsWhyVerdict lax s j e o
 verdict_by_kind lax s j e k o is turn verdict =
     subst (λ x. IsWhyVerdict lax s j (event e.processor x) o) (sym is)
-    (verdict (subst (λ x. IsInTurnWhy s j (event e.processor x)) is turn))
+    (verdict (subst (λ x. IsInTurn s j (event e.processor x)) is turn))

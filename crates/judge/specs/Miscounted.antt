@@ -9,8 +9,8 @@ use Rattle.journal.specs.Events.{At}
 use Rattle.judge.specs.declared.miscounted.Miscounted.{Miscounted}
 
 -- the event, if it is a fetch, counts its gap after j
-abbrev pub MiscountsNoGap : Sizes → List Event → Event → Type 0
-MiscountsNoGap s j e =
+abbrev pub CountsItsGap : Sizes → List Event → Event → Type 0
+CountsItsGap s j e =
     (n writers records words : ℕ) → e.kind ≡ Fetch writers n records words
     → GapCounts s j e.processor n writers records words
 
@@ -29,9 +29,9 @@ pub record IsFirstMiscounted (s : Sizes) (j : List Event) (x : Miscounted) : Typ
   pub event : Event
   pub at : At j x.place event
   pub wrong : Miscounts s (take x.place j) event x
-  pub first : (k : ℕ) (e : Event) → k < x.place → At j k e → MiscountsNoGap s (take k j) e
+  pub first : (k : ℕ) (e : Event) → k < x.place → At j k e → CountsItsGap s (take k j) e
 
 -- the event's numbers are within the sizes
-pub record IsMiscountWithin (s : Sizes) (e : Event) : Type 0 where
+pub record IsEventInSizes (s : Sizes) (e : Event) : Type 0 where
   pub processor : e.processor < s.processors
   pub kind : KindInRange s e.kind

@@ -30,18 +30,18 @@ AreOwedBy m s j (owed.LazyRelease x) = (m ≡ model.LazyRelease) × AreSourcesOf
 AreOwedBy m s j (owed.Sequential x) = (m ≡ model.Sequential) × IsMemoryAfter j (addresses s) x
 
 -- whether some events of j race, or one does with e, which comes next
-abbrev pub IsOwedRacyWith : List Event → Event → Bool → Type 0
-IsOwedRacyWith j e racy = MatchBool racy (¬ RaceFree (j ++ e ∷ [])) (RaceFree (j ++ e ∷ []))
+abbrev pub IsRacyWithNext : List Event → Event → Bool → Type 0
+IsRacyWithNext j e racy = MatchBool racy (¬ RaceFree (j ++ e ∷ [])) (RaceFree (j ++ e ∷ []))
 
 -- of each processor, the place of its latest store for a load of a at place k
-abbrev pub AreOwedPlaces : List Event → ℕ → ℕ → List (Option ℕ) → Type 0
-AreOwedPlaces j k a latest = (q i : ℕ) → (slice_get latest q ≡ Some (Some i)) ↔ IsLatest j k a q i
+abbrev pub AreLatestPlaces : List Event → ℕ → ℕ → List (Option ℕ) → Type 0
+AreLatestPlaces j k a latest = (q i : ℕ) → (slice_get latest q ≡ Some (Some i)) ↔ IsLatest j k a q i
 
 -- what a load of a at place k may answer under the model is the value of these stores, or 0 where its past has none
 abbrev pub ArePermitted : MemoryModel → List Event → ℕ → ℕ → Permitted → Type 0
 ArePermitted m j k a (permitted.Latest latest) =
-    ((m ≡ model.RaceFree) ⊎ (m ≡ model.LazyRelease)) × AreOwedPlaces j k a latest
+    ((m ≡ model.RaceFree) ⊎ (m ≡ model.LazyRelease)) × AreLatestPlaces j k a latest
 ArePermitted m j k a (permitted.Heard latest unordered) =
-    (m ≡ model.HappensBefore) × AreOwedPlaces j k a latest
+    (m ≡ model.HappensBefore) × AreLatestPlaces j k a latest
     × ((i : ℕ) → Has unordered.items i ↔ IsUnorderedAt j k a i)
 ArePermitted m j k a (permitted.Last store) = (m ≡ model.Sequential) × IsLastFlatStoreTo (take k j) a store

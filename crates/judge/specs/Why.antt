@@ -14,14 +14,14 @@ use Rattle.judge.specs.declared.judge.IllFormed.{IllFormed}
 use Rattle.judge.specs.Lax.{MayFollowOrLax, WellFormedOrLax}
 
 -- p's last event is one after which it waits, for this
-pub record WhyWaitsFor (j : List Event) (p : ℕ) (k : Kind) : Type 0 where
+pub record AwaitsKind (j : List Event) (p : ℕ) (k : Kind) : Type 0 where
   pub place : ℕ
   pub kind : Kind
   pub last : LastIs j p place kind
   pub awaits : awaited kind ≡ Some k
 
 -- p's ask of l is open, and q's at the earlier place i is too
-pub record IsBehindWhy (j : List Event) (p l q i : ℕ) : Type 0 where
+pub record IsAskedBehind (j : List Event) (p l q i : ℕ) : Type 0 where
   pub place : ℕ
   pub asked : LastIs j p place (Ask l)
   pub earlier : LastIs j q i (Ask l)
@@ -31,11 +31,11 @@ pub record IsBehindWhy (j : List Event) (p l q i : ℕ) : Type 0 where
 abbrev pub IsWhy : Bool → Sizes → List Event → Event → Why → Type 0
 IsWhy lax s j e NoSuchProcessor = s.processors ≤ e.processor
 IsWhy lax s j e OutOfRange = ¬ KindInRange s e.kind
-IsWhy lax s j e (Waits k) = WhyWaitsFor j e.processor k × (e.kind ≢ k)
+IsWhy lax s j e (Waits k) = AwaitsKind j e.processor k × (e.kind ≢ k)
 IsWhy lax s j e AsksWhatItHolds = (l : ℕ) × (e.kind ≡ Ask l) × Holds j e.processor l
-IsWhy lax s j e NotAsked = IsTrue (is_taking e.kind) × (¬ WhyWaitsFor j e.processor e.kind)
+IsWhy lax s j e NotAsked = IsTrue (is_taking e.kind) × (¬ AwaitsKind j e.processor e.kind)
 IsWhy lax s j e (HeldBy q) = (l : ℕ) × (e.kind ≡ Acquire l) × Holds j q l
-IsWhy lax s j e (AskedEarlier q i) = (l : ℕ) × (e.kind ≡ Acquire l) × IsBehindWhy j e.processor l q i × (lax ≡ false)
+IsWhy lax s j e (AskedEarlier q i) = (l : ℕ) × (e.kind ≡ Acquire l) × IsAskedBehind j e.processor l q i × (lax ≡ false)
 IsWhy lax s j e NotHeld = (l : ℕ) × (e.kind ≡ Release l) × (¬ Holds j e.processor l)
 IsWhy lax s j e (NotArrived q) =
     (e.kind ≡ Depart) × (q < s.processors) × (count_of is_arrive j q ≤ count_of is_depart j e.processor)
@@ -74,10 +74,10 @@ abbrev pub IsWhyVerdict : Bool → Sizes → List Event → Event → Option Why
 IsWhyVerdict lax s j e o = MatchOption o (MayFollowOrLax lax s j e) (IsFirstTrueWhy lax s j e)
 
 -- its processor and its numbers are within the sizes, and it is what its processor waits for, where that waits
-pub record IsInTurnWhy (s : Sizes) (j : List Event) (e : Event) : Type 0 where
+pub record IsInTurn (s : Sizes) (j : List Event) (e : Event) : Type 0 where
   pub processor : e.processor < s.processors
   pub in_range : KindInRange s e.kind
-  pub answers : (k : Kind) → WhyWaitsFor j e.processor k → e.kind ≡ k
+  pub answers : (k : Kind) → AwaitsKind j e.processor k → e.kind ≡ k
 
 -- the event at this place may not follow what stands before it, which is well formed, and this is the first reason
 pub record IsFirstIllFormed (lax : Bool) (s : Sizes) (j : List Event) (x : IllFormed) : Type 0 where

@@ -1,19 +1,20 @@
 //! What a history so far says of what may come next.
 ghost use Rattle.std.specs.Prelude.{◌≡◌, ◌↔◌, ℕ, ◌+◌, ◌<◌, ◌≤◌, ◌^◌, ◌==◌, ◌&&◌, [], ◌∷◌, ◌++◌, Bool, IsTrue};
 ghost use Rattle.std.specs.Prelude.{List, MatchOption, cond, false, slice_index, slice_index_or};
-ghost use Rattle.base.specs.Prelude.{most_held};
+ghost use Rattle.base.specs.Prelude.{most_held, most_locks, most_processors};
 ghost use Rattle.journal.specs.declared.event.Event.{Event};
 ghost use Rattle.journal.specs.declared.event.Kind.{Kind as AKind};
 ghost use Rattle.journal.specs.declared.event.Kind.TheVariants.{Acquire, Ask, Await, Depart};
 ghost use Rattle.journal.specs.Sizes.{Sizes as TheSizes};
 ghost use Rattle.journal.specs.WellFormed.{KindInRange};
 ghost use Rattle.journal.specs.Prelude.{Holds, event, is_arrive, is_depart};
-ghost use Rattle.judge.specs.Prelude.{AreSizesSmall, TellsFirstAsk, IsInTurnWhy, IsWhyVerdict, LaxMayFollow, TellsNobodyAsks, FrontTellsHistory};
-ghost use Rattle.judge.specs.Prelude.{WhyWaitsFor, tells_holder_after, tells_flag_set_after, sizes_of};
+ghost use Rattle.judge.specs.Prelude.{AreSizesSmall, TellsFirstAsk, IsInTurn, IsWhyVerdict, LaxMayFollow, TellsNobodyAsks, FrontTellsHistory};
+ghost use Rattle.judge.specs.Prelude.{AwaitsKind, tells_holder_after, tells_flag_set_after, sizes_of};
 
 use crate::kinds::{awaited_after, is_same};
 use crate::sizes::Sizes;
 use crate::why::Why;
+use base::{MOST_FLAGS, MOST_LOCKS, MOST_PROCESSORS};
 use journal::{Event, Kind};
 
 /// What a processor did last, and where.
@@ -30,15 +31,15 @@ pub struct Frontier {
     /// How many events there are.
     pub(crate) place: usize,
     /// The last event of each processor.
-    pub(crate) last: [Option<LastEvent>; 16],
+    pub(crate) last: [Option<LastEvent>; MOST_PROCESSORS],
     /// How often each processor has arrived.
-    pub(crate) arrivals: [u32; 16],
+    pub(crate) arrivals: [u32; MOST_PROCESSORS],
     /// How often it has departed.
-    pub(crate) departures: [u32; 16],
+    pub(crate) departures: [u32; MOST_PROCESSORS],
     /// Who holds each lock.
-    pub(crate) holders: [Option<usize>; 32],
+    pub(crate) holders: [Option<usize>; MOST_LOCKS],
     /// Which flags are set.
-    pub(crate) flags: [bool; 32],
+    pub(crate) flags: [bool; MOST_FLAGS],
 }
 
 /// The place of a processor's last event, if that asks for the lock.
@@ -54,8 +55,12 @@ fn asked_at(last: Option<LastEvent>, lock: usize) -> Option<usize>
 }
 
 /// Counts the event where it is an arrival or a departure.
-fn count(arrivals: &mut [u32; 16], departures: &mut [u32; 16], event: Event)
-    requires processor { event.processor < 16 }
+fn count(
+    arrivals: &mut [u32; MOST_PROCESSORS],
+    departures: &mut [u32; MOST_PROCESSORS],
+    event: Event,
+)
+    requires processor { event.processor < most_processors }
     requires arrivals_room { slice_index arrivals.old event.processor < 2 ^ 22 }
     requires departures_room { slice_index departures.old event.processor < 2 ^ 22 }
     ensures arrivals { (q : ℕ) → slice_index arrivals.new q
@@ -71,7 +76,7 @@ fn count(arrivals: &mut [u32; 16], departures: &mut [u32; 16], event: Event)
 }
 
 /// Takes note of who acquires or releases a lock.
-fn hold(holders: &mut [Option<usize>; 32], event: Event)
+fn hold(holders: &mut [Option<usize>; MOST_LOCKS], event: Event)
     requires { (s : TheSizes) × AreSizesSmall s × KindInRange s event.kind }
     ensures { (l : ℕ) → slice_index_or holders.new l None
         ≡ tells_holder_after (slice_index_or holders.old l None) l event.processor event.kind }
@@ -84,7 +89,7 @@ fn hold(holders: &mut [Option<usize>; 32], event: Event)
 }
 
 /// Takes note of a flag that is set.
-fn set(flags: &mut [bool; 32], kind: Kind)
+fn set(flags: &mut [bool; MOST_FLAGS], kind: Kind)
     requires { (s : TheSizes) × AreSizesSmall s × KindInRange s kind }
     ensures { (f : ℕ) → slice_index_or flags.new f false
         ≡ tells_flag_set_after (slice_index_or flags.old f false) f kind }
@@ -104,19 +109,19 @@ impl Frontier {
         Frontier {
             sizes,
             place: 0,
-            last: [None; 16],
-            arrivals: [0; 16],
-            departures: [0; 16],
-            holders: [None; 32],
-            flags: [false; 32],
+            last: [None; MOST_PROCESSORS],
+            arrivals: [0; MOST_PROCESSORS],
+            departures: [0; MOST_PROCESSORS],
+            holders: [None; MOST_LOCKS],
+            flags: [false; MOST_FLAGS],
         }
     }
 
     /// What the processor waits for.
     fn awaited(&self, processor: usize) -> Option<Kind>
-        requires { processor < 16 }
+        requires { processor < most_processors }
         ensures { (j : List Event) → FrontTellsHistory j self.now → (k : AKind)
-            → (result ≡ Some k) ↔ WhyWaitsFor j processor k }
+            → (result ≡ Some k) ↔ AwaitsKind j processor k }
     {
         let last = self.last[processor]?;
         awaited_after(last.kind)
@@ -129,7 +134,7 @@ impl Frontier {
     {
         let mut first = None;
         let mut limit = self.place;
-        for processor in 0..16 {
+        for processor in 0..MOST_PROCESSORS {
             if let Some(place) = asked_at(self.last[processor], lock) {
                 if place < limit {
                     limit = place;
@@ -142,10 +147,10 @@ impl Frontier {
 
     /// Why the lock is not granted to the processor, whose ask of it is open.
     fn not_granted(&self, processor: usize, lock: usize, lax: bool) -> Option<Why>
-        requires { lock < 32 }
+        requires { lock < most_locks }
         ensures { (j : List Event) → FrontTellsHistory j self.now
-            → IsInTurnWhy (sizes_of self.now.sizes) j (event processor (Acquire lock))
-            → WhyWaitsFor j processor (Acquire lock)
+            → IsInTurn (sizes_of self.now.sizes) j (event processor (Acquire lock))
+            → AwaitsKind j processor (Acquire lock)
             → IsWhyVerdict lax (sizes_of self.now.sizes) j (event processor (Acquire lock)) result }
     {
         if let Some(holder) = self.holders[lock] {
@@ -164,11 +169,11 @@ impl Frontier {
 
     /// Why the processor, which has arrived, does not depart.
     fn not_departed(&self, processor: usize) -> Option<Why>
-        requires processor { processor < 16 }
-        requires processors { self.now.sizes.processors ≤ 16 }
+        requires processor { processor < most_processors }
+        requires processors { self.now.sizes.processors ≤ most_processors }
         ensures { (j : List Event) → FrontTellsHistory j self.now
-            → IsInTurnWhy (sizes_of self.now.sizes) j (event processor Depart)
-            → WhyWaitsFor j processor Depart → (lax : Bool)
+            → IsInTurn (sizes_of self.now.sizes) j (event processor Depart)
+            → AwaitsKind j processor Depart → (lax : Bool)
             → IsWhyVerdict lax (sizes_of self.now.sizes) j (event processor Depart) result }
     {
         let departures = self.departures[processor];
@@ -182,9 +187,9 @@ impl Frontier {
 
     /// Why the event, which its processor waits for, may not come next.
     fn not_let_on(&self, event: Event, lax: bool) -> Option<Why>
-        requires { (j : List Event) × FrontTellsHistory j self.now × IsInTurnWhy (sizes_of self.now.sizes) j event }
-        ensures { (j : List Event) → FrontTellsHistory j self.now → IsInTurnWhy (sizes_of self.now.sizes) j event
-            → WhyWaitsFor j event.processor event.kind
+        requires { (j : List Event) × FrontTellsHistory j self.now × IsInTurn (sizes_of self.now.sizes) j event }
+        ensures { (j : List Event) → FrontTellsHistory j self.now → IsInTurn (sizes_of self.now.sizes) j event
+            → AwaitsKind j event.processor event.kind
             → IsWhyVerdict lax (sizes_of self.now.sizes) j event result }
     {
         match event.kind {
@@ -203,9 +208,9 @@ impl Frontier {
 
     /// Why the event may not come next, whose processor waits for nothing.
     fn not_free(&self, event: Event) -> Option<Why>
-        requires { (j : List Event) × FrontTellsHistory j self.now × IsInTurnWhy (sizes_of self.now.sizes) j event }
-        ensures { (j : List Event) → FrontTellsHistory j self.now → IsInTurnWhy (sizes_of self.now.sizes) j event
-            → ¬ WhyWaitsFor j event.processor event.kind → (lax : Bool)
+        requires { (j : List Event) × FrontTellsHistory j self.now × IsInTurn (sizes_of self.now.sizes) j event }
+        ensures { (j : List Event) → FrontTellsHistory j self.now → IsInTurn (sizes_of self.now.sizes) j event
+            → ¬ AwaitsKind j event.processor event.kind → (lax : Bool)
             → IsWhyVerdict lax (sizes_of self.now.sizes) j event result }
     {
         match event.kind {
@@ -230,7 +235,7 @@ impl Frontier {
 
     /// Whether the processor holds the lock.
     fn holds(&self, processor: usize, lock: usize) -> bool
-        requires { lock < 32 }
+        requires { lock < most_locks }
         ensures { (j : List Event) → FrontTellsHistory j self.now → IsTrue result ↔ Holds j processor lock }
     {
         match self.holders[lock] {

@@ -1,16 +1,17 @@
 //! What fetches have to count.
 ghost use Rattle.std.specs.Prelude.{◌≡◌, ℕ, ◌+◌, ◌*◌, ◌<◌, ◌≤◌, ◌^◌, [], ◌∷◌, ◌++◌, IfOk, OnOk, List, Some, length};
 ghost use Rattle.std.specs.Prelude.{cond, nat_lt, slice_get, slice_index, take};
-ghost use Rattle.base.specs.Prelude.{most_held};
+ghost use Rattle.base.specs.Prelude.{most_held, most_processors};
 ghost use Rattle.journal.specs.declared.event.Event.{Event};
 ghost use Rattle.journal.specs.PageImages.{GapCounts};
 ghost use Rattle.journal.specs.declared.event.Kind.TheVariants.{Fetch, Store};
 ghost use Rattle.journal.specs.Prelude.{HasImageCount, IsTimeOf, did};
-ghost use Rattle.judge.specs.Prelude.{AreGapCountsFew, AreGapsOf, AreGapsLong, AreSizesSmall, GapCountsAmong, IsMiscountWithin, TellsGaps, sizes_of};
+ghost use Rattle.judge.specs.Prelude.{AreGapCountsFew, AreGapsOf, AreGapsLong, AreSizesSmall, GapCountsAmong, IsEventInSizes, TellsGaps, sizes_of};
 ghost use Rattle.judge.specs.Prelude.{GapFetchedUpTo, GapStoresInPage, gap_tally_row_index};
 
 use crate::sizes::Sizes;
 use crate::tally::Tally;
+use base::MOST_PROCESSORS;
 use journal::{Clock, Clocks, Event, Kind};
 use std::alloc::{AllocError, Global};
 
@@ -53,7 +54,7 @@ impl CountedGap {
 
     /// With those of one more processor, after that many.
     fn and(self, other: CountedGap, parts: usize) -> CountedGap
-        requires parts { parts < 16 }
+        requires parts { parts < most_processors }
         requires few { AreGapCountsFew parts self }
         requires other_few { AreGapCountsFew 1 other }
         ensures few { AreGapCountsFew (parts + 1) result }
@@ -73,11 +74,11 @@ impl CountedGap {
 
 /// Where it is kept what there is of a page or address and a processor.
 fn row_at(number: usize, processor: usize) -> usize
-    requires processor { processor < 16 }
+    requires processor { processor < most_processors }
     requires number { number ≤ 2 ^ 12 }
     ensures { result ≡ gap_tally_row_index number processor }
 {
-    number * 16 + processor
+    number * MOST_PROCESSORS + processor
 }
 
 /// How many processors have that many records, where one has all of them.
@@ -94,12 +95,12 @@ impl Gaps {
         ensures tells { IfOk result (TellsGaps []) }
         ensures sizes { IfOk result (λ g. g.sizes ≡ sizes) }
     {
-        let rows = sizes.pages * 16;
-        let marks = sizes.pages * sizes.words * 16;
+        let rows = sizes.pages * MOST_PROCESSORS;
+        let marks = sizes.pages * sizes.words * MOST_PROCESSORS;
         Ok(Gaps {
             sizes,
             clocks: Clocks::new(alloc, sizes.processors)?,
-            fetched: vec![in alloc; [0; 16]; rows]?,
+            fetched: vec![in alloc; [0; MOST_PROCESSORS]; rows]?,
             intervals: Tally::new(alloc, rows, rows)?,
             words: Tally::new(alloc, rows, marks)?,
         })
@@ -115,7 +116,7 @@ impl Gaps {
     /// The processor's timestamp.
     pub fn time(&self, processor: usize) -> &Clock
         requires tells { (j : List Event) × TellsGaps j self.now }
-        requires processor { processor < 16 }
+        requires processor { processor < most_processors }
         ensures { (j : List Event) → TellsGaps j self.now → IsTimeOf j processor (slice_index result.now) }
     {
         self.clocks.of(processor)
@@ -125,7 +126,7 @@ impl Gaps {
     /// its fetches of the page have brought.
     pub fn last_fetch(&self, processor: usize, page: usize) -> &Clock
         requires tells { (j : List Event) × TellsGaps j self.now }
-        requires processor { processor < 16 }
+        requires processor { processor < most_processors }
         requires page { page < self.now.sizes.pages }
         ensures { (j : List Event) → TellsGaps j self.now
             → GapFetchedUpTo (sizes_of self.now.sizes) j processor page (slice_index result.now) }
@@ -138,7 +139,7 @@ impl Gaps {
     pub fn records(&self, page: usize, by: usize, from: u32, to: u32) -> usize
         requires tells { (j : List Event) × TellsGaps j self.now }
         requires page { page < self.now.sizes.pages }
-        requires by { by < 16 }
+        requires by { by < most_processors }
         ensures { (j : List Event) → TellsGaps j self.now
             → HasImageCount (λ k. GapStoresInPage (sizes_of self.now.sizes) j page by k × (from ≤ k) × (k < to)) result }
     {
@@ -148,9 +149,9 @@ impl Gaps {
     /// What a fetch of the page by this processor has to count of one's stores.
     fn part(&self, processor: usize, page: usize, by: usize) -> CountedGap
         requires tells { (j : List Event) × TellsGaps j self.now × (length j < 2 ^ 22) }
-        requires processor { processor < 16 }
+        requires processor { processor < most_processors }
         requires page { page < self.now.sizes.pages }
-        requires by { by < 16 }
+        requires by { by < most_processors }
         ensures few { AreGapCountsFew 1 result }
         ensures counts { (j : List Event) → TellsGaps j self.now
             → GapCountsAmong (sizes_of self.now.sizes) j processor page (λ q. q ≡ by)
@@ -174,7 +175,7 @@ impl Gaps {
     /// What a fetch of the page by this processor has to count, if it comes next.
     pub(crate) fn due(&self, processor: usize, page: usize) -> CountedGap
         requires tells { (j : List Event) × TellsGaps j self.now × (length j < 2 ^ 22) }
-        requires processor { processor < 16 }
+        requires processor { processor < most_processors }
         requires page { page < self.now.sizes.pages }
         ensures { (j : List Event) → TellsGaps j self.now → GapCounts (sizes_of self.now.sizes) j processor page
             result.writers result.records result.words }
@@ -220,7 +221,7 @@ impl Gaps {
     /// Keeps what the event changes, which comes next, but for the timestamps so far.
     fn keep(&mut self, event: Event) -> Result<(), AllocError>
         requires tells { (j : List Event) × TellsGaps j self.old × (length j < 2 ^ 22) }
-        requires within { IsMiscountWithin (sizes_of self.old.sizes) event }
+        requires within { IsEventInSizes (sizes_of self.old.sizes) event }
         ensures sizes { self.new.sizes ≡ self.old.sizes }
         ensures clocks { self.new.clocks ≡ self.old.clocks }
         ensures long { AreGapsLong self.new }
@@ -242,7 +243,7 @@ impl Gaps {
         requires place { place < length events.now }
         requires few { length events.now ≤ most_held }
         requires within { (k : ℕ) (e : Event) → slice_get events.now k ≡ Some e
-            → IsMiscountWithin (sizes_of self.old.sizes) e }
+            → IsEventInSizes (sizes_of self.old.sizes) e }
         requires so_far { TellsGaps (take place events.now) self.old }
         ensures sizes { self.new.sizes ≡ self.old.sizes }
         ensures tells { OnOk result (TellsGaps (take (place + 1) events.now) self.new) }

@@ -3,7 +3,7 @@ ghost use Rattle.std.specs.Prelude.{◌≡◌, ◌↔◌, ◌<◌, ◌≤◌, �
 ghost use Rattle.base.specs.Prelude.{most_held};
 ghost use Rattle.journal.specs.declared.event.Event.{Event};
 ghost use Rattle.journal.specs.Counted.{AreCounted};
-ghost use Rattle.judge.specs.Prelude.{AreSizesSmall, MiscountsNoGap, IsFirstMiscounted, IsMiscountWithin, Miscounts};
+ghost use Rattle.judge.specs.Prelude.{AreSizesSmall, CountsItsGap, IsFirstMiscounted, IsEventInSizes, Miscounts};
 ghost use Rattle.judge.specs.Prelude.{TellsGaps, WellFormedOrLax, sizes_of};
 
 use crate::gaps::{CountedGap, Gaps};
@@ -36,10 +36,10 @@ fn is_count(due: CountedGap, writers: u32, records: u32, words: u32) -> bool
 /// What is due at this place instead, where the event there is a fetch that counts something else.
 pub fn miscount(gaps: &Gaps, event: Event, place: usize) -> Option<Miscounted>
     requires tells { (j : List Event) × TellsGaps j gaps.now × (length j < 2 ^ 22) }
-    requires within { IsMiscountWithin (sizes_of gaps.now.sizes) event }
+    requires within { IsEventInSizes (sizes_of gaps.now.sizes) event }
     ensures place { IfSome result (λ m. m.place ≡ place) }
     ensures verdict { (j : List Event) → TellsGaps j gaps.now
-        → MatchOption result (MiscountsNoGap (sizes_of gaps.now.sizes) j event)
+        → MatchOption result (CountsItsGap (sizes_of gaps.now.sizes) j event)
         (Miscounts (sizes_of gaps.now.sizes) j event) }
 {
     match event.kind {

@@ -6,7 +6,7 @@ ghost use Rattle.journal.specs.declared.event.Kind.TheVariants.{Load};
 ghost use Rattle.journal.specs.Sizes.{Sizes as TheSizes, addresses};
 ghost use Rattle.journal.specs.Prelude.{did, event as an_event};
 ghost use Rattle.judge.specs.declared.models.MemoryModel.{MemoryModel as AModel};
-ghost use Rattle.judge.specs.Prelude.{AreOwedBy, ArePermitted, AreSizesSmall, IsOwed, IsOwedRacyWith, IsMiscountWithin, sizes_of};
+ghost use Rattle.judge.specs.Prelude.{AreOwedBy, ArePermitted, AreSizesSmall, IsOwed, IsRacyWithNext, IsEventInSizes, sizes_of};
 
 use crate::flat_memory::FlatMemory;
 use crate::models::MemoryModel;
@@ -38,21 +38,15 @@ impl Owed {
         let addresses = sizes.pages * sizes.words;
         match model {
             MemoryModel::RaceFree => {
-                let sources = Sources::new(alloc, sizes.processors, addresses)?;
-                Ok(Owed::RaceFree(sources))
+                Sources::new(alloc, sizes.processors, addresses).map(Owed::RaceFree)
             }
             MemoryModel::HappensBefore => {
-                let sources = Sources::new(alloc, sizes.processors, addresses)?;
-                Ok(Owed::HappensBefore(sources))
+                Sources::new(alloc, sizes.processors, addresses).map(Owed::HappensBefore)
             }
             MemoryModel::LazyRelease => {
-                let sources = Sources::new(alloc, sizes.processors, addresses)?;
-                Ok(Owed::LazyRelease(sources))
+                Sources::new(alloc, sizes.processors, addresses).map(Owed::LazyRelease)
             }
-            MemoryModel::Sequential => {
-                let memory = FlatMemory::new(alloc, addresses)?;
-                Ok(Owed::Sequential(memory))
-            }
+            MemoryModel::Sequential => FlatMemory::new(alloc, addresses).map(Owed::Sequential),
         }
     }
 
@@ -70,7 +64,7 @@ impl Owed {
             × (processor < s.processors) × (address < addresses s) }
         ensures { (m : AModel) (s : TheSizes) → AreOwedBy m s events.now self.now
             → processor < s.processors → address < addresses s
-            → IsOwedRacyWith events.now (an_event processor (Load address value)) is_racy
+            → IsRacyWithNext events.now (an_event processor (Load address value)) is_racy
             → IsTrue result ↔ IsOwed m s (did events.now processor (Load address value)) (length events.now) address value }
     {
         match self {
@@ -89,9 +83,9 @@ impl Owed {
     /// Whether the event, which comes next after these, answers what it owes, if it is a load. `is_racy` says whether there
     /// is a race with it.
     pub fn is_paid(&self, events: &[Event], event: Event, is_racy: bool) -> bool
-        requires { (m : AModel) × (s : TheSizes) × AreOwedBy m s events.now self.now × IsMiscountWithin s event }
-        ensures { (m : AModel) (s : TheSizes) → AreOwedBy m s events.now self.now → IsMiscountWithin s event
-            → IsOwedRacyWith events.now event is_racy
+        requires { (m : AModel) × (s : TheSizes) × AreOwedBy m s events.now self.now × IsEventInSizes s event }
+        ensures { (m : AModel) (s : TheSizes) → AreOwedBy m s events.now self.now → IsEventInSizes s event
+            → IsRacyWithNext events.now event is_racy
             → IsTrue result ↔ ((a v : ℕ) → event.kind ≡ Load a v
             → IsOwed m s (events.now ++ event ∷ []) (length events.now) a v) }
     {
@@ -140,9 +134,9 @@ impl Owed {
         requires place { place < length events.now }
         requires few { length events.now ≤ most_held + most_processors }
         requires so_far { (m : AModel) × (s : TheSizes) × AreOwedBy m s (take place events.now) self.old
-            × ((k : ℕ) (e : Event) → slice_get events.now k ≡ Some e → IsMiscountWithin s e) }
+            × ((k : ℕ) (e : Event) → slice_get events.now k ≡ Some e → IsEventInSizes s e) }
         ensures { OnOk result ((m : AModel) (s : TheSizes) → AreOwedBy m s (take place events.now) self.old
-            → ((k : ℕ) (e : Event) → slice_get events.now k ≡ Some e → IsMiscountWithin s e)
+            → ((k : ℕ) (e : Event) → slice_get events.now k ≡ Some e → IsEventInSizes s e)
             → AreOwedBy m s (take (place + 1) events.now) self.new) }
     {
         match self {

@@ -7,6 +7,7 @@ ghost use Rattle.journal.specs.Prelude.{AddressInRange, AddressesInRange, Proces
 ghost use Rattle.judge.specs.declared.races.Access.{Access};
 ghost use Rattle.judge.specs.Prelude.{RaceAccessesAreKept, AreRacesOf, IsLastUncountedByRaces, IsNearestTo, IsUncountedByRaces};
 
+use base::MOST_PROCESSORS;
 use journal::{Clock, Clocks, Event, Kind};
 use std::alloc::{AllocError, Global};
 
@@ -43,7 +44,7 @@ fn uncounted(
     by: usize,
 ) -> Option<usize>
     requires within { row + by < length rows.now }
-    requires by { by < 16 }
+    requires by { by < most_processors }
     ensures { (i : ℕ) → (result ≡ Some i) ↔ IsUncountedByRaces rows.now row (slice_index time.now) processor by i }
 {
     let access = rows[row + by]?;
@@ -76,7 +77,7 @@ fn last_uncounted(
     processor: usize,
 ) -> Option<usize>
     requires within { row + count ≤ length rows.now }
-    requires count { count ≤ 16 }
+    requires count { count ≤ most_processors }
     ensures { IsLastUncountedByRaces rows.now row (slice_index time.now) processor count result }
 {
     let mut nearest = None;
@@ -105,7 +106,7 @@ impl Races {
         ensures processors { IfOk result (λ x. x.processors ≡ processors) }
         ensures addresses { IfOk result (λ x. x.addresses ≡ addresses) }
     {
-        let rows = addresses.checked_mul(16).ok_or(AllocError)?;
+        let rows = addresses.checked_mul(MOST_PROCESSORS).ok_or(AllocError)?;
         Ok(Races {
             processors,
             addresses,
@@ -127,12 +128,18 @@ impl Races {
         let time = self.clocks.of(processor);
         match event.kind {
             Kind::Load(address, _) => {
-                last_uncounted(&self.stores, address * 16, self.processors, time, processor)
+                last_uncounted(
+                    &self.stores,
+                    address * MOST_PROCESSORS,
+                    self.processors,
+                    time,
+                    processor,
+                )
             }
             Kind::Store(address, _) => {
                 last_uncounted(
                     &self.accesses,
-                    address * 16,
+                    address * MOST_PROCESSORS,
                     self.processors,
                     time,
                     processor,
@@ -160,10 +167,10 @@ impl Races {
             interval: self.clocks.of(processor)[processor],
         });
         match event.kind {
-            Kind::Load(address, _) => self.accesses[address * 16 + processor] = access,
+            Kind::Load(address, _) => self.accesses[address * MOST_PROCESSORS + processor] = access,
             Kind::Store(address, _) => {
-                self.accesses[address * 16 + processor] = access;
-                self.stores[address * 16 + processor] = access;
+                self.accesses[address * MOST_PROCESSORS + processor] = access;
+                self.stores[address * MOST_PROCESSORS + processor] = access;
             }
             _ => {}
         }

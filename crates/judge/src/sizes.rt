@@ -1,8 +1,9 @@
 //! The sizes of a cluster.
 ghost use Rattle.std.specs.Prelude.{◌↔◌, IsTrue};
 ghost use Rattle.journal.specs.WellFormed.{KindInRange};
-ghost use Rattle.judge.specs.Prelude.{AreSizesSmall, IsMiscountWithin, sizes_of};
+ghost use Rattle.judge.specs.Prelude.{AreSizesSmall, IsEventInSizes, sizes_of};
 
+use base::{MOST_FLAGS, MOST_LOCKS, MOST_PAGES, MOST_WORDS};
 use journal::{Event, Kind, MOST_PROCESSORS};
 
 /// The sizes of the cluster whose history is judged: at most 16 processors, 64 pages of 64 words, 32 locks and 32
@@ -27,10 +28,10 @@ impl Sizes {
         ensures { IsTrue result ↔ AreSizesSmall (sizes_of self.now) }
     {
         self.processors <= MOST_PROCESSORS
-            && self.pages <= 64
-            && self.words <= 64
-            && self.locks <= 32
-            && self.flags <= 32
+            && self.pages <= MOST_PAGES
+            && self.words <= MOST_WORDS
+            && self.locks <= MOST_LOCKS
+            && self.flags <= MOST_FLAGS
     }
 
     /// Whether the numbers that the event names are within the sizes.
@@ -49,7 +50,7 @@ impl Sizes {
     /// Whether the event's processor and the numbers that it names are within the sizes.
     pub fn have_event(&self, event: Event) -> bool
         requires { AreSizesSmall (sizes_of self.now) }
-        ensures { IsTrue result ↔ IsMiscountWithin (sizes_of self.now) event }
+        ensures { IsTrue result ↔ IsEventInSizes (sizes_of self.now) event }
     {
         event.processor < self.processors && self.have(event.kind)
     }

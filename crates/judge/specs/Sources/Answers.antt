@@ -20,7 +20,7 @@ abbrev pub AnswerStaysLaw : Type 0
 AnswerStaysLaw = (j es : List Event) (k a v : ℕ) → k < length j → IsAnswer (j ++ es) k a v ↔ IsAnswer j k a v
 
 -- the load at place k answers what it may not, and each load before it what it may
-pub record IsFirstUnsourcedAnswer (j : List Event) (k : ℕ) : Type 0 where
+pub record IsFirstUnexplained (j : List Event) (k : ℕ) : Type 0 where
   pub by : ℕ
   pub address : ℕ
   pub value : ℕ

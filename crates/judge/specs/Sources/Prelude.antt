@@ -3,5 +3,5 @@ pub use Rattle.judge.specs.Sources.Latest.{AreLatestMarked, AreLatestRows, IsLat
 pub use Rattle.judge.specs.Sources.Stored.{AreStoredKnown, IsLastStoredBelow, NoneStoredBelow}
 pub use Rattle.judge.specs.Sources.Last.{AreLast, IsLastStoreFollowed, IsLastUnfollowed}
 pub use Rattle.judge.specs.Sources.Tells.{SourceStoresAreKept, AreSourceStoresOf, source_row_of}
-pub use Rattle.judge.specs.Sources.Answers.{AnswersLaw, IsFirstUnsourcedAnswer, AnswerStaysLaw}
+pub use Rattle.judge.specs.Sources.Answers.{AnswersLaw, IsFirstUnexplained, AnswerStaysLaw}
 pub use Rattle.judge.specs.Sources.Unordered.{AreUnorderedFrom, IsFirstUnorderedFrom, IsUnorderedWithin, IsUnorderedAt, SomeUnorderedStores}

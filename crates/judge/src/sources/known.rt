@@ -1,9 +1,11 @@
 //! Timestamps that stores have before them.
 ghost use Rattle.std.specs.Prelude.{◌≡◌, ◌≢◌, ℕ, ◌+◌, ◌<◌, ◌≤◌, ◌^◌, [], IfOk, OnOk, List, slice_index, vec_len};
+ghost use Rattle.base.specs.Prelude.{most_processors};
 ghost use Rattle.journal.specs.declared.event.Event.{Event};
 ghost use Rattle.journal.specs.Prelude.{IsTimeOf, entry};
 ghost use Rattle.judge.specs.Sources.Prelude.{AreStoredKnown};
 
+use base::MOST_PROCESSORS;
 use journal::Clock;
 use std::alloc::{AllocError, Global};
 
@@ -12,7 +14,7 @@ use std::alloc::{AllocError, Global};
 pub(crate) struct Known {
     pub(crate) times: Vec<Clock>,
     /// Of each processor, one more than where its timestamp stands; 0 where it hasn't been kept since it changed.
-    pub(crate) recent: [u32; 16],
+    pub(crate) recent: [u32; MOST_PROCESSORS],
 }
 
 impl Known {
@@ -23,14 +25,14 @@ impl Known {
     {
         Known {
             times: Vec::new(alloc),
-            recent: [0; 16],
+            recent: [0; MOST_PROCESSORS],
         }
     }
 
     /// Where the processor's timestamp stands, which is this. It is kept where it wasn't yet. The only error is want
     /// of memory.
     pub(crate) fn place_of(&mut self, processor: usize, time: &Clock) -> Result<u32, AllocError>
-        requires processor { processor < 16 }
+        requires processor { processor < most_processors }
         requires room { vec_len self.old.times < 2 ^ 22 }
         ensures few { vec_len self.new.times ≤ vec_len self.old.times + 1 }
         ensures more { vec_len self.old.times ≤ vec_len self.new.times }
@@ -53,7 +55,7 @@ impl Known {
 
     /// The processor's timestamp changes.
     pub(crate) fn forget(&mut self, processor: usize)
-        requires { processor < 16 }
+        requires { processor < most_processors }
         ensures times { self.new.times ≡ self.old.times }
         ensures changed { slice_index self.new.recent processor ≡ 0 }
         ensures same { (q : ℕ) → q ≢ processor

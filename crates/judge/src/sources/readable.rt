@@ -12,11 +12,12 @@ ghost use Rattle.judge.specs.Sources.Prelude.{SourceStoresAreKept, AreLast, IsLa
 
 use crate::sources::known::Known;
 use crate::sources::stored::{Stored, last_below};
+use base::MOST_PROCESSORS;
 use journal::{Clock, Clocks, Event, Kind};
 use std::alloc::{AllocError, Global};
 
 /// The last store of each processor to an address in a past.
-type LastStores = [Option<Stored>; 16];
+type LastStores = [Option<Stored>; MOST_PROCESSORS];
 
 /// A history, taken an event at a time, of which it tells what a load that comes next may answer.
 ///
@@ -68,14 +69,14 @@ fn intervals(whole: u32, is_own: bool) -> usize
 fn raise(time: &mut Clock, other: &Clock)
     ensures { (q : ℕ) → slice_index time.new q ≡ max (slice_index time.old q) (slice_index other.now q) }
 {
-    for q in 0..16 {
+    for q in 0..MOST_PROCESSORS {
         time[q] = time[q].max(other[q]);
     }
 }
 
 /// The place of this processor's last store, where none of the others follows it. Joined, their timestamps are this.
 fn unfollowed(last: &LastStores, joined: &Clock, by: usize) -> Option<usize>
-    requires by { by < 16 }
+    requires by { by < most_processors }
     ensures { (times : List (List ℕ)) → ((s : Stored)
         → (s.interval < slice_index joined.now by) ↔ IsLastStoreFollowed times last.now by s)
         → (i : ℕ) → (result ≡ Some i) ↔ IsLastUnfollowed times last.now by i }
@@ -97,7 +98,7 @@ impl Sources {
         ensures processors { IfOk result (λ s. s.processors ≡ processors) }
         ensures addresses { IfOk result (λ s. s.addresses ≡ addresses) }
     {
-        let rows = addresses.checked_mul(16).ok_or(AllocError)?;
+        let rows = addresses.checked_mul(MOST_PROCESSORS).ok_or(AllocError)?;
         Ok(Sources {
             processors,
             addresses,
@@ -116,9 +117,9 @@ impl Sources {
             → AreLast j self.now.known.times.items processor address result }
     {
         let time = self.clocks.of(processor);
-        let mut last = [None; 16];
+        let mut last = [None; MOST_PROCESSORS];
         for by in 0..self.processors {
-            let stores = &self.stores[address * 16 + by];
+            let stores = &self.stores[address * MOST_PROCESSORS + by];
             last[by] = last_below(stores, intervals(time[by], by == processor));
         }
         last
@@ -131,7 +132,7 @@ impl Sources {
         ensures { (q : ℕ) (s : Stored) → (s.interval < slice_index result q)
             ↔ IsLastStoreFollowed self.now.known.times.items last.now q s }
     {
-        let mut joined = [0; 16];
+        let mut joined = [0; MOST_PROCESSORS];
         for store in last {
             if let Some(store) = store {
                 raise(&mut joined, &self.known.times[store.time as usize]);
@@ -146,7 +147,7 @@ impl Sources {
     /// It looks at one store of each processor, mostly its last one to the address, else one found by halving, and joins
     /// their timestamps: of n stores it takes time in the order of the processors times (the processors and the
     /// logarithm of n).
-    pub fn before(&self, processor: usize, address: usize) -> [Option<usize>; 16]
+    pub fn before(&self, processor: usize, address: usize) -> [Option<usize>; MOST_PROCESSORS]
         requires tells { (j : List Event) × AreSourceStoresOf j self.now }
         requires processor { processor < self.now.processors }
         requires address { address < self.now.addresses }
@@ -156,7 +157,7 @@ impl Sources {
     {
         let last = self.last_stores(processor, address);
         let joined = self.joined(&last);
-        let mut latest = [None; 16];
+        let mut latest = [None; MOST_PROCESSORS];
         for by in 0..self.processors {
             latest[by] = unfollowed(&last, &joined, by);
         }
@@ -212,7 +213,7 @@ impl Sources {
             interval,
             time,
         };
-        self.stores[address * 16 + processor].push(store)?;
+        self.stores[address * MOST_PROCESSORS + processor].push(store)?;
         Ok(())
     }
 

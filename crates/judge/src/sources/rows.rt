@@ -6,11 +6,12 @@ ghost use Rattle.journal.specs.Prelude.{AddressInRange, AddressesInRange, Proces
 ghost use Rattle.judge.specs.Sources.Prelude.{AreLatestMarked, AreLatestRows, IsLatestRow, AreSourceStoresOf};
 
 use crate::sources::readable::Sources;
+use base::MOST_PROCESSORS;
 use journal::{Event, Kind};
 use std::alloc::{AllocError, Global};
 
 /// The marked places, in order.
-fn marked(alloc: Global, marks: &[Option<usize>; 16]) -> Result<Vec<usize>, AllocError>
+fn marked(alloc: Global, marks: &[Option<usize>; MOST_PROCESSORS]) -> Result<Vec<usize>, AllocError>
     ensures { IfOk result (λ v. AreLatestMarked marks.now v.items) }
 {
     let mut places = Vec::new(alloc);

@@ -4,7 +4,7 @@ ghost use Rattle.base.specs.Prelude.{most_held, most_processors};
 ghost use Rattle.journal.specs.declared.event.Kind.TheVariants.{Load};
 ghost use Rattle.journal.specs.ExplainedAnswers.{Explained, IsAnswer};
 ghost use Rattle.journal.specs.Prelude.{AddressInRange, AddressesInRange, ProcessorsInRange};
-ghost use Rattle.judge.specs.Sources.Prelude.{IsFirstUnsourcedAnswer, AreSourceStoresOf};
+ghost use Rattle.judge.specs.Sources.Prelude.{IsFirstUnexplained, AreSourceStoresOf};
 
 use crate::sources::readable::Sources;
 use journal::{Event, Kind};
@@ -40,7 +40,7 @@ pub fn first_unexplained(
     requires few_processors { processors ≤ most_processors }
     requires addresses { AddressesInRange addresses events.now }
     requires processors { ProcessorsInRange processors events.now }
-    ensures { IfOk result (λ o. MatchOption o (Explained events.now) (IsFirstUnsourcedAnswer events.now)) }
+    ensures { IfOk result (λ o. MatchOption o (Explained events.now) (IsFirstUnexplained events.now)) }
 {
     let mut sources = Sources::new(alloc, processors, addresses)?;
     for place in 0..events.len() {

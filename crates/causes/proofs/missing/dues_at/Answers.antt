@@ -10,7 +10,7 @@ use Rattle.journal.specs.Times.{IsTimeOf}
 use Rattle.journal.specs.WellFormed.{KindInRange}
 use Rattle.journal.proofs.Order.CountedAndNumbered.{numbered_at_same}
 use Rattle.judge.specs.declared.sizes.Sizes.{Sizes as Given}
-use Rattle.judge.specs.Miscounted.{IsMiscountWithin}
+use Rattle.judge.specs.Miscounted.{IsEventInSizes}
 use Rattle.judge.specs.Sizes.{sizes_of}
 use Rattle.causes.specs.declared.missing.Due.{Due}
 use Rattle.causes.specs.Dues.{AreDues}
@@ -98,7 +98,7 @@ taken-requires c =
       tells = c.in_ok-note-2.ensures.tells;
       place = c.requires.place;
       within = λ n e at.
-          subst (λ (x : Given). IsMiscountWithin (sizes_of x) e) (sym c.note-2.ensures.sizes) (c.requires.within n e at);
+          subst (λ (x : Given). IsEventInSizes (sizes_of x) e) (sym c.note-2.ensures.sizes) (c.requires.within n e at);
       takes = λ e at.
           subst (λ (f : Event). is_taking f.kind ≡ true) (numbered_at_same events k (here events k) e there at)
           (sym c.takes.ensures ∙ c.if-takes.true);

@@ -2,7 +2,7 @@ use Rattle.std.proofs.Common.{◌≡◌, List, Some, length, slice_get, subst, s
 use Rattle.std.specs.Global.{Vec}
 use Rattle.std.proofs.lemmas.Option.{none-some}
 use Rattle.judge.specs.declared.sizes.Sizes.{Sizes as Given}
-use Rattle.judge.specs.Miscounted.{IsMiscountWithin}
+use Rattle.judge.specs.Miscounted.{IsEventInSizes}
 use Rattle.judge.specs.Sizes.{sizes_of}
 use Rattle.causes.specs.declared.missing.Due.{Due}
 use Rattle.causes.specs.Dues.{AreAllDues, AreDues}
@@ -26,7 +26,7 @@ dues_at-requires c =
       few = c.requires.few;
       place = c.loop-place-test.true;
       within = λ k e at.
-          subst (λ (x : Given). IsMiscountWithin (sizes_of x) e) (sym old.sizes) (c.requires.within k e at);
+          subst (λ (x : Given). IsEventInSizes (sizes_of x) e) (sym old.sizes) (c.requires.within k e at);
       so_far = old.tells;
     }
 

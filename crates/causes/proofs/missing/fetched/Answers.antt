@@ -1,4 +1,4 @@
-use Rattle.std.proofs.Common.{ℕ, ◌+◌, ◌*◌, List, slice_index_or, take, subst, refl, arith}
+use Rattle.std.proofs.Common.{ℕ, ◌*◌, List, slice_index_or, take, subst, arith}
 use Rattle.std.specs.Global.{Vec}
 use Rattle.std.proofs.lemmas.List.{length-take-le}
 use Rattle.std.proofs.lemmas.Option.{slice_get-get_or}
@@ -11,7 +11,6 @@ use Rattle.journal.proofs.Order.CountedAndNumbered.{numbered_at_same}
 use Rattle.judge.specs.Gaps.{TellsGaps}
 use Rattle.judge.specs.Sizes.{sizes_of}
 use Rattle.causes.specs.declared.missing.Due.{Due}
-use Rattle.causes.specs.declared.missing.Span.{Span}
 use Rattle.causes.specs.Dues.{DuesBelow, AreDues}
 use Rattle.causes.proofs.OwingDues.{all_dues_below, due_if_ok, due_in_fetch}
 use Rattle.causes.proofs.missing.fetched.Goals as goal
@@ -20,14 +19,8 @@ use Rattle.causes.proofs.missing.fetched.Goals as goal
 abbrev here : List Event → ℕ → Event
 here events place = slice_index_or events place (event 0 (Load 0 0))
 
-pub last_fetch-requires-clause-processor : goal.last_fetch-requires-clause-processor
-last_fetch-requires-clause-processor c =
-    let events = c.args.events.now in
-    let k = c.args.place in
-    c.requires.processor (here events k) (slice_get-get_or events k (event 0 (Load 0 0)) c.requires.place)
-
-pub time-requires-clause-processor : goal.time-requires-clause-processor
-time-requires-clause-processor c =
+pub fetch_span-span-requires-clause-reader : goal.fetch_span-span-requires-clause-reader
+fetch_span-span-requires-clause-reader c =
     let events = c.args.events.now in
     let k = c.args.place in
     c.requires.processor (here events k) (slice_get-get_or events k (event 0 (Load 0 0)) c.requires.place)
@@ -48,21 +41,16 @@ returns c =
     let h = take k events in
     let own : Event = here events k in
     let there = slice_get-get_or events k (event 0 (Load 0 0)) c.requires.place in
-    let span : Span = record {
-      reader = own.processor;
-      first = c.args.page;
-      end = c.args.page + 1;
-      from = c.last_fetch.result.now;
-      to = c.time.result.now;
-    } in
+    let span = c.fetch_span-span.result in
+    let is = c.fetch_span-span.ensures in
     let low : ProcessorsInRange 16 h =
     λ i f at. (let lt = c.requires.tells.processors i f at in
     let small = c.requires.tells.long.sizes.processors in
     omega arith) in
     let kind = c.requires.fetch own there in
     let same =
-    due_in_fetch s events k own kind.0 c.args.page kind.1 kind.2 span kind.3 refl refl refl low
-    (c.last_fetch.ensures h c.requires.tells) (c.time.ensures h c.requires.tells) in
+    due_in_fetch s events k own kind.0 c.args.page kind.1 kind.2 span kind.3 is.reader is.first is.end low
+    (is.from h c.requires.tells) (is.to h c.requires.tells) in
     due_if_ok c.dues_in.result
     (λ (v : Vec Due). (j : List Event) → TellsGaps j g → DuesBelow s j span (span.end * 16) v.items)
     (λ (v : Vec Due). (e : Event) → At events k e → AreDues s events k e v.items)

@@ -1,16 +1,16 @@
-use Rattle.std.proofs.Common.{◌+◌, ◌*◌, List, slice_index_or, take, subst, refl, arith}
+use Rattle.std.proofs.Common.{◌+◌, ◌*◌, List, slice_index, slice_index_or, take, subst, sym, arith}
 use Rattle.std.specs.Global.{Vec}
 use Rattle.std.proofs.lemmas.Option.{slice_get-get_or}
 use Rattle.journal.specs.declared.event.Event.{Event}
 use Rattle.journal.specs.declared.event.Kind.TheVariants.{Load}
 use Rattle.journal.specs.DidEvent.{event}
 use Rattle.journal.specs.Events.{At}
+use Rattle.journal.specs.Times.{IsTimeOf}
 use Rattle.journal.specs.InRange.{ProcessorsInRange}
 use Rattle.journal.proofs.Order.CountedAndNumbered.{numbered_at_same}
 use Rattle.judge.specs.Gaps.{TellsGaps}
 use Rattle.judge.specs.Sizes.{sizes_of}
 use Rattle.causes.specs.declared.missing.Due.{Due}
-use Rattle.causes.specs.declared.missing.Span.{Span}
 use Rattle.causes.specs.Dues.{DuesBelow, AreDues}
 use Rattle.causes.proofs.OwingDues.{all_dues_below, due_if_ok, due_in_taken, due_pages_within}
 use Rattle.causes.proofs.missing.taken.Goals as goal
@@ -24,21 +24,17 @@ returns c =
     let h = take (k + 1) events in
     let here : Event = slice_index_or events k (event 0 (Load 0 0)) in
     let there = slice_get-get_or events k (event 0 (Load 0 0)) c.requires.place in
-    let span : Span = record {
-      reader = here.processor;
-      first = 0;
-      end = c.pages.result;
-      from = c.args.before.now;
-      to = c.time.result.now;
-    } in
+    let span = c.taking_span-span.result in
+    let is = c.taking_span-span.ensures in
     let low : ProcessorsInRange 16 h =
     λ i f at. (let lt = c.requires.tells.processors i f at in
     let small = c.requires.tells.long.sizes.processors in
     omega arith) in
     let same =
-    due_in_taken s events k here span there (c.requires.takes here there) refl refl c.pages.ensures low
-    (due_pages_within s events (k + 1) c.requires.within) (c.requires.before here there)
-    (c.time.ensures h c.requires.tells) in
+    due_in_taken s events k here span there (c.requires.takes here there) is.reader is.first is.end low
+    (due_pages_within s events (k + 1) c.requires.within)
+    (subst (λ t. IsTimeOf (take k events) here.processor (slice_index t)) (sym is.from) (c.requires.before here there))
+    (is.to h c.requires.tells) in
     due_if_ok c.dues_in.result
     (λ (v : Vec Due). (j : List Event) → TellsGaps j g → DuesBelow s j span (span.end * 16) v.items)
     (λ (v : Vec Due). (e : Event) → At events k e → AreDues s events k e v.items)

@@ -11,7 +11,7 @@ use Rattle.judge.specs.declared.sizes.Sizes.{Sizes as Given}
 use Rattle.judge.specs.declared.miscounted.Miscounted.{Miscounted}
 use Rattle.judge.specs.Lax.{LaxWellFormed}
 use Rattle.judge.specs.Sizes.{sizes_of}
-use Rattle.judge.specs.Miscounted.{MiscountsNoGap, IsFirstMiscounted, IsMiscountWithin, Miscounts}
+use Rattle.judge.specs.Miscounted.{CountsItsGap, IsFirstMiscounted, IsEventInSizes, Miscounts}
 use Rattle.judge.proofs.miscounted.first_miscounted.Goals as goal
 
 -- the event at this place
@@ -23,21 +23,21 @@ there events place lt = slice_get-get_or events place (event 0 (Load 0 0)) lt
 
 -- the numbers of a well formed history are within the sizes
 within : (given sizes : Given) (events : List Event) → given ≡ sizes → LaxWellFormed (sizes_of sizes) events
-    → (k : ℕ) (e : Event) → At events k e → IsMiscountWithin (sizes_of given) e
+    → (k : ℕ) (e : Event) → At events k e → IsEventInSizes (sizes_of given) e
 within given sizes events is well k e at =
-    subst (λ (x : Given). IsMiscountWithin (sizes_of x) e) (sym is)
+    subst (λ (x : Given). IsEventInSizes (sizes_of x) e) (sym is)
     (record { processor = (well k e at).processor; kind = (well k e at).in_range })
 
 abbrev AllCount : Sizes → List Event → ℕ → Type 0
-AllCount s events n = (k : ℕ) (e : Event) → k < n → At events k e → MiscountsNoGap s (take k events) e
+AllCount s events n = (k : ℕ) (e : Event) → k < n → At events k e → CountsItsGap s (take k events) e
 
 -- one event more
 counted_next : (s : Sizes) (events : List Event) (k : ℕ) (e : Event) → At events k e → AllCount s events k
-    → MiscountsNoGap s (take k events) e → AllCount s events (k + 1)
+    → CountsItsGap s (take k events) e → AllCount s events (k + 1)
 counted_next s events k e at before now m f lt there = elim (cases_eq m k) [
   | inl is ↦
       (let same = numbered_at_same events k e f at (subst (λ n. At events n f) is there) in
-      subst (λ n. MiscountsNoGap s (take n events) f) (sym is) (subst (MiscountsNoGap s (take k events)) same now))
+      subst (λ n. CountsItsGap s (take n events) f) (sym is) (subst (CountsItsGap s (take k events)) same now))
   | inr isnt ↦ before m f (omega arith) there
 ]
 
@@ -83,7 +83,7 @@ loop-place-preserved c =
       tells = c.in_ok-note.ensures.tells;
       sizes = c.note.ensures.sizes ∙ old.sizes;
       counted = counted_next (sizes_of c.args.sizes) events k e (there events k c.loop-place-test.true) old.counted
-          (subst (λ (x : Given). MiscountsNoGap (sizes_of x) (take k events) e) old.sizes
+          (subst (λ (x : Given). CountsItsGap (sizes_of x) (take k events) e) old.sizes
           (c.in_default.ensures.verdict (take k events) old.tells));
     }
 

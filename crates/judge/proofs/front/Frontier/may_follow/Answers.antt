@@ -2,7 +2,7 @@ use Rattle.std.proofs.Common.{sym, refl, subst}
 use Rattle.std.proofs.lemmas.Bool.{false≢true}
 use Rattle.std.proofs.lemmas.Option.{none-some}
 use Rattle.judge.specs.Sizes.{sizes_of}
-use Rattle.judge.specs.Why.{WhyWaitsFor}
+use Rattle.judge.specs.Why.{AwaitsKind}
 use Rattle.judge.proofs.Verdicts.{verdict_no_processor, verdict_out_of_range, verdict_turn_for, verdict_turn_idle, verdict_waits_for_other}
 use Rattle.judge.proofs.front.Frontier.may_follow.Goals as goal
 
@@ -37,7 +37,7 @@ returns-then-is_same c = λ j tells.
     let waits = (c.in-Some.ensures j tells c.in-Some.kind).0 refl in
     let turn = verdict_turn_for (sizes_of c.args.self.now.sizes) j e c.in-Some.kind c.if-event-self.false
     (c.if-not-have.ensures.0 refl) waits same in
-    c.not_let_on.ensures j tells turn (subst (WhyWaitsFor j e.processor) (sym same) waits)
+    c.not_let_on.ensures j tells turn (subst (AwaitsKind j e.processor) (sym same) waits)
 
 pub not_free-requires : goal.not_free-requires
 not_free-requires c =

@@ -7,7 +7,7 @@ use Rattle.journal.specs.Sizes.{Sizes}
 use Rattle.journal.specs.WellFormed.{KindInRange}
 use Rattle.judge.specs.declared.models.MemoryModel.{MemoryModel}
 use Rattle.judge.specs.Models.{IsOwed}
-use Rattle.judge.specs.Owed.{IsOwedRacyWith}
+use Rattle.judge.specs.Owed.{IsRacyWithNext}
 use Rattle.judge.proofs.owed.Owed.is_paid.Goals as goal
 
 address_same : (a v b w : ℕ) → Load a v ≡ Load b w → a ≡ b
@@ -35,7 +35,7 @@ returns-in-Load c = λ m s owed within racy.
     let v = c.in-Load.value in
     let lt = subst (KindInRange s) c.in-Load.is within.kind in
     let tells = c.may_answer.ensures m s owed within.processor lt
-    (subst (λ x. IsOwedRacyWith j (event p x) c.args.is_racy) c.in-Load.is racy) in (
+    (subst (λ x. IsRacyWithNext j (event p x) c.args.is_racy) c.in-Load.is racy) in (
       λ yes_is. one_load m s j p a v k c.in-Load.is (tells.0 yes_is),
       λ all. tells.1 (subst (λ x. IsOwed m s (j ++ event p x ∷ []) (length j) a v) c.in-Load.is (all a v c.in-Load.is)),
     )

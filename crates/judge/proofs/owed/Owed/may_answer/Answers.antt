@@ -8,7 +8,7 @@ use Rattle.journal.specs.Sizes.{addresses}
 use Rattle.journal.specs.Races.{RaceFree}
 use Rattle.journal.specs.FlatMemory.{memory_after}
 use Rattle.judge.specs.Models.{IsOwed}
-use Rattle.judge.specs.Owed.{AreOwedBy, IsOwedRacyWith}
+use Rattle.judge.specs.Owed.{AreOwedBy, IsRacyWithNext}
 use Rattle.judge.proofs.owed.Owed.may_answer.Goals as goal
 
 -- all events up to and with the last one
@@ -25,7 +25,7 @@ returns-then-is_racy c = λ m s owed few within racy.
     let v = c.args.value in
     let e = event c.args.processor (Load a v) in
     let o = subst (AreOwedBy m s j) c.in-RaceFree.is owed in
-    let none = subst (IsOwedRacyWith j e) c.if-is_racy.true racy in (
+    let none = subst (IsRacyWithNext j e) c.if-is_racy.true racy in (
       λ yes_is. subst (λ x. IsOwed x s (j ++ e ∷ []) (length j) a v) (sym o.0)
           (λ free. absurd (none (subst RaceFree (whole j e) free))),
       λ answer. c.if-is_racy.true,
@@ -38,7 +38,7 @@ returns-else-is_racy c = λ m s owed few within racy.
     let v = c.args.value in
     let e = event c.args.processor (Load a v) in
     let o = subst (AreOwedBy m s j) c.in-RaceFree.is owed in
-    let free = subst (IsOwedRacyWith j e) c.if-is_racy.false racy in (
+    let free = subst (IsRacyWithNext j e) c.if-is_racy.false racy in (
       λ yes_is. subst (λ x. IsOwed x s (j ++ e ∷ []) (length j) a v) (sym o.0) (λ so. c.may_answer.ensures.0 yes_is),
       λ answer. c.may_answer.ensures.1
           (subst (λ x. IsOwed x s (j ++ e ∷ []) (length j) a v) o.0 answer (subst RaceFree (sym (whole j e)) free)),

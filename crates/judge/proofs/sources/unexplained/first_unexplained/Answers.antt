@@ -10,7 +10,7 @@ use Rattle.journal.specs.WellFormed.{Does}
 use Rattle.journal.specs.InRange.{AddressInRange, AddressesInRange, ProcessorsInRange}
 use Rattle.journal.specs.ExplainedAnswers.{IsAnswer}
 use Rattle.journal.proofs.Order.CountedAndNumbered.{numbered_at_same, numbered_at_within}
-use Rattle.judge.specs.Sources.Answers.{IsFirstUnsourcedAnswer}
+use Rattle.judge.specs.Sources.Answers.{IsFirstUnexplained}
 use Rattle.judge.proofs.sources.Answering.{answer_in}
 use Rattle.judge.proofs.sources.unexplained.first_unexplained.Goals as goal
 
@@ -24,7 +24,7 @@ AreExplained j k = (m p a v : ℕ) → m < k → Does j m p (Load a v) → IsAns
 
 -- an event that isn't explained is a load that answers what it may not
 first_wrong : (j : List Event) (k p : ℕ) (kind : Kind) → Does j k p kind → AreExplained j k
-    → ¬ ((a v : ℕ) → kind ≡ Load a v → IsAnswer j k a v) → IsFirstUnsourcedAnswer j k
+    → ¬ ((a v : ℕ) → kind ≡ Load a v → IsAnswer j k a v) → IsFirstUnexplained j k
 first_wrong j k p (Load a v) does before wrong = record {
   by = p;
   address = a;

@@ -1,0 +1,57 @@
+-- Which copies are stale, and which are dirty: those of pages of which a fetch would bring something, and those of pages in which
+-- the open interval stores.
+use Rattle.std.proofs.Common.{◌≡◌, ◌≢◌, ℕ, ◌<◌, ◌↔◌, List, slice_index, subst, sym, refl, ◌∙◌}
+use Rattle.journal.specs.declared.event.Event.{Event}
+use Rattle.journal.specs.ContentsSince.{StoresInInterval}
+use Rattle.journal.specs.Events.{count_of, interval_at, is_closing}
+use Rattle.journal.specs.InRange.{ProcessorsInRange}
+use Rattle.journal.specs.Sizes.{Sizes}
+use Rattle.journal.specs.Times.{IsTimeOf}
+use Rattle.judge.specs.Gaps.{GapFetchedUpTo, GapStoresInPage}
+use Rattle.causes.specs.declared.missing.Span.{Span}
+use Rattle.causes.specs.Dues.{DueLacks}
+use Rattle.causes.specs.Notices.{HasNoticeOf}
+use Rattle.causes.specs.States.{IsDirtyPage, IsStalePage}
+use Rattle.causes.proofs.OwingDues.{due_lacks_is, due_lacks_low, due_lacks_own}
+
+-- what a fetch would bring makes the copy stale
+pub stale_by : (s : Sizes) (j : List Event) (p n q : ℕ) (span : Span) → span.reader ≡ p
+    → GapFetchedUpTo s j p n (slice_index span.from) → IsTimeOf j p (slice_index span.to) → HasNoticeOf s j span n q
+    → IsStalePage s j p n
+stale_by s j p n q span reader fetched time h =
+    let apart : q ≢ p = λ same. h.0 (same ∙ sym reader) in
+    let lacks : DueLacks s j p n q h.1.0 =
+    (due_lacks_is s j p n q h.1.0 (slice_index span.from) (slice_index span.to) apart fetched time).1
+    (h.1.1, h.1.2, h.1.3) in
+    (lacks.1.0, lacks.1.3)
+
+-- and nothing else does
+pub stale_has : (s : Sizes) (j : List Event) (p n : ℕ) (span : Span) → span.reader ≡ p
+    → GapFetchedUpTo s j p n (slice_index span.from) → IsTimeOf j p (slice_index span.to) → ProcessorsInRange 16 j
+    → IsStalePage s j p n → (q : ℕ) × (q < 16) × HasNoticeOf s j span n q
+stale_has s j p n span reader fetched time low stale =
+    let i = stale.0 in
+    let x = stale.1.store in
+    let q = x.by in
+    let m = interval_at j q i in
+    let lacks : DueLacks s j p n q m = (x.address, (i, x.value, x.does, stale.1, refl)) in
+    let apart = due_lacks_own s j p n q m lacks in
+    let between = (due_lacks_is s j p n q m (slice_index span.from) (slice_index span.to) apart fetched time).0 lacks in (
+      q,
+      due_lacks_low s j p n q m low lacks,
+      (λ same. apart (same ∙ reader), (m, between.0, between.1, between.2)),
+    )
+
+-- an interval stores in a page by some store
+pub interval_stores : (s : Sizes) (j : List Event) (n q m : ℕ)
+    → GapStoresInPage s j n q m ↔ ((i : ℕ) × StoresInInterval s j q m n i)
+interval_stores s j n q m = (
+  λ x. (let at = x.1.0 in (at.0, (x.0, at.1, at.2, x.1.1, at.3))),
+  λ y. (let z = y.1 in (z.0, ((y.0, z.1, z.2, z.4), z.3))),
+)
+
+-- the page is dirty where the open one does
+pub dirty_by : (s : Sizes) (j : List Event) (n p m : ℕ) → m ≡ count_of is_closing j p
+    → GapStoresInPage s j n p m ↔ IsDirtyPage s j p n
+dirty_by s j n p m is =
+    subst (λ k. GapStoresInPage s j n p m ↔ ((i : ℕ) × StoresInInterval s j p k n i)) is (interval_stores s j n p m)

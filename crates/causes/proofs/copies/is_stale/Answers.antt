@@ -1,0 +1,49 @@
+use Rattle.std.proofs.Common.{◌∙◌, List, inl, inr, refl, subst, sym, arith}
+use Rattle.std.proofs.lemmas.Bool.{cases_eq, false≢true}
+use Rattle.journal.specs.declared.event.Event.{Event}
+use Rattle.journal.specs.InRange.{ProcessorsInRange}
+use Rattle.judge.specs.Gaps.{TellsGaps}
+use Rattle.judge.specs.Sizes.{sizes_of}
+use Rattle.judge.specs.declared.gaps.Gaps.{Gaps}
+use Rattle.causes.specs.Notices.{HasNoticeOf}
+use Rattle.causes.proofs.StaleCopies.{stale_by, stale_has}
+use Rattle.causes.proofs.copies.is_stale.Goals as goal
+
+-- a history that is told has at most sixteen processors
+low : (j : List Event) (g : Gaps) → TellsGaps j g → ProcessorsInRange 16 j
+low j g tells i e at =
+    let lt = tells.processors i e at in let few = tells.long.sizes.processors in omega arith
+
+pub loop-writer-init : goal.loop-writer-init
+loop-writer-init c = λ j q tells lt. absurd (omega arith)
+
+pub loop-writer-preserved : goal.loop-writer-preserved
+loop-writer-preserved c = λ j q tells lt has. elim (cases_eq q c.loop-writer.writer) [
+  | inl is ↦
+      false≢true (sym c.if-has_of.false
+      ∙ (c.has_of.ensures j tells).1
+      (subst (λ w. HasNoticeOf (sizes_of c.args.gaps.now.sizes) j c.fetch_span-span.result c.args.page w) is has))
+  | inr isnt ↦ c.loop-writer.invariant j q tells (omega arith) has
+]
+
+pub returns-then-has_of : goal.returns-then-has_of
+returns-then-has_of c = λ j tells.
+    let is = c.fetch_span-span.ensures in (
+      λ yes.
+          stale_by (sizes_of c.args.gaps.now.sizes) j c.args.reader c.args.page c.loop-writer.writer c.fetch_span-span.result
+          is.reader (is.from j tells) (is.to j tells) ((c.has_of.ensures j tells).0 c.if-has_of.true),
+      λ stale. refl,
+    )
+
+pub returns : goal.returns
+returns c = λ j tells.
+    let is = c.fetch_span-span.ensures in (
+      λ yes. absurd (false≢true yes),
+      λ stale.
+          absurd (let x =
+          stale_has (sizes_of c.args.gaps.now.sizes) j c.args.reader c.args.page c.fetch_span-span.result is.reader
+          (is.from j tells) (is.to j tells) (low j c.args.gaps.now tells) stale in
+          let end = c.loop-writer-test.false in
+          let under = x.1 in
+          c.loop-writer.invariant j x.0 tells (omega arith) x.2),
+    )

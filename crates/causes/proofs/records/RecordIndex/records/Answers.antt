@@ -1,0 +1,98 @@
+use Rattle.std.proofs.Common.{◌≡◌, ◌+◌, ◌*◌, ℕ, List, slice_index_or, take, refl, sym, subst, arith}
+use Rattle.std.specs.Global.{Vec}
+use Rattle.std.proofs.lemmas.Bool.{false≢true}
+use Rattle.std.proofs.lemmas.Option.{slice_get-get_or}
+use Rattle.journal.specs.declared.event.Event.{Event}
+use Rattle.journal.specs.declared.event.Kind.TheVariants.{Load}
+use Rattle.journal.specs.DidEvent.{event}
+use Rattle.journal.specs.Events.{interval_at, is_closing}
+use Rattle.journal.proofs.Order.CountedAndNumbered.{numbered_at_same}
+use Rattle.judge.specs.Sizes.{sizes_of}
+use Rattle.causes.specs.declared.records.PageRecord.{PageRecord}
+use Rattle.causes.specs.Records.{AreClosedRecords, AreClosedRecordsBelow, AreRecordWordsBelow}
+use Rattle.causes.proofs.EdgeLeadsOn.{edge_leads_count_within}
+use Rattle.causes.proofs.RecordRows.{record_content, record_number_is, record_some_words, record_stores, records_all, records_next, records_quiet}
+use Rattle.causes.proofs.records.RecordIndex.records.Goals as goal
+use Rattle.causes.proofs.records.RecordIndex.records.Goals.{then-stores_in+in_ok-words+in_ok-push, else-stores_in}
+
+-- the event at this place
+abbrev here : List Event → ℕ → Event
+here events place = slice_index_or events place (event 0 (Load 0 0))
+
+pub stores_in-requires-clause-interval : goal.stores_in-requires-clause-interval
+stores_in-requires-clause-interval c =
+    let events = c.args.events.now in
+    let k = c.args.place in
+    let is =
+    record_number_is events c.args.self.now.numbers.items k c.index-interval.result.now c.requires.place c.requires.index.numbers
+    c.index-interval.ensures in
+    let lt = c.requires.place in
+    let few = c.requires.few in
+    let most = edge_leads_count_within is_closing events k (here events k).processor (omega arith) in
+    omega arith
+
+pub words_from-requires-clause-by : goal.words_from-requires-clause-by
+words_from-requires-clause-by c =
+    let events = c.args.events.now in
+    let k = c.args.place in
+    let there = slice_get-get_or events k (event 0 (Load 0 0)) c.requires.place in
+    let lt = (c.requires.within k (here events k) there).processor in
+    let few = c.requires.tells.long.sizes.processors in
+    omega arith
+
+pub loop-page-preserved : goal.loop-page-preserved
+loop-page-preserved c =
+    let s = sizes_of c.args.gaps.now.sizes in
+    let j = c.args.events.now in
+    let k = c.args.place in
+    let e = here j k in
+    let q = e.processor in
+    let m = c.index-interval.result.now in
+    let n = c.loop-page.page in
+    let h = take (k + 1) j in
+    let old = c.loop-page.records.items in
+    let are = c.loop-page.invariant in
+    let at = slice_get-get_or j k (event 0 (Load 0 0)) c.requires.place in
+    let closes = c.requires.closes e at in
+    let is =
+    record_number_is j c.args.self.now.numbers.items k m c.requires.place c.requires.index.numbers c.index-interval.ensures in
+    let stores = record_stores s j k q m n e at refl closes is in
+    elim c.if-stores_in.branch [
+      | then-stores_in+in_ok-words+in_ok-push w ↦
+          (let some = stores.0 ((w.if-stores_in.ensures h c.requires.tells).0 refl) in
+          let words = w.in_ok-words.words in
+          let below : AreRecordWordsBelow j q m (n * s.words) s.words words.items =
+          subst (λ size. AreRecordWordsBelow j q m (n * size) size words.items) c.requires.index.size w.in_ok-words.ensures in
+          let content =
+          record_content s j k q m n e words.items (record_some_words s j q m n c.requires.within some) at refl closes is
+          below in
+          let x : PageRecord = record { page = n; words = words } in
+          subst (λ (v : Vec PageRecord). AreClosedRecordsBelow s j q m (n + 1) v.items) (sym w.records-is)
+          (subst (AreClosedRecordsBelow s j q m (n + 1)) (sym w.in_ok-push.ensures.items)
+          (records_next s j q m n x old refl content some are)))
+      | else-stores_in w ↦
+          subst (λ (v : Vec PageRecord). AreClosedRecordsBelow s j q m (n + 1) v.items) (sym w.records-is)
+          (records_quiet s j q m n old
+          (λ i stored. false≢true ((w.if-stores_in.ensures h c.requires.tells).1 (stores.1 (i, stored)))) are)
+    ]
+
+pub returns : goal.returns
+returns c = λ f there.
+    let s = sizes_of c.args.gaps.now.sizes in
+    let j = c.args.events.now in
+    let k = c.args.place in
+    let e = here j k in
+    let m = c.index-interval.result.now in
+    let records = c.loop-page.records.items in
+    let at = slice_get-get_or j k (event 0 (Load 0 0)) c.requires.place in
+    let is =
+    record_number_is j c.args.self.now.numbers.items k m c.requires.place c.requires.index.numbers c.index-interval.ensures in
+    let end = c.loop-page-test.false in
+    let top = c.loop-page.auto.page-end in
+    let pages = c.pages-page-end.ensures in
+    let last : c.loop-page.page ≡ s.pages = omega arith in
+    let all =
+    records_all s j e.processor m records c.requires.within
+    (subst (λ n. AreClosedRecordsBelow s j e.processor m n records) last c.loop-page.invariant) in
+    subst (λ (g : Event). AreClosedRecords s j g.processor (interval_at j g.processor k) records)
+    (numbered_at_same j k e f at there) (subst (λ i. AreClosedRecords s j e.processor i records) is all)

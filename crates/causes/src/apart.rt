@@ -1,0 +1,74 @@
+//! What keeps the two accesses of a race apart: what the one's processor had heard of the other's, and which locks they held.
+ghost use Rattle.std.specs.Prelude.{◌<◌, ◌≤◌, IfOk, length, take};
+ghost use Rattle.base.specs.Prelude.{most_held, most_processors};
+ghost use Rattle.journal.specs.declared.event.Event.{Event};
+ghost use Rattle.journal.specs.Events.{At};
+ghost use Rattle.journal.specs.Prelude.{Holds, ProcessorsInRange, Race};
+ghost use Rattle.causes.specs.Prelude.{AreThose, IsRaceApart};
+
+use crate::racing::heard;
+use crate::waiting::locks_held;
+use journal::Event;
+use std::alloc::{AllocError, Global};
+
+/// Two accesses that race, and what keeps them apart.
+#[derive(Drop)]
+pub struct RaceApart {
+    /// The place of the access that comes first.
+    pub first: usize,
+    /// The place of the other access, which has nothing to order it after the first one.
+    pub second: usize,
+    /// The place of the last event of the first one's processor that the second one's processor had heard of: the
+    /// greatest place that happens before the second access. None where there is none.
+    pub heard: Option<usize>,
+    /// The locks that the first one's processor holds at it, rising.
+    pub first_locks: Vec<usize>,
+    /// The locks that the second one's processor holds at it, rising.
+    pub second_locks: Vec<usize>,
+}
+
+/// Which of the first locks, so many of them, the processor of the event at this place holds there, rising. The only error
+/// is running out of memory.
+fn locks_at(
+    alloc: Global,
+    events: &[Event],
+    place: usize,
+    locks: usize,
+) -> Result<Vec<usize>, AllocError>
+    requires { place < length events.now }
+    ensures { IfOk result (λ v. (e : Event) → At events.now place e
+        → AreThose (Holds (take place events.now) e.processor) locks v.items) }
+{
+    locks_held(alloc, &events[..place], events[place].processor, locks)
+}
+
+/// What keeps the two accesses of this race apart, in a history of so many processors, at most `MOST_PROCESSORS`. Of its
+/// locks the first ones are looked at, so many of them. The only error is running out of memory.
+///
+/// It takes time in the order of the events up to the second access times the processors and the locks.
+pub fn race_apart(
+    alloc: Global,
+    processors: usize,
+    locks: usize,
+    events: &[Event],
+    race: (usize, usize),
+) -> Result<RaceApart, AllocError>
+    requires few { length events.now ≤ most_held }
+    requires few_processors { processors ≤ most_processors }
+    requires processors { ProcessorsInRange processors events.now }
+    requires race { Race events.now race.0 race.1 }
+    ensures { IfOk result (IsRaceApart locks events.now race.0 race.1) }
+{
+    let (first, second) = race;
+    let by = events[first].processor;
+    let heard = heard(alloc, processors, events, by, second)?;
+    let first_locks = locks_at(alloc, events, first, locks)?;
+    let second_locks = locks_at(alloc, events, second, locks)?;
+    Ok(RaceApart {
+        first,
+        second,
+        heard,
+        first_locks,
+        second_locks,
+    })
+}

@@ -1,0 +1,148 @@
+//! Write notices: which intervals of other processors an event tells its processor of, page by page.
+ghost use Rattle.std.specs.Prelude.{◌≡◌, ℕ, ◌+◌, ◌*◌, ◌<◌, ◌≤◌, ◌^◌, ◌↔◌, IfOk, IsTrue, List, OnOk, length, take};
+ghost use Rattle.base.specs.Prelude.{most_held};
+ghost use Rattle.journal.specs.declared.event.Event.{Event};
+ghost use Rattle.journal.specs.Events.{At};
+ghost use Rattle.judge.specs.Prelude.{GapStoresInPage, IsEventInSizes, TellsGaps, gap_tally_row_index, sizes_of};
+ghost use Rattle.causes.specs.Prelude.{AreWriteNotices, HasNoticeOf, NoticesBelow};
+
+use crate::missing::{Span, fetch_span, taking_span};
+use crate::takings::takes;
+use base::MOST_PROCESSORS;
+use journal::{Event, Kind};
+use judge::Gaps;
+use std::alloc::{AllocError, Global};
+
+/// A write notice: a processor stored in a page in one of its intervals.
+#[derive(Clone, Copy)]
+pub struct WriteNotice {
+    /// The page.
+    pub page: usize,
+    /// The processor whose interval it is.
+    pub writer: usize,
+    /// The interval's number, counted from 0.
+    pub interval: u32,
+}
+
+/// Whether the processor stores in the page in its interval of this number.
+pub(crate) fn stores_in(gaps: &Gaps, page: usize, by: usize, interval: u32) -> bool
+    requires tells { (j : List Event) × TellsGaps j gaps.now }
+    requires page { page < gaps.now.sizes.pages }
+    requires by { by < 16 }
+    requires interval { interval + 1 < 2 ^ 32 }
+    ensures { (j : List Event) → TellsGaps j gaps.now
+        → IsTrue result ↔ GapStoresInPage (sizes_of gaps.now.sizes) j page by interval }
+{
+    gaps.records(page, by, interval, interval + 1) > 0
+}
+
+/// Whether the span has something of the page and the writer.
+pub(crate) fn has_of(gaps: &Gaps, span: &Span, page: usize, writer: usize) -> bool
+    requires tells { (j : List Event) × TellsGaps j gaps.now }
+    requires page { page < gaps.now.sizes.pages }
+    requires writer { writer < 16 }
+    ensures { (j : List Event) → TellsGaps j gaps.now
+        → IsTrue result ↔ HasNoticeOf (sizes_of gaps.now.sizes) j span.now page writer }
+{
+    writer != span.reader && gaps.records(page, writer, span.from[writer], span.to[writer]) > 0
+}
+
+/// Adds what the span has of the page and the writer.
+fn add_of_writer(
+    notices: &mut Vec<WriteNotice>,
+    gaps: &Gaps,
+    span: &Span,
+    page: usize,
+    writer: usize,
+) -> Result<(), AllocError>
+    requires tells { (j : List Event) × TellsGaps j gaps.now }
+    requires from { span.now.first ≤ page }
+    requires to { page < span.now.end }
+    requires page { page < gaps.now.sizes.pages }
+    requires writer { writer < 16 }
+    ensures { OnOk result ((j : List Event) → TellsGaps j gaps.now
+        → NoticesBelow (sizes_of gaps.now.sizes) j span.now (gap_tally_row_index page writer) 0 notices.old.items
+        → NoticesBelow (sizes_of gaps.now.sizes) j span.now (gap_tally_row_index page writer + 1) 0 notices.new.items) }
+{
+    if !has_of(gaps, span, page, writer) {
+        return Ok(());
+    }
+    for interval in span.from[writer]..span.to[writer] {
+        if stores_in(gaps, page, writer, interval) {
+            notices.push(WriteNotice {
+                page,
+                writer,
+                interval,
+            })?;
+        }
+    }
+    Ok(())
+}
+
+/// Adds what the span has of the page.
+fn add_of_page(
+    notices: &mut Vec<WriteNotice>,
+    gaps: &Gaps,
+    span: &Span,
+    page: usize,
+) -> Result<(), AllocError>
+    requires tells { (j : List Event) × TellsGaps j gaps.now }
+    requires from { span.now.first ≤ page }
+    requires to { page < span.now.end }
+    requires page { page < gaps.now.sizes.pages }
+    ensures { OnOk result ((j : List Event) → TellsGaps j gaps.now
+        → NoticesBelow (sizes_of gaps.now.sizes) j span.now (page * 16) 0 notices.old.items
+        → NoticesBelow (sizes_of gaps.now.sizes) j span.now (page * 16 + 16) 0 notices.new.items) }
+{
+    for writer in 0..MOST_PROCESSORS {
+        add_of_writer(notices, gaps, span, page, writer)?;
+    }
+    Ok(())
+}
+
+/// What the span has.
+fn notices_in(alloc: Global, gaps: &Gaps, span: &Span) -> Result<Vec<WriteNotice>, AllocError>
+    requires tells { (j : List Event) × TellsGaps j gaps.now }
+    requires order { span.now.first ≤ span.now.end }
+    requires pages { span.now.end ≤ gaps.now.sizes.pages }
+    ensures { IfOk result (λ v. (j : List Event) → TellsGaps j gaps.now
+        → NoticesBelow (sizes_of gaps.now.sizes) j span.now (span.now.end * 16) 0 v.items) }
+{
+    let mut notices = Vec::new(alloc);
+    for page in span.first..span.end {
+        add_of_page(&mut notices, gaps, span, page)?;
+    }
+    Ok(notices)
+}
+
+/// Takes note of the event at this place, the next one, and answers of which write notices it tells. The only error is
+/// running out of memory, after which the gaps may tell no history.
+pub(crate) fn notices_at(
+    alloc: Global,
+    gaps: &mut Gaps,
+    events: &[Event],
+    place: usize,
+) -> Result<Vec<WriteNotice>, AllocError>
+    requires few { length events.now ≤ most_held }
+    requires place { place < length events.now }
+    requires within { (k : ℕ) (e : Event) → At events.now k e → IsEventInSizes (sizes_of gaps.old.sizes) e }
+    requires so_far { TellsGaps (take place events.now) gaps.old }
+    ensures sizes { gaps.new.sizes ≡ gaps.old.sizes }
+    ensures tells { OnOk result (TellsGaps (take (place + 1) events.now) gaps.new) }
+    ensures notices { IfOk result (λ v. (e : Event) → At events.now place e
+        → AreWriteNotices (sizes_of gaps.old.sizes) events.now place e v.items) }
+{
+    let event = events[place];
+    if let Kind::Fetch { page, .. } = event.kind {
+        let notices = notices_in(alloc, gaps, &fetch_span(gaps, event.processor, page))?;
+        gaps.note(events, place)?;
+        return Ok(notices);
+    }
+    let before = *gaps.time(event.processor);
+    gaps.note(events, place)?;
+    if takes(event.kind) {
+        notices_in(alloc, gaps, &taking_span(gaps, event.processor, &before))
+    } else {
+        Ok(Vec::new(alloc))
+    }
+}
