@@ -15,7 +15,7 @@ use Rattle.journal.specs.Waits.{awaited}
 use Rattle.journal.specs.WellFormed.{AnswersCall, Holds, LastIs, MayBeGranted, MayFollow}
 use Rattle.journal.proofs.Order.CountedAndNumbered.{numbered_at_within}
 use Rattle.journal.proofs.Journals.WellFormedLast.{last_unique, last_now, last_longer, last_shorter}
-use Rattle.judge.specs.Why.{WhyWaitsFor}
+use Rattle.judge.specs.Why.{AwaitsKind}
 use Rattle.explore.specs.Waiting.{WaitingAsksAt, IsWaitingForLock, IsFirstWaiting, TellsWaiting}
 use Rattle.explore.specs.Waits.{WaitsAreKept, wait_code_ending, wait_code_seated}
 use Rattle.explore.specs.declared.wait.WaitCode.{WaitCode}
@@ -24,7 +24,7 @@ use Rattle.explore.specs.declared.waiting.Waiting.{Waiting}
 use Rattle.explore.proofs.Waits.{wait_code_ending_lock}
 
 -- who asks for a lock waits for it
-asks_waits : (j : List Event) (p i l : ℕ) → LastIs j p i (Ask l) → WhyWaitsFor j p (Acquire l)
+asks_waits : (j : List Event) (p i l : ℕ) → LastIs j p i (Ask l) → AwaitsKind j p (Acquire l)
 asks_waits j p i l last = record { place = i; kind = Ask l; last = last; awaits = refl }
 
 -- and who waits for a lock has asked for it
@@ -34,7 +34,7 @@ acquire_awaited_asked Arrive l is = absurd cc
 acquire_awaited_asked (Watch f) l is = absurd cc
 acquire_awaited_asked _ l is = absurd (none-some (Acquire l) is)
 
-pub waits_asks : (j : List Event) (p l : ℕ) → WhyWaitsFor j p (Acquire l) → (i : ℕ) × LastIs j p i (Ask l)
+pub waits_asks : (j : List Event) (p l : ℕ) → AwaitsKind j p (Acquire l) → (i : ℕ) × LastIs j p i (Ask l)
 waits_asks j p l w = (w.place, subst (LastIs j p w.place) (acquire_awaited_asked w.kind l w.awaits) w.last)
 
 -- a processor's open ask is one
@@ -117,14 +117,14 @@ asked_last_others j p q i k a apart = (
   last_shorter j (event p k ∷ []) q i a (asked_one_away (event p k) q apart),
 )
 
-asked_waits_own : (j : List Event) (p : ℕ) (k b : Kind) → (awaited k ≡ Some b) ↔ WhyWaitsFor (did j p k) p b
+asked_waits_own : (j : List Event) (p : ℕ) (k b : Kind) → (awaited k ≡ Some b) ↔ AwaitsKind (did j p k) p b
 asked_waits_own j p k b = (
   λ is. record { place = length j; kind = k; last = last_now j (event p k); awaits = is },
   λ w. let same = last_unique (did j p k) p (length j) w.place k w.kind (last_now j (event p k)) w.last in
       ap awaited same.1 ∙ w.awaits,
 )
 
-asked_waits_others : (j : List Event) (p q : ℕ) (k b : Kind) → p ≢ q → WhyWaitsFor j q b ↔ WhyWaitsFor (did j p k) q b
+asked_waits_others : (j : List Event) (p q : ℕ) (k b : Kind) → p ≢ q → AwaitsKind j q b ↔ AwaitsKind (did j p k) q b
 asked_waits_others j p q k b apart = (
   λ w. record {
     place = w.place;
@@ -145,12 +145,12 @@ pub asked_waits_next : (j : List Event) (p : ℕ) (k : Kind) (waits : List (Opti
     → wait_code_ending w ≡ awaited k → WaitsAreKept j waits → WaitsAreKept (did j p k) (slice_set waits p w)
 asked_waits_next j p k waits w within ends old q b = elim (cases_eq q p) [
   | inl is ↦
-      subst (λ r. (wait_code_ending (slice_index_or (slice_set waits p w) r None) ≡ Some b) ↔ WhyWaitsFor (did j p k) r b) (sym is)
-      (subst (λ o. (o ≡ Some b) ↔ WhyWaitsFor (did j p k) p b)
+      subst (λ r. (wait_code_ending (slice_index_or (slice_set waits p w) r None) ≡ Some b) ↔ AwaitsKind (did j p k) r b) (sym is)
+      (subst (λ o. (o ≡ Some b) ↔ AwaitsKind (did j p k) p b)
       (sym (ap wait_code_ending (get_or-set_same waits p w None within) ∙ ends)) (asked_waits_own j p k b))
   | inr isnt ↦
       (let other = asked_waits_others j p q k b (λ same. isnt (sym same)) in
-      subst (λ o. (wait_code_ending o ≡ Some b) ↔ WhyWaitsFor (did j p k) q b) (sym (get_or-set_other waits p q w None isnt))
+      subst (λ o. (wait_code_ending o ≡ Some b) ↔ AwaitsKind (did j p k) q b) (sym (get_or-set_other waits p q w None isnt))
       ((λ is. other.0 ((old q b).0 is)), (λ w. (old q b).1 (other.1 w))))
 ]
 

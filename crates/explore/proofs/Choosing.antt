@@ -9,7 +9,7 @@ use Rattle.journal.specs.declared.event.Kind.TheVariants.{Ask}
 use Rattle.lrc_script.specs.Plan.{Plan}
 use Rattle.explore.specs.declared.prefixes.script_call.ScriptCall.{ScriptCall}
 use Rattle.explore.specs.declared.prefixes.script_call.ScriptCall.TheVariants.{Call}
-use Rattle.explore.specs.Free.{AreAskEnds, AreAskEndsOfAll, AreAsksSmall, IsFreeAmongNexts, IsAskAt, IsAskSmall, IsAskedByAll, IsChoice, IsFree, IsFreeOf, ask_end_after}
+use Rattle.explore.specs.Free.{AreAskEnds, AreAskEndsOfAll, AreAsksSmall, AreAmongNexts, IsAskAt, IsAskSmall, IsAskedByAll, IsChoice, IsFree, IsFreeOf, ask_end_after}
 use Rattle.explore.specs.Guarded.{AreGuarded}
 use Rattle.explore.specs.Machines.{AreLawfulMachineSteps, IsProperMachineStep}
 use Rattle.explore.proofs.Machines.{machine_row_proper, machine_row_steps}
@@ -24,22 +24,8 @@ pub choosing_one : (rows : List (Vec ScriptCall)) (words : List Bool) (done : Li
 choosing_one rows words done nexts chosen p k are free at here =
     inr (inl (record { processor = p; kind = k; at = at; chosen_at = here; free = choosing_free_of rows words k are free }))
 
-pub chosen_asks : (rows : List (Vec ScriptCall)) (ends : List (List ℕ)) (done : List ℕ) (nexts chosen : List (Option Kind)) (l : ℕ)
-    → AreAskEndsOfAll rows ends → IsAskedByAll done nexts ends l
-    → ((p : ℕ) → slice_index_or nexts p None ≡ Some (Ask l) → slice_index_or chosen p None ≡ Some (Ask l))
-    → IsChoice rows done nexts chosen
-chosen_asks rows ends done nexts chosen l are asked all = inr (inr (record {
-  lock = l;
-  processor = asked.processor;
-  asks = asked.asks;
-  all = all;
-  others = λ p i row at behind asks.
-      let lt = are p row at i l asks in
-      asked.others p (omega (arith, lt, behind));
-}))
-
 pub choosing_among_one : (nexts chosen : List (Option Kind)) (p : ℕ) (k : Kind) → slice_index_or nexts p None ≡ Some k
-    → ((q : ℕ) (j : Kind) → slice_index_or chosen q None ≡ Some j → (q ≡ p) × (j ≡ k)) → IsFreeAmongNexts nexts chosen
+    → ((q : ℕ) (j : Kind) → slice_index_or chosen q None ≡ Some j → (q ≡ p) × (j ≡ k)) → AreAmongNexts nexts chosen
 choosing_among_one nexts chosen p k at only q j there =
     let is = only q j there in
     subst (λ r. slice_index_or nexts r None ≡ Some j) (sym is.0)
@@ -68,8 +54,8 @@ asks_set nexts asks p l o within old new q lt at = elim (cases_eq q p) [
 ]
 
 -- and no other
-pub among_set : (nexts asks : List (Option Kind)) (p : ℕ) (o : Option Kind) → p < length asks → IsFreeAmongNexts nexts asks
-    → ((k : Kind) → o ≡ Some k → slice_index_or nexts p None ≡ Some k) → IsFreeAmongNexts nexts (slice_set asks p o)
+pub among_set : (nexts asks : List (Option Kind)) (p : ℕ) (o : Option Kind) → p < length asks → AreAmongNexts nexts asks
+    → ((k : Kind) → o ≡ Some k → slice_index_or nexts p None ≡ Some k) → AreAmongNexts nexts (slice_set asks p o)
 among_set nexts asks p o within old new q k at = elim (cases_eq q p) [
   | inl is ↦
       ap (λ r. slice_index_or nexts r None) is

@@ -14,12 +14,12 @@ use Rattle.journal.specs.WellFormed.{Allowed, AnswersCall, KindInRange, LastIs, 
 use Rattle.journal.proofs.Journals.WellFormedLast.{last_unique}
 use Rattle.journal.proofs.Journals.ReadyIdleWaits.{waits_awaited_answers, idle_answers, waits_for}
 use Rattle.judge.specs.FrontTells.{TellsFlagSet}
-use Rattle.judge.specs.Why.{WhyWaitsFor}
+use Rattle.judge.specs.Why.{AwaitsKind}
 use Rattle.judge.proofs.Verdicts.{verdict_quiet_kind, verdict_waits_takes}
 use Rattle.explore.proofs.Asked.{waits_asks}
 
 -- a lock that is waited for
-pub acquire_following : (s : Sizes) (j : List Event) (p l : ℕ) (b : Bool) → WhyWaitsFor j p (Acquire l)
+pub acquire_following : (s : Sizes) (j : List Event) (p l : ℕ) (b : Bool) → AwaitsKind j p (Acquire l)
     → ((i : ℕ) → LastIs j p i (Ask l) → IsTrue b ↔ MayBeGranted j i l) → IsTrue b ↔ Allowed s j p (Acquire l)
 acquire_following s j p l b waits is =
     let asks = waits_asks j p l waits in (
@@ -34,7 +34,7 @@ depart_awaited_following Arrive is = refl
 depart_awaited_following (Watch f) is = absurd cc
 depart_awaited_following _ is = absurd (none-some Depart is)
 
-pub depart_following : (s : Sizes) (j : List Event) (p n : ℕ) (b : Bool) → s.processors ≡ n → WhyWaitsFor j p Depart
+pub depart_following : (s : Sizes) (j : List Event) (p n : ℕ) (b : Bool) → s.processors ≡ n → AwaitsKind j p Depart
     → IsTrue b ↔ ((q : ℕ) → q < n → count_of is_depart j p + 1 ≤ count_of is_arrive j q)
     → IsTrue b ↔ Allowed s j p Depart
 depart_following s j p n b many waits is =
@@ -50,7 +50,7 @@ await_awaited_following Arrive f is = absurd cc
 await_awaited_following (Watch g) f is = cc
 await_awaited_following _ f is = absurd (none-some (Await f) is)
 
-pub await_following : (s : Sizes) (j : List Event) (p f : ℕ) (b : Bool) → WhyWaitsFor j p (Await f)
+pub await_following : (s : Sizes) (j : List Event) (p f : ℕ) (b : Bool) → AwaitsKind j p (Await f)
     → IsTrue b ↔ TellsFlagSet j f → IsTrue b ↔ Allowed s j p (Await f)
 await_following s j p f b waits is =
     let last = subst (LastIs j p waits.place) (await_awaited_following waits.kind f waits.awaits) waits.last in (
@@ -60,13 +60,13 @@ await_following s j p f b waits is =
 
 -- nothing else is waited for
 pub other_awaited_following : (j : List Event) (p : ℕ) (k : Kind) → ((l : ℕ) → k ≢ Acquire l) → k ≢ Depart
-    → ((f : ℕ) → k ≢ Await f) → ¬ WhyWaitsFor j p k
+    → ((f : ℕ) → k ≢ Await f) → ¬ AwaitsKind j p k
 other_awaited_following j p k acquires departs awaits waits =
     false≢true (sym (verdict_quiet_kind k acquires departs awaits) ∙ verdict_waits_takes j p k waits)
 
 -- what a processor is allowed to take it waits for
 pub taking_waits_following : (s : Sizes) (j : List Event) (p : ℕ) (k : Kind) → IsTrue (is_taking k) → Allowed s j p k
-    → WhyWaitsFor j p k
+    → AwaitsKind j p k
 taking_waits_following s j p k takes allowed =
     let w = waits_for s j p k takes allowed in
     record { place = w.place; kind = w.call; last = w.last; awaits = w.awaits }
@@ -89,12 +89,12 @@ answers_awaited_following (Watch f) k b waits is = sym (is ∙ same_Some (Await 
 answers_awaited_following _ k b waits is = absurd (none-some k waits)
 
 -- a processor that waits does nothing else
-pub waits_only_following : (s : Sizes) (j : List Event) (p : ℕ) (k b : Kind) → WhyWaitsFor j p k → MayFollow s j (event p b) → k ≡ b
+pub waits_only_following : (s : Sizes) (j : List Event) (p : ℕ) (k b : Kind) → AwaitsKind j p k → MayFollow s j (event p b) → k ≡ b
 waits_only_following s j p k b waits may = answers_awaited_following waits.kind k b waits.awaits (may.answers waits.place waits.kind waits.last)
 
 -- it may go on exactly where that is allowed
 pub waiting_follows : (s : Sizes) (j : List Event) (p : ℕ) (k : Kind) → p < s.processors → KindInRange s k
-    → WhyWaitsFor j p k → Allowed s j p k ↔ MayFollow s j (event p k)
+    → AwaitsKind j p k → Allowed s j p k ↔ MayFollow s j (event p k)
 waiting_follows s j p k within range waits = (
   λ allowed. record {
     processor = within;
@@ -108,7 +108,7 @@ waiting_follows s j p k within range waits = (
 
 -- and one that waits for nothing, too
 pub idle_follows : (s : Sizes) (j : List Event) (p : ℕ) (k : Kind) → p < s.processors → KindInRange s k
-    → ((b : Kind) → ¬ WhyWaitsFor j p b) → Allowed s j p k ↔ MayFollow s j (event p k)
+    → ((b : Kind) → ¬ AwaitsKind j p b) → Allowed s j p k ↔ MayFollow s j (event p k)
 idle_follows s j p k within range idle = (
   λ allowed. record {
     processor = within;

@@ -16,15 +16,15 @@ use Rattle.lrc_script.specs.declared.script.Instruction.TheVariants.{Load, Store
 use Rattle.lrc_script.specs.Plan.{Plan}
 use Rattle.lrc_script.specs.Lawful.{IsLawful, IsLawfulSection}
 use Rattle.conformance.specs.Begins.{BeginsSection}
-use Rattle.conformance.specs.Follows.{followed_calls, FollowsSection}
+use Rattle.conformance.specs.Follows.{calls_of, FollowsSection}
 use Rattle.conformance.specs.FlatRuns.{FlatRunHasNoFetch}
 use Rattle.conformance.proofs.Calls.{followed_calls-own, followed_calls-others}
 use Rattle.explore.specs.Prefixes.Beginnings.{IsFlatBeginning}
-use Rattle.explore.specs.Prefixes.Calling.{prefix_calling_load_steps, prefix_calling_section_steps, prefix_calling_shown_by, prefix_calling_steps, prefix_calling_all_steps}
+use Rattle.explore.specs.Prefixes.Calling.{calling_load_steps, calling_section_steps, calling_shown_by, calling_steps, calling_steps_of_all}
 use Rattle.explore.proofs.prefixes.Calling.{prefix_calling_follows_length}
 
 -- steps of instructions
-step_length_two : (i : Instruction) → length (prefix_calling_steps i) ≤ 2
+step_length_two : (i : Instruction) → length (calling_steps i) ≤ 2
 step_length_two (Load a) = omega arith
 step_length_two (Store a v) = omega arith
 step_length_two (Add a v) = omega arith
@@ -35,29 +35,29 @@ step_length_two (Set f) = omega arith
 step_length_two (Await f) = omega arith
 step_length_two Cut = omega arith
 
-steps_length_few : (is : List Instruction) → length (prefix_calling_all_steps is) ≤ 2 * length is
+steps_length_few : (is : List Instruction) → length (calling_steps_of_all is) ≤ 2 * length is
 steps_length_few [] = omega arith
 steps_length_few (i ∷ is) =
     let one = step_length_two i in
     let rest = steps_length_few is in
-    let both = length-append (prefix_calling_steps i) (prefix_calling_all_steps is) in
+    let both = length-append (calling_steps i) (calling_steps_of_all is) in
     omega arith
 
-load_steps_length : (shown : List ℕ) → length (prefix_calling_load_steps shown) ≡ length shown
+load_steps_length : (shown : List ℕ) → length (calling_load_steps shown) ≡ length shown
 load_steps_length [] = refl
 load_steps_length (a ∷ shown) = ap suc (load_steps_length shown)
 
 pub section_length_few : (section : List Instruction) (shown : List ℕ) → length section ≤ 10000 → length shown ≤ 64
-    → length (prefix_calling_section_steps section shown) ≤ 20066
+    → length (calling_section_steps section shown) ≤ 20066
 section_length_few section shown few shows =
     let own = steps_length_few section in
     let loads = load_steps_length shown in
-    let both = length-append (prefix_calling_all_steps section) (prefix_calling_section_steps [] shown) in
+    let both = length-append (calling_steps_of_all section) (calling_section_steps [] shown) in
     omega arith
 
 -- calls that begin a section
 pub begun_length_few : (section : List Instruction) (shown : List ℕ) (kinds : List Kind) → BeginsSection section shown kinds
-    → length kinds ≤ length (prefix_calling_section_steps section shown)
+    → length kinds ≤ length (calling_section_steps section shown)
 begun_length_few section shown kinds begins =
     let whole = prefix_calling_follows_length section shown (kinds ++ begins.rest)
     (record { rest = []; follows = subst (FollowsSection section shown) (sym (append-nil (kinds ++ begins.rest))) begins.follows }) in
@@ -104,27 +104,27 @@ lengths_total_few f (suc n) most few =
 
 -- each event is its processor's call
 length_total : (n : ℕ) (g : List Event) → FlatRunHasNoFetch g → ProcessorsInRange n g
-    → length g ≡ lengths_total (λ p. length (followed_calls g p)) n
+    → length g ≡ lengths_total (λ p. length (calls_of g p)) n
 length_total n = slice_push_induction (λ (g : List Event). FlatRunHasNoFetch g → ProcessorsInRange n g
-    → length g ≡ lengths_total (λ p. length (followed_calls g p)) n) (λ none within. sym (lengths_total_zero n)) step
+    → length g ≡ lengths_total (λ p. length (calls_of g p)) n) (λ none within. sym (lengths_total_zero n)) step
   where
     step : (g : List Event) (e : Event)
-        → (FlatRunHasNoFetch g → ProcessorsInRange n g → length g ≡ lengths_total (λ p. length (followed_calls g p)) n)
+        → (FlatRunHasNoFetch g → ProcessorsInRange n g → length g ≡ lengths_total (λ p. length (calls_of g p)) n)
         → FlatRunHasNoFetch (g ++ e ∷ []) → ProcessorsInRange n (g ++ e ∷ [])
-        → length (g ++ e ∷ []) ≡ lengths_total (λ p. length (followed_calls (g ++ e ∷ []) p)) n
+        → length (g ++ e ∷ []) ≡ lengths_total (λ p. length (calls_of (g ++ e ∷ []) p)) n
     step g e old none within =
         let before = old (λ i f at. none i f (numbered_at_longer g (e ∷ []) i f at)) (λ i f at. within i f (numbered_at_longer g (e ∷ []) i f at)) in
         let call = none (length g) e (numbered_at_last g e) in
-        let mine : length (followed_calls (g ++ e ∷ []) e.processor) ≡ suc (length (followed_calls g e.processor)) =
+        let mine : length (calls_of (g ++ e ∷ []) e.processor) ≡ suc (length (calls_of g e.processor)) =
         (let own = ap (λ (ks : List Kind). length ks) (followed_calls-own g e.processor e.kind call) in
-        let both = length-append (followed_calls g e.processor) (e.kind ∷ []) in omega arith) in
-        let more = lengths_total_more (λ p. length (followed_calls g p)) (λ p. length (followed_calls (g ++ e ∷ []) p)) n e.processor
+        let both = length-append (calls_of g e.processor) (e.kind ∷ []) in omega arith) in
+        let more = lengths_total_more (λ p. length (calls_of g p)) (λ p. length (calls_of (g ++ e ∷ []) p)) n e.processor
         (within (length g) e (numbered_at_last g e)) mine
         (λ q apart. ap (λ (ks : List Kind). length ks) (followed_calls-others g e.processor q e.kind apart)) in
         let longer = length-append g (e ∷ []) in
         omega arith
 
-pub shown_length_few : (s : Plan) (p : ℕ) → IsLawful s → length (prefix_calling_shown_by s p) ≤ 64
+pub shown_length_few : (s : Plan) (p : ℕ) → IsLawful s → length (calling_shown_by s p) ≤ 64
 shown_length_few s p lawful = go (p == 0)
   where
     go : (b : Bool) → length (cond b s.shown []) ≤ 64
@@ -133,14 +133,14 @@ shown_length_few s p lawful = go (p == 0)
 
 -- no processor calls more than its section says
 pub calls_length_few : (s : Plan) (g : List Event) (p : ℕ) → IsLawful s → IsFlatBeginning s g → p < s.processors
-    → length (followed_calls g p) ≤ 20066
+    → length (calls_of g p) ≤ 20066
 calls_length_few s g p lawful begins lt =
     let long = lawful.but_uneven.one_each in
     let within : p < length s.sections = omega arith in
     let section = slice_index_or s.sections p [] in
     let is = All-get_or (IsLawfulSection s) s.sections p [] within lawful.but_uneven.sections in
-    let begun = begun_length_few section (prefix_calling_shown_by s p) (followed_calls g p) (begins.begins p section (slice_get-get_or s.sections p [] within)) in
-    let few = section_length_few section (prefix_calling_shown_by s p) is.most (shown_length_few s p lawful) in
+    let begun = begun_length_few section (calling_shown_by s p) (calls_of g p) (begins.begins p section (slice_get-get_or s.sections p [] within)) in
+    let few = section_length_few section (calling_shown_by s p) is.most (shown_length_few s p lawful) in
     omega arith
 
 -- the processors of a beginning
@@ -151,6 +151,6 @@ length_processors_of s g begins i e at = (begins.well_formed i e at).processor
 pub history_length_few : (s : Plan) (g : List Event) → IsLawful s → IsFlatBeginning s g → length g < most_held
 history_length_few s g lawful begins =
     let is = length_total s.processors g begins.no_fetch (length_processors_of s g begins) in
-    let few = lengths_total_few (λ p. length (followed_calls g p)) s.processors 20066 (λ q lt. calls_length_few s g q lawful begins lt) in
+    let few = lengths_total_few (λ p. length (calls_of g p)) s.processors 20066 (λ q lt. calls_length_few s g q lawful begins lt) in
     let most = lawful.but_uneven.sizes.most_processors in
     omega arith

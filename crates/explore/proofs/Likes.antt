@@ -6,7 +6,7 @@ use Rattle.journal.specs.Events.{count_of, is_arrive, is_depart}
 use Rattle.journal.specs.WellFormed.{Holds}
 use Rattle.judge.specs.FrontTells.{TellsFlagSet}
 use Rattle.lrc_script.specs.Plan.{Plan}
-use Rattle.conformance.specs.Follows.{followed_calls}
+use Rattle.conformance.specs.Follows.{calls_of}
 use Rattle.explore.specs.declared.flat_state.FlatState.{FlatState}
 use Rattle.explore.specs.declared.waiting.Waiting.{Waiting}
 use Rattle.explore.specs.Machines.{SameMachineState, Knows}
@@ -38,7 +38,7 @@ pub knows_like : (s : Plan) (g : List Event) (m n : FlatState) → SameMachineSt
 knows_like s g m n like knows = record {
   beginning = knows.beginning;
   long = ap (λ (ns : List ℕ). length ns) like.done ∙ knows.long;
-  done = subst (λ ns. (p : ℕ) → p < 16 → slice_index ns p ≡ length (followed_calls g p)) (sym like.done) knows.done;
+  done = subst (λ ns. (p : ℕ) → p < 16 → slice_index ns p ≡ length (calls_of g p)) (sym like.done) knows.done;
   replies = subst (AreOutcomeReplies s g) (sym like.replies) knows.replies;
   memory = like.memory ∙ knows.memory;
   waiting = tells_like g m.waiting n.waiting like.waiting knows.waiting;

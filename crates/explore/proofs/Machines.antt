@@ -19,7 +19,7 @@ use Rattle.journal.specs.WellFormed.{KindInRange, MayFollow}
 use Rattle.lrc_script.specs.declared.script.Instruction.{Instruction}
 use Rattle.lrc_script.specs.Plan.{Plan}
 use Rattle.lrc_script.specs.Lawful.{plan_addresses, IsLawful, IsLawfulSection}
-use Rattle.conformance.specs.Follows.{followed_calls, is_followed_fetch, followed_plan_sizes}
+use Rattle.conformance.specs.Follows.{calls_of, is_fetch, plan_sizes}
 use Rattle.conformance.proofs.Calls.{followed_calls-own, followed_calls-others}
 use Rattle.judge.specs.Sizes.{AreSizesSmall}
 use Rattle.conformance.proofs.Script.SectionSteps.{told, section_load_told, is_section_load}
@@ -27,7 +27,7 @@ use Rattle.explore.specs.declared.prefixes.script_call.ScriptCall.{ScriptCall}
 use Rattle.explore.specs.declared.prefixes.script_call.ScriptCall.TheVariants.{Call, Adds}
 use Rattle.explore.specs.declared.flat_state.FlatState.{FlatState}
 use Rattle.explore.specs.Prefixes.Beginnings.{IsFlatBeginning}
-use Rattle.explore.specs.Prefixes.Calling.{AreCallingSteps, IsCalledNext, IsCallOfStep, last_reply_of_calls, replyless_call, prefix_calling_section_steps, prefix_calling_shown_by}
+use Rattle.explore.specs.Prefixes.Calling.{AreCallingSteps, IsCalledNext, IsCallOfStep, last_reply_of_calls, replyless_call, calling_section_steps, calling_shown_by}
 use Rattle.explore.specs.Machines.{AreLawfulMachineSteps, MachineStepReads, IsProperMachineStep, Knows}
 use Rattle.explore.proofs.prefixes.Beginnings.{beginning_next}
 use Rattle.explore.proofs.Proper.{proper_section}
@@ -72,21 +72,21 @@ machine_range_replyless : (s : Sizes) (k : Kind) → KindInRange s k ↔ KindInR
 machine_range_replyless s (kind.Load a v) = ((λ h. h), (λ h. h))
 machine_range_replyless s _ = ((λ h. h), (λ h. h))
 
-machine_fetch_replyless : (k : Kind) → is_followed_fetch (replyless_call k) ≡ is_followed_fetch k
+machine_fetch_replyless : (k : Kind) → is_fetch (replyless_call k) ≡ is_fetch k
 machine_fetch_replyless (kind.Load a v) = refl
 machine_fetch_replyless _ = refl
 
 pub machine_step_range : (s : Plan) (reply : ℕ) (x : ScriptCall) (k : Kind) → IsProperMachineStep s x → IsCallOfStep reply x k
-    → KindInRange (followed_plan_sizes s) k
+    → KindInRange (plan_sizes s) k
 machine_step_range s reply (Call c) k proper is =
-    (machine_range_replyless (followed_plan_sizes s) k).1
-    (subst (KindInRange (followed_plan_sizes s)) (sym is) ((machine_range_replyless (followed_plan_sizes s) c).0 proper.0))
-machine_step_range s reply (Adds a v) k proper is = subst (KindInRange (followed_plan_sizes s)) (sym is) proper
+    (machine_range_replyless (plan_sizes s) k).1
+    (subst (KindInRange (plan_sizes s)) (sym is) ((machine_range_replyless (plan_sizes s) c).0 proper.0))
+machine_step_range s reply (Adds a v) k proper is = subst (KindInRange (plan_sizes s)) (sym is) proper
 
-machine_step_call : (s : Plan) (reply : ℕ) (x : ScriptCall) (k : Kind) → IsProperMachineStep s x → IsCallOfStep reply x k → is_followed_fetch k ≡ false
+machine_step_call : (s : Plan) (reply : ℕ) (x : ScriptCall) (k : Kind) → IsProperMachineStep s x → IsCallOfStep reply x k → is_fetch k ≡ false
 machine_step_call s reply (Call c) k proper is =
-    sym (machine_fetch_replyless k) ∙ ap is_followed_fetch is ∙ machine_fetch_replyless c ∙ proper.1
-machine_step_call s reply (Adds a v) k proper is = ap is_followed_fetch is
+    sym (machine_fetch_replyless k) ∙ ap is_fetch is ∙ machine_fetch_replyless c ∙ proper.1
+machine_step_call s reply (Adds a v) k proper is = ap is_fetch is
 
 -- and its address has a word
 pub machine_step_word : (s : Plan) (x : ScriptCall) (size : ℕ) → size ≡ plan_addresses s → IsProperMachineStep s x → MachineStepReads size x
@@ -104,7 +104,7 @@ machine_memory_long s g m knows =
 pub record IsMachineRow (s : Plan) (p : ℕ) (row : Vec ScriptCall) : Type 0 where
   pub section : List Instruction
   pub at : slice_get s.sections p ≡ Some section
-  pub are : row.items ≡ prefix_calling_section_steps section (prefix_calling_shown_by s p)
+  pub are : row.items ≡ calling_section_steps section (calling_shown_by s p)
 
 pub machine_row_steps : (s : Plan) (steps : List (Vec ScriptCall)) (p : ℕ) (row : Vec ScriptCall) → AreCallingSteps s steps
     → slice_get steps p ≡ Some row → IsMachineRow s p row
@@ -119,7 +119,7 @@ machine_row_steps s steps p row are at =
       are = are.each p (slice_index_or s.sections p []) row here at;
     }
 
-machine_shown_small : (s : Plan) (p : ℕ) → IsLawful s → All (λ a. a < plan_addresses s) (prefix_calling_shown_by s p)
+machine_shown_small : (s : Plan) (p : ℕ) → IsLawful s → All (λ a. a < plan_addresses s) (calling_shown_by s p)
 machine_shown_small s p lawful = go (p == 0)
   where
     go : (b : Bool) → All (λ a. a < plan_addresses s) (cond b s.shown [])
@@ -135,58 +135,58 @@ machine_row_proper s p row n x lawful of at =
     (sym (slice_get-get_or s.sections p [] (slice_get_within s.sections p of.section of.at)) ∙ of.at))
     (All-get_or (IsLawfulSection s) s.sections p [] (slice_get_within s.sections p of.section of.at)
     lawful.but_uneven.sections) in
-    proper_section s of.section (prefix_calling_shown_by s p) section_lawful.in_range (machine_shown_small s p lawful) x
+    proper_section s of.section (calling_shown_by s p) section_lawful.in_range (machine_shown_small s p lawful) x
     (n, subst (λ xs. slice_get xs n ≡ Some x) of.are at)
 
 module _ (s : Plan) (g : List Event) (m : FlatState) (p : ℕ) (row : Vec ScriptCall) (lawful : IsLawful s) (of : IsMachineRow s p row)
     (small : p < 16) (knows : Knows s g m) where
-  machine_called : (k : Kind) → IsFlatBeginning s (did g p k) → IsCalledNext row.items (followed_calls g p) k
+  machine_called : (k : Kind) → IsFlatBeginning s (did g p k) → IsCalledNext row.items (calls_of g p) k
   machine_called k h =
-      subst (λ xs. IsCalledNext xs (followed_calls g p) k) (sym of.are)
+      subst (λ xs. IsCalledNext xs (calls_of g p) k) (sym of.are)
       (((beginning_next s g p k).0 h).1.calls.next of.section of.at)
 
   -- where all calls are made, there is no next one
   pub machine_past_steps : length row.items ≤ slice_index m.done p → (k : Kind) → ¬ IsFlatBeginning s (did g p k)
   machine_past_steps past k h =
       let next = machine_called k h in
-      let within = slice_get_within row.items (length (followed_calls g p)) next.step next.at in
+      let within = slice_get_within row.items (length (calls_of g p)) next.step next.at in
       let done = knows.done p small in
       omega (arith, within, done)
 
   -- else the next step says which it may be
-  pub machine_at_step : (reply : ℕ) → reply ≡ last_reply_of_calls (followed_calls g p) → (x : ScriptCall)
+  pub machine_at_step : (reply : ℕ) → reply ≡ last_reply_of_calls (calls_of g p) → (x : ScriptCall)
       → slice_get row.items (slice_index m.done p) ≡ Some x → (c : Kind)
       → ((k : Kind) → (c ≡ k) ↔ (IsCallOfStep reply x k × AnswersFlatWord m.memory.items k)) → (k : Kind)
-      → IsFlatBeginning s (did g p k) ↔ (MayFollow (followed_plan_sizes s) g (event p c) × (c ≡ k))
+      → IsFlatBeginning s (did g p k) ↔ (MayFollow (plan_sizes s) g (event p c) × (c ≡ k))
   machine_at_step reply told x at c says k = (there, back)
     where
-      next_at : slice_get row.items (length (followed_calls g p)) ≡ Some x
+      next_at : slice_get row.items (length (calls_of g p)) ≡ Some x
       next_at = subst (λ n. slice_get row.items n ≡ Some x) (knows.done p small) at
 
-      there : IsFlatBeginning s (did g p k) → MayFollow (followed_plan_sizes s) g (event p c) × (c ≡ k)
+      there : IsFlatBeginning s (did g p k) → MayFollow (plan_sizes s) g (event p c) × (c ≡ k)
       there h =
           let next = machine_called k h in
           let all = ((beginning_next s g p k).0 h).1 in
           let same = same_Some next.step x (sym next.at ∙ next_at) in
-          let step = subst (λ y. IsCallOfStep (last_reply_of_calls (followed_calls g p)) y k) same next.is in
+          let step = subst (λ y. IsCallOfStep (last_reply_of_calls (calls_of g p)) y k) same next.is in
           let mine = subst (λ r. IsCallOfStep r x k) (sym told) step in
           let word = subst (λ xs. AnswersFlatWord xs k) (sym knows.memory) all.answers in
           let is = (says k).1 (mine, word) in
-          (subst (λ y. MayFollow (followed_plan_sizes s) g (event p y)) (sym is) all.may_follow, is)
+          (subst (λ y. MayFollow (plan_sizes s) g (event p y)) (sym is) all.may_follow, is)
 
-      back : MayFollow (followed_plan_sizes s) g (event p c) × (c ≡ k) → IsFlatBeginning s (did g p k)
+      back : MayFollow (plan_sizes s) g (event p c) × (c ≡ k) → IsFlatBeginning s (did g p k)
       back h =
           let both = (says k).0 h.1 in
           let step = subst (λ r. IsCallOfStep r x k) told both.0 in
           (beginning_next s g p k).1 (
             knows.beginning,
             record {
-              may_follow = subst (λ y. MayFollow (followed_plan_sizes s) g (event p y)) h.1 h.0;
+              may_follow = subst (λ y. MayFollow (plan_sizes s) g (event p y)) h.1 h.0;
               calls = record {
-                call = machine_step_call s (last_reply_of_calls (followed_calls g p)) x k (machine_row_proper s p row (slice_index m.done p) x lawful of at) step;
+                call = machine_step_call s (last_reply_of_calls (calls_of g p)) x k (machine_row_proper s p row (slice_index m.done p) x lawful of at) step;
                 next = λ section here.
-                    subst (λ ys. IsCalledNext ys (followed_calls g p) k)
-                    (of.are ∙ ap (λ y. prefix_calling_section_steps y (prefix_calling_shown_by s p)) (same_Some of.section section (sym of.at ∙ here)))
+                    subst (λ ys. IsCalledNext ys (calls_of g p) k)
+                    (of.are ∙ ap (λ y. calling_section_steps y (calling_shown_by s p)) (same_Some of.section section (sym of.at ∙ here)))
                     (record { step = x; at = next_at; is = step });
               };
               answers = subst (λ xs. AnswersFlatWord xs k) knows.memory both.1;
@@ -194,7 +194,7 @@ module _ (s : Plan) (g : List Event) (m : FlatState) (p : ℕ) (row : Vec Script
           )
 
 -- the sizes of a lawful script
-pub machine_sizes_small : (s : Plan) → IsLawful s → AreSizesSmall (followed_plan_sizes s)
+pub machine_sizes_small : (s : Plan) → IsLawful s → AreSizesSmall (plan_sizes s)
 machine_sizes_small s lawful =
     let sizes = lawful.but_uneven.sizes in
     record {
@@ -230,33 +230,33 @@ pub machine_read_at : {A : Type 0} (xs : List A) (k : ℕ) (x : A) → k < lengt
 machine_read_at xs k x lt is = slice_get-get_or xs k x lt ∙ ap Some (sym is)
 
 -- an address in range is one of the memory
-pub machine_kind_address : (s : Plan) (k : Kind) (size : ℕ) → size ≡ plan_addresses s → KindInRange (followed_plan_sizes s) k → AddressInRange size k
+pub machine_kind_address : (s : Plan) (k : Kind) (size : ℕ) → size ≡ plan_addresses s → KindInRange (plan_sizes s) k → AddressInRange size k
 machine_kind_address s (kind.Load a v) size is range = subst (λ n. a < n) (sym is) range
 machine_kind_address s (kind.Store a v) size is range = subst (λ n. a < n) (sym is) range
 machine_kind_address s _ size is range = tt
 
 module _ (s : Plan) (g : List Event) (p : ℕ) (k : Kind) (next : IsFlatBeginning s (did g p k)) where
-  pub machine_next_may : MayFollow (followed_plan_sizes s) g (event p k)
+  pub machine_next_may : MayFollow (plan_sizes s) g (event p k)
   machine_next_may = ((beginning_next s g p k).0 next).1.may_follow
 
-  pub machine_next_call : is_followed_fetch k ≡ false
+  pub machine_next_call : is_fetch k ≡ false
   machine_next_call = ((beginning_next s g p k).0 next).1.calls.call
 
   pub machine_next_within : p < s.processors
   machine_next_within = machine_next_may.processor
 
   -- what processors have done, after one call more
-  pub machine_done_next : (ns : List ℕ) → length ns ≡ 16 → p < 16 → ((q : ℕ) → q < 16 → slice_index ns q ≡ length (followed_calls g q))
-      → (q : ℕ) → q < 16 → slice_index (slice_set ns p (slice_index ns p + 1)) q ≡ length (followed_calls (did g p k) q)
+  pub machine_done_next : (ns : List ℕ) → length ns ≡ 16 → p < 16 → ((q : ℕ) → q < 16 → slice_index ns q ≡ length (calls_of g q))
+      → (q : ℕ) → q < 16 → slice_index (slice_set ns p (slice_index ns p + 1)) q ≡ length (calls_of (did g p k) q)
   machine_done_next ns long small old q lt = elim (cases_eq q p) [
     | inl same ↦
         (let n = slice_index ns p + 1 in
         let mine = ap (λ (ks : List Kind). length ks) (followed_calls-own g p k machine_next_call) in
-        let both = length-append (followed_calls g p) (k ∷ []) in
+        let both = length-append (calls_of g p) (k ∷ []) in
         let was = old p small in
         let now : slice_index (slice_set ns p n) p ≡ n = get_or-set_same ns p n 0 (omega arith) in
-        let here : slice_index (slice_set ns p n) p ≡ length (followed_calls (did g p k) p) = omega arith in
-        subst (λ r. slice_index (slice_set ns p n) r ≡ length (followed_calls (did g p k) r)) (sym same) here)
+        let here : slice_index (slice_set ns p n) p ≡ length (calls_of (did g p k) p) = omega arith in
+        subst (λ r. slice_index (slice_set ns p n) r ≡ length (calls_of (did g p k) r)) (sym same) here)
     | inr isnt ↦
         get_or-set_other ns p q (slice_index ns p + 1) 0 isnt ∙ old q lt
         ∙ ap (λ (ks : List Kind). length ks) (sym (followed_calls-others g p q k (λ e. isnt (sym e))))

@@ -12,7 +12,7 @@ use Rattle.journal.specs.declared.event.Kind.{Kind}
 use Rattle.journal.specs.declared.event.Kind.TheVariants as kind
 use Rattle.journal.specs.DidEvent.{did}
 use Rattle.lrc_script.specs.Plan.{Plan}
-use Rattle.conformance.specs.Follows.{followed_calls, is_followed_fetch}
+use Rattle.conformance.specs.Follows.{calls_of, is_fetch}
 use Rattle.conformance.proofs.Calls.{followed_calls-own, followed_calls-others}
 use Rattle.explore.specs.Prefixes.Calling.{last_reply_of_calls, reply_after_call}
 use Rattle.explore.specs.Machines.{machine_rows, machine_last_or}
@@ -69,20 +69,20 @@ replies_row_push (x ∷ vs) v = ap (λ rows. x.items ∷ rows) (replies_row_push
 module _ (s : Plan) (g : List Event) (p : ℕ) (vs : List (Vec ℕ)) (v : Vec ℕ) (within : p < s.processors)
     (at : slice_get vs p ≡ Some v) (old : AreOutcomeReplies s g (machine_rows vs)) where
   -- the row of a processor has its replies
-  pub row_replies : v.items ≡ outcome_replies_in (followed_calls g p)
-  row_replies = same_Some v.items (outcome_replies_in (followed_calls g p)) (sym (replies_row_at vs p v at) ∙ old.each p within)
+  pub row_replies : v.items ≡ outcome_replies_in (calls_of g p)
+  row_replies = same_Some v.items (outcome_replies_in (calls_of g p)) (sym (replies_row_at vs p v at) ∙ old.each p within)
 
-  pub replies_last_told : (reply : ℕ) → reply ≡ machine_last_or 0 v.items → reply ≡ last_reply_of_calls (followed_calls g p)
-  replies_last_told reply is = is ∙ ap (machine_last_or 0) row_replies ∙ last_of_replies_from 0 (followed_calls g p)
+  pub replies_last_told : (reply : ℕ) → reply ≡ machine_last_or 0 v.items → reply ≡ last_reply_of_calls (calls_of g p)
+  replies_last_told reply is = is ∙ ap (machine_last_or 0) row_replies ∙ last_of_replies_from 0 (calls_of g p)
 
   -- and after its next call
-  pub replies_next : (k : Kind) (new : Vec ℕ) → is_followed_fetch k ≡ false → new.items ≡ v.items ++ outcome_replies_in (k ∷ [])
+  pub replies_next : (k : Kind) (new : Vec ℕ) → is_fetch k ≡ false → new.items ≡ v.items ++ outcome_replies_in (k ∷ [])
       → AreOutcomeReplies s (did g p k) (machine_rows (slice_set vs p new))
   replies_next k new call is = subst (AreOutcomeReplies s (did g p k)) (sym (replies_row_set vs p new)) (record {
     long = length-set (machine_rows vs) p new.items ∙ old.long;
     each = λ q lt. elim (cases_eq q p) [
       | inl same ↦
-          subst (λ r. slice_get (slice_set (machine_rows vs) p new.items) r ≡ Some (outcome_replies_in (followed_calls (did g p k) r)))
+          subst (λ r. slice_get (slice_set (machine_rows vs) p new.items) r ≡ Some (outcome_replies_in (calls_of (did g p k) r)))
           (sym same) mine
       | inr isnt ↦
           slice_get-set_other (machine_rows vs) p q new.items isnt ∙ old.each q lt
@@ -90,12 +90,12 @@ module _ (s : Plan) (g : List Event) (p : ℕ) (vs : List (Vec ℕ)) (v : Vec �
     ];
   })
     where
-      told : new.items ≡ outcome_replies_in (followed_calls (did g p k) p)
+      told : new.items ≡ outcome_replies_in (calls_of (did g p k) p)
       told =
           is ∙ ap (λ words. words ++ outcome_replies_in (k ∷ [])) row_replies
-          ∙ sym (outcome_replies_in-append (followed_calls g p) (k ∷ [])) ∙ ap outcome_replies_in (sym (followed_calls-own g p k call))
+          ∙ sym (outcome_replies_in-append (calls_of g p) (k ∷ [])) ∙ ap outcome_replies_in (sym (followed_calls-own g p k call))
 
-      mine : slice_get (slice_set (machine_rows vs) p new.items) p ≡ Some (outcome_replies_in (followed_calls (did g p k) p))
+      mine : slice_get (slice_set (machine_rows vs) p new.items) p ≡ Some (outcome_replies_in (calls_of (did g p k) p))
       mine =
           slice_get-set_same (machine_rows vs) p new.items (slice_get_within (machine_rows vs) p v.items (replies_row_at vs p v at))
           ∙ ap Some told

@@ -18,7 +18,7 @@ use Rattle.lrc_script.specs.Plan.{Plan}
 use Rattle.conformance.specs.Follows.{Follows}
 use Rattle.explore.specs.declared.prefixes.script_call.ScriptCall.{ScriptCall}
 use Rattle.explore.specs.Prefixes.Beginnings.{IsFlatBeginning, IsHangingBeginning}
-use Rattle.explore.specs.Prefixes.Laws.{NoNeighboursByLaw}
+use Rattle.explore.specs.Prefixes.Laws.{HasNoNeighbours}
 use Rattle.explore.proofs.prefixes.Beginnings.{beginning_next}
 use Rattle.explore.specs.declared.flat_state.FlatState.{FlatState}
 use Rattle.explore.specs.declared.neighbours.Neighbours.{Neighbours}
@@ -34,7 +34,7 @@ use Rattle.explore.specs.Found.{AreFound, IsFoundState, KeepsFound, states_found
 use Rattle.explore.specs.Machines.{AreLawfulMachineSteps, Knows, machine_rows}
 use Rattle.explore.specs.Nexts.{AreNexts, AreNextInConflict}
 use Rattle.explore.specs.Outcomes.{AreOutcomeReplies}
-use Rattle.explore.specs.Searched.{AreAsksFollowed, AreSearchOutcomesShown, HangsSearched, IsAmongSearched, SearchFollowsFree, SearchFollowsWhole, IsSearchReduced, SearchOutcomesNoted, IsSearchHangingOpen, IsSearchVerdictOpen, IsSearchQuiet, SearchedUpTo, IsShownBySearch, HasMoreToSearch, SearchMayNote, NoneSearchedHangs}
+use Rattle.explore.specs.Searched.{AreAsksFollowed, AreSearchOutcomesShown, StateHangs, IsAmongSearched, SearchFollowsFree, SearchFollowsWhole, IsSearchReduced, SearchOutcomesNoted, IsSearchHangingOpen, IsSearchVerdictOpen, IsSearchQuiet, SearchedUpTo, IsShownBySearch, HasMoreToSearch, MayNoteState, NoStateHangs}
 use Rattle.explore.proofs.Followed.{followed_known_kept}
 use Rattle.explore.proofs.Machines.{machine_some_at}
 use Rattle.explore.proofs.reduced.Ends.{EndsInConflict, EndsShowing, reduced_ends_conflict_lasts, follows_ends, reduced_ends_hang_lasts, reduced_ends_shows_last}
@@ -73,8 +73,8 @@ module _ (s : Plan) (old new : List FlatState) (n : ℕ) (keeps : KeepsFound old
     },
   )
 
-  search_hangs_kept : (o : Option ℕ) → MatchOption o (NoneSearchedHangs s old n) (HangsSearched s old)
-      → MatchOption o (NoneSearchedHangs s new n) (HangsSearched s new)
+  search_hangs_kept : (o : Option ℕ) → MatchOption o (NoStateHangs s old n) (StateHangs s old)
+      → MatchOption o (NoStateHangs s new n) (StateHangs s new)
   search_hangs_kept None h = λ place m g lt at knows. h place m g lt (search_was_at old new place m keeps (omega arith) at) knows
   search_hangs_kept (Some place) h = record {
     within = (
@@ -86,7 +86,7 @@ module _ (s : Plan) (old new : List FlatState) (n : ℕ) (keeps : KeepsFound old
       → y.hang ≡ x.hang → SearchOutcomesNoted s x n → SearchOutcomesNoted s y n
   search_noted_kept x y is_old is_new outcomes hang noted =
       let shows = subst (λ ms. AreSearchOutcomesShown s ms n (map explored_outcome x.outcomes.keys)) is_old noted.shown in
-      let hung = subst (λ ms. MatchOption x.hang (NoneSearchedHangs s ms n) (HangsSearched s ms)) is_old noted.hang in
+      let hung = subst (λ ms. MatchOption x.hang (NoStateHangs s ms n) (StateHangs s ms)) is_old noted.hang in
       record {
         shown =
             subst (λ ms. AreSearchOutcomesShown s ms n (map explored_outcome y.outcomes.keys)) (sym is_new)
@@ -98,8 +98,8 @@ module _ (s : Plan) (old new : List FlatState) (n : ℕ) (keeps : KeepsFound old
               once = shows.once;
             }));
         hang =
-            subst (λ ms. MatchOption y.hang (NoneSearchedHangs s ms n) (HangsSearched s ms)) (sym is_new)
-            (subst (λ o. MatchOption o (NoneSearchedHangs s new n) (HangsSearched s new)) (sym hang) (search_hangs_kept x.hang hung));
+            subst (λ ms. MatchOption y.hang (NoStateHangs s ms n) (StateHangs s ms)) (sym is_new)
+            (subst (λ o. MatchOption o (NoStateHangs s new n) (StateHangs s new)) (sym hang) (search_hangs_kept x.hang hung));
       }
 
   search_reduced_kept : (rows : List (Vec ScriptCall)) → IsSearchReduced s rows old n → IsSearchReduced s rows new n
@@ -139,7 +139,7 @@ search_begun s x rows found outcomes hang = record {
       each = λ replies. ((λ has. absurd (has-nil replies has)), (λ by. absurd (let lt = by.within in omega arith)));
       once = in_order-nil _;
     });
-    hang = subst (λ o. MatchOption o (NoneSearchedHangs s (states_found x.found) 0) (HangsSearched s (states_found x.found))) (sym hang)
+    hang = subst (λ o. MatchOption o (NoStateHangs s (states_found x.found) 0) (StateHangs s (states_found x.found))) (sym hang)
         (λ place m g lt. absurd (omega arith));
   };
 }
@@ -195,8 +195,8 @@ module _ (s : Plan) (states : List FlatState) (n : ℕ) (f : FlatState) (at : sl
 module _ (s : Plan) (states : List FlatState) (n : ℕ) (f : FlatState) (at : slice_get states n ≡ Some f)
     (one : length s.sections ≡ s.processors)
     (goes : (g : List Event) → Knows s g f → ((p : ℕ) (k : Kind) → ¬ IsFlatBeginning s (did g p k)) → ⊥) where
-  search_skipped_hang : (o : Option ℕ) → MatchOption o (NoneSearchedHangs s states n) (HangsSearched s states)
-      → MatchOption o (NoneSearchedHangs s states (n + 1)) (HangsSearched s states)
+  search_skipped_hang : (o : Option ℕ) → MatchOption o (NoStateHangs s states n) (StateHangs s states)
+      → MatchOption o (NoStateHangs s states (n + 1)) (StateHangs s states)
   search_skipped_hang None h = λ place m g lt here knows hang. elim (cases_eq place n) [
     | inl is ↦
         (let same = same_Some m f (sym here ∙ ap (slice_get states) is ∙ at) in
@@ -211,21 +211,21 @@ module _ (s : Plan) (states : List FlatState) (n : ℕ) (f : FlatState) (at : sl
         search_unfinished_shown s states n f at (λ g knows follows. goes g knows (λ p k next. follows_ends s g p k one follows next))
         x x is is refl
         noted.shown;
-    hang = subst (λ ms. MatchOption x.hang (NoneSearchedHangs s ms (n + 1)) (HangsSearched s ms)) (sym is)
-        (search_skipped_hang x.hang (subst (λ ms. MatchOption x.hang (NoneSearchedHangs s ms n) (HangsSearched s ms)) is noted.hang));
+    hang = subst (λ ms. MatchOption x.hang (NoStateHangs s ms (n + 1)) (StateHangs s ms)) (sym is)
+        (search_skipped_hang x.hang (subst (λ ms. MatchOption x.hang (NoStateHangs s ms n) (StateHangs s ms)) is noted.hang));
   }
 
 -- the state is a hang
 search_hung : (s : Plan) (states : List FlatState) (n : ℕ) (f : FlatState) → slice_get states n ≡ Some f
     → ((g : List Event) → Knows s g f → IsHangingBeginning s g) → (o : Option ℕ)
-    → MatchOption o (NoneSearchedHangs s states n) (HangsSearched s states) → HangsSearched s states (unwrap_or o n)
+    → MatchOption o (NoStateHangs s states n) (StateHangs s states) → StateHangs s states (unwrap_or o n)
 search_hung s states n f at hangs None h = record {
   within = slice_get_within states n f at;
   hangs = λ m g here knows. hangs g (subst (Knows s g) (same_Some m f (sym here ∙ at)) knows);
 }
 search_hung s states n f at hangs (Some place) h = h
 
-pub search_noted_hangs : (s : Plan) (x y : Search) (steps : List (Vec ScriptCall)) (n : ℕ) (f : FlatState) → SearchMayNote s x steps n
+pub search_noted_hangs : (s : Plan) (x y : Search) (steps : List (Vec ScriptCall)) (n : ℕ) (f : FlatState) → MayNoteState s x steps n
     → slice_get (states_found x.found) n ≡ Some f → ((g : List Event) → Knows s g f → ¬ Follows s g)
     → states_found y.found ≡ states_found x.found → y.outcomes.keys ≡ x.outcomes.keys → y.hang ≡ Some (unwrap_or x.hang n)
     → SearchOutcomesNoted s y (n + 1)
@@ -238,8 +238,8 @@ search_noted_hangs s x y steps n f may at unfinished found outcomes hang =
     record {
       shown = search_unfinished_shown s (states_found x.found) n f at unfinished x y refl found outcomes may.noted.shown;
       hang =
-          subst (λ ms. MatchOption y.hang (NoneSearchedHangs s ms (n + 1)) (HangsSearched s ms)) (sym found)
-          (subst (λ o. MatchOption o (NoneSearchedHangs s (states_found x.found) (n + 1)) (HangsSearched s (states_found x.found))) (sym hang)
+          subst (λ ms. MatchOption y.hang (NoStateHangs s ms (n + 1)) (StateHangs s ms)) (sym found)
+          (subst (λ o. MatchOption o (NoStateHangs s (states_found x.found) (n + 1)) (StateHangs s (states_found x.found))) (sym hang)
           (search_hung s (states_found x.found) n f at is_hang x.hang may.noted.hang));
     }
 
@@ -259,7 +259,7 @@ search_same_replies s g a b first second = slice_sets_same a b (λ k. elim (case
 ])
 
 -- the state is whole
-module _ (s : Plan) (x : Search) (steps : List (Vec ScriptCall)) (n : ℕ) (f : FlatState) (may : SearchMayNote s x steps n)
+module _ (s : Plan) (x : Search) (steps : List (Vec ScriptCall)) (n : ℕ) (f : FlatState) (may : MayNoteState s x steps n)
     (at : slice_get (states_found x.found) n ≡ Some f) (whole : (g : List Event) → Knows s g f → Follows s g) where
   search_shows_mine : IsShownBySearch s (states_found x.found) (n + 1) (machine_rows f.replies.items)
   search_shows_mine =
@@ -341,8 +341,8 @@ module _ (s : Plan) (x : Search) (steps : List (Vec ScriptCall)) (n : ℕ) (f : 
       one_of : (a b : List (List ℕ)) → Has (a ∷ []) b → a ≡ b
       one_of a b has = elim ((has-cons a [] b).0 has) [ inl is ↦ is | inr none ↦ absurd (has-nil b none) ]
 
-  search_whole_hang : (o : Option ℕ) → MatchOption o (NoneSearchedHangs s (states_found x.found) n) (HangsSearched s (states_found x.found))
-      → MatchOption o (NoneSearchedHangs s (states_found x.found) (n + 1)) (HangsSearched s (states_found x.found))
+  search_whole_hang : (o : Option ℕ) → MatchOption o (NoStateHangs s (states_found x.found) n) (StateHangs s (states_found x.found))
+      → MatchOption o (NoStateHangs s (states_found x.found) (n + 1)) (StateHangs s (states_found x.found))
   search_whole_hang None h = λ place m g lt here knows hang. elim (cases_eq place n) [
     | inl is ↦
         (let same = same_Some m f (sym here ∙ ap (slice_get (states_found x.found)) is ∙ at) in
@@ -359,8 +359,8 @@ module _ (s : Plan) (x : Search) (steps : List (Vec ScriptCall)) (n : ℕ) (f : 
         subst (λ ms. AreSearchOutcomesShown s ms (n + 1) (map explored_outcome y.outcomes.keys)) (sym found)
         (search_shown_more (map explored_outcome x.outcomes.keys) (map explored_outcome y.outcomes.keys) may.noted.shown among);
     hang =
-        subst (λ ms. MatchOption y.hang (NoneSearchedHangs s ms (n + 1)) (HangsSearched s ms)) (sym found)
-        (subst (λ o. MatchOption o (NoneSearchedHangs s (states_found x.found) (n + 1)) (HangsSearched s (states_found x.found))) (sym hang)
+        subst (λ ms. MatchOption y.hang (NoStateHangs s ms (n + 1)) (StateHangs s ms)) (sym found)
+        (subst (λ o. MatchOption o (NoStateHangs s (states_found x.found) (n + 1)) (StateHangs s (states_found x.found))) (sym hang)
         (search_whole_hang x.hang may.noted.hang));
   }
 
@@ -461,7 +461,7 @@ module _ (s : Plan) (x : Search) (steps : List (Vec ScriptCall)) (lawful : AreLa
         ])
       ]
 
-  pub searched_none_hangs : NoneSearchedHangs s (states_found x.found) (length (states_found x.found)) → (g : List Event) → ¬ IsHangingBeginning s g
+  pub searched_none_hangs : NoStateHangs s (states_found x.found) (length (states_found x.found)) → (g : List Event) → ¬ IsHangingBeginning s g
   searched_none_hangs none g hang =
       let r = reached s steps lawful (IsFoundState s (states_found x.found)) (IsHangingBeginning s) (reduced_ends_hang_lasts s steps) search_followed_of
       searched.found.first g hang.beginning hang in
@@ -469,7 +469,7 @@ module _ (s : Plan) (x : Search) (steps : List (Vec ScriptCall)) (lawful : AreLa
       none known.place known.state r.events (slice_get_within (states_found x.found) known.place known.state known.at) known.at
       known.knows r.has
 
-  pub searched_no_neighbours : NoNeighboursByLaw s
+  pub searched_no_neighbours : HasNoNeighbours s
   searched_no_neighbours g p q a b first second apart conflict =
       let begins = ((beginning_next s g p a).0 first).0 in
       let r = reached s steps lawful (IsFoundState s (states_found x.found)) (EndsInConflict s) (reduced_ends_conflict_lasts s steps lawful) search_followed_of

@@ -10,7 +10,7 @@ use Rattle.journal.specs.DidEvent.{did, event}
 use Rattle.journal.specs.Events.{count_of, is_arrive, is_depart}
 use Rattle.journal.specs.Waits.{awaited}
 use Rattle.journal.proofs.Order.CountedAndNumbered.{count_of-append}
-use Rattle.judge.specs.Why.{WhyWaitsFor}
+use Rattle.judge.specs.Why.{AwaitsKind}
 use Rattle.explore.specs.declared.wait.WaitCode.{WaitCode}
 use Rattle.explore.specs.declared.wait.WaitCode.TheVariants.{Lock, Barrier, Flag}
 use Rattle.explore.specs.declared.wait.Seat.{Seat}
@@ -108,8 +108,8 @@ wait_code_others_one is j p q k apart =
 
 -- so departures are told by arrivals and waits, after one more event, too
 pub wait_code_departures_next : (j : List Event) (p : ℕ) (k : Kind) (waits : List (Option WaitCode)) (o : Option WaitCode)
-    → p < length waits → wait_code_ending o ≡ awaited k → ((b : Kind) → WhyWaitsFor j p b → b ≡ k)
-    → (k ≡ kind.Depart → WhyWaitsFor j p kind.Depart) → WaitsAreKept j waits
+    → p < length waits → wait_code_ending o ≡ awaited k → ((b : Kind) → AwaitsKind j p b → b ≡ k)
+    → (k ≡ kind.Depart → AwaitsKind j p kind.Depart) → WaitsAreKept j waits
     → ((q : ℕ) → count_of is_depart j q + wait_code_arrivals_open (slice_index_or waits q None) ≡ count_of is_arrive j q) → (q : ℕ)
     → count_of is_depart (did j p k) q + wait_code_arrivals_open (slice_index_or (slice_set waits p o) q None)
     ≡ count_of is_arrive (did j p k) q

@@ -13,11 +13,11 @@ use Rattle.explore.specs.declared.explored.ScriptOutcome.{ScriptOutcome}
 use Rattle.explore.specs.declared.explored.RacyEvents.{RacyEvents}
 use Rattle.explore.specs.declared.explored.Verdict.{Verdict}
 use Rattle.explore.specs.declared.explored.Verdict.TheVariants as verdict
-use Rattle.explore.specs.Prefixes.Beginnings.{IsFlatBeginning, IsRaceFreeBeginning, IsHangingBeginning}
+use Rattle.explore.specs.Prefixes.Beginnings.{IsFlatBeginning, IsFlatRaceFree, IsHangingBeginning}
 use Rattle.explore.specs.Outcomes.{IsOutcome}
-use Rattle.explore.specs.Room.{states_with_room}
+use Rattle.explore.specs.Room.{states_to_look_at}
 use Rattle.explore.specs.States.{HasStates}
-use Rattle.explore.specs.Waiting.{AllWaitingTold}
+use Rattle.explore.specs.Waiting.{AreAwaited}
 
 -- a prefix whose last event is the first that races
 pub record IsExploredRacy (s : Plan) (racy : RacyEvents) : Type 0 where
@@ -30,7 +30,7 @@ pub record IsExploredRacy (s : Plan) (racy : RacyEvents) : Type 0 where
 pub record IsExploredHang (s : Plan) (hang : Hang) : Type 0 where
   pub is : IsHangingBeginning s hang.events.items
   pub long : length hang.waits.items ≡ s.processors
-  pub waits : AllWaitingTold hang.events.items hang.waits.items
+  pub waits : AreAwaited hang.events.items hang.waits.items
 
 -- an outcome, as it lies outside of memory
 abbrev pub explored_outcome : ScriptOutcome → List (List ℕ)
@@ -47,7 +47,7 @@ AreAllOutcomesExplored s outcomes = (replies : List (List ℕ)) → IsOutcome s 
 
 -- what is so by the verdict
 abbrev pub IsExploredVerdict : Plan → Verdict → Type 0
-IsExploredVerdict s verdict.RaceFree = IsRaceFreeBeginning s
+IsExploredVerdict s verdict.RaceFree = IsFlatRaceFree s
 IsExploredVerdict s (verdict.Racy racy) = IsExploredRacy s racy
 IsExploredVerdict s verdict.Undecided = ⊤
 
@@ -72,9 +72,9 @@ is_settled answer = explored_settles answer.verdict answer.hanging answer.are_al
 -- states than were asked for, or than fit
 pub record IsExplored (s : Plan) (most : ℕ) (answer : Explored) : Type 0 where
   pub states : HasStates s answer.states
-  pub few : answer.states ≤ states_with_room s most + 16
+  pub few : answer.states ≤ states_to_look_at s most + 16
   pub verdict : IsExploredVerdict s answer.verdict
   pub hanging : IsExploredHanging s answer.hanging
   pub outcomes : AreExploredOutcomes s (map explored_outcome answer.outcomes.items)
   pub all : IsTrue answer.are_all → AreAllOutcomesExplored s (map explored_outcome answer.outcomes.items)
-  pub given_up : is_settled answer ≡ false → states_with_room s most < answer.states
+  pub given_up : is_settled answer ≡ false → states_to_look_at s most < answer.states

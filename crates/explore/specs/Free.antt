@@ -83,5 +83,5 @@ abbrev pub IsChoice : List (Vec ScriptCall) → List ℕ → List (Option Kind) 
 IsChoice rows done nexts chosen = (chosen ≡ nexts) ⊎ (IsOneFreeChosen rows nexts chosen ⊎ AreAsksChosen rows done nexts chosen)
 
 -- what is chosen is among these
-abbrev pub IsFreeAmongNexts : List (Option Kind) → List (Option Kind) → Type 0
-IsFreeAmongNexts nexts chosen = (p : ℕ) (k : Kind) → slice_index_or chosen p None ≡ Some k → slice_index_or nexts p None ≡ Some k
+abbrev pub AreAmongNexts : List (Option Kind) → List (Option Kind) → Type 0
+AreAmongNexts nexts chosen = (p : ℕ) (k : Kind) → slice_index_or chosen p None ≡ Some k → slice_index_or nexts p None ≡ Some k

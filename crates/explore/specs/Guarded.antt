@@ -9,7 +9,7 @@ use Rattle.lrc_script.specs.Plan.{Plan}
 use Rattle.explore.specs.declared.prefixes.script_call.ScriptCall.{ScriptCall}
 use Rattle.explore.specs.declared.prefixes.script_call.ScriptCall.TheVariants.{Call, Adds}
 use Rattle.explore.specs.Machines.{AreLawfulMachineSteps}
-use Rattle.explore.specs.Prefixes.Beginnings.{IsRaceFreeBeginning}
+use Rattle.explore.specs.Prefixes.Beginnings.{IsFlatRaceFree}
 
 -- whether a step departs from the barrier
 abbrev pub guard_step_departs : ScriptCall → Bool
@@ -71,4 +71,4 @@ AreGuarded rows words = (w : ℕ) → IsTrue (slice_index_or words w false) → 
 -- a script of which all words are guarded doesn't race
 abbrev pub GuardedTextLaw : Type 0
 GuardedTextLaw = (s : Plan) (rows : List (Vec ScriptCall)) → AreLawfulMachineSteps s rows → ((w : ℕ) → IsGuarded rows w)
-    → IsRaceFreeBeginning s
+    → IsFlatRaceFree s

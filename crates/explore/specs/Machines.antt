@@ -9,7 +9,7 @@ use Rattle.journal.specs.FlatMemory.{memory_after}
 use Rattle.journal.specs.WellFormed.{KindInRange}
 use Rattle.lrc_script.specs.Plan.{Plan}
 use Rattle.lrc_script.specs.Lawful.{plan_addresses, IsLawful}
-use Rattle.conformance.specs.Follows.{followed_calls, is_followed_fetch, followed_plan_sizes}
+use Rattle.conformance.specs.Follows.{calls_of, is_fetch, plan_sizes}
 use Rattle.explore.specs.declared.prefixes.script_call.ScriptCall.{ScriptCall}
 use Rattle.explore.specs.declared.prefixes.script_call.ScriptCall.TheVariants.{Call, Adds}
 use Rattle.explore.specs.declared.flat_state.FlatState.{FlatState}
@@ -31,7 +31,7 @@ machine_last_or word (w ∷ words) = machine_last_or w words
 pub record Knows (s : Plan) (g : List Event) (m : FlatState) : Type 0 where
   pub beginning : IsFlatBeginning s g
   pub long : length m.done ≡ 16
-  pub done : (p : ℕ) → p < 16 → slice_index m.done p ≡ length (followed_calls g p)
+  pub done : (p : ℕ) → p < 16 → slice_index m.done p ≡ length (calls_of g p)
   pub replies : AreOutcomeReplies s g (machine_rows m.replies.items)
   pub memory : m.memory.items ≡ memory_after (replicate (plan_addresses s) 0) g
   pub waiting : TellsWaiting g m.waiting
@@ -45,7 +45,7 @@ pub record SameMachineState (m n : FlatState) : Type 0 where
 
 -- the numbers of the step are the script's, and it is no fetch
 abbrev pub IsProperMachineStep : Plan → ScriptCall → Type 0
-IsProperMachineStep s (Call k) = KindInRange (followed_plan_sizes s) k × (is_followed_fetch k ≡ false)
+IsProperMachineStep s (Call k) = KindInRange (plan_sizes s) k × (is_fetch k ≡ false)
 IsProperMachineStep s (Adds a v) = a < plan_addresses s
 
 -- of the step the memory has the word, if it loads one

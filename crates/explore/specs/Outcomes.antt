@@ -4,7 +4,7 @@ use Rattle.journal.specs.declared.event.Event.{Event}
 use Rattle.journal.specs.declared.event.Kind.{Kind}
 use Rattle.journal.specs.declared.event.Kind.TheVariants.{Load}
 use Rattle.lrc_script.specs.Plan.{Plan}
-use Rattle.conformance.specs.Follows.{followed_calls}
+use Rattle.conformance.specs.Follows.{calls_of}
 use Rattle.explore.specs.Prefixes.Beginnings.{IsWholeBeginning}
 
 -- what the loads among these calls answered, in order
@@ -16,7 +16,7 @@ outcome_replies_in (_ ∷ kinds) = outcome_replies_in kinds
 -- of each processor, what its loads answered; the last ones of processor 0 show the words
 pub record AreOutcomeReplies (s : Plan) (g : List Event) (replies : List (List ℕ)) : Type 0 where
   pub long : length replies ≡ s.processors
-  pub each : (p : ℕ) → p < s.processors → slice_get replies p ≡ Some (outcome_replies_in (followed_calls g p))
+  pub each : (p : ℕ) → p < s.processors → slice_get replies p ≡ Some (outcome_replies_in (calls_of g p))
 
 -- some whole run shows this
 abbrev pub IsOutcome : Plan → List (List ℕ) → Type 0

@@ -24,5 +24,5 @@ abbrev pub states_that_fit : Plan → ℕ
 states_that_fit s = 2 ^ 27 / words_of_state s
 
 -- so many are looked at, if this number is asked for
-abbrev pub states_with_room : Plan → ℕ → ℕ
-states_with_room s most = min most (states_that_fit s)
+abbrev pub states_to_look_at : Plan → ℕ → ℕ
+states_to_look_at s most = min most (states_that_fit s)

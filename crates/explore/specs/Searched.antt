@@ -77,22 +77,22 @@ pub record AreSearchOutcomesShown (s : Plan) (states : List FlatState) (n : ℕ)
   pub once : IsOnce outcomes
 
 -- none of the first n states is a hang
-abbrev pub NoneSearchedHangs : Plan → List FlatState → ℕ → Type 0
-NoneSearchedHangs s states n = (place : ℕ) (m : FlatState) (g : List Event) → place < n → slice_get states place ≡ Some m
+abbrev pub NoStateHangs : Plan → List FlatState → ℕ → Type 0
+NoStateHangs s states n = (place : ℕ) (m : FlatState) (g : List Event) → place < n → slice_get states place ≡ Some m
     → Knows s g m → ¬ IsHangingBeginning s g
 
 -- the state at this place is
-pub record HangsSearched (s : Plan) (states : List FlatState) (place : ℕ) : Type 0 where
+pub record StateHangs (s : Plan) (states : List FlatState) (place : ℕ) : Type 0 where
   pub within : place < length states
   pub hangs : (m : FlatState) (g : List Event) → slice_get states place ≡ Some m → Knows s g m → IsHangingBeginning s g
 
 -- what is noted of the first n states: the outcomes, and a hang, if there is one
 pub record SearchOutcomesNoted (s : Plan) (x : Search) (n : ℕ) : Type 0 where
   pub shown : AreSearchOutcomesShown s (states_found x.found) n (map explored_outcome x.outcomes.keys)
-  pub hang : MatchOption x.hang (NoneSearchedHangs s (states_found x.found) n) (HangsSearched s (states_found x.found))
+  pub hang : MatchOption x.hang (NoStateHangs s (states_found x.found) n) (StateHangs s (states_found x.found))
 
 -- the state at this place, after which nothing may come next, may be noted
-pub record SearchMayNote (s : Plan) (x : Search) (steps : List (Vec ScriptCall)) (place : ℕ) : Type 0 where
+pub record MayNoteState (s : Plan) (x : Search) (steps : List (Vec ScriptCall)) (place : ℕ) : Type 0 where
   pub lawful : AreLawfulMachineSteps s steps
   pub found : AreFound s x.found
   pub within : place < length (states_found x.found)

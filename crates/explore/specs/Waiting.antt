@@ -13,13 +13,13 @@ use Rattle.journal.specs.Events.{count_of, is_arrive, is_depart}
 use Rattle.journal.specs.WellFormed.{Holds, KindInRange, LastIs, MayFollow}
 use Rattle.judge.specs.Sizes.{AreSizesSmall}
 use Rattle.judge.specs.FrontTells.{TellsFlagSet}
-use Rattle.judge.specs.Why.{WhyWaitsFor}
+use Rattle.judge.specs.Why.{AwaitsKind}
 use Rattle.explore.specs.declared.waiting.Waiting.{Waiting}
 use Rattle.explore.specs.Waits.{WaitsAreKept, wait_code_arrivals_open, wait_code_seated}
 
 -- of each processor what it waits for, if it waits
-abbrev pub AllWaitingTold : List Event → List (Option Kind) → Type 0
-AllWaitingTold g waits = (p : ℕ) (k : Kind) → (slice_index_or waits p None ≡ Some k) ↔ WhyWaitsFor g p k
+abbrev pub AreAwaited : List Event → List (Option Kind) → Type 0
+AreAwaited g waits = (p : ℕ) (k : Kind) → (slice_index_or waits p None ≡ Some k) ↔ AwaitsKind g p k
 
 -- p's last event asks for a lock, at place i
 abbrev pub WaitingAsksAt : List Event → ℕ → ℕ → Type 0

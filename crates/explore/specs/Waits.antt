@@ -3,7 +3,7 @@ use Rattle.std.specs.Prelude.{ℕ, ◌≡◌, ◌↔◌, Option, Some, None, Lis
 use Rattle.journal.specs.declared.event.Event.{Event}
 use Rattle.journal.specs.declared.event.Kind.{Kind}
 use Rattle.journal.specs.declared.event.Kind.TheVariants as kind
-use Rattle.judge.specs.Why.{WhyWaitsFor}
+use Rattle.judge.specs.Why.{AwaitsKind}
 use Rattle.explore.specs.declared.wait.WaitCode.{WaitCode}
 use Rattle.explore.specs.declared.wait.WaitCode.TheVariants.{Lock, Barrier, Flag}
 use Rattle.explore.specs.declared.wait.Seat.{Seat}
@@ -21,7 +21,7 @@ wait_code_ending (Some w) = Some (wait_code_end_of w)
 
 -- of each processor what it waits for, if it waits
 abbrev pub WaitsAreKept : List Event → List (Option WaitCode) → Type 0
-WaitsAreKept j waits = (p : ℕ) (k : Kind) → (wait_code_ending (slice_index_or waits p None) ≡ Some k) ↔ WhyWaitsFor j p k
+WaitsAreKept j waits = (p : ℕ) (k : Kind) → (wait_code_ending (slice_index_or waits p None) ≡ Some k) ↔ AwaitsKind j p k
 
 -- how many arrivals a wait has that no departure has ended: one at the barrier
 abbrev pub wait_code_arrivals_open : Option WaitCode → ℕ

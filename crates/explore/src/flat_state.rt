@@ -1,21 +1,22 @@
 //! A script's run on one flat memory, an event at a time.
 ghost use Rattle.std.specs.Prelude.{◌≡◌, ◌↔◌, ℕ, ◌+◌, ◌<◌, ◌≤◌, ◌++◌, [], ◌∷◌, List, Some, None, IfOk, OnOk, IsTrue};
 ghost use Rattle.std.specs.Prelude.{length, replicate, slice_index, slice_index_or};
-ghost use Rattle.base.specs.Prelude.{wrote};
+ghost use Rattle.base.specs.Prelude.{most_processors, wrote};
 ghost use Rattle.journal.specs.declared.event.Event.{Event as AnEvent};
 ghost use Rattle.journal.specs.declared.event.Kind.{Kind as AKind};
 ghost use Rattle.journal.specs.Prelude.{AddressInRange, AnswersFlatWord, did, flat_write};
 ghost use Rattle.lrc_script.specs.Prelude.{IsLawful, Plan, plan_of};
-ghost use Rattle.conformance.specs.Follows.{Follows, followed_calls};
+ghost use Rattle.conformance.specs.Follows.{Follows, calls_of};
 ghost use Rattle.explore.specs.Prefixes.Calling.{IsCallOfStep, last_reply_of_calls};
 ghost use Rattle.explore.specs.Prefixes.Prelude.{IsFlatBeginning};
 ghost use Rattle.explore.specs.Machines.{AreLawfulMachineSteps, MachineStepReads, SameMachineState, IsMachineRunning, IsMachineStep, Knows};
 ghost use Rattle.explore.specs.Machines.{machine_rows, machine_last_or};
 ghost use Rattle.explore.specs.Outcomes.{AreOutcomeReplies, outcome_replies_in};
-ghost use Rattle.explore.specs.Waiting.{AllWaitingTold};
+ghost use Rattle.explore.specs.Waiting.{AreAwaited};
 
 use crate::prefixes::ScriptCall;
 use crate::waiting::Waiting;
+use base::MOST_PROCESSORS;
 use journal::Kind;
 use lrc_script::script::Script;
 use std::alloc::{AllocError, Global};
@@ -24,7 +25,7 @@ use std::alloc::{AllocError, Global};
 #[derive(Drop, PartialEq, Eq, Hash)]
 pub struct FlatState {
     /// How many calls each processor has made.
-    done: [u16; 16],
+    done: [u16; MOST_PROCESSORS],
     /// What the loads of each have answered, in order.
     replies: Vec<Vec<u32>>,
     /// The words of the memory.
@@ -92,7 +93,7 @@ impl FlatState {
         ensures { IfOk result (Knows (plan_of script.now) []) }
     {
         Ok(FlatState {
-            done: [0; 16],
+            done: [0; MOST_PROCESSORS],
             replies: no_replies(alloc, script.processors)?,
             memory: vec![in alloc; 0; script.pages * script.words]?,
             waiting: Waiting::new(alloc),
@@ -113,7 +114,7 @@ impl FlatState {
 
     /// How many calls the processor has made.
     pub fn steps_done(&self, processor: usize) -> usize
-        requires { processor < 16 }
+        requires { processor < most_processors }
         ensures { result ≡ slice_index self.now.done processor }
     {
         self.done[processor] as usize
@@ -122,7 +123,7 @@ impl FlatState {
     /// What the processor's last load answered, 0 if there is none.
     fn reply_before(&self, processor: usize) -> u32
         requires { processor < length self.now.replies.items }
-        ensures { (s : Plan) (g : List AnEvent) → Knows s g self.now → result ≡ last_reply_of_calls (followed_calls g processor) }
+        ensures { (s : Plan) (g : List AnEvent) → Knows s g self.now → result ≡ last_reply_of_calls (calls_of g processor) }
     {
         last_of(&self.replies[processor])
     }
@@ -152,7 +153,7 @@ impl FlatState {
     pub fn step(&mut self, processor: usize, kind: Kind) -> Result<(), AllocError>
         requires { IsMachineStep self.old processor kind }
         ensures { OnOk result ((s : Plan) (g : List AnEvent) → Knows s g self.old
-            → IsFlatBeginning s (did g processor kind) → processor < 16
+            → IsFlatBeginning s (did g processor kind) → processor < most_processors
             → Knows s (did g processor kind) self.new) }
     {
         self.waiting.note(processor, kind)?;
@@ -185,10 +186,10 @@ impl FlatState {
 
     /// What each of so many processors waits for.
     pub fn waits(&self, alloc: Global, processors: usize) -> Result<Vec<Option<Kind>>, AllocError>
-        requires { processors ≤ 16 }
+        requires { processors ≤ most_processors }
         ensures long { IfOk result (λ v. length v.items ≡ processors) }
         ensures waits { IfOk result (λ v. (s : Plan) (g : List AnEvent) → s.processors ≡ processors
-            → Knows s g self.now → AllWaitingTold g v.items) }
+            → Knows s g self.now → AreAwaited g v.items) }
     {
         let mut waits = Vec::new(alloc);
         for processor in 0..processors {

@@ -3,17 +3,19 @@
 ghost use Rattle.std.specs.Prelude.{◌≡◌, ◌↔◌, ℕ, ◌<◌, ⊤, IsTrue, List, MatchOption, None, Some, [], false, length};
 ghost use Rattle.std.specs.Prelude.{slice_index, slice_index_or};
 ghost use Rattle.std.specs.Global.{Vec as AVec};
+ghost use Rattle.base.specs.Prelude.{most_processors};
 ghost use Rattle.journal.specs.declared.event.Kind.{Kind as AKind};
 ghost use Rattle.journal.specs.declared.event.Kind.TheVariants.{Ask};
 ghost use Rattle.explore.specs.declared.prefixes.script_call.ScriptCall.{ScriptCall as AStep};
-ghost use Rattle.explore.specs.Free.{AreTextFacts, IsFreeAmongNexts, IsAskedByAll, IsChoice, IsFreeOf};
+ghost use Rattle.explore.specs.Free.{AreTextFacts, AreAmongNexts, IsAskedByAll, IsChoice, IsFreeOf};
 
 use crate::flat_state::FlatState;
 use crate::text_facts::TextFacts;
+use base::{MOST_LOCKS, MOST_PROCESSORS};
 use journal::Kind;
 
 /// Whether the word is said to be guarded.
-fn is_free_word_said(guarded: &[bool], address: usize) -> bool
+fn is_word_guarded(guarded: &[bool], address: usize) -> bool
     ensures { IsTrue result → IsTrue (slice_index_or guarded.now address false) }
 {
     address < guarded.len() && guarded[address]
@@ -26,19 +28,19 @@ fn is_free(guarded: &[bool], kind: Kind) -> bool
 {
     match kind {
         Kind::Ask(_) => false,
-        Kind::Load(address, _) | Kind::Store(address, _) => is_free_word_said(guarded, address),
+        Kind::Load(address, _) | Kind::Store(address, _) => is_word_guarded(guarded, address),
         _ => true,
     }
 }
 
 /// This event alone.
-fn alone(processor: usize, kind: Kind) -> [Option<Kind>; 16]
-    requires { processor < 16 }
+fn alone(processor: usize, kind: Kind) -> [Option<Kind>; MOST_PROCESSORS]
+    requires { processor < most_processors }
     ensures own { slice_index_or result processor None ≡ Some kind }
     ensures only { (p : ℕ) (k : AKind) → slice_index_or result p None ≡ Some k → (p ≡ processor) × (k ≡ kind) }
-    ensures long { length result ≡ 16 }
+    ensures long { length result ≡ most_processors }
 {
-    let mut nexts = [None; 16];
+    let mut nexts = [None; MOST_PROCESSORS];
     nexts[processor] = Some(kind);
     nexts
 }
@@ -62,37 +64,40 @@ fn only_ask(next: Option<Kind>, lock: usize) -> Option<Kind>
 }
 
 /// Those of the events that ask for the lock.
-fn asks_among(nexts: &[Option<Kind>; 16], lock: usize) -> [Option<Kind>; 16]
+fn asks_among(
+    nexts: &[Option<Kind>; MOST_PROCESSORS],
+    lock: usize,
+) -> [Option<Kind>; MOST_PROCESSORS]
     ensures all { (p : ℕ) → slice_index_or nexts.now p None ≡ Some (Ask lock)
         → slice_index_or result p None ≡ Some (Ask lock) }
-    ensures among { IsFreeAmongNexts nexts.now result }
-    ensures long { length result ≡ 16 }
+    ensures among { AreAmongNexts nexts.now result }
+    ensures long { length result ≡ most_processors }
 {
-    let mut asks = [None; 16];
-    for processor in 0..16 {
+    let mut asks = [None; MOST_PROCESSORS];
+    for processor in 0..MOST_PROCESSORS {
         asks[processor] = only_ask(nexts[processor], lock);
     }
     asks
 }
 
 /// Whether a processor asks for the lock next, or not any more: it has done so many steps, and its asks end there.
-fn asks_now(next: Option<Kind>, done: usize, ends: &[usize; 32], lock: usize) -> bool
+fn asks_now(next: Option<Kind>, done: usize, ends: &[usize; MOST_LOCKS], lock: usize) -> bool
     ensures { IsTrue result → done < slice_index_or ends.now lock 0 → next ≡ Some (Ask lock) }
 {
-    lock >= 32 || done >= ends[lock] || asks_for(next, lock)
+    lock >= MOST_LOCKS || done >= ends[lock] || asks_for(next, lock)
 }
 
 /// Whether each processor that has yet to ask for the lock may do so next.
 fn may_all_ask(
     state: &FlatState,
-    nexts: &[Option<Kind>; 16],
-    ends: &[[usize; 32]; 16],
+    nexts: &[Option<Kind>; MOST_PROCESSORS],
+    ends: &[[usize; MOST_LOCKS]; MOST_PROCESSORS],
     lock: usize,
 ) -> bool
     ensures { IsTrue result → (p : ℕ) → slice_index state.now.done p < slice_index_or (slice_index_or ends.now p []) lock 0
         → slice_index_or nexts.now p None ≡ Some (Ask lock) }
 {
-    for processor in 0..16 {
+    for processor in 0..MOST_PROCESSORS {
         let done = state.steps_done(processor);
         if !asks_now(nexts[processor], done, &ends[processor], lock) {
             return false;
@@ -104,12 +109,12 @@ fn may_all_ask(
 /// The first lock that somebody may ask for next, if all may that have yet to ask for it.
 fn asked_by_all(
     state: &FlatState,
-    nexts: &[Option<Kind>; 16],
-    ends: &[[usize; 32]; 16],
+    nexts: &[Option<Kind>; MOST_PROCESSORS],
+    ends: &[[usize; MOST_LOCKS]; MOST_PROCESSORS],
 ) -> Option<usize>
     ensures { MatchOption result ⊤ (IsAskedByAll state.now.done nexts.now ends.now) }
 {
-    for processor in 0..16 {
+    for processor in 0..MOST_PROCESSORS {
         if let Some(Kind::Ask(lock)) = nexts[processor] {
             if may_all_ask(state, nexts, ends, lock) {
                 return Some(lock);
@@ -122,12 +127,12 @@ fn asked_by_all(
 /// Where none of these events is free: the asks for one lock, if all may ask for it that have yet to; else all.
 fn asks_or_all(
     state: &FlatState,
-    nexts: &[Option<Kind>; 16],
+    nexts: &[Option<Kind>; MOST_PROCESSORS],
     facts: &TextFacts,
-) -> [Option<Kind>; 16]
+) -> [Option<Kind>; MOST_PROCESSORS]
     ensures choice { (rows : List (AVec AStep)) → AreTextFacts rows facts.now → IsChoice rows state.now.done nexts.now result }
-    ensures among { IsFreeAmongNexts nexts.now result }
-    ensures long { length result ≡ 16 }
+    ensures among { AreAmongNexts nexts.now result }
+    ensures long { length result ≡ most_processors }
 {
     match asked_by_all(state, nexts, &facts.ask_ends) {
         Some(lock) => asks_among(nexts, lock),
@@ -140,14 +145,14 @@ fn asks_or_all(
 /// well come first. Else all. So a search that follows no others misses no race, no hang and no outcome.
 pub fn to_follow(
     state: &FlatState,
-    nexts: &[Option<Kind>; 16],
+    nexts: &[Option<Kind>; MOST_PROCESSORS],
     facts: &TextFacts,
-) -> [Option<Kind>; 16]
+) -> [Option<Kind>; MOST_PROCESSORS]
     ensures choice { (rows : List (AVec AStep)) → AreTextFacts rows facts.now → IsChoice rows state.now.done nexts.now result }
-    ensures among { IsFreeAmongNexts nexts.now result }
-    ensures long { length result ≡ 16 }
+    ensures among { AreAmongNexts nexts.now result }
+    ensures long { length result ≡ most_processors }
 {
-    for processor in 0..16 {
+    for processor in 0..MOST_PROCESSORS {
         if let Some(kind) = nexts[processor] {
             if is_free(&facts.guarded, kind) {
                 return alone(processor, kind);

@@ -17,6 +17,7 @@ ghost use Rattle.explore.specs.Users.{AreStepUsersNoted, AreUserRowsNoted, AreUs
 ghost use Rattle.explore.specs.Users.{AreUserRowsFew, HasUser, HasUserAt, IsUserStepWithin, KeepUsers};
 
 use crate::prefixes::ScriptCall;
+use base::MOST_LOCKS;
 use journal::Kind;
 use lrc_script::script::Script;
 use std::alloc::{AllocError, Global};
@@ -32,7 +33,7 @@ pub struct Users {
     /// Whether one of them stores.
     stores: bool,
     /// The locks that are held at each access.
-    locks: [bool; 32],
+    locks: [bool; MOST_LOCKS],
 }
 
 /// Who accesses a word in each phase.
@@ -44,11 +45,11 @@ pub struct WordUse {
 }
 
 /// The locks that are in both sets.
-fn common_guards(first: &[bool; 32], second: &[bool; 32]) -> [bool; 32]
+fn common_guards(first: &[bool; MOST_LOCKS], second: &[bool; MOST_LOCKS]) -> [bool; MOST_LOCKS]
     ensures { (l : ℕ) → IsTrue (slice_index_or result l false)
         → IsTrue (slice_index_or first.now l false) × IsTrue (slice_index_or second.now l false) }
 {
-    let mut both = [false; 32];
+    let mut both = [false; MOST_LOCKS];
     for lock in 0..32 {
         both[lock] = first[lock] & second[lock];
     }
@@ -56,7 +57,7 @@ fn common_guards(first: &[bool; 32], second: &[bool; 32]) -> [bool; 32]
 }
 
 /// Whether there is a lock in the set.
-fn has_any_guard(locks: &[bool; 32]) -> bool
+fn has_any_guard(locks: &[bool; MOST_LOCKS]) -> bool
     ensures { IsTrue result → (l : ℕ) × IsTrue (slice_index_or locks.now l false) }
 {
     for lock in 0..32 {
@@ -153,7 +154,7 @@ fn guard_step_departs(step: ScriptCall) -> bool
 }
 
 /// Takes note of the lock that the step takes or gives up.
-fn hold(held: &mut [bool; 32], step: ScriptCall)
+fn hold(held: &mut [bool; MOST_LOCKS], step: ScriptCall)
     requires { (size : ℕ) × IsUserStepWithin size step }
     ensures held { (l : ℕ) → slice_index_or held.new l false
         ≡ guard_held_after_step l (slice_index_or held.old l false) step }
@@ -184,7 +185,7 @@ fn note_step(
     words: &mut Vec<WordUse>,
     processor: usize,
     phase: usize,
-    locks: &[bool; 32],
+    locks: &[bool; MOST_LOCKS],
     step: ScriptCall,
 ) -> Result<(), AllocError>
     requires { IsUserStepWithin (vec_len words.old) step }
@@ -216,7 +217,7 @@ fn note_row(
     ensures noted { OnOk result (AreStepUsersNoted words.new.items processor row.now (length row.now)) }
 {
     let mut phase = 0;
-    let mut held = [false; 32];
+    let mut held = [false; MOST_LOCKS];
     for step in row {
         note_step(words, processor, phase, &held, *step)?;
         phase = phase_after(phase, *step);

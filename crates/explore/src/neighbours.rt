@@ -1,5 +1,6 @@
 //! What may come next after a state, and whether two of these events conflict.
 ghost use Rattle.std.specs.Prelude.{◌≡◌, ◌≢◌, ◌↔◌, ℕ, ◌<◌, IsTrue, MatchOption, None, Some, length, slice_index_or};
+ghost use Rattle.base.specs.Prelude.{most_processors};
 ghost use Rattle.journal.specs.declared.event.Kind.{Kind as AKind};
 ghost use Rattle.journal.specs.Prelude.{Conflict, event};
 ghost use Rattle.lrc_script.specs.Prelude.{Plan};
@@ -8,6 +9,7 @@ ghost use Rattle.explore.specs.Nexts.{AreNexts, AreNextInConflict};
 
 use crate::flat_state::FlatState;
 use crate::prefixes::ScriptCall;
+use base::MOST_PROCESSORS;
 use journal::{Event, Kind};
 
 /// Two events of two processors that conflict, and the place of a state after which either may come next.
@@ -19,12 +21,12 @@ pub struct Neighbours {
 }
 
 /// What each processor may do next.
-pub fn nexts_of(state: &FlatState, steps: &[Vec<ScriptCall>]) -> [Option<Kind>; 16]
+pub fn nexts_of(state: &FlatState, steps: &[Vec<ScriptCall>]) -> [Option<Kind>; MOST_PROCESSORS]
     requires { IsMachineRunning state.now steps.now }
     ensures nexts { (s : Plan) → AreLawfulMachineSteps s steps.now → AreNexts s state.now result }
-    ensures long { length result ≡ 16 }
+    ensures long { length result ≡ most_processors }
 {
-    let mut nexts = [None; 16];
+    let mut nexts = [None; MOST_PROCESSORS];
     for processor in 0..steps.len() {
         nexts[processor] = state.next(steps, processor);
     }

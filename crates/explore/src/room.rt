@@ -1,7 +1,7 @@
 //! How many states of a script fit.
 ghost use Rattle.std.specs.Prelude.{◌≡◌};
 ghost use Rattle.lrc_script.specs.Prelude.{IsLawful, plan_of};
-ghost use Rattle.explore.specs.Room.{room_is_loading, room_loads_in, states_that_fit, states_with_room, words_of_state};
+ghost use Rattle.explore.specs.Room.{room_is_loading, room_loads_in, states_that_fit, states_to_look_at, words_of_state};
 
 use lrc_script::script::{Instruction, Script};
 
@@ -48,7 +48,7 @@ fn states_that_fit(script: &Script) -> usize
 /// How many states are looked at, if `most` are asked for: so many, but no more than fit.
 pub fn states_to_look_at(script: &Script, most: usize) -> usize
     requires { IsLawful (plan_of script.now) }
-    ensures { result ≡ states_with_room (plan_of script.now) most }
+    ensures { result ≡ states_to_look_at (plan_of script.now) most }
 {
     most.min(states_that_fit(script))
 }

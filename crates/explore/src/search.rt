@@ -1,18 +1,19 @@
 //! The search: each state of a script on one flat memory is looked at once.
 ghost use Rattle.std.specs.Prelude.{◌≡◌, ◌↔◌, ◌+◌, ◌<◌, ◌≤◌, ⊤, IfOk, OnOk, IsTrue, List, MatchOption, length, map};
 ghost use Rattle.std.specs.Global.{Vec as AVec};
+ghost use Rattle.base.specs.Prelude.{most_processors};
 ghost use Rattle.lrc_script.specs.Prelude.{IsLawful, Plan, plan_of};
 ghost use Rattle.lrc_script.specs.Lawful.{plan_addresses};
 ghost use Rattle.explore.specs.declared.prefixes.script_call.ScriptCall.{ScriptCall as AStep};
-ghost use Rattle.explore.specs.Prefixes.Prelude.{IsRaceFreeBeginning};
+ghost use Rattle.explore.specs.Prefixes.Prelude.{IsFlatRaceFree};
 ghost use Rattle.explore.specs.Free.{AreTextFacts};
 ghost use Rattle.explore.specs.Explored.{IsExplored, IsExploredHang, IsExploredHanging, IsExploredVerdict, explored_outcome};
 ghost use Rattle.explore.specs.Found.{AreFound, states_found};
 ghost use Rattle.explore.specs.Machines.{AreLawfulMachineSteps};
 ghost use Rattle.explore.specs.Racing.{AreRacing};
-ghost use Rattle.explore.specs.Room.{states_with_room};
-ghost use Rattle.explore.specs.Searched.{HangsSearched, IsAmongSearched, IsSearchedAt, IsSearchedThrough, SearchOutcomesNoted, SearchedUpTo, HasMoreToSearch};
-ghost use Rattle.explore.specs.Searched.{IsSearchHangingOpen, IsSearchVerdictOpen, IsSearched, SearchMayNote};
+ghost use Rattle.explore.specs.Room.{states_to_look_at};
+ghost use Rattle.explore.specs.Searched.{StateHangs, IsAmongSearched, IsSearchedAt, IsSearchedThrough, SearchOutcomesNoted, SearchedUpTo, HasMoreToSearch};
+ghost use Rattle.explore.specs.Searched.{IsSearchHangingOpen, IsSearchVerdictOpen, IsSearched, MayNoteState};
 
 use crate::explored::{Explored, Hang, Hanging, ScriptOutcome, Verdict};
 use crate::flat_state::FlatState;
@@ -95,9 +96,9 @@ impl Search {
 
     /// Takes note of a state after which nothing may come next: it is whole, or it hangs.
     fn note_end(&mut self, steps: &[Vec<ScriptCall>], place: usize) -> Result<(), AllocError>
-        requires { (s : Plan) × SearchMayNote s self.old steps.now place }
+        requires { (s : Plan) × MayNoteState s self.old steps.now place }
         ensures found { OnOk result (self.new.found ≡ self.old.found) }
-        ensures noted { OnOk result ((s : Plan) → SearchMayNote s self.old steps.now place → SearchOutcomesNoted s self.new (place + 1)) }
+        ensures noted { OnOk result ((s : Plan) → MayNoteState s self.old steps.now place → SearchOutcomesNoted s self.new (place + 1)) }
     {
         let state = self.found.at(place);
         if state.is_whole(steps) {
@@ -121,7 +122,7 @@ impl Search {
         ensures looked { IfOk result (λ o. (s : Plan) → HasMoreToSearch s self.old steps.now place
             → IsSearchedAt s self.new steps.now place o) }
         ensures few { IfOk result (λ _. (s : Plan) → HasMoreToSearch s self.old steps.now place
-            → length (states_found self.new.found) ≤ length (states_found self.old.found) + 16) }
+            → length (states_found self.new.found) ≤ length (states_found self.old.found) + most_processors) }
     {
         let state = self.found.at(place);
         let nexts = nexts_of(state, steps);
@@ -153,7 +154,7 @@ impl Search {
         ensures looked { IfOk result (λ o. (s : Plan) → AreLawfulMachineSteps s steps.now → SearchedUpTo s self.old steps.now 0
             → IsSearchedThrough s self.new steps.now most o) }
         ensures few { IfOk result (λ _. (s : Plan) → AreLawfulMachineSteps s steps.now → SearchedUpTo s self.old steps.now 0
-            → length (states_found self.old.found) ≤ 1 → length (states_found self.new.found) ≤ most + 16) }
+            → length (states_found self.old.found) ≤ 1 → length (states_found self.new.found) ≤ most + most_processors) }
     {
         for place in 0..most {
             let states = self.found.len();
@@ -173,10 +174,10 @@ impl Search {
 
     /// The state at this place, as a hang. The only error is running out of memory.
     fn hang_at(&self, alloc: Global, processors: usize, place: usize) -> Result<Hang, AllocError>
-        requires few { processors ≤ 16 }
-        requires hangs { (s : Plan) × AreFound s self.now.found × HangsSearched s (states_found self.now.found) place }
+        requires few { processors ≤ most_processors }
+        requires hangs { (s : Plan) × AreFound s self.now.found × StateHangs s (states_found self.now.found) place }
         ensures { IfOk result (λ h. (s : Plan) → s.processors ≡ processors → AreFound s self.now.found
-            → HangsSearched s (states_found self.now.found) place → IsExploredHang s h) }
+            → StateHangs s (states_found self.now.found) place → IsExploredHang s h) }
     {
         Ok(Hang {
             events: self.found.events_to(alloc, place)?,
@@ -210,7 +211,7 @@ impl Search {
         race_free: bool,
     ) -> Result<Verdict, AllocError>
         requires lawful { IsLawful (plan_of script.now) }
-        requires free { IsTrue race_free → IsRaceFreeBeginning (plan_of script.now) }
+        requires free { IsTrue race_free → IsFlatRaceFree (plan_of script.now) }
         requires racing { MatchOption neighbours ⊤ (AreRacing (plan_of script.now) self.now.found steps.now) }
         ensures verdict { IfOk result (IsExploredVerdict (plan_of script.now)) }
         ensures opens { IfOk result (IsSearchVerdictOpen neighbours race_free) }

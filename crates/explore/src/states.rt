@@ -1,5 +1,6 @@
 //! The states that a search has found, and where each was found first.
 ghost use Rattle.std.specs.Prelude.{◌≡◌, ℕ, ◌<◌, ◌≤◌, [], List, Some, IfOk, OnOk, length, option_copied, slice_get};
+ghost use Rattle.base.specs.Prelude.{most_processors};
 ghost use Rattle.journal.specs.declared.event.Event.{Event as AnEvent};
 ghost use Rattle.lrc_script.specs.Prelude.{Plan};
 ghost use Rattle.explore.specs.declared.flat_state.FlatState.{FlatState as AMachine};
@@ -75,7 +76,7 @@ impl States {
     pub fn follow(&mut self, place: usize, processor: usize, kind: Kind) -> Result<(), AllocError>
         requires place { place < length (states_found self.old) }
         requires step { (m : AMachine) → slice_get (states_found self.old) place ≡ Some m → IsMachineStep m processor kind }
-        ensures { OnOk result ((s : Plan) → AreFound s self.old → processor < 16
+        ensures { OnOk result ((s : Plan) → AreFound s self.old → processor < most_processors
             → ((m : AMachine) → slice_get (states_found self.old) place ≡ Some m → FoundStaysPossible s m processor kind)
             → IsFoundStateFollowed s self.old self.new place processor kind) }
     {

@@ -3,12 +3,14 @@ ghost use Rattle.std.specs.Prelude.{◌≡◌, ◌≤◌, ℕ, IfOk, Some, lengt
 ghost use Rattle.lrc_script.specs.Prelude.{plan_of};
 ghost use Rattle.lrc_script.specs.Lawful.{plan_addresses};
 ghost use Rattle.std.specs.Global.{Vec as AVec};
+ghost use Rattle.base.specs.Prelude.{most_processors};
 ghost use Rattle.explore.specs.declared.prefixes.script_call.ScriptCall.{ScriptCall as AStep};
 ghost use Rattle.explore.specs.Free.{AreAskEnds, AreAskEndsOfAll, AreAsksSmall, AreTextFacts, IsAskSmall, ask_end_after};
 ghost use Rattle.explore.specs.Machines.{AreLawfulMachineSteps};
 
 use crate::guarded::guarded_words;
 use crate::prefixes::ScriptCall;
+use base::{MOST_LOCKS, MOST_PROCESSORS};
 use journal::Kind;
 use lrc_script::script::Script;
 use std::alloc::{AllocError, Global};
@@ -19,11 +21,11 @@ pub struct TextFacts {
     /// Of each word, whether it is guarded.
     pub guarded: Vec<bool>,
     /// Of each processor and lock, how many steps there are up to the last that asks for the lock; 0 if none does.
-    pub ask_ends: [[usize; 32]; 16],
+    pub ask_ends: [[usize; MOST_LOCKS]; MOST_PROCESSORS],
 }
 
 /// Takes note of a step that asks for a lock, if it does: so many steps there are up to this one.
-fn note_ask(ends: &mut [usize; 32], step: ScriptCall, count: usize)
+fn note_ask(ends: &mut [usize; MOST_LOCKS], step: ScriptCall, count: usize)
     requires { IsAskSmall step }
     ensures { (lock : ℕ) → slice_index_or ends.new lock 0 ≡ ask_end_after lock count (slice_index_or ends.old lock 0) step }
 {
@@ -33,11 +35,11 @@ fn note_ask(ends: &mut [usize; 32], step: ScriptCall, count: usize)
 }
 
 /// Of each lock, how many of these steps there are up to the last that asks for it.
-fn ends_in(row: &[ScriptCall]) -> [usize; 32]
+fn ends_in(row: &[ScriptCall]) -> [usize; MOST_LOCKS]
     requires { AreAsksSmall row.now }
     ensures { AreAskEnds row.now result }
 {
-    let mut ends = [0; 32];
+    let mut ends = [0; MOST_LOCKS];
     for place in 0..row.len() {
         note_ask(&mut ends, row[place], place + 1);
     }
@@ -45,12 +47,12 @@ fn ends_in(row: &[ScriptCall]) -> [usize; 32]
 }
 
 /// The same of each processor.
-fn ask_ends(steps: &[Vec<ScriptCall>]) -> [[usize; 32]; 16]
-    requires few { length steps.now ≤ 16 }
+fn ask_ends(steps: &[Vec<ScriptCall>]) -> [[usize; MOST_LOCKS]; MOST_PROCESSORS]
+    requires few { length steps.now ≤ most_processors }
     requires small { (p : ℕ) (row : AVec AStep) → slice_get steps.now p ≡ Some row → AreAsksSmall row.items }
     ensures { AreAskEndsOfAll steps.now result }
 {
-    let mut ends = [[0; 32]; 16];
+    let mut ends = [[0; MOST_LOCKS]; MOST_PROCESSORS];
     for processor in 0..steps.len() {
         ends[processor] = ends_in(&steps[processor]);
     }

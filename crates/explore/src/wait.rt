@@ -1,5 +1,6 @@
 //! What a processor waits for, and who holds a lock: each in a few bytes, since each state has many.
 ghost use Rattle.std.specs.Prelude.{◌≡◌, ◌<◌, Some};
+ghost use Rattle.base.specs.Prelude.{most_processors};
 ghost use Rattle.journal.specs.Sizes.{Sizes as TheSizes};
 ghost use Rattle.journal.specs.WellFormed.{KindInRange};
 ghost use Rattle.journal.specs.Prelude.{awaited};
@@ -62,7 +63,7 @@ pub struct Seat(u8);
 impl Seat {
     /// The seat of this processor.
     pub fn of(processor: usize) -> Seat
-        requires { processor < 16 }
+        requires { processor < most_processors }
         ensures { wait_code_seated (Some result) ≡ Some processor }
     {
         Seat(processor as u8)

@@ -1,18 +1,19 @@
 //! Who waits for what, and what has come.
 ghost use Rattle.std.specs.Prelude.{◌≡◌, ◌↔◌, ℕ, ◌+◌, ◌<◌, ◌≤◌, ◌^◌, ◌==◌, ◌&&◌, [], ◌∷◌, ◌++◌, IsTrue};
 ghost use Rattle.std.specs.Prelude.{All, List, IfOk, MatchOption, OnOk, cond, false, length, slice_index, slice_index_or};
-ghost use Rattle.base.specs.Prelude.{Has};
+ghost use Rattle.base.specs.Prelude.{Has, most_locks, most_processors};
 ghost use Rattle.journal.specs.declared.event.Event.{Event as AnEvent};
 ghost use Rattle.journal.specs.declared.event.Kind.{Kind as AKind};
 ghost use Rattle.journal.specs.declared.event.Kind.TheVariants.{Ask, Depart};
 ghost use Rattle.journal.specs.Sizes.{Sizes as TheSizes};
 ghost use Rattle.journal.specs.WellFormed.{Allowed, KindInRange, LastIs, MayBeGranted, MayFollow};
 ghost use Rattle.journal.specs.Prelude.{Holds, count_of, did, event, is_arrive, is_depart, is_taking};
-ghost use Rattle.judge.specs.Prelude.{AreSizesSmall, WhyWaitsFor, tells_holder_after, tells_flag_set_after};
+ghost use Rattle.judge.specs.Prelude.{AreSizesSmall, AwaitsKind, tells_holder_after, tells_flag_set_after};
 ghost use Rattle.explore.specs.Waiting.{WaitingAskedAfter, IsWaitingForLock, IsEnabledByWaiting, IsFirstWaiting, IsLikeWaiting, IsWaitingPossible, TellsWaiting, waiting_unqueued};
 ghost use Rattle.explore.specs.Waits.{wait_code_seated};
 
 use crate::wait::{Seat, WaitCode, end_of};
+use base::{MOST_FLAGS, MOST_LOCKS, MOST_PROCESSORS};
 use journal::Kind;
 use std::alloc::{AllocError, Global};
 
@@ -22,13 +23,13 @@ use std::alloc::{AllocError, Global};
 pub struct Waiting {
     /// What each processor waits for.
     #[derive_where(skip(Hash))]
-    waits: [Option<WaitCode>; 16],
+    waits: [Option<WaitCode>; MOST_PROCESSORS],
     /// How often each has arrived at the barrier. It has departed as often, unless it waits there.
-    arrivals: [u32; 16],
+    arrivals: [u32; MOST_PROCESSORS],
     /// Who holds each lock.
-    holders: [Option<Seat>; 32],
+    holders: [Option<Seat>; MOST_LOCKS],
     /// Which flags are set.
-    flags: [bool; 32],
+    flags: [bool; MOST_FLAGS],
     /// Who waits for a lock, in the order of their asks.
     asked: Vec<usize>,
 }
@@ -51,8 +52,8 @@ fn is_same(a: Kind, b: Kind) -> bool
 }
 
 /// Counts the event if it is an arrival.
-fn count(arrivals: &mut [u32; 16], processor: usize, kind: Kind)
-    requires processor { processor < 16 }
+fn count(arrivals: &mut [u32; MOST_PROCESSORS], processor: usize, kind: Kind)
+    requires processor { processor < most_processors }
     requires room { slice_index arrivals.old processor < 2 ^ 22 }
     ensures arrivals { (q : ℕ) → slice_index arrivals.new q
         ≡ slice_index arrivals.old q + cond ((processor == q) && is_arrive kind) 1 0 }
@@ -64,8 +65,8 @@ fn count(arrivals: &mut [u32; 16], processor: usize, kind: Kind)
 }
 
 /// Takes note of who acquires or releases a lock.
-fn hold(holders: &mut [Option<Seat>; 32], processor: usize, kind: Kind)
-    requires processor { processor < 16 }
+fn hold(holders: &mut [Option<Seat>; MOST_LOCKS], processor: usize, kind: Kind)
+    requires processor { processor < most_processors }
     requires in_range { (s : TheSizes) × AreSizesSmall s × KindInRange s kind }
     ensures holders { (l : ℕ) → wait_code_seated (slice_index_or holders.new l None)
         ≡ tells_holder_after (wait_code_seated (slice_index_or holders.old l None)) l processor kind }
@@ -79,7 +80,7 @@ fn hold(holders: &mut [Option<Seat>; 32], processor: usize, kind: Kind)
 }
 
 /// Takes note of a flag that is set.
-fn set(flags: &mut [bool; 32], kind: Kind)
+fn set(flags: &mut [bool; MOST_FLAGS], kind: Kind)
     requires { (s : TheSizes) × AreSizesSmall s × KindInRange s kind }
     ensures flags { (f : ℕ) → slice_index_or flags.new f false
         ≡ tells_flag_set_after (slice_index_or flags.old f false) f kind }
@@ -110,9 +111,13 @@ fn queue(asked: &mut Vec<usize>, processor: usize, kind: Kind) -> Result<(), All
 }
 
 /// The first of these processors that waits for the lock.
-fn first_of(asked: &[usize], waits: &[Option<WaitCode>; 16], lock: usize) -> Option<usize>
-    requires small { All (λ q. q < 16) asked.now }
-    requires lock { lock < 32 }
+fn first_of(
+    asked: &[usize],
+    waits: &[Option<WaitCode>; MOST_PROCESSORS],
+    lock: usize,
+) -> Option<usize>
+    requires small { All (λ q. q < most_processors) asked.now }
+    requires lock { lock < most_locks }
     ensures { MatchOption result ((q : ℕ) → Has asked.now q → ¬ IsWaitingForLock waits.now q lock)
         (IsFirstWaiting asked.now waits.now lock) }
 {
@@ -130,10 +135,10 @@ impl Waiting {
         ensures { TellsWaiting [] result }
     {
         Waiting {
-            waits: [None; 16],
-            arrivals: [0; 16],
-            holders: [None; 32],
-            flags: [false; 32],
+            waits: [None; MOST_PROCESSORS],
+            arrivals: [0; MOST_PROCESSORS],
+            holders: [None; MOST_LOCKS],
+            flags: [false; MOST_FLAGS],
             asked: Vec::new(alloc),
         }
     }
@@ -153,16 +158,16 @@ impl Waiting {
 
     /// What the processor waits for.
     pub fn of(&self, processor: usize) -> Option<Kind>
-        requires { processor < 16 }
+        requires { processor < most_processors }
         ensures { (j : List AnEvent) → TellsWaiting j self.now
-            → (k : AKind) → (result ≡ Some k) ↔ WhyWaitsFor j processor k }
+            → (k : AKind) → (result ≡ Some k) ↔ AwaitsKind j processor k }
     {
         end_of(self.waits[processor])
     }
 
     /// Whether the lock, for which the processor waits, is free, and nobody asked for it earlier.
     fn may_acquire(&self, processor: usize, lock: usize) -> bool
-        requires lock { lock < 32 }
+        requires lock { lock < most_locks }
         requires tells { (j : List AnEvent) × TellsWaiting j self.now }
         ensures { (j : List AnEvent) → TellsWaiting j self.now → (i : ℕ)
             → LastIs j processor i (Ask lock) → IsTrue result ↔ MayBeGranted j i lock }
@@ -178,9 +183,9 @@ impl Waiting {
 
     /// Whether all processors have arrived as often as this one, which waits at the barrier.
     fn may_depart(&self, processors: usize, processor: usize) -> bool
-        requires processors { processors ≤ 16 }
-        requires processor { processor < 16 }
-        ensures { (j : List AnEvent) → TellsWaiting j self.now → WhyWaitsFor j processor Depart
+        requires processors { processors ≤ most_processors }
+        requires processor { processor < most_processors }
+        ensures { (j : List AnEvent) → TellsWaiting j self.now → AwaitsKind j processor Depart
             → IsTrue result ↔ ((q : ℕ) → q < processors
             → count_of is_depart j processor + 1 ≤ count_of is_arrive j q) }
     {
@@ -195,7 +200,7 @@ impl Waiting {
 
     /// Whether the processor holds the lock.
     fn holds(&self, processor: usize, lock: usize) -> bool
-        requires { lock < 32 }
+        requires { lock < most_locks }
         ensures { (j : List AnEvent) → TellsWaiting j self.now → IsTrue result ↔ Holds j processor lock }
     {
         match self.holders[lock] {
@@ -208,7 +213,7 @@ impl Waiting {
     fn has_come(&self, processors: usize, processor: usize, kind: Kind) -> bool
         requires { IsWaitingPossible self.now processors processor kind }
         ensures { (s : TheSizes) (j : List AnEvent) → s.processors ≡ processors
-            → TellsWaiting j self.now → WhyWaitsFor j processor kind
+            → TellsWaiting j self.now → AwaitsKind j processor kind
             → IsTrue result ↔ Allowed s j processor kind }
     {
         match kind {
@@ -223,7 +228,7 @@ impl Waiting {
     fn may_begin(&self, processor: usize, kind: Kind) -> bool
         requires { (s : TheSizes) × AreSizesSmall s × KindInRange s kind }
         ensures { (s : TheSizes) (j : List AnEvent) → TellsWaiting j self.now
-            → ((k : AKind) → ¬ WhyWaitsFor j processor k)
+            → ((k : AKind) → ¬ AwaitsKind j processor k)
             → IsTrue result ↔ Allowed s j processor kind }
     {
         if takes(kind) {
@@ -254,7 +259,7 @@ impl Waiting {
     pub fn note(&mut self, processor: usize, kind: Kind) -> Result<(), AllocError>
         requires { IsEnabledByWaiting self.old processor kind }
         ensures { OnOk result ((s : TheSizes) (j : List AnEvent) → TellsWaiting j self.old
-            → MayFollow s j (event processor kind) → processor < 16
+            → MayFollow s j (event processor kind) → processor < most_processors
             → TellsWaiting (did j processor kind) self.new) }
     {
         queue(&mut self.asked, processor, kind)?;

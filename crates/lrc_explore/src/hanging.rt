@@ -71,7 +71,7 @@ fn put_awaited(
 }
 
 /// Adds a line for each processor that waits: what for.
-fn put_waits(text: &mut Vec<u8>, hang: &Hang) -> Result<(), AllocError> {
+fn put_hanging_waits(text: &mut Vec<u8>, hang: &Hang) -> Result<(), AllocError> {
     for (processor, awaited) in hang.waits.iter().enumerate() {
         if let Some(kind) = *awaited {
             put_number(text, b"processor ", processor as u64)?;
@@ -83,8 +83,8 @@ fn put_waits(text: &mut Vec<u8>, hang: &Hang) -> Result<(), AllocError> {
 }
 
 /// A line for each processor that waits: what for. The only error is running out of memory.
-pub fn waits_text(alloc: Global, hang: &Hang) -> Result<Vec<u8>, AllocError> {
+pub fn hanging_waits_text(alloc: Global, hang: &Hang) -> Result<Vec<u8>, AllocError> {
     let mut text = Vec::new(alloc);
-    put_waits(&mut text, hang)?;
+    put_hanging_waits(&mut text, hang)?;
     Ok(text)
 }

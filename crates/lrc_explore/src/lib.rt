@@ -21,4 +21,5 @@ mod rendering;
 pub mod schedules;
 
 pub use fault::ExploreFault;
+pub use outcomes::{outcome_parts, sorted_outcomes};
 pub use rendering::render;

@@ -4,8 +4,11 @@ use crate::numbers::put_number;
 use explore::ScriptOutcome;
 use std::alloc::{AllocError, Global};
 
-/// What the loads of each processor answered, of each outcome: in rising order.
-fn sorted(alloc: Global, outcomes: &[ScriptOutcome]) -> Result<Vec<&[Vec<u32>]>, AllocError> {
+/// What the loads of each processor answered, of each outcome: in rising order. The only error is running out of memory.
+pub fn sorted_outcomes(
+    alloc: Global,
+    outcomes: &[ScriptOutcome],
+) -> Result<Vec<&[Vec<u32>]>, AllocError> {
     let mut rows = Vec::with_capacity(alloc, outcomes.len())?;
     for outcome in outcomes {
         rows.push(outcome.replies.as_slice())?;
@@ -14,8 +17,9 @@ fn sorted(alloc: Global, outcomes: &[ScriptOutcome]) -> Result<Vec<&[Vec<u32>]>,
     Ok(rows)
 }
 
-/// The replies of the processor's own loads, and the words at so many shown addresses, which processor 0 loads at the end.
-fn split(replies: &[Vec<u32>], processor: usize, shown: usize) -> (&[u32], &[u32]) {
+/// Of an outcome, the replies of the processor's own loads, and the words at so many shown addresses, which processor 0 loads at
+/// the end.
+pub fn outcome_parts(replies: &[Vec<u32>], processor: usize, shown: usize) -> (&[u32], &[u32]) {
     let last = if processor == 0 { shown } else { 0 };
     match replies.get(processor) {
         Some(words) => words.split_at(words.len().saturating_sub(last)),
@@ -24,22 +28,22 @@ fn split(replies: &[Vec<u32>], processor: usize, shown: usize) -> (&[u32], &[u32
 }
 
 /// Adds a shown address with its word.
-fn put_word(text: &mut Vec<u8>, address: usize, word: u32) -> Result<(), AllocError> {
+fn put_outcome_word(text: &mut Vec<u8>, address: usize, word: u32) -> Result<(), AllocError> {
     put_number(text, b" ", address as u64)?;
     put_number(text, b" ", u64::from(word))
 }
 
 /// Adds each shown address with its word.
-fn put_words(text: &mut Vec<u8>, shown: &[usize], words: &[u32]) -> Result<(), AllocError> {
+fn put_outcome_words(text: &mut Vec<u8>, shown: &[usize], words: &[u32]) -> Result<(), AllocError> {
     text.extend_from_slice(b"  words")?;
     for (address, word) in shown.iter().zip(words) {
-        put_word(text, *address, *word)?;
+        put_outcome_word(text, *address, *word)?;
     }
     Ok(())
 }
 
 /// Adds what the processor's own loads answered.
-fn put_own(text: &mut Vec<u8>, processor: usize, own: &[u32]) -> Result<(), AllocError> {
+fn put_own_outcome(text: &mut Vec<u8>, processor: usize, own: &[u32]) -> Result<(), AllocError> {
     put_number(text, b" p", processor as u64)?;
     for word in own {
         put_number(text, b" ", u64::from(*word))?;
@@ -48,13 +52,17 @@ fn put_own(text: &mut Vec<u8>, processor: usize, own: &[u32]) -> Result<(), Allo
 }
 
 /// Adds the replies of each processor that loads.
-fn put_replies(text: &mut Vec<u8>, replies: &[Vec<u32>], shown: usize) -> Result<(), AllocError> {
+fn put_outcome_replies(
+    text: &mut Vec<u8>,
+    replies: &[Vec<u32>],
+    shown: usize,
+) -> Result<(), AllocError> {
     let mut front: &[u8] = b" replies";
     for processor in 0..replies.len() {
-        let (own, _) = split(replies, processor, shown);
+        let (own, _) = outcome_parts(replies, processor, shown);
         if !own.is_empty() {
             text.extend_from_slice(front)?;
-            put_own(text, processor, own)?;
+            put_own_outcome(text, processor, own)?;
             front = b"";
         }
     }
@@ -67,9 +75,9 @@ fn put_outcome(
     shown: &[usize],
     replies: &[Vec<u32>],
 ) -> Result<(), AllocError> {
-    let (_, words) = split(replies, 0, shown.len());
-    put_words(text, shown, words)?;
-    put_replies(text, replies, shown.len())?;
+    let (_, words) = outcome_parts(replies, 0, shown.len());
+    put_outcome_words(text, shown, words)?;
+    put_outcome_replies(text, replies, shown.len())?;
     text.extend_from_slice(b"\n")
 }
 
@@ -79,7 +87,7 @@ pub fn outcomes_text(
     shown: &[usize],
     outcomes: &[ScriptOutcome],
 ) -> Result<Vec<u8>, AllocError> {
-    let rows = sorted(alloc, outcomes)?;
+    let rows = sorted_outcomes(alloc, outcomes)?;
     let mut text = Vec::new(alloc);
     for replies in &rows {
         put_outcome(&mut text, shown, *replies)?;

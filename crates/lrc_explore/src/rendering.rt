@@ -7,7 +7,7 @@ ghost use Rattle.lrc_explore.specs.Prelude.{IsExploreText, IsHangEventsText, IsH
 ghost use Rattle.lrc_explore.specs.Prelude.{ExploreUnwritten, ExploreWritten, explore_text_outcomes_end, explore_text_outcomes_line, explore_text_racy_lines, explore_text_states_line};
 
 use crate::fault::ExploreFault;
-use crate::hanging::waits_text;
+use crate::hanging::hanging_waits_text;
 use crate::history::{put_event_at, put_events};
 use crate::numbers::put_number;
 use crate::outcomes::outcomes_text;
@@ -39,7 +39,7 @@ fn put_hang(text: &mut Vec<u8>, hang: &Hang, waits: &[u8]) -> Result<(), AllocEr
 fn hanging_text(alloc: Global, hang: &Hang) -> Result<Vec<u8>, AllocError>
     ensures { IfOk result (λ t. IsHangEventsText hang.now t.items) }
 {
-    let waits = waits_text(alloc, hang)?;
+    let waits = hanging_waits_text(alloc, hang)?;
     let mut text = Vec::new(alloc);
     put_hang(&mut text, hang, &waits)?;
     Ok(text)

@@ -14,20 +14,20 @@ use Rattle.journal.proofs.Times.Times.{count_of-one_time}
 use Rattle.journal.proofs.Journals.WellFormedLast.{well_formed_holds_cases, well_formed_holds_longer, well_formed_holds_now}
 use Rattle.base.proofs.SlicesAndCounts.{count_by-append, slice_push_induction}
 use Rattle.lrc_script.specs.Plan.{Plan}
-use Rattle.conformance.specs.Follows.{followed_calls, is_followed_fetch}
+use Rattle.conformance.specs.Follows.{calls_of, is_fetch}
 use Rattle.conformance.proofs.Calls.{followed_calls-own, followed_calls-others}
 use Rattle.explore.specs.declared.prefixes.script_call.ScriptCall.{ScriptCall}
 use Rattle.explore.specs.declared.prefixes.script_call.ScriptCall.TheVariants.{Call, Adds}
 use Rattle.explore.specs.Prefixes.Beginnings.{IsFlatBeginning}
 use Rattle.explore.specs.Prefixes.Calling.{IsCallOfStep, replyless_call, reply_after_call}
-use Rattle.explore.specs.Prefixes.Laws.{MayComeNextByLaw}
+use Rattle.explore.specs.Prefixes.Laws.{MayComeNext}
 use Rattle.explore.specs.Guarded.{guard_step_departs, guard_held_after, guard_held_after_step, guard_phase_at, guard_held_at, guarded_step_address, guarded_step_stores}
 use Rattle.explore.proofs.prefixes.Beginnings.{beginning_empty, beginning_next}
 use Rattle.explore.proofs.prefixes.Calling.{AreFirstCalls}
 
 -- what holds of no events, and of one more, holds of each beginning
 pub lockset_calls_induction : (s : Plan) (P : List Event → Type 0) → P []
-    → ((g : List Event) (p : ℕ) (k : Kind) → IsFlatBeginning s g → MayComeNextByLaw s g p k → P g → P (did g p k))
+    → ((g : List Event) (p : ℕ) (k : Kind) → IsFlatBeginning s g → MayComeNext s g p k → P g → P (did g p k))
     → (g : List Event) → IsFlatBeginning s g → P g
 lockset_calls_induction s P start step =
     slice_push_induction (λ g. IsFlatBeginning s g → P g) (λ h. start)
@@ -47,23 +47,23 @@ lockset_calls_one_departure : (k : Kind) (p : ℕ) → count_of is_depart (event
 lockset_calls_one_departure k p = let own = eq-eqb p p refl in rw own refl
 
 pub lockset_calls_departed : (s : Plan) (g : List Event) → IsFlatBeginning s g → (p : ℕ)
-    → count_of is_depart g p ≡ lockset_calls_departures (followed_calls g p)
-lockset_calls_departed s = lockset_calls_induction s (λ g. (p : ℕ) → count_of is_depart g p ≡ lockset_calls_departures (followed_calls g p)) (λ p. refl)
+    → count_of is_depart g p ≡ lockset_calls_departures (calls_of g p)
+lockset_calls_departed s = lockset_calls_induction s (λ g. (p : ℕ) → count_of is_depart g p ≡ lockset_calls_departures (calls_of g p)) (λ p. refl)
     (λ g q k begins next ih p. elim (cases_eq q p) [
-      | inl is ↦ subst (λ r. count_of is_depart (did g q k) r ≡ lockset_calls_departures (followed_calls (did g q k) r)) is (own g q k next.calls.call (ih q))
+      | inl is ↦ subst (λ r. count_of is_depart (did g q k) r ≡ lockset_calls_departures (calls_of (did g q k) r)) is (own g q k next.calls.call (ih q))
       | inr isnt ↦ other g q k p isnt (ih p)
     ])
   where
-    own : (g : List Event) (q : ℕ) (k : Kind) → is_followed_fetch k ≡ false → count_of is_depart g q ≡ lockset_calls_departures (followed_calls g q)
-        → count_of is_depart (did g q k) q ≡ lockset_calls_departures (followed_calls (did g q k) q)
+    own : (g : List Event) (q : ℕ) (k : Kind) → is_fetch k ≡ false → count_of is_depart g q ≡ lockset_calls_departures (calls_of g q)
+        → count_of is_depart (did g q k) q ≡ lockset_calls_departures (calls_of (did g q k) q)
     own g q k call ih =
         count_of-append is_depart g (event q k ∷ []) q
         ∙ ap₂ (λ (m n : ℕ). m + n) ih (lockset_calls_one_departure k q)
-        ∙ sym (count_by-append is_depart (followed_calls g q) (k ∷ []))
+        ∙ sym (count_by-append is_depart (calls_of g q) (k ∷ []))
         ∙ ap lockset_calls_departures (sym (followed_calls-own g q k call))
 
-    other : (g : List Event) (q : ℕ) (k : Kind) (p : ℕ) → q ≢ p → count_of is_depart g p ≡ lockset_calls_departures (followed_calls g p)
-        → count_of is_depart (did g q k) p ≡ lockset_calls_departures (followed_calls (did g q k) p)
+    other : (g : List Event) (q : ℕ) (k : Kind) (p : ℕ) → q ≢ p → count_of is_depart g p ≡ lockset_calls_departures (calls_of g p)
+        → count_of is_depart (did g q k) p ≡ lockset_calls_departures (calls_of (did g q k) p)
     other g q k p isnt ih =
         let sum = count_of-append is_depart g (event q k ∷ []) p in
         let none : count_of is_depart (event q k ∷ []) p ≡ 0 =
@@ -110,26 +110,26 @@ lockset_calls_own_held g q l k held ih = (
   λ h. well_formed_holds_longer g (event q k) q l (λ is. let kinds = ap (λ (e : Event). e.kind) is in absurd cc) (ih.1 h),
 )
 
-pub lockset_calls_holding : (s : Plan) (g : List Event) → IsFlatBeginning s g → (p l : ℕ) → Holds g p l ↔ IsTrue (lockset_calls_hold l (followed_calls g p))
-lockset_calls_holding s = lockset_calls_induction s (λ g. (p l : ℕ) → Holds g p l ↔ IsTrue (lockset_calls_hold l (followed_calls g p)))
+pub lockset_calls_holding : (s : Plan) (g : List Event) → IsFlatBeginning s g → (p l : ℕ) → Holds g p l ↔ IsTrue (lockset_calls_hold l (calls_of g p))
+lockset_calls_holding s = lockset_calls_induction s (λ g. (p l : ℕ) → Holds g p l ↔ IsTrue (lockset_calls_hold l (calls_of g p)))
     (λ p l. ((λ h. absurd (none h)), (λ h. absurd (false≢true h))))
     (λ g q k begins next ih p l. elim (cases_eq q p) [
-      | inl is ↦ subst (λ r. Holds (did g q k) r l ↔ IsTrue (lockset_calls_hold l (followed_calls (did g q k) r))) is (own g q k l next.calls.call (ih q l))
+      | inl is ↦ subst (λ r. Holds (did g q k) r l ↔ IsTrue (lockset_calls_hold l (calls_of (did g q k) r))) is (own g q k l next.calls.call (ih q l))
       | inr isnt ↦ other g q k p l isnt (ih p l)
     ])
   where
     none : {p l : ℕ} → Holds [] p l → ⊥
     none h = let at = h.acquires in absurd cc
 
-    own : (g : List Event) (q : ℕ) (k : Kind) (l : ℕ) → is_followed_fetch k ≡ false → Holds g q l ↔ IsTrue (lockset_calls_hold l (followed_calls g q))
-        → Holds (did g q k) q l ↔ IsTrue (lockset_calls_hold l (followed_calls (did g q k) q))
+    own : (g : List Event) (q : ℕ) (k : Kind) (l : ℕ) → is_fetch k ≡ false → Holds g q l ↔ IsTrue (lockset_calls_hold l (calls_of g q))
+        → Holds (did g q k) q l ↔ IsTrue (lockset_calls_hold l (calls_of (did g q k) q))
     own g q k l call ih =
         subst (λ b. Holds (did g q k) q l ↔ IsTrue b)
-        (sym (ap (lockset_calls_hold l) (followed_calls-own g q k call) ∙ fold-append (guard_held_after l) false (followed_calls g q) (k ∷ [])))
-        (lockset_calls_own_held g q l k (lockset_calls_hold l (followed_calls g q)) ih)
+        (sym (ap (lockset_calls_hold l) (followed_calls-own g q k call) ∙ fold-append (guard_held_after l) false (calls_of g q) (k ∷ [])))
+        (lockset_calls_own_held g q l k (lockset_calls_hold l (calls_of g q)) ih)
 
-    other : (g : List Event) (q : ℕ) (k : Kind) (p l : ℕ) → q ≢ p → Holds g p l ↔ IsTrue (lockset_calls_hold l (followed_calls g p))
-        → Holds (did g q k) p l ↔ IsTrue (lockset_calls_hold l (followed_calls (did g q k) p))
+    other : (g : List Event) (q : ℕ) (k : Kind) (p l : ℕ) → q ≢ p → Holds g p l ↔ IsTrue (lockset_calls_hold l (calls_of g p))
+        → Holds (did g q k) p l ↔ IsTrue (lockset_calls_hold l (calls_of (did g q k) p))
     other g q k p l isnt ih =
         subst (λ ks. Holds (did g q k) p l ↔ IsTrue (lockset_calls_hold l ks)) (sym (followed_calls-others g q p k isnt)) (
           λ h. elim (well_formed_holds_cases g (event q k) p l h) [

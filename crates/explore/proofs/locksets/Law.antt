@@ -18,13 +18,13 @@ use Rattle.journal.proofs.Journals.Balance.{balanced}
 use Rattle.journal.proofs.Journals.HoldingReleases.{holds_alone}
 use Rattle.lrc_script.specs.declared.script.Instruction.{Instruction}
 use Rattle.lrc_script.specs.Plan.{Plan}
-use Rattle.conformance.specs.Follows.{followed_calls, followed_plan_sizes}
+use Rattle.conformance.specs.Follows.{calls_of, plan_sizes}
 use Rattle.explore.specs.declared.prefixes.script_call.ScriptCall.{ScriptCall}
 use Rattle.explore.specs.Guarded.{GuardedTextLaw, HaveCommonGuard, IsGuardedAccessAt, IsGuarded, guard_step_departs, guard_held_after_step, guard_held_at, guard_phase_at, guarded_step_address, guarded_step_stores}
 use Rattle.explore.specs.Machines.{AreLawfulMachineSteps}
 use Rattle.explore.specs.Prefixes.Beginnings.{IsFlatBeginning}
-use Rattle.explore.specs.Prefixes.Calling.{last_reply_of_calls, prefix_calling_section_steps, prefix_calling_shown_by}
-use Rattle.explore.specs.Prefixes.Laws.{MayComeNextByLaw}
+use Rattle.explore.specs.Prefixes.Calling.{last_reply_of_calls, calling_section_steps, calling_shown_by}
+use Rattle.explore.specs.Prefixes.Laws.{MayComeNext}
 use Rattle.explore.proofs.Machines.{machine_some_at}
 use Rattle.explore.proofs.prefixes.Beginnings.{beginning_next}
 use Rattle.explore.proofs.prefixes.Calling.{AreFirstCalls, begins_calls}
@@ -42,7 +42,7 @@ lockset_all_arrived s =
     lockset_calls_induction s (λ g. (q p : ℕ) → p < s.processors → count_of is_depart g q ≤ count_of is_arrive g p)
     (λ q p within. omega arith) step
   where
-    step : (g : List Event) (r : ℕ) (k : Kind) → IsFlatBeginning s g → MayComeNextByLaw s g r k
+    step : (g : List Event) (r : ℕ) (k : Kind) → IsFlatBeginning s g → MayComeNext s g r k
         → ((q p : ℕ) → p < s.processors → count_of is_depart g q ≤ count_of is_arrive g p)
         → (q p : ℕ) → p < s.processors → count_of is_depart (did g r k) q ≤ count_of is_arrive (did g r k) p
     step g r k begins next ih q p within =
@@ -52,7 +52,7 @@ lockset_all_arrived s =
         elim (count_of-one_time is_depart (event r k) q) [
           | inl none ↦ omega arith
           | inr one ↦
-              (let allowed = subst (Allowed (followed_plan_sizes s) g r) (lockset_departure k one.1) next.may_follow.allowed in
+              (let allowed = subst (Allowed (plan_sizes s) g r) (lockset_departure k one.1) next.may_follow.allowed in
               let enough = allowed.2 p within in
               let same = ap (λ n. count_of is_depart g n) one.0 in
               let counts = one.2 in
@@ -67,15 +67,15 @@ lockset_not_waiting _ a w at answers is = absurd cc
 -- what the text says of an access of p that may come next
 record IsLocksetAccessNext (s : Plan) (rows : List (Vec ScriptCall)) (g : List Event) (p w : ℕ) (a : Kind) : Type 0 where
   step : ScriptCall
-  access : IsGuardedAccessAt rows p (length (followed_calls g p)) w step
+  access : IsGuardedAccessAt rows p (length (calls_of g p)) w step
   stores : guarded_step_stores step ≡ is_store a
   within : p < s.processors
-  arrived : guard_phase_at access.row.items (length (followed_calls g p)) ≡ count_of is_arrive g p
-  departed : guard_phase_at access.row.items (length (followed_calls g p)) ≡ count_of is_depart g p
-  holds : (l : ℕ) → IsTrue (guard_held_at access.row.items (length (followed_calls g p)) l) → Holds g p l
+  arrived : guard_phase_at access.row.items (length (calls_of g p)) ≡ count_of is_arrive g p
+  departed : guard_phase_at access.row.items (length (calls_of g p)) ≡ count_of is_depart g p
+  holds : (l : ℕ) → IsTrue (guard_held_at access.row.items (length (calls_of g p)) l) → Holds g p l
 
 module _ (s : Plan) (rows : List (Vec ScriptCall)) (steps : AreLawfulMachineSteps s rows) (g : List Event) (p w : ℕ) (a : Kind)
-    (begins : IsFlatBeginning s g) (next : MayComeNextByLaw s g p a) (at : address_of a ≡ Some w) where
+    (begins : IsFlatBeginning s g) (next : MayComeNext s g p a) (at : address_of a ≡ Some w) where
   lockset_inside : p < s.processors
   lockset_inside = next.may_follow.processor
 
@@ -85,18 +85,18 @@ module _ (s : Plan) (rows : List (Vec ScriptCall)) (steps : AreLawfulMachineStep
   row : (x : Vec ScriptCall) × (slice_get rows p ≡ Some x)
   row = let one = steps.lawful.but_uneven.one_each in let long = steps.are.long in machine_some_at rows p (omega arith)
 
-  lockset_row_says : row.0.items ≡ prefix_calling_section_steps lockset_section.0 (prefix_calling_shown_by s p)
+  lockset_row_says : row.0.items ≡ calling_section_steps lockset_section.0 (calling_shown_by s p)
   lockset_row_says = steps.are.each p lockset_section.0 row.0 lockset_section.1 row.1
 
-  first : AreFirstCalls 0 row.0.items (followed_calls g p)
-  first = subst (λ x. AreFirstCalls 0 x (followed_calls g p)) (sym lockset_row_says)
-      ((begins_calls lockset_section.0 (prefix_calling_shown_by s p) (followed_calls g p)).0 (begins.begins p lockset_section.0 lockset_section.1))
+  first : AreFirstCalls 0 row.0.items (calls_of g p)
+  first = subst (λ x. AreFirstCalls 0 x (calls_of g p)) (sym lockset_row_says)
+      ((begins_calls lockset_section.0 (calling_shown_by s p) (calls_of g p)).0 (begins.begins p lockset_section.0 lockset_section.1))
 
-  lockset_departs_often : guard_phase_at row.0.items (length (followed_calls g p)) ≡ count_of is_depart g p
-  lockset_departs_often = sym (lockset_first_calls_depart 0 row.0.items (followed_calls g p) first) ∙ sym (lockset_calls_departed s g begins p)
+  lockset_departs_often : guard_phase_at row.0.items (length (calls_of g p)) ≡ count_of is_depart g p
+  lockset_departs_often = sym (lockset_first_calls_depart 0 row.0.items (calls_of g p) first) ∙ sym (lockset_calls_departed s g begins p)
 
   lockset_arrivals_balance : count_of is_arrive g p ≡ count_of is_depart g p
-  lockset_arrivals_balance = (balanced (followed_plan_sizes s) g p begins.well_formed).going
+  lockset_arrivals_balance = (balanced (plan_sizes s) g p begins.well_formed).going
       (λ i last. lockset_not_waiting kind.Arrive a w at (next.may_follow.answers i kind.Arrive last) refl)
 
   lockset_access_next : IsLocksetAccessNext s rows g p w a
@@ -107,14 +107,14 @@ module _ (s : Plan) (rows : List (Vec ScriptCall)) (steps : AreLawfulMachineStep
         access = record {
           row = row.0;
           row_at = row.1;
-          at = subst (λ x. slice_get x (length (followed_calls g p)) ≡ Some called.step) (sym lockset_row_says) called.at;
-          address = called_address (last_reply_of_calls (followed_calls g p)) called.step a called.is ∙ at;
+          at = subst (λ x. slice_get x (length (calls_of g p)) ≡ Some called.step) (sym lockset_row_says) called.at;
+          address = called_address (last_reply_of_calls (calls_of g p)) called.step a called.is ∙ at;
         };
-        stores = called_store (last_reply_of_calls (followed_calls g p)) called.step a called.is;
+        stores = called_store (last_reply_of_calls (calls_of g p)) called.step a called.is;
         within = lockset_inside;
         arrived = lockset_departs_often ∙ sym lockset_arrivals_balance;
         departed = lockset_departs_often;
-        holds = λ l held. (lockset_calls_holding s g begins p l).1 (lockset_first_calls_held l 0 false row.0.items (followed_calls g p) first ∙ held);
+        holds = λ l held. (lockset_calls_holding s g begins p l).1 (lockset_first_calls_held l 0 false row.0.items (calls_of g p) first ∙ held);
       }
 
 -- no two processors may access a guarded word next, one of them storing
@@ -132,14 +132,14 @@ lockset_guarded_quiet s rows steps g p q a b one other apart c guarded =
     let there = y.arrived in
     let gone = x.departed in
     let left = y.departed in
-    let same : guard_phase_at x.access.row.items (length (followed_calls g p)) ≡ guard_phase_at y.access.row.items (length (followed_calls g q))
+    let same : guard_phase_at x.access.row.items (length (calls_of g p)) ≡ guard_phase_at y.access.row.items (length (calls_of g q))
     = omega arith in
     let stores : IsTrue (guarded_step_stores x.step) ⊎ IsTrue (guarded_step_stores y.step) = elim c.stores [
       | inl is ↦ inl (x.stores ∙ is)
       | inr is ↦ inr (y.stores ∙ is)
     ] in
-    let common = guarded p q (length (followed_calls g p)) (length (followed_calls g q)) x.step y.step x.access y.access apart stores same in
-    apart (holds_alone (followed_plan_sizes s) g first.0.well_formed p q common.lock (x.holds common.lock common.first)
+    let common = guarded p q (length (calls_of g p)) (length (calls_of g q)) x.step y.step x.access y.access apart stores same in
+    apart (holds_alone (plan_sizes s) g first.0.well_formed p q common.lock (x.holds common.lock common.first)
     (y.holds common.lock common.second))
 
 pub guarded_law : GuardedTextLaw

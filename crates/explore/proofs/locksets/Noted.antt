@@ -18,14 +18,14 @@ use Rattle.journal.specs.Events.{address_of}
 use Rattle.journal.specs.WellFormed.{KindInRange}
 use Rattle.lrc_script.specs.Plan.{Plan}
 use Rattle.lrc_script.specs.Lawful.{plan_addresses, IsLawful, IsLawfulSection}
-use Rattle.conformance.specs.Follows.{followed_plan_sizes}
+use Rattle.conformance.specs.Follows.{plan_sizes}
 use Rattle.explore.specs.declared.prefixes.script_call.ScriptCall.{ScriptCall}
 use Rattle.explore.specs.declared.prefixes.script_call.ScriptCall.TheVariants.{Call, Adds}
 use Rattle.explore.specs.declared.guarded.Users.{Users}
 use Rattle.explore.specs.declared.guarded.WordUse.{WordUse}
 use Rattle.explore.specs.Guarded.{IsGuarded, guard_step_departs, guard_held_after_step, guard_held_at, guard_phase_at, guarded_step_address, guarded_step_stores}
 use Rattle.explore.specs.Machines.{AreLawfulMachineSteps, IsProperMachineStep}
-use Rattle.explore.specs.Prefixes.Calling.{prefix_calling_shown_by}
+use Rattle.explore.specs.Prefixes.Calling.{calling_shown_by}
 use Rattle.explore.proofs.Lengths.{section_length_few, shown_length_few}
 use Rattle.explore.proofs.Machines.{IsMachineRow, machine_row_proper, machine_row_steps}
 use Rattle.explore.specs.Users.{AreStepUsersNoted, AreUserRowsFew, AreUserRowsNoted, AreUserRowsWithin, AllUsersSound, HasUsersNoted, AreCleanUsers, IsUser, IsUserLockSmall, AreSoundUsers, HasUser, HasUserAt, IsUserStepWithin, KeepUsers}
@@ -197,12 +197,12 @@ lockset_noted_flags_of (x ∷ words) zero is = (x, refl, is)
 lockset_noted_flags_of (x ∷ words) (suc w) is = lockset_noted_flags_of words w is
 
 -- the numbers of a lawful script's steps are small
-lockset_noted_small_address : (s : Plan) (k : Kind) → KindInRange (followed_plan_sizes s) k → (w : ℕ) → address_of k ≡ Some w → w < plan_addresses s
+lockset_noted_small_address : (s : Plan) (k : Kind) → KindInRange (plan_sizes s) k → (w : ℕ) → address_of k ≡ Some w → w < plan_addresses s
 lockset_noted_small_address s (kind.Load a v) range w at = subst (λ n. n < plan_addresses s) (same_Some a w at) range
 lockset_noted_small_address s (kind.Store a v) range w at = subst (λ n. n < plan_addresses s) (same_Some a w at) range
 lockset_noted_small_address s _ range w at = absurd (none-some w at)
 
-lockset_noted_small_lock : (s : Plan) (k : Kind) → s.locks ≤ 32 → KindInRange (followed_plan_sizes s) k → IsUserLockSmall k
+lockset_noted_small_lock : (s : Plan) (k : Kind) → s.locks ≤ 32 → KindInRange (plan_sizes s) k → IsUserLockSmall k
 lockset_noted_small_lock s (kind.Acquire l) most range = omega (arith, range)
 lockset_noted_small_lock s (kind.Release l) most range = omega (arith, range)
 lockset_noted_small_lock s _ most range = tt
@@ -265,7 +265,7 @@ lockset_noted_row_few s p row lawful of =
     let is = subst (IsLawfulSection s)
     (same_Some (slice_index_or s.sections p []) of.section (sym (slice_get-get_or s.sections p [] within) ∙ of.at))
     (All-get_or (IsLawfulSection s) s.sections p [] within lawful.but_uneven.sections) in
-    let few = section_length_few of.section (prefix_calling_shown_by s p) is.most (shown_length_few s p lawful) in
+    let few = section_length_few of.section (calling_shown_by s p) is.most (shown_length_few s p lawful) in
     let same = ap (λ (xs : List ScriptCall). length xs) of.are in
     omega (arith, few, same)
 

@@ -16,20 +16,20 @@ use Rattle.lrc_script.specs.declared.script.Instruction.{Instruction}
 use Rattle.lrc_script.specs.Plan.{Plan}
 use Rattle.lrc_script.specs.Lawful.{plan_addresses}
 use Rattle.conformance.specs.Begins.{BeginsScript, BeginsSection}
-use Rattle.conformance.specs.Follows.{followed_plan_sizes, followed_calls, is_followed_fetch, Follows, FollowsSection}
+use Rattle.conformance.specs.Follows.{plan_sizes, calls_of, is_fetch, Follows, FollowsSection}
 use Rattle.conformance.specs.FlatRuns.{FlatRunHasNoFetch}
 use Rattle.conformance.proofs.Begins.{begins_front}
 use Rattle.conformance.proofs.Calls.{followed_calls-append, followed_calls-own, followed_calls-others}
 use Rattle.explore.specs.Prefixes.Beginnings.{IsFlatBeginning}
-use Rattle.explore.specs.Prefixes.Calling.{IsCalledNext, CallsNext, prefix_calling_section_steps, prefix_calling_shown_by}
-use Rattle.explore.specs.Prefixes.Laws.{EmptyLaw, FrontLaw, MayComeNextByLaw, NeverRacesLaw, NextLaw, WholeRunLaw}
+use Rattle.explore.specs.Prefixes.Calling.{IsCalledNext, CallsNext, calling_section_steps, calling_shown_by}
+use Rattle.explore.specs.Prefixes.Laws.{EmptyLaw, FrontLaw, MayComeNext, NeverRacesLaw, NextLaw, WholeRunLaw}
 use Rattle.explore.proofs.prefixes.Calling.{prefix_calling_begins_empty, prefix_calling_begins_push, prefix_calling_follows_length}
 
 -- what follows a script begins it
 pub beginning_of_followed : (s : Plan) (g : List Event) → Follows s g → BeginsScript s g
 beginning_of_followed s g follows p section at = record {
   rest = [];
-  follows = subst (FollowsSection section (prefix_calling_shown_by s p)) (sym (append-nil (followed_calls g p))) (follows p section at);
+  follows = subst (FollowsSection section (calling_shown_by s p)) (sym (append-nil (calls_of g p))) (follows p section at);
 }
 
 pub beginning_never_races : NeverRacesLaw
@@ -44,8 +44,8 @@ beginning_never_races s free g run none =
 
 pub beginning_empty : EmptyLaw
 beginning_empty s = record {
-  well_formed = well_formed_empty (followed_plan_sizes s);
-  begins = λ p section at. prefix_calling_begins_empty section (prefix_calling_shown_by s p);
+  well_formed = well_formed_empty (plan_sizes s);
+  begins = λ p section at. prefix_calling_begins_empty section (calling_shown_by s p);
   replays = λ i p a v does. absurd (none-some (event p (Load a v)) does);
   no_fetch = λ i e at. absurd (none-some e at);
 }
@@ -59,12 +59,12 @@ beginning_replays_front start g more replays i p a v does =
 -- a front of what begins a script does so
 pub beginning_script_front : (s : Plan) (g more : List Event) → BeginsScript s (g ++ more) → BeginsScript s g
 beginning_script_front s g more begins p section at =
-    begins_front section (prefix_calling_shown_by s p) (followed_calls g p) (followed_calls more p)
-    (subst (BeginsSection section (prefix_calling_shown_by s p)) (followed_calls-append g more p) (begins p section at))
+    begins_front section (calling_shown_by s p) (calls_of g p) (calls_of more p)
+    (subst (BeginsSection section (calling_shown_by s p)) (followed_calls-append g more p) (begins p section at))
 
 pub beginning_front : FrontLaw
 beginning_front s g more h = record {
-  well_formed = well_formed_front (followed_plan_sizes s) g more h.well_formed;
+  well_formed = well_formed_front (plan_sizes s) g more h.well_formed;
   begins = beginning_script_front s g more h.begins;
   replays = beginning_replays_front (replicate (plan_addresses s) 0) g more h.replays;
   no_fetch = λ i e at. h.no_fetch i e (numbered_at_longer g more i e at);
@@ -92,12 +92,12 @@ beginning_replays_push start g p k old answers i q a v does = elim (slice_push_c
       (sym (take-append_seam g (event p k ∷ [])) ∙ ap (λ n. take n (did g p k)) (sym now.0)) word)
 ]
 
-beginning_now : (s : Plan) (g : List Event) (p : ℕ) (k : Kind) → is_followed_fetch k ≡ false → BeginsScript s (did g p k)
+beginning_now : (s : Plan) (g : List Event) (p : ℕ) (k : Kind) → is_fetch k ≡ false → BeginsScript s (did g p k)
     → (section : List Instruction) → slice_get s.sections p ≡ Some section
-    → IsCalledNext (prefix_calling_section_steps section (prefix_calling_shown_by s p)) (followed_calls g p) k
+    → IsCalledNext (calling_section_steps section (calling_shown_by s p)) (calls_of g p) k
 beginning_now s g p k call begins section at =
-    ((prefix_calling_begins_push section (prefix_calling_shown_by s p) (followed_calls g p) k).0
-    (subst (BeginsSection section (prefix_calling_shown_by s p)) (followed_calls-own g p k call) (begins p section at))).1
+    ((prefix_calling_begins_push section (calling_shown_by s p) (calls_of g p) k).0
+    (subst (BeginsSection section (calling_shown_by s p)) (followed_calls-own g p k call) (begins p section at))).1
 
 beginning_more : (s : Plan) (g : List Event) (p : ℕ) (k : Kind) → BeginsScript s g → CallsNext s g p k
     → BeginsScript s (did g p k)
@@ -105,36 +105,36 @@ beginning_more s g p k begins may q section at = elim (cases_eq p q) [
   | inl is ↦
       (let here : slice_get s.sections p ≡ Some section =
       subst (λ r. slice_get s.sections r ≡ Some section) (sym is) at in
-      subst (λ r. BeginsSection section (prefix_calling_shown_by s r) (followed_calls (did g p k) r)) is
-      (subst (BeginsSection section (prefix_calling_shown_by s p)) (sym (followed_calls-own g p k may.call))
-      ((prefix_calling_begins_push section (prefix_calling_shown_by s p) (followed_calls g p) k).1 (begins p section here, may.next section here))))
+      subst (λ r. BeginsSection section (calling_shown_by s r) (calls_of (did g p k) r)) is
+      (subst (BeginsSection section (calling_shown_by s p)) (sym (followed_calls-own g p k may.call))
+      ((prefix_calling_begins_push section (calling_shown_by s p) (calls_of g p) k).1 (begins p section here, may.next section here))))
   | inr isnt ↦
-      subst (BeginsSection section (prefix_calling_shown_by s q)) (sym (followed_calls-others g p q k isnt)) (begins q section at)
+      subst (BeginsSection section (calling_shown_by s q)) (sym (followed_calls-others g p q k isnt)) (begins q section at)
 ]
 
-beginning_fetchless_push : (g : List Event) (p : ℕ) (k : Kind) → FlatRunHasNoFetch g → is_followed_fetch k ≡ false → FlatRunHasNoFetch (did g p k)
+beginning_fetchless_push : (g : List Event) (p : ℕ) (k : Kind) → FlatRunHasNoFetch g → is_fetch k ≡ false → FlatRunHasNoFetch (did g p k)
 beginning_fetchless_push g p k none call i e at = elim (slice_push_cases g (event p k) i e at) [
   | inl before ↦ none i e before.1
-  | inr now ↦ ap (λ (x : Event). is_followed_fetch x.kind) (sym now.1) ∙ call
+  | inr now ↦ ap (λ (x : Event). is_fetch x.kind) (sym now.1) ∙ call
 ]
 
 pub beginning_next : NextLaw
 beginning_next s g p k = (there, back)
   where
-    there : IsFlatBeginning s (did g p k) → IsFlatBeginning s g × MayComeNextByLaw s g p k
+    there : IsFlatBeginning s (did g p k) → IsFlatBeginning s g × MayComeNext s g p k
     there h =
-        let call : is_followed_fetch k ≡ false = h.no_fetch (length g) (event p k) (numbered_at_last g (event p k)) in (
+        let call : is_fetch k ≡ false = h.no_fetch (length g) (event p k) (numbered_at_last g (event p k)) in (
           beginning_front s g (event p k ∷ []) h,
           record {
-            may_follow = ((well_formed_push (followed_plan_sizes s) g (event p k)).0 h.well_formed).1;
+            may_follow = ((well_formed_push (plan_sizes s) g (event p k)).0 h.well_formed).1;
             calls = record { call = call; next = beginning_now s g p k call h.begins };
             answers = beginning_answers_last (replicate (plan_addresses s) 0) g p k h.replays;
           },
         )
 
-    back : IsFlatBeginning s g × MayComeNextByLaw s g p k → IsFlatBeginning s (did g p k)
+    back : IsFlatBeginning s g × MayComeNext s g p k → IsFlatBeginning s (did g p k)
     back h = record {
-      well_formed = (well_formed_push (followed_plan_sizes s) g (event p k)).1 (h.0.well_formed, h.1.may_follow);
+      well_formed = (well_formed_push (plan_sizes s) g (event p k)).1 (h.0.well_formed, h.1.may_follow);
       begins = beginning_more s g p k h.0.begins h.1.calls;
       replays = beginning_replays_push (replicate (plan_addresses s) 0) g p k h.0.replays h.1.answers;
       no_fetch = beginning_fetchless_push g p k h.0.no_fetch h.1.calls.call;
@@ -143,7 +143,7 @@ beginning_next s g p k = (there, back)
 pub beginning_whole_done : WholeRunLaw
 beginning_whole_done s g h = (
   λ follows p section at.
-      (prefix_calling_follows_length section (prefix_calling_shown_by s p) (followed_calls g p) (h.begins p section at)).0 (follows p section at),
+      (prefix_calling_follows_length section (calling_shown_by s p) (calls_of g p) (h.begins p section at)).0 (follows p section at),
   λ done p section at.
-      (prefix_calling_follows_length section (prefix_calling_shown_by s p) (followed_calls g p) (h.begins p section at)).1 (done p section at),
+      (prefix_calling_follows_length section (calling_shown_by s p) (calls_of g p) (h.begins p section at)).1 (done p section at),
 )

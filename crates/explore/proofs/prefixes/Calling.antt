@@ -15,7 +15,7 @@ use Rattle.conformance.proofs.Script.Steps.Step.{plain, adds}
 use Rattle.conformance.proofs.Script.SectionSteps.{section_steps as follows_steps, section_told, steps_of as some_steps, steps_of_all as all_some_steps, section_load_steps, steps_of_section}
 use Rattle.explore.specs.declared.prefixes.script_call.ScriptCall.{ScriptCall}
 use Rattle.explore.specs.declared.prefixes.script_call.ScriptCall.TheVariants.{Call, Adds}
-use Rattle.explore.specs.Prefixes.Calling.{prefix_calling_steps, prefix_calling_all_steps, prefix_calling_load_steps, prefix_calling_section_steps, reply_after_call, IsCallOfStep, IsCalledNext}
+use Rattle.explore.specs.Prefixes.Calling.{calling_steps, calling_steps_of_all, calling_load_steps, calling_section_steps, reply_after_call, IsCallOfStep, IsCalledNext}
 
 -- the calls are as the steps say, one by one, after this reply
 abbrev pub AreCalls : ℕ → List ScriptCall → List Kind → Type 0
@@ -38,7 +38,7 @@ map-append_prefix_calling_theirs : (xs ys : List ScriptCall) → map prefix_call
 map-append_prefix_calling_theirs [] ys = refl
 map-append_prefix_calling_theirs (x ∷ xs) ys = ap (λ zs. prefix_calling_theirs x ∷ zs) (map-append_prefix_calling_theirs xs ys)
 
-prefix_calling_theirs_of : (i : Instruction) → map prefix_calling_theirs (prefix_calling_steps i) ≡ some_steps i
+prefix_calling_theirs_of : (i : Instruction) → map prefix_calling_theirs (calling_steps i) ≡ some_steps i
 prefix_calling_theirs_of (Load a) = refl
 prefix_calling_theirs_of (Store a v) = refl
 prefix_calling_theirs_of (Add a v) = refl
@@ -49,18 +49,18 @@ prefix_calling_theirs_of (Set f) = refl
 prefix_calling_theirs_of (Await f) = refl
 prefix_calling_theirs_of Cut = refl
 
-calling_theirs_of_all : (is : List Instruction) → map prefix_calling_theirs (prefix_calling_all_steps is) ≡ all_some_steps is
+calling_theirs_of_all : (is : List Instruction) → map prefix_calling_theirs (calling_steps_of_all is) ≡ all_some_steps is
 calling_theirs_of_all [] = refl
-calling_theirs_of_all (i ∷ is) = map-append_prefix_calling_theirs (prefix_calling_steps i) (prefix_calling_all_steps is) ∙ ap₂ (λ xs ys. xs ++ ys) (prefix_calling_theirs_of i) (calling_theirs_of_all is)
+calling_theirs_of_all (i ∷ is) = map-append_prefix_calling_theirs (calling_steps i) (calling_steps_of_all is) ∙ ap₂ (λ xs ys. xs ++ ys) (prefix_calling_theirs_of i) (calling_theirs_of_all is)
 
-calling_theirs_of_loads : (shown : List ℕ) → map prefix_calling_theirs (prefix_calling_load_steps shown) ≡ section_load_steps shown
+calling_theirs_of_loads : (shown : List ℕ) → map prefix_calling_theirs (calling_load_steps shown) ≡ section_load_steps shown
 calling_theirs_of_loads [] = refl
 calling_theirs_of_loads (a ∷ shown) = ap (λ xs. plain (kind.Load a 0) ∷ xs) (calling_theirs_of_loads shown)
 
 calling_theirs_of_section : (section : List Instruction) (shown : List ℕ)
-    → map prefix_calling_theirs (prefix_calling_section_steps section shown) ≡ steps_of_section section shown
+    → map prefix_calling_theirs (calling_section_steps section shown) ≡ steps_of_section section shown
 calling_theirs_of_section section shown =
-    map-append_prefix_calling_theirs (prefix_calling_all_steps section) (Call kind.Arrive ∷ Call kind.Depart ∷ prefix_calling_load_steps shown)
+    map-append_prefix_calling_theirs (calling_steps_of_all section) (Call kind.Arrive ∷ Call kind.Depart ∷ calling_load_steps shown)
     ∙ ap₂ (λ xs ys. xs ++ plain kind.Arrive ∷ plain kind.Depart ∷ ys) (calling_theirs_of_all section) (calling_theirs_of_loads shown)
 
 prefix_calling_step_theirs : (reply : ℕ) (s : ScriptCall) (k : Kind) → IsCallOfStep reply s k → IsAStep reply (prefix_calling_theirs s) k
@@ -89,14 +89,14 @@ calls_ours reply (s ∷ steps) (k ∷ kinds) h =
 
 -- calls follow a section exactly where they are what its steps say
 pub follows_calls : (section : List Instruction) (shown : List ℕ) (kinds : List Kind)
-    → FollowsSection section shown kinds ↔ AreCalls 0 (prefix_calling_section_steps section shown) kinds
+    → FollowsSection section shown kinds ↔ AreCalls 0 (calling_section_steps section shown) kinds
 follows_calls section shown kinds = (
-  λ f. calls_ours 0 (prefix_calling_section_steps section shown) kinds
+  λ f. calls_ours 0 (calling_section_steps section shown) kinds
       (subst (λ steps. AreSteps 0 steps kinds) (sym (calling_theirs_of_section section shown))
       (follows_steps section shown kinds 0 f)),
   λ h. section_told section shown kinds 0
       (subst (λ steps. AreSteps 0 steps kinds) (calling_theirs_of_section section shown)
-      (calls_theirs 0 (prefix_calling_section_steps section shown) kinds h)),
+      (calls_theirs 0 (calling_section_steps section shown) kinds h)),
 )
 
 -- some call that a step says
@@ -128,10 +128,10 @@ prefix_calling_begun reply (s ∷ steps) (k ∷ kinds) rest h = (h.0, prefix_cal
 
 -- calls begin a section exactly where they are its first steps
 pub begins_calls : (section : List Instruction) (shown : List ℕ) (kinds : List Kind)
-    → BeginsSection section shown kinds ↔ AreFirstCalls 0 (prefix_calling_section_steps section shown) kinds
+    → BeginsSection section shown kinds ↔ AreFirstCalls 0 (calling_section_steps section shown) kinds
 begins_calls section shown kinds = (
-  λ b. prefix_calling_begun 0 (prefix_calling_section_steps section shown) kinds b.rest ((follows_calls section shown (kinds ++ b.rest)).0 b.follows),
-  λ h. let more = ends 0 (prefix_calling_section_steps section shown) kinds h in
+  λ b. prefix_calling_begun 0 (calling_section_steps section shown) kinds b.rest ((follows_calls section shown (kinds ++ b.rest)).0 b.follows),
+  λ h. let more = ends 0 (calling_section_steps section shown) kinds h in
       record { rest = more.0; follows = (follows_calls section shown (kinds ++ more.0)).1 more.1 },
 )
 
@@ -162,14 +162,14 @@ prefix_calling_next_first reply (s ∷ steps) (c ∷ kinds) k h next =
 -- one call more begins a section exactly where its next step says that
 pub prefix_calling_begins_push : (section : List Instruction) (shown : List ℕ) (kinds : List Kind) (k : Kind)
     → BeginsSection section shown (kinds ++ k ∷ [])
-    ↔ (BeginsSection section shown kinds × IsCalledNext (prefix_calling_section_steps section shown) kinds k)
+    ↔ (BeginsSection section shown kinds × IsCalledNext (calling_section_steps section shown) kinds k)
 prefix_calling_begins_push section shown kinds k = (
-  λ b. let both = prefix_calling_first_next 0 (prefix_calling_section_steps section shown) kinds k ((begins_calls section shown (kinds ++ k ∷ [])).0 b) in (
+  λ b. let both = prefix_calling_first_next 0 (calling_section_steps section shown) kinds k ((begins_calls section shown (kinds ++ k ∷ [])).0 b) in (
     begins_front section shown kinds (k ∷ []) b,
     record { step = both.1.step; at = both.1.at; is = both.1.is },
   ),
   λ both. (begins_calls section shown (kinds ++ k ∷ [])).1
-      (prefix_calling_next_first 0 (prefix_calling_section_steps section shown) kinds k ((begins_calls section shown kinds).0 both.0)
+      (prefix_calling_next_first 0 (calling_section_steps section shown) kinds k ((begins_calls section shown kinds).0 both.0)
       (record { step = both.1.step; at = both.1.at; is = both.1.is })),
 )
 
@@ -180,11 +180,11 @@ prefix_calling_begins_empty section shown = (begins_calls section shown []).1 tt
 -- calls that begin a section follow it exactly where they are as many as its steps
 pub prefix_calling_follows_length : (section : List Instruction) (shown : List ℕ) (kinds : List Kind)
     → BeginsSection section shown kinds
-    → FollowsSection section shown kinds ↔ (length kinds ≡ length (prefix_calling_section_steps section shown))
+    → FollowsSection section shown kinds ↔ (length kinds ≡ length (calling_section_steps section shown))
 prefix_calling_follows_length section shown kinds begins = (
-  λ f. long 0 (prefix_calling_section_steps section shown) kinds ((follows_calls section shown kinds).0 f),
+  λ f. long 0 (calling_section_steps section shown) kinds ((follows_calls section shown kinds).0 f),
   λ is. (follows_calls section shown kinds).1
-      (all 0 (prefix_calling_section_steps section shown) kinds ((begins_calls section shown kinds).0 begins) is),
+      (all 0 (calling_section_steps section shown) kinds ((begins_calls section shown kinds).0 begins) is),
 )
   where
     long : (reply : ℕ) (steps : List ScriptCall) (ks : List Kind) → AreCalls reply steps ks → length ks ≡ length steps

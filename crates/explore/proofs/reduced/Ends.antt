@@ -7,12 +7,12 @@ use Rattle.journal.specs.declared.event.Kind.{Kind}
 use Rattle.journal.specs.DidEvent.{did, event}
 use Rattle.journal.specs.Races.{Conflict}
 use Rattle.lrc_script.specs.Plan.{Plan}
-use Rattle.conformance.specs.Follows.{followed_calls, Follows, FollowsSection}
+use Rattle.conformance.specs.Follows.{calls_of, Follows, FollowsSection}
 use Rattle.explore.specs.declared.prefixes.script_call.ScriptCall.{ScriptCall}
 use Rattle.explore.specs.Machines.{AreLawfulMachineSteps}
 use Rattle.explore.specs.Outcomes.{AreOutcomeReplies, outcome_replies_in}
 use Rattle.explore.specs.Prefixes.Beginnings.{IsFlatBeginning, IsHangingBeginning}
-use Rattle.explore.specs.Prefixes.Calling.{prefix_calling_section_steps, prefix_calling_shown_by}
+use Rattle.explore.specs.Prefixes.Calling.{calling_section_steps, calling_shown_by}
 use Rattle.explore.proofs.locksets.Law.{lockset_guarded_quiet}
 use Rattle.explore.proofs.Machines.{machine_next_within, machine_some_at}
 use Rattle.explore.proofs.prefixes.Beginnings.{beginning_next, beginning_whole_done}
@@ -29,12 +29,12 @@ follows_ends s g p k one follows next =
     let section = machine_some_at s.sections p (omega arith) in
     let called = both.1.calls.next section.0 section.1 in
     let done = (beginning_whole_done s g both.0).0 follows p section.0 section.1 in
-    let lt = slice_get_within (prefix_calling_section_steps section.0 (prefix_calling_shown_by s p)) (length (followed_calls g p)) called.step called.at in
+    let lt = slice_get_within (calling_section_steps section.0 (calling_shown_by s p)) (length (calls_of g p)) called.step called.at in
     omega arith
 
 reduced_ends_follows_same : (s : Plan) (g h : List Event) → IsSame s g h → Follows s g → Follows s h
 reduced_ends_follows_same s g h same follows p section at =
-    subst (FollowsSection section (prefix_calling_shown_by s p)) (same_calls s g h p same) (follows p section at)
+    subst (FollowsSection section (calling_shown_by s p)) (same_calls s g h p same) (follows p section at)
 
 reduced_ends_replies_same : (s : Plan) (g h : List Event) (replies : List (List ℕ)) → IsSame s g h → AreOutcomeReplies s g replies
     → AreOutcomeReplies s h replies

@@ -7,14 +7,14 @@ use Rattle.journal.specs.declared.event.Kind.{Kind}
 use Rattle.journal.specs.declared.event.Kind.TheVariants as kind
 use Rattle.journal.specs.DidEvent.{did}
 use Rattle.lrc_script.specs.Plan.{Plan}
-use Rattle.conformance.specs.Follows.{followed_calls}
+use Rattle.conformance.specs.Follows.{calls_of}
 use Rattle.conformance.proofs.Calls.{followed_calls-append}
 use Rattle.explore.specs.declared.prefixes.script_call.ScriptCall.{ScriptCall}
 use Rattle.explore.specs.declared.prefixes.script_call.ScriptCall.TheVariants.{Call, Adds}
 use Rattle.explore.specs.Free.{IsAskAt}
 use Rattle.explore.specs.Machines.{AreLawfulMachineSteps}
 use Rattle.explore.specs.Prefixes.Beginnings.{IsFlatBeginning}
-use Rattle.explore.specs.Prefixes.Calling.{IsCallOfStep, last_reply_of_calls, replyless_call, prefix_calling_section_steps, prefix_calling_shown_by}
+use Rattle.explore.specs.Prefixes.Calling.{IsCallOfStep, last_reply_of_calls, replyless_call, calling_section_steps, calling_shown_by}
 use Rattle.explore.proofs.Machines.{machine_next_within, machine_rows_few, machine_rows_many, machine_row_steps, machine_some_at}
 use Rattle.explore.proofs.prefixes.Beginnings.{beginning_next}
 
@@ -33,7 +33,7 @@ pub record IsLaterAsk (rows : List (Vec ScriptCall)) (g : List Event) (p l : ℕ
   pub row : Vec ScriptCall
   pub at : slice_get rows p ≡ Some row
   pub place : ℕ
-  pub behind : length (followed_calls g p) ≤ place
+  pub behind : length (calls_of g p) ≤ place
   pub asks : IsAskAt row.items place l
 
 pub later_ask : (s : Plan) (rows : List (Vec ScriptCall)) → AreLawfulMachineSteps s rows → (g more : List Event) (p l : ℕ)
@@ -45,15 +45,15 @@ later_ask s rows steps g more p l next =
     let row = machine_some_at rows p (omega arith) in
     let of = machine_row_steps s rows p row.0 steps.are row.1 in
     let called = ((beginning_next s (g ++ more) p (kind.Ask l)).0 next).1.calls.next of.section of.at in
-    let step = ask_step (last_reply_of_calls (followed_calls (g ++ more) p)) called.step l called.is in
+    let step = ask_step (last_reply_of_calls (calls_of (g ++ more) p)) called.step l called.is in
     let both = ap (λ (ks : List Kind). length ks) (followed_calls-append g more p) in
-    let long = length-append (followed_calls g p) (followed_calls more p) in
+    let long = length-append (calls_of g p) (calls_of more p) in
     record {
       small = omega arith;
       row = row.0;
       at = row.1;
-      place = length (followed_calls (g ++ more) p);
+      place = length (calls_of (g ++ more) p);
       behind = omega arith;
-      asks = subst (λ xs. slice_get xs (length (followed_calls (g ++ more) p)) ≡ Some (Call (kind.Ask l))) (sym of.are)
+      asks = subst (λ xs. slice_get xs (length (calls_of (g ++ more) p)) ≡ Some (Call (kind.Ask l))) (sym of.are)
           (called.at ∙ ap Some step);
     }

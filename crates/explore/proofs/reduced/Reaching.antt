@@ -19,7 +19,7 @@ use Rattle.journal.specs.Races.{Conflict}
 use Rattle.lrc_script.specs.declared.script.Instruction.{Instruction}
 use Rattle.lrc_script.specs.Plan.{Plan}
 use Rattle.lrc_script.specs.Lawful.{plan_addresses}
-use Rattle.conformance.specs.Follows.{followed_calls, Follows, FollowsSection}
+use Rattle.conformance.specs.Follows.{calls_of, Follows, FollowsSection}
 use Rattle.explore.specs.declared.prefixes.script_call.ScriptCall.{ScriptCall}
 use Rattle.explore.specs.declared.prefixes.script_call.ScriptCall.TheVariants.{Call, Adds}
 use Rattle.explore.specs.Free.{IsFree}
@@ -28,8 +28,8 @@ use Rattle.explore.specs.Guarded.{IsGuarded}
 use Rattle.explore.specs.Machines.{AreLawfulMachineSteps}
 use Rattle.explore.specs.Outcomes.{AreOutcomeReplies, outcome_replies_in}
 use Rattle.explore.specs.Prefixes.Beginnings.{IsFlatBeginning, IsHangingBeginning}
-use Rattle.explore.specs.Prefixes.Calling.{IsCallOfStep, last_reply_of_calls, replyless_call, prefix_calling_section_steps, prefix_calling_shown_by}
-use Rattle.explore.specs.Prefixes.Laws.{MayComeNextByLaw}
+use Rattle.explore.specs.Prefixes.Calling.{IsCallOfStep, last_reply_of_calls, replyless_call, calling_section_steps, calling_shown_by}
+use Rattle.explore.specs.Prefixes.Laws.{MayComeNext}
 use Rattle.explore.proofs.Lengths.{history_length_few}
 use Rattle.explore.proofs.Machines.{machine_some_at}
 use Rattle.explore.proofs.locksets.Law.{lockset_guarded_quiet}
@@ -63,8 +63,8 @@ reduced_reaching_next_once s g p j k long first second =
     let here = one.calls.next section.0 section.1 in
     let there = two.calls.next section.0 section.1 in
     let same : there.step ≡ here.step = same_Some there.step here.step (sym there.at ∙ here.at) in
-    reduced_reaching_step_once (last_reply_of_calls (followed_calls g p)) (memory_after (replicate (plan_addresses s) 0) g) here.step j k here.is
-    (subst (λ x. IsCallOfStep (last_reply_of_calls (followed_calls g p)) x k) same there.is) one.answers two.answers
+    reduced_reaching_step_once (last_reply_of_calls (calls_of g p)) (memory_after (replicate (plan_addresses s) 0) g) here.step j k here.is
+    (subst (λ x. IsCallOfStep (last_reply_of_calls (calls_of g p)) x k) same there.is) one.answers two.answers
 
 -- p's first event among some, or none of them is its
 record FirstReaching (w : List Event) (p : ℕ) : Type 0 where

@@ -21,11 +21,11 @@ use Rattle.journal.proofs.Journals.WellFormedLast.{well_formed_holds_cases, well
 use Rattle.lrc_script.specs.declared.script.Instruction.{Instruction}
 use Rattle.lrc_script.specs.Plan.{Plan}
 use Rattle.lrc_script.specs.Lawful.{plan_addresses}
-use Rattle.conformance.specs.Follows.{followed_calls, followed_call_kinds, followed_plan_sizes}
+use Rattle.conformance.specs.Follows.{calls_of, call_kinds, plan_sizes}
 use Rattle.conformance.proofs.Calls.{calls_part-append}
 use Rattle.explore.specs.Prefixes.Beginnings.{IsFlatBeginning}
-use Rattle.explore.specs.Prefixes.Calling.{IsCalledNext, prefix_calling_section_steps, prefix_calling_shown_by}
-use Rattle.explore.specs.Prefixes.Laws.{MayComeNextByLaw}
+use Rattle.explore.specs.Prefixes.Calling.{IsCalledNext, calling_section_steps, calling_shown_by}
+use Rattle.explore.specs.Prefixes.Laws.{MayComeNext}
 use Rattle.explore.proofs.prefixes.Beginnings.{beginning_front, beginning_next}
 
 pub reduced_same_part_own : (j : List Event) (e : Event) → events_of (j ++ e ∷ []) e.processor ≡ events_of j e.processor ++ e ∷ []
@@ -190,8 +190,8 @@ reduced_same_after_that s g h i one two = record {
   asks = λ l p q. ((λ a. (two.asks l p q).0 ((one.asks l p q).0 a)), (λ a. (one.asks l p q).1 ((two.asks l p q).1 a)));
 }
 
-pub same_calls : (s : Plan) (g h : List Event) (p : ℕ) → IsSame s g h → followed_calls g p ≡ followed_calls h p
-same_calls s g h p same = ap followed_call_kinds (same.parts p)
+pub same_calls : (s : Plan) (g h : List Event) (p : ℕ) → IsSame s g h → calls_of g p ≡ calls_of h p
+same_calls s g h p same = ap call_kinds (same.parts p)
 
 -- memory after one event more
 pub reduced_same_memory_did : (start : List ℕ) (g : List Event) (p : ℕ) (k : Kind)
@@ -199,7 +199,7 @@ pub reduced_same_memory_did : (start : List ℕ) (g : List Event) (p : ℕ) (k :
 reduced_same_memory_did start g p k = written-append (λ (e : Event). flat_write e.kind) start g (event p k ∷ [])
 
 module _ (s : Plan) (g h : List Event) (same : IsSame s g h) where
-  allowed_same : (p : ℕ) (k : Kind) → Allowed (followed_plan_sizes s) g p k → Allowed (followed_plan_sizes s) h p k
+  allowed_same : (p : ℕ) (k : Kind) → Allowed (plan_sizes s) g p k → Allowed (plan_sizes s) h p k
   allowed_same p (Ask l) a = λ holds. a (same_held h g p l (sym (same.parts p)) holds)
   allowed_same p (Acquire l) a =
       let last = same_last g h p (Ask l) (same.parts p) (a.0, a.1) in (
@@ -217,7 +217,7 @@ module _ (s : Plan) (g h : List Event) (same : IsSame s g h) where
   allowed_same p Depart a =
       let last = same_last g h p Arrive (same.parts p) (a.0, a.1) in
       let own = same_count is_depart g h p (same.parts p) in
-      let all : AllArrived (followed_plan_sizes s) h (count_of is_depart h p + 1) = λ q within.
+      let all : AllArrived (plan_sizes s) h (count_of is_depart h p + 1) = λ q within.
       (let enough = a.2 q within in
       let others = same_count is_arrive g h q (same.parts q) in
       omega (arith, enough, others, own)) in
@@ -228,7 +228,7 @@ module _ (s : Plan) (g h : List Event) (same : IsSame s g h) where
       (last.0, set.0, a.2, last.1, set.1)
   allowed_same p _ a = a
 
-  pub follows_same : (e : Event) → MayFollow (followed_plan_sizes s) g e → MayFollow (followed_plan_sizes s) h e
+  pub follows_same : (e : Event) → MayFollow (plan_sizes s) g e → MayFollow (plan_sizes s) h e
   follows_same e may = record {
     processor = may.processor;
     in_range = may.in_range;
@@ -303,7 +303,7 @@ same_next s g h p k same begins next =
         calls = record {
           call = may.calls.call;
           next = λ section at.
-              subst (λ calls. IsCalledNext (prefix_calling_section_steps section (prefix_calling_shown_by s p)) calls k) (same_calls s g h p same)
+              subst (λ calls. IsCalledNext (calling_section_steps section (calling_shown_by s p)) calls k) (same_calls s g h p same)
               (may.calls.next section at);
         };
         answers = subst (λ m. AnswersFlatWord m k) same.memory may.answers;

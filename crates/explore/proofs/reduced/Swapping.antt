@@ -23,15 +23,15 @@ use Rattle.journal.proofs.Journals.WellFormedLast.{well_formed_holds_cases, well
 use Rattle.lrc_script.specs.declared.script.Instruction.{Instruction}
 use Rattle.lrc_script.specs.Plan.{Plan}
 use Rattle.lrc_script.specs.Lawful.{plan_addresses}
-use Rattle.conformance.specs.Follows.{followed_calls, followed_plan_sizes}
+use Rattle.conformance.specs.Follows.{calls_of, plan_sizes}
 use Rattle.conformance.proofs.Calls.{followed_calls-others}
 use Rattle.explore.specs.declared.prefixes.script_call.ScriptCall.{ScriptCall}
 use Rattle.explore.specs.Free.{is_ask}
 use Rattle.explore.specs.Guarded.{IsGuarded}
 use Rattle.explore.specs.Machines.{AreLawfulMachineSteps}
 use Rattle.explore.specs.Prefixes.Beginnings.{IsFlatBeginning}
-use Rattle.explore.specs.Prefixes.Calling.{IsCalledNext, prefix_calling_section_steps, prefix_calling_shown_by}
-use Rattle.explore.specs.Prefixes.Laws.{MayComeNextByLaw}
+use Rattle.explore.specs.Prefixes.Calling.{IsCalledNext, calling_section_steps, calling_shown_by}
+use Rattle.explore.specs.Prefixes.Laws.{MayComeNext}
 use Rattle.explore.proofs.prefixes.Beginnings.{beginning_front, beginning_next}
 use Rattle.explore.proofs.locksets.Law.{lockset_guarded_quiet}
 use Rattle.explore.proofs.reduced.Same.{SameAsksFirst, IsSame, reduced_same_after_that, reduced_same_away_one, reduced_same_as_itself, reduced_same_memory_did, reduced_same_other_way, reduced_same_part_others, reduced_same_part_own, same_on}
@@ -119,11 +119,11 @@ reduced_swapped_next_after s g p q k c apart quiet first second =
     (beginning_next s (did g p k) q c).1 (
       first,
       record {
-        may_follow = reduced_swapped_follows_after (followed_plan_sizes s) g p q k apart one.1.may_follow c two.1.may_follow;
+        may_follow = reduced_swapped_follows_after (plan_sizes s) g p q k apart one.1.may_follow c two.1.may_follow;
         calls = record {
           call = two.1.calls.call;
           next = λ section at.
-              subst (λ calls. IsCalledNext (prefix_calling_section_steps section (prefix_calling_shown_by s q)) calls c) (sym (followed_calls-others g p q k apart))
+              subst (λ calls. IsCalledNext (calling_section_steps section (calling_shown_by s q)) calls c) (sym (followed_calls-others g p q k apart))
               (two.1.calls.next section at);
         };
         answers = subst (λ m. AnswersFlatWord m c) (sym (reduced_same_memory_did (replicate (plan_addresses s) 0) g p k))

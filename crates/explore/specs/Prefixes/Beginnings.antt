@@ -9,12 +9,12 @@ use Rattle.journal.specs.Races.{RaceFree}
 use Rattle.lrc_script.specs.Plan.{Plan}
 use Rattle.lrc_script.specs.Lawful.{plan_addresses}
 use Rattle.conformance.specs.Begins.{BeginsScript}
-use Rattle.conformance.specs.Follows.{followed_plan_sizes, Follows}
+use Rattle.conformance.specs.Follows.{plan_sizes, Follows}
 use Rattle.conformance.specs.FlatRuns.{FlatRunHasNoFetch}
 
 -- processors have begun the script on one flat memory, and nothing is fetched
 pub record IsFlatBeginning (s : Plan) (g : List Event) : Type 0 where
-  pub well_formed : WellFormed (followed_plan_sizes s) g
+  pub well_formed : WellFormed (plan_sizes s) g
   pub begins : BeginsScript s g
   pub replays : Replays (replicate (plan_addresses s) 0) g
   pub no_fetch : FlatRunHasNoFetch g
@@ -31,5 +31,5 @@ pub record IsHangingBeginning (s : Plan) (g : List Event) : Type 0 where
   pub stuck : (p : ℕ) (k : Kind) → ¬ IsFlatBeginning s (did g p k)
 
 -- whatever the order, the script doesn't race on one flat memory, not even before it hangs
-abbrev pub IsRaceFreeBeginning : Plan → Type 0
-IsRaceFreeBeginning s = (g : List Event) → IsFlatBeginning s g → RaceFree g
+abbrev pub IsFlatRaceFree : Plan → Type 0
+IsFlatRaceFree s = (g : List Event) → IsFlatBeginning s g → RaceFree g

@@ -7,45 +7,45 @@ use Rattle.journal.specs.declared.event.Kind.TheVariants as kind
 use Rattle.lrc_script.specs.declared.script.Instruction.{Instruction}
 use Rattle.lrc_script.specs.declared.script.Instruction.TheVariants.{Load, Store, Add, Acquire, Release, Barrier, Set, Await, Cut}
 use Rattle.lrc_script.specs.Plan.{Plan}
-use Rattle.conformance.specs.Follows.{followed_calls, is_followed_fetch}
+use Rattle.conformance.specs.Follows.{calls_of, is_fetch}
 use Rattle.explore.specs.declared.prefixes.script_call.ScriptCall.{ScriptCall}
 use Rattle.explore.specs.declared.prefixes.script_call.ScriptCall.TheVariants.{Call, Adds}
 
 -- what an instruction says of its calls
-abbrev pub prefix_calling_steps : Instruction → List ScriptCall
-prefix_calling_steps (Load a) = Call (kind.Load a 0) ∷ []
-prefix_calling_steps (Store a v) = Call (kind.Store a v) ∷ []
-prefix_calling_steps (Add a v) = Call (kind.Load a 0) ∷ Adds a v ∷ []
-prefix_calling_steps (Acquire l) = Call (kind.Ask l) ∷ Call (kind.Acquire l) ∷ []
-prefix_calling_steps (Release l) = Call (kind.Release l) ∷ []
-prefix_calling_steps Barrier = Call kind.Arrive ∷ Call kind.Depart ∷ []
-prefix_calling_steps (Set f) = Call (kind.Set f) ∷ []
-prefix_calling_steps (Await f) = Call (kind.Watch f) ∷ Call (kind.Await f) ∷ []
-prefix_calling_steps Cut = []
+abbrev pub calling_steps : Instruction → List ScriptCall
+calling_steps (Load a) = Call (kind.Load a 0) ∷ []
+calling_steps (Store a v) = Call (kind.Store a v) ∷ []
+calling_steps (Add a v) = Call (kind.Load a 0) ∷ Adds a v ∷ []
+calling_steps (Acquire l) = Call (kind.Ask l) ∷ Call (kind.Acquire l) ∷ []
+calling_steps (Release l) = Call (kind.Release l) ∷ []
+calling_steps Barrier = Call kind.Arrive ∷ Call kind.Depart ∷ []
+calling_steps (Set f) = Call (kind.Set f) ∷ []
+calling_steps (Await f) = Call (kind.Watch f) ∷ Call (kind.Await f) ∷ []
+calling_steps Cut = []
 
 -- what instructions do, in order
-abbrev pub prefix_calling_all_steps : List Instruction → List ScriptCall
-prefix_calling_all_steps [] = []
-prefix_calling_all_steps (i ∷ is) = prefix_calling_steps i ++ prefix_calling_all_steps is
+abbrev pub calling_steps_of_all : List Instruction → List ScriptCall
+calling_steps_of_all [] = []
+calling_steps_of_all (i ∷ is) = calling_steps i ++ calling_steps_of_all is
 
 -- and loads of these addresses
-abbrev pub prefix_calling_load_steps : List ℕ → List ScriptCall
-prefix_calling_load_steps [] = []
-prefix_calling_load_steps (a ∷ shown) = Call (kind.Load a 0) ∷ prefix_calling_load_steps shown
+abbrev pub calling_load_steps : List ℕ → List ScriptCall
+calling_load_steps [] = []
+calling_load_steps (a ∷ shown) = Call (kind.Load a 0) ∷ calling_load_steps shown
 
 -- all that a processor calls: its section, the closing barrier, and loads of what it shows
-abbrev pub prefix_calling_section_steps : List Instruction → List ℕ → List ScriptCall
-prefix_calling_section_steps section shown = prefix_calling_all_steps section ++ Call kind.Arrive ∷ Call kind.Depart ∷ prefix_calling_load_steps shown
+abbrev pub calling_section_steps : List Instruction → List ℕ → List ScriptCall
+calling_section_steps section shown = calling_steps_of_all section ++ Call kind.Arrive ∷ Call kind.Depart ∷ calling_load_steps shown
 
 -- what processor p shows at the end
-abbrev pub prefix_calling_shown_by : Plan → ℕ → List ℕ
-prefix_calling_shown_by s p = cond (p == 0) s.shown []
+abbrev pub calling_shown_by : Plan → ℕ → List ℕ
+calling_shown_by s p = cond (p == 0) s.shown []
 
 -- of each section its steps
 pub record AreCallingSteps (s : Plan) (rows : List (Vec ScriptCall)) : Type 0 where
   pub long : length rows ≡ length s.sections
   pub each : (p : ℕ) (section : List Instruction) (row : Vec ScriptCall) → slice_get s.sections p ≡ Some section
-      → slice_get rows p ≡ Some row → row.items ≡ prefix_calling_section_steps section (prefix_calling_shown_by s p)
+      → slice_get rows p ≡ Some row → row.items ≡ calling_section_steps section (calling_shown_by s p)
 
 -- the call without the reply of a load
 abbrev pub replyless_call : Kind → Kind
@@ -74,6 +74,6 @@ pub record IsCalledNext (steps : List ScriptCall) (kinds : List Kind) (k : Kind)
 
 -- p's section says that it calls this next; a fetch is no call
 pub record CallsNext (s : Plan) (g : List Event) (p : ℕ) (k : Kind) : Type 0 where
-  pub call : is_followed_fetch k ≡ false
+  pub call : is_fetch k ≡ false
   pub next : (section : List Instruction) → slice_get s.sections p ≡ Some section
-      → IsCalledNext (prefix_calling_section_steps section (prefix_calling_shown_by s p)) (followed_calls g p) k
+      → IsCalledNext (calling_section_steps section (calling_shown_by s p)) (calls_of g p) k

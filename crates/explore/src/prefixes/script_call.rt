@@ -1,7 +1,7 @@
 //! What a script says of each call of a processor.
 ghost use Rattle.std.specs.Prelude.{◌≡◌, ◌++◌, OnOk, IfOk, option_to_list};
-ghost use Rattle.explore.specs.Prefixes.Prelude.{prefix_calling_steps, prefix_calling_section_steps, prefix_calling_load_steps, prefix_calling_all_steps, AreCallingSteps};
-ghost use Rattle.explore.specs.Prefixes.Prelude.{prefix_calling_shown_by};
+ghost use Rattle.explore.specs.Prefixes.Prelude.{calling_steps, calling_section_steps, calling_load_steps, calling_steps_of_all, AreCallingSteps};
+ghost use Rattle.explore.specs.Prefixes.Prelude.{calling_shown_by};
 ghost use Rattle.lrc_script.specs.Prelude.{plan_of};
 
 use journal::Kind;
@@ -19,7 +19,7 @@ pub enum ScriptCall {
 
 /// The steps of an instruction, of which it has two at most.
 fn script_call_pair(instruction: Instruction) -> (Option<ScriptCall>, Option<ScriptCall>)
-    ensures { option_to_list result.0 ++ option_to_list result.1 ≡ prefix_calling_steps instruction }
+    ensures { option_to_list result.0 ++ option_to_list result.1 ≡ calling_steps instruction }
 {
     match instruction {
         Instruction::Load(address) => (Some(ScriptCall::Call(Kind::Load(address, 0))), None),
@@ -63,7 +63,7 @@ fn push_some_script_call(
 
 /// Puts the steps of an instruction at the end.
 fn push_instruction(steps: &mut Vec<ScriptCall>, instruction: Instruction) -> Result<(), AllocError>
-    ensures { OnOk result (steps.new.items ≡ steps.old.items ++ prefix_calling_steps instruction) }
+    ensures { OnOk result (steps.new.items ≡ steps.old.items ++ calling_steps instruction) }
 {
     let (first, second) = script_call_pair(instruction);
     push_some_script_call(steps, first)?;
@@ -75,7 +75,7 @@ fn script_call_own_steps(
     alloc: Global,
     section: &[Instruction],
 ) -> Result<Vec<ScriptCall>, AllocError>
-    ensures { IfOk result (λ v. v.items ≡ prefix_calling_all_steps section.now) }
+    ensures { IfOk result (λ v. v.items ≡ calling_steps_of_all section.now) }
 {
     let mut steps = Vec::new(alloc);
     for instruction in section {
@@ -86,7 +86,7 @@ fn script_call_own_steps(
 
 /// Puts a load of each of these addresses at the end.
 fn push_script_loads(steps: &mut Vec<ScriptCall>, shown: &[usize]) -> Result<(), AllocError>
-    ensures { OnOk result (steps.new.items ≡ steps.old.items ++ prefix_calling_load_steps shown.now) }
+    ensures { OnOk result (steps.new.items ≡ steps.old.items ++ calling_load_steps shown.now) }
 {
     for address in shown {
         steps.push(ScriptCall::Call(Kind::Load(*address, 0)))?;
@@ -100,7 +100,7 @@ fn script_section_steps(
     section: &[Instruction],
     shown: &[usize],
 ) -> Result<Vec<ScriptCall>, AllocError>
-    ensures { IfOk result (λ v. v.items ≡ prefix_calling_section_steps section.now shown.now) }
+    ensures { IfOk result (λ v. v.items ≡ calling_section_steps section.now shown.now) }
 {
     let mut steps = script_call_own_steps(alloc, section)?;
     push_instruction(&mut steps, Instruction::Barrier)?;
@@ -110,7 +110,7 @@ fn script_section_steps(
 
 /// What the processor shows at the end.
 fn script_shown_by(script: &Script, processor: usize) -> &[usize]
-    ensures { result.now ≡ prefix_calling_shown_by (plan_of script.now) processor }
+    ensures { result.now ≡ calling_shown_by (plan_of script.now) processor }
 {
     if processor == 0 { &script.shown } else { &[] }
 }

@@ -23,7 +23,7 @@ use Rattle.lrc_script.specs.declared.script.Instruction.{Instruction}
 use Rattle.lrc_script.specs.Plan.{Plan}
 use Rattle.lrc_script.specs.Lawful.{plan_addresses}
 use Rattle.conformance.specs.Begins.{BeginsScript, BeginsSection}
-use Rattle.conformance.specs.Follows.{followed_plan_sizes, followed_calls, is_followed_fetch}
+use Rattle.conformance.specs.Follows.{plan_sizes, calls_of, is_fetch}
 use Rattle.conformance.specs.Like.{like_without_value, event_like_without_value, SameButValues}
 use Rattle.conformance.proofs.Calls.{followed_calls-own}
 use Rattle.conformance.proofs.WithoutFetches.Embeds.{without_fetches, without_fetches_of}
@@ -33,8 +33,8 @@ use Rattle.conformance.proofs.WithoutFetches.WellFormed.{well_formed_without_fet
 use Rattle.conformance.proofs.Like.Order.{race_like}
 use Rattle.conformance.proofs.Like.WellFormed.{well_formed_like}
 use Rattle.conformance.proofs.Recomputing.Replaying.{replaying_fetch_like}
-use Rattle.explore.specs.Prefixes.Beginnings.{IsFlatBeginning, IsRaceFreeBeginning}
-use Rattle.explore.specs.Prefixes.Calling.{IsCalledNext, last_reply_of_calls, prefix_calling_section_steps, prefix_calling_shown_by}
+use Rattle.explore.specs.Prefixes.Beginnings.{IsFlatBeginning, IsFlatRaceFree}
+use Rattle.explore.specs.Prefixes.Calling.{IsCalledNext, last_reply_of_calls, calling_section_steps, calling_shown_by}
 use Rattle.explore.proofs.prefixes.Beginnings.{beginning_next, beginning_script_front}
 use Rattle.explore.proofs.prefixes.Calling.{prefix_calling_begins_push}
 use Rattle.explore.proofs.prefixes.Neighbours.LastRace.{race_take}
@@ -42,23 +42,23 @@ use Rattle.explore.proofs.prefixes.Neighbours.Replies.{replied, step_replied}
 use Rattle.lrc_explore.specs.Schedules.Laws.{BegunLaw}
 
 -- what replays and begins the script does so on one flat memory, its fetches aside
-pub schedule_begun_flat_part : (s : Plan) (h : List Event) → WellFormed (followed_plan_sizes s) h → BeginsScript s h
+pub schedule_begun_flat_part : (s : Plan) (h : List Event) → WellFormed (plan_sizes s) h → BeginsScript s h
     → Replays (replicate (plan_addresses s) 0) h → IsFlatBeginning s (without_fetches h)
 schedule_begun_flat_part s h well begins replays =
     record {
-      well_formed = well_formed_without_fetches (followed_plan_sizes s) (without_fetches h) h (without_fetches_of h) well;
+      well_formed = well_formed_without_fetches (plan_sizes s) (without_fetches h) h (without_fetches_of h) well;
       begins = λ p section at.
-          subst (BeginsSection section (prefix_calling_shown_by s p)) (sym (calls_without_fetches p h)) (begins p section at);
+          subst (BeginsSection section (calling_shown_by s p)) (sym (calls_without_fetches p h)) (begins p section at);
       replays = replays_without_fetches h (replicate (plan_addresses s) 0) replays;
       no_fetch = no_fetch_in h;
     }
 
 -- a call at the end stays there
-pub schedule_begun_fetchless_push : (h : List Event) (p : ℕ) (k : Kind) → is_followed_fetch k ≡ false
+pub schedule_begun_fetchless_push : (h : List Event) (p : ℕ) (k : Kind) → is_fetch k ≡ false
     → without_fetches (did h p k) ≡ did (without_fetches h) p k
 schedule_begun_fetchless_push h p k call =
-    filter-append (λ (e : Event). not (is_followed_fetch e.kind)) h (event p k ∷ [])
-    ∙ ap (λ es. without_fetches h ++ es) (cond-true (not (is_followed_fetch k)) (event p k ∷ []) [] (ap not call))
+    filter-append (λ (e : Event). not (is_fetch e.kind)) h (event p k ∷ [])
+    ∙ ap (λ es. without_fetches h ++ es) (cond-true (not (is_fetch k)) (event p k ∷ []) [] (ap not call))
 
 -- the call with the word of this memory is the same but for its value
 schedule_begun_replied_like : (memory : List ℕ) (k : Kind) → like_without_value k ≡ like_without_value (replied memory k)
@@ -71,14 +71,14 @@ schedule_begun_like_push g p k l same =
     ∙ sym (map-append event_like_without_value g (event p l ∷ []))
 
 -- and it answers its word
-schedule_begun_word_replied : (s : Plan) (memory : List ℕ) (k : Kind) → length memory ≡ plan_addresses s → KindInRange (followed_plan_sizes s) k
+schedule_begun_word_replied : (s : Plan) (memory : List ℕ) (k : Kind) → length memory ≡ plan_addresses s → KindInRange (plan_sizes s) k
     → AnswersFlatWord memory (replied memory k)
 schedule_begun_word_replied s memory (Load a v) long inside = slice_get-get_or memory a 0 (subst (λ n. a < n) (sym long) inside)
 schedule_begun_word_replied s memory _ long inside = tt
 
 -- a call after what replays makes its flat part longer, with the reply that it has there
 module _ (s : Plan) (h : List Event) (p : ℕ) (k : Kind) (replays : Replays (replicate (plan_addresses s) 0) h)
-    (well : WellFormed (followed_plan_sizes s) (did h p k)) (begins : BeginsScript s (did h p k)) (call : is_followed_fetch k ≡ false) where
+    (well : WellFormed (plan_sizes s) (did h p k)) (begins : BeginsScript s (did h p k)) (call : is_fetch k ≡ false) where
   abbrev pub memory : List ℕ
   memory = memory_after (replicate (plan_addresses s) 0) (without_fetches h)
 
@@ -88,25 +88,25 @@ module _ (s : Plan) (h : List Event) (p : ℕ) (k : Kind) (replays : Replays (re
 
   before : IsFlatBeginning s (without_fetches h)
   before =
-      schedule_begun_flat_part s h ((well_formed_push (followed_plan_sizes s) h (event p k)).0 well).0 (beginning_script_front s h (event p k ∷ []) begins) replays
+      schedule_begun_flat_part s h ((well_formed_push (plan_sizes s) h (event p k)).0 well).0 (beginning_script_front s h (event p k ∷ []) begins) replays
 
-  may : MayFollow (followed_plan_sizes s) (without_fetches h) (event p (replied memory k))
+  may : MayFollow (plan_sizes s) (without_fetches h) (event p (replied memory k))
   may =
-      let there = well_formed_without_fetches (followed_plan_sizes s) (without_fetches (did h p k)) (did h p k) (without_fetches_of (did h p k)) well in
-      let here = subst (WellFormed (followed_plan_sizes s)) (schedule_begun_fetchless_push h p k call) there in
+      let there = well_formed_without_fetches (plan_sizes s) (without_fetches (did h p k)) (did h p k) (without_fetches_of (did h p k)) well in
+      let here = subst (WellFormed (plan_sizes s)) (schedule_begun_fetchless_push h p k call) there in
       let like = schedule_begun_like_push (without_fetches h) p k (replied memory k) (schedule_begun_replied_like memory k) in
-      let same = well_formed_like (followed_plan_sizes s) (did (without_fetches h) p k) (did (without_fetches h) p (replied memory k)) like here in
-      ((well_formed_push (followed_plan_sizes s) (without_fetches h) (event p (replied memory k))).0 same).1
+      let same = well_formed_like (plan_sizes s) (did (without_fetches h) p k) (did (without_fetches h) p (replied memory k)) like here in
+      ((well_formed_push (plan_sizes s) (without_fetches h) (event p (replied memory k))).0 same).1
 
   schedule_begun_called : (section : List Instruction) → slice_get s.sections p ≡ Some section
-      → IsCalledNext (prefix_calling_section_steps section (prefix_calling_shown_by s p)) (followed_calls (without_fetches h) p) (replied memory k)
+      → IsCalledNext (calling_section_steps section (calling_shown_by s p)) (calls_of (without_fetches h) p) (replied memory k)
   schedule_begun_called section at =
-      let own = subst (BeginsSection section (prefix_calling_shown_by s p)) (followed_calls-own h p k call) (begins p section at) in
-      let is = ((prefix_calling_begins_push section (prefix_calling_shown_by s p) (followed_calls h p) k).0 own).1 in
-      subst (λ calls. IsCalledNext (prefix_calling_section_steps section (prefix_calling_shown_by s p)) calls (replied memory k)) (sym (calls_without_fetches p h))
-      (record { step = is.step; at = is.at; is = step_replied (last_reply_of_calls (followed_calls h p)) is.step k memory is.is })
+      let own = subst (BeginsSection section (calling_shown_by s p)) (followed_calls-own h p k call) (begins p section at) in
+      let is = ((prefix_calling_begins_push section (calling_shown_by s p) (calls_of h p) k).0 own).1 in
+      subst (λ calls. IsCalledNext (calling_section_steps section (calling_shown_by s p)) calls (replied memory k)) (sym (calls_without_fetches p h))
+      (record { step = is.step; at = is.at; is = step_replied (last_reply_of_calls (calls_of h p)) is.step k memory is.is })
 
-  pub schedule_begun_call_replied : is_followed_fetch (replied memory k) ≡ false
+  pub schedule_begun_call_replied : is_fetch (replied memory k) ≡ false
   schedule_begun_call_replied = sym (replaying_fetch_like k (replied memory k) (schedule_begun_replied_like memory k)) ∙ call
 
   pub schedule_begun_longer : IsFlatBeginning s (did (without_fetches h) p (replied memory k))
@@ -116,12 +116,12 @@ module _ (s : Plan) (h : List Event) (p : ℕ) (k : Kind) (replays : Replays (re
         record {
           may_follow = may;
           calls = record { call = schedule_begun_call_replied; next = schedule_begun_called };
-          answers = schedule_begun_word_replied s memory k long ((well_formed_push (followed_plan_sizes s) h (event p k)).0 well).1.in_range;
+          answers = schedule_begun_word_replied s memory k long ((well_formed_push (plan_sizes s) h (event p k)).0 well).1.in_range;
         },
       )
 
 -- a history of a script of which no flat beginning races
-module _ (s : Plan) (free : IsRaceFreeBeginning s) (h : List Event) (well : WellFormed (followed_plan_sizes s) h)
+module _ (s : Plan) (free : IsFlatRaceFree s) (h : List Event) (well : WellFormed (plan_sizes s) h)
     (explained : Explained h) (begins : BeginsScript s h) where
   schedule_begun_in_range : (i p a v : ℕ) → Does h i p (Load a v) → a < plan_addresses s
   schedule_begun_in_range i p a v does = (well i (event p (Load a v)) does).in_range
@@ -142,8 +142,8 @@ module _ (s : Plan) (free : IsRaceFreeBeginning s) (h : List Event) (well : Well
       front : take (suc k) h ≡ did (take k h) p c
       front = take-suc_at h k race.second race.second_at
 
-      well_now : WellFormed (followed_plan_sizes s) (did (take k h) p c)
-      well_now = subst (WellFormed (followed_plan_sizes s)) front (well_formed_take (followed_plan_sizes s) h (suc k) well)
+      well_now : WellFormed (plan_sizes s) (did (take k h) p c)
+      well_now = subst (WellFormed (plan_sizes s)) front (well_formed_take (plan_sizes s) h (suc k) well)
 
       begins_now : BeginsScript s (did (take k h) p c)
       begins_now =
@@ -151,7 +151,7 @@ module _ (s : Plan) (free : IsRaceFreeBeginning s) (h : List Event) (well : Well
           (beginning_script_front s (take (suc k) h) (drop (suc k) h)
           (subst (BeginsScript s) (sym (take-append-drop (suc k) h)) begins))
 
-      call : is_followed_fetch c ≡ false
+      call : is_fetch c ≡ false
       call = access_no_fetch c race.conflict.address race.conflict.second
 
       reply : Kind

@@ -9,11 +9,11 @@ use Rattle.journal.proofs.Journals.WellFormedLast.{well_formed_push}
 use Rattle.journal.proofs.Order.CountedAndNumbered.{numbered_at_last}
 use Rattle.lrc_script.specs.Plan.{Plan}
 use Rattle.conformance.specs.Begins.{BeginsScript, BeginsSection}
-use Rattle.conformance.specs.Follows.{followed_plan_sizes, followed_calls, is_followed_fetch, Follows, FollowsSection}
+use Rattle.conformance.specs.Follows.{plan_sizes, calls_of, is_fetch, Follows, FollowsSection}
 use Rattle.conformance.proofs.WithoutFetches.Embeds.{without_fetches, without_fetches_of}
 use Rattle.conformance.proofs.WithoutFetches.Runs.{calls_without_fetches}
-use Rattle.explore.specs.Prefixes.Beginnings.{IsFlatBeginning, IsRaceFreeBeginning, IsHangingBeginning}
-use Rattle.explore.specs.Prefixes.Calling.{prefix_calling_shown_by}
+use Rattle.explore.specs.Prefixes.Beginnings.{IsFlatBeginning, IsFlatRaceFree, IsHangingBeginning}
+use Rattle.explore.specs.Prefixes.Calling.{calling_shown_by}
 use Rattle.explore.specs.declared.explored.Explored.{Explored}
 use Rattle.explore.specs.Explored.{IsExploredHanging}
 use Rattle.explore.proofs.Machines.{machine_next_within}
@@ -26,27 +26,27 @@ use Rattle.lrc_explore.proofs.schedules.Reports.{found}
 use Rattle.lrc_explore.proofs.schedules.Waiting.{schedule_waiting_follow_there}
 
 -- what may come next on one flat memory, where fetches are left out, may come next
-module _ (s : Plan) (h : List Event) (well : WellFormed (followed_plan_sizes s) h) (p : ℕ) (k : Kind)
+module _ (s : Plan) (h : List Event) (well : WellFormed (plan_sizes s) h) (p : ℕ) (k : Kind)
     (flat : IsFlatBeginning s (did (without_fetches h) p k)) where
-  schedule_going_call : is_followed_fetch k ≡ false
+  schedule_going_call : is_fetch k ≡ false
   schedule_going_call = flat.no_fetch (length (without_fetches h)) (event p k) (numbered_at_last (without_fetches h) (event p k))
 
-  schedule_going_well_longer : WellFormed (followed_plan_sizes s) (did h p k)
+  schedule_going_well_longer : WellFormed (plan_sizes s) (did h p k)
   schedule_going_well_longer =
-      let may = ((well_formed_push (followed_plan_sizes s) (without_fetches h) (event p k)).0 flat.well_formed).1 in
-      (well_formed_push (followed_plan_sizes s) h (event p k)).1 (
+      let may = ((well_formed_push (plan_sizes s) (without_fetches h) (event p k)).0 flat.well_formed).1 in
+      (well_formed_push (plan_sizes s) h (event p k)).1 (
         well,
-        schedule_waiting_follow_there (followed_plan_sizes s) (without_fetches h) h (without_fetches_of h).embeds well (event p k) (schedule_calls_count_same h) may,
+        schedule_waiting_follow_there (plan_sizes s) (without_fetches h) h (without_fetches_of h).embeds well (event p k) (schedule_calls_count_same h) may,
       )
 
   schedule_going_begins_longer : BeginsScript s (did h p k)
   schedule_going_begins_longer q section at =
-      subst (BeginsSection section (prefix_calling_shown_by s q))
-      (ap (λ es. followed_calls es q) (sym (schedule_begun_fetchless_push h p k schedule_going_call)) ∙ calls_without_fetches q (did h p k))
+      subst (BeginsSection section (calling_shown_by s q))
+      (ap (λ es. calls_of es q) (sym (schedule_begun_fetchless_push h p k schedule_going_call)) ∙ calls_without_fetches q (did h p k))
       (flat.begins q section at)
 
 -- without its fetches a history that isn't whole has begun the script on one flat memory, and isn't whole there
-module _ (s : Plan) (h : List Event) (begun : IsScheduleUnfinished s h) (free : IsRaceFreeBeginning s) where
+module _ (s : Plan) (h : List Event) (begun : IsScheduleUnfinished s h) (free : IsFlatRaceFree s) where
   flat : IsFlatBeginning s (without_fetches h)
   flat =
       schedule_begun_flat_part s h begun.well_formed begun.begins
@@ -55,7 +55,7 @@ module _ (s : Plan) (h : List Event) (begun : IsScheduleUnfinished s h) (free : 
   schedule_going_unfinished : ¬ Follows s (without_fetches h)
   schedule_going_unfinished follows =
       begun.unfinished (λ p section at.
-      subst (FollowsSection section (prefix_calling_shown_by s p)) (calls_without_fetches p h) (follows p section at))
+      subst (FollowsSection section (calling_shown_by s p)) (calls_without_fetches p h) (follows p section at))
 
 schedule_going_never_hangs : (s : Plan) (answer : Explored) → NoScheduleHangs s answer → (g : List Event) → ¬ IsHangingBeginning s g
 schedule_going_never_hangs s answer f = subst (IsExploredHanging s) f.hanging f.found.explored.hanging
@@ -69,7 +69,7 @@ schedule_going_never_stuck s answer h f stuck = schedule_going_never_hangs s ans
       stuck.stuck p k (schedule_going_call s h well p k next) (schedule_going_well_longer s h well p k next) (schedule_going_begins_longer s h well p k next);
 })
   where
-    free : IsRaceFreeBeginning s
+    free : IsFlatRaceFree s
     free = found s answer f.found
 
 -- some processor's next call may come, or none may, which would be a hang
@@ -89,7 +89,7 @@ going_longer_by_call s answer h lawful f begun = elim some [
   }))
 ]
   where
-    free : IsRaceFreeBeginning s
+    free : IsFlatRaceFree s
     free = found s answer f.found
 
     some : Decided ((p : ℕ) × (p < s.processors) × ((k : Kind) × IsFlatBeginning s (did (without_fetches h) p k)))

@@ -12,13 +12,13 @@ use Rattle.journal.specs.WellFormed.{MayFollow}
 use Rattle.lrc_script.specs.declared.script.Instruction.{Instruction}
 use Rattle.lrc_script.specs.Plan.{Plan}
 use Rattle.lrc_script.specs.Lawful.{plan_addresses}
-use Rattle.conformance.specs.Follows.{followed_plan_sizes, followed_calls, is_followed_fetch}
+use Rattle.conformance.specs.Follows.{plan_sizes, calls_of, is_fetch}
 use Rattle.conformance.proofs.Script.SectionSteps.{section_load_told}
 use Rattle.explore.specs.declared.prefixes.script_call.ScriptCall.{ScriptCall}
 use Rattle.explore.specs.declared.prefixes.script_call.ScriptCall.TheVariants.{Call, Adds}
 use Rattle.explore.specs.Prefixes.Beginnings.{IsFlatBeginning}
-use Rattle.explore.specs.Prefixes.Calling.{IsCalledNext, IsCallOfStep, last_reply_of_calls, prefix_calling_section_steps, prefix_calling_shown_by}
-use Rattle.explore.specs.Prefixes.Laws.{MayComeNextByLaw}
+use Rattle.explore.specs.Prefixes.Calling.{IsCalledNext, IsCallOfStep, last_reply_of_calls, calling_section_steps, calling_shown_by}
+use Rattle.explore.specs.Prefixes.Laws.{MayComeNext}
 use Rattle.explore.proofs.prefixes.Beginnings.{beginning_next}
 use Rattle.explore.proofs.Machines.{machine_adds_call, machine_load_call, machine_next_within, machine_other_call, machine_some_at}
 use Rattle.lrc_explore.proofs.schedules.Deciding.{Decided, decided_and, decided_follow}
@@ -44,22 +44,22 @@ schedule_onward_the_call reply (Call c) memory = inl (record { call = c; says = 
 schedule_onward_the_call reply (Adds a v) memory =
     inl (record { call = kind.Store a ((reply + v) % 2 ^ 32); says = machine_adds_call reply a v memory })
 
-schedule_onward_no_fetch : (k : Kind) → Decided (is_followed_fetch k ≡ false)
-schedule_onward_no_fetch k = elim (cases_Bool (is_followed_fetch k)) [ inl is ↦ inr (λ isnt. false≢true (sym isnt ∙ is)) | inr isnt ↦ inl isnt ]
+schedule_onward_no_fetch : (k : Kind) → Decided (is_fetch k ≡ false)
+schedule_onward_no_fetch k = elim (cases_Bool (is_fetch k)) [ inl is ↦ inr (λ isnt. false≢true (sym isnt ∙ is)) | inr isnt ↦ inl isnt ]
 
 module _ (s : Plan) (g : List Event) (p : ℕ) (flat : IsFlatBeginning s g) where
   abbrev memory : List ℕ
   memory = memory_after (replicate (plan_addresses s) 0) g
 
   abbrev reply : ℕ
-  reply = last_reply_of_calls (followed_calls g p)
+  reply = last_reply_of_calls (calls_of g p)
 
-  schedule_onward_next_of : (k : Kind) → IsFlatBeginning s (did g p k) → MayComeNextByLaw s g p k
+  schedule_onward_next_of : (k : Kind) → IsFlatBeginning s (did g p k) → MayComeNext s g p k
   schedule_onward_next_of k next = ((beginning_next s g p k).0 next).1
 
   -- by p's section, and the step that comes next in it
   module _ (section : List Instruction) (at : slice_get s.sections p ≡ Some section) (x : ScriptCall)
-      (here : slice_get (prefix_calling_section_steps section (prefix_calling_shown_by s p)) (length (followed_calls g p)) ≡ Some x) where
+      (here : slice_get (calling_section_steps section (calling_shown_by s p)) (length (calls_of g p)) ≡ Some x) where
     schedule_onward_said : (k : Kind) → IsFlatBeginning s (did g p k) → IsCallOfStep reply x k × AnswersFlatWord memory k
     schedule_onward_said k next =
         let all = schedule_onward_next_of k next in
@@ -69,7 +69,7 @@ module _ (s : Plan) (g : List Event) (p : ℕ) (flat : IsFlatBeginning s g) wher
     schedule_onward_by_call : IsTheOnwardCall reply x memory ⊎ ((k : Kind) → ¬ (IsCallOfStep reply x k × AnswersFlatWord memory k))
         → Decided ((k : Kind) × IsFlatBeginning s (did g p k))
     schedule_onward_by_call (inr none) = inr (λ next. none next.0 (schedule_onward_said next.0 next.1))
-    schedule_onward_by_call (inl c) = elim (decided_and (decided_follow (followed_plan_sizes s) g p c.call) (schedule_onward_no_fetch c.call)) [
+    schedule_onward_by_call (inl c) = elim (decided_and (decided_follow (plan_sizes s) g p c.call) (schedule_onward_no_fetch c.call)) [
       | inl both ↦
           (let is = (c.says c.call).0 refl in
           inl (
@@ -81,7 +81,7 @@ module _ (s : Plan) (g : List Event) (p : ℕ) (flat : IsFlatBeginning s g) wher
                 calls = record {
                   call = both.1;
                   next = λ other there.
-                      subst (λ y. IsCalledNext (prefix_calling_section_steps y (prefix_calling_shown_by s p)) (followed_calls g p) c.call)
+                      subst (λ y. IsCalledNext (calling_section_steps y (calling_shown_by s p)) (calls_of g p) c.call)
                       (same_Some section other (sym at ∙ there)) (record { step = x; at = here; is = is.0 });
                 };
                 answers = is.1;
@@ -92,13 +92,13 @@ module _ (s : Plan) (g : List Event) (p : ℕ) (flat : IsFlatBeginning s g) wher
           let all = schedule_onward_next_of next.0 next.1 in
           let is = (c.says next.0).1 (schedule_onward_said next.0 next.1) in
           none (
-            subst (λ k. MayFollow (followed_plan_sizes s) g (event p k)) (sym is) all.may_follow,
-            subst (λ k. is_followed_fetch k ≡ false) (sym is) all.calls.call,
+            subst (λ k. MayFollow (plan_sizes s) g (event p k)) (sym is) all.may_follow,
+            subst (λ k. is_fetch k ≡ false) (sym is) all.calls.call,
           ))
     ]
 
   schedule_onward_by_step : (section : List Instruction) → slice_get s.sections p ≡ Some section → (o : Option ScriptCall)
-      → slice_get (prefix_calling_section_steps section (prefix_calling_shown_by s p)) (length (followed_calls g p)) ≡ o
+      → slice_get (calling_section_steps section (calling_shown_by s p)) (length (calls_of g p)) ≡ o
       → Decided ((k : Kind) × IsFlatBeginning s (did g p k))
   schedule_onward_by_step section at None is = inr (λ next.
       let called = (schedule_onward_next_of next.0 next.1).calls.next section at in none-some called.step (sym is ∙ called.at))

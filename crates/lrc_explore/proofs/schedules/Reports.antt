@@ -9,12 +9,12 @@ use Rattle.journal.specs.declared.event.Kind.{Kind}
 use Rattle.journal.specs.declared.event.Kind.TheVariants as kind
 use Rattle.lrc_script.specs.Plan.{Plan}
 use Rattle.conformance.specs.Begins.{BeginsScript}
-use Rattle.conformance.specs.Follows.{followed_calls, followed_load, FollowsSection}
+use Rattle.conformance.specs.Follows.{calls_of, load_of, FollowsSection}
 use Rattle.conformance.proofs.WithoutFetches.Embeds.{without_fetches}
 use Rattle.conformance.proofs.WithoutFetches.Runs.{calls_without_fetches}
-use Rattle.explore.specs.Prefixes.Beginnings.{IsRaceFreeBeginning, IsWholeBeginning}
+use Rattle.explore.specs.Prefixes.Beginnings.{IsFlatRaceFree, IsWholeBeginning}
 use Rattle.explore.proofs.prefixes.Beginnings.{beginning_of_followed}
-use Rattle.explore.specs.Prefixes.Calling.{prefix_calling_shown_by}
+use Rattle.explore.specs.Prefixes.Calling.{calling_shown_by}
 use Rattle.conformance.specs.Reports.{AreReportedReplies}
 use Rattle.explore.specs.declared.explored.Explored.{Explored}
 use Rattle.explore.specs.Explored.{IsExploredVerdict}
@@ -39,7 +39,7 @@ schedule_report_row_at f (suc n) (suc p) less = schedule_report_row_at (λ q. f 
 -- each history shows some replies
 schedule_report_shows : (s : Plan) (h : List Event) → (replies : List (List ℕ)) × AreOutcomeReplies s h replies
 schedule_report_shows s h =
-    let f : ℕ → List ℕ = λ p. outcome_replies_in (followed_calls h p) in
+    let f : ℕ → List ℕ = λ p. outcome_replies_in (calls_of h p) in
     (rows f s.processors, record { long = schedule_report_rows_long f s.processors; each = schedule_report_row_at f s.processors })
 
 -- and without its fetches the same
@@ -52,7 +52,7 @@ schedule_report_shows_fetchless s h replies are = record {
 
 -- the last loads answered what is shown
 schedule_report_replies_end : (front : List Kind) (shown : List (ℕ × ℕ))
-    → outcome_replies_in (front ++ map followed_load shown) ≡ outcome_replies_in front ++ map (λ (x : ℕ × ℕ). x.1) shown
+    → outcome_replies_in (front ++ map load_of shown) ≡ outcome_replies_in front ++ map (λ (x : ℕ × ℕ). x.1) shown
 schedule_report_replies_end [] [] = refl
 schedule_report_replies_end [] (x ∷ shown) = ap (λ words. x.1 ∷ words) (schedule_report_replies_end [] shown)
 schedule_report_replies_end (kind.Load a v ∷ front) shown = ap (λ words. v ∷ words) (schedule_report_replies_end front shown)
@@ -66,7 +66,7 @@ schedule_report_ends_shown calls shown last = record {
 }
 
 -- a script that was found race-free is
-pub found : (s : Plan) (answer : Explored) → NoScheduleRaces s answer → IsRaceFreeBeginning s
+pub found : (s : Plan) (answer : Explored) → NoScheduleRaces s answer → IsFlatRaceFree s
 found s answer f = subst (IsExploredVerdict s) f.verdict f.explored.verdict
 
 pub report_law : ReportLaw
@@ -85,7 +85,7 @@ report_law s answer r f is = record {
     h : List Event
     h = is.history
 
-    free : IsRaceFreeBeginning s
+    free : IsFlatRaceFree s
     free = found s answer f
 
     begins : BeginsScript s h
@@ -97,7 +97,7 @@ report_law s answer r f is = record {
           schedule_begun_flat_part s h is.tells.well_formed begins
           (schedule_begun_replays_whole s free h is.tells.well_formed is.tells.explained begins);
       follows = λ p section at.
-          subst (FollowsSection section (prefix_calling_shown_by s p)) (sym (calls_without_fetches p h)) (is.tells.follows p section at);
+          subst (FollowsSection section (calling_shown_by s p)) (sym (calls_without_fetches p h)) (is.tells.follows p section at);
     }
 
     shown : (replies : List (List ℕ)) × AreOutcomeReplies s h replies
@@ -109,4 +109,4 @@ report_law s answer r f is = record {
         let long = shown.1.long in
         let first = shown.1.each 0 (omega (arith, less, long)) in
         subst (λ ws. ScheduleEndsWith ws (map (λ (x : ℕ × ℕ). x.1) r.shown.items)) (same_Some _ _ (sym first ∙ at))
-        (schedule_report_ends_shown (followed_calls h 0) r.shown.items is.tells.replies)
+        (schedule_report_ends_shown (calls_of h 0) r.shown.items is.tells.replies)

@@ -12,9 +12,9 @@ use Rattle.lrc_script.specs.Plan.{Plan}
 use Rattle.lrc_script.specs.Lawful.{IsLawful, plan_addresses}
 use Rattle.lrc_report.specs.declared.report.Report.{Report}
 use Rattle.conformance.specs.Begins.{BeginsScript}
-use Rattle.conformance.specs.Follows.{followed_plan_sizes, is_followed_fetch, Follows}
+use Rattle.conformance.specs.Follows.{plan_sizes, is_fetch, Follows}
 use Rattle.conformance.specs.Reports.{IsReportOf}
-use Rattle.explore.specs.Prefixes.Beginnings.{IsRaceFreeBeginning}
+use Rattle.explore.specs.Prefixes.Beginnings.{IsFlatRaceFree}
 use Rattle.explore.specs.declared.explored.Explored.{Explored}
 use Rattle.explore.specs.declared.explored.Hanging.TheVariants as hanging
 use Rattle.explore.specs.declared.explored.ScriptOutcome.{ScriptOutcome}
@@ -24,7 +24,7 @@ use Rattle.explore.specs.Outcomes.{AreOutcomeReplies}
 
 -- an explained history that only begins a script, of which no beginning on one flat memory races, has no race and replays
 abbrev pub BegunLaw : Type 0
-BegunLaw = (s : Plan) (h : List Event) → IsRaceFreeBeginning s → WellFormed (followed_plan_sizes s) h → Explained h → BeginsScript s h
+BegunLaw = (s : Plan) (h : List Event) → IsFlatRaceFree s → WellFormed (plan_sizes s) h → Explained h → BeginsScript s h
     → RaceFree h × Replays (replicate (plan_addresses s) 0) h
 
 -- a search has found the script race-free
@@ -66,7 +66,7 @@ ReportLaw = (s : Plan) (answer : Explored) (r : Report) → NoScheduleRaces s an
 
 -- the history has begun the script, and isn't whole
 pub record IsScheduleUnfinished (s : Plan) (h : List Event) : Type 0 where
-  pub well_formed : WellFormed (followed_plan_sizes s) h
+  pub well_formed : WellFormed (plan_sizes s) h
   pub explained : Explained h
   pub begins : BeginsScript s h
   pub unfinished : ¬ Follows s h
@@ -74,7 +74,7 @@ pub record IsScheduleUnfinished (s : Plan) (h : List Event) : Type 0 where
 -- and no call may come next; fetches are no calls
 pub record IsScheduleStuck (s : Plan) (h : List Event) : Type 0 where
   pub begun : IsScheduleUnfinished s h
-  pub stuck : (p : ℕ) (k : Kind) → is_followed_fetch k ≡ false → WellFormed (followed_plan_sizes s) (did h p k) → ¬ BeginsScript s (did h p k)
+  pub stuck : (p : ℕ) (k : Kind) → is_fetch k ≡ false → WellFormed (plan_sizes s) (did h p k) → ¬ BeginsScript s (did h p k)
 
 -- if a search finds a script race-free and no hang, no history of it is stuck
 abbrev pub NeverStuckLaw : Type 0
@@ -84,8 +84,8 @@ NeverStuckLaw = (s : Plan) (answer : Explored) (h : List Event) → NoScheduleHa
 pub record ScheduleCanContinue (s : Plan) (h : List Event) : Type 0 where
   pub processor : ℕ
   pub kind : Kind
-  pub call : is_followed_fetch kind ≡ false
-  pub well_formed : WellFormed (followed_plan_sizes s) (did h processor kind)
+  pub call : is_fetch kind ≡ false
+  pub well_formed : WellFormed (plan_sizes s) (did h processor kind)
   pub begins : BeginsScript s (did h processor kind)
 
 -- if a search finds a lawful script race-free and no hang, each history of it that isn't whole may go on by some call

@@ -4,7 +4,7 @@ use Rattle.std.proofs.lemmas.Bool.{cases_eq, cases_lt}
 use Rattle.std.proofs.lemmas.List.{get_or_past, length-set}
 use Rattle.std.proofs.lemmas.Option.{none-some}
 use Rattle.journal.specs.declared.event.Kind.TheVariants.{Ask}
-use Rattle.explore.specs.Free.{IsFreeAmongNexts}
+use Rattle.explore.specs.Free.{AreAmongNexts}
 use Rattle.explore.proofs.Choosing.{among_set, asks_set, none_among, none_long}
 use Rattle.explore.proofs.free.asks_among.Goals as goal
 

@@ -11,9 +11,9 @@ use Rattle.journal.proofs.Order.HappensBefore.{before_longer}
 use Rattle.base.proofs.SlicesAndCounts.{slice_push_induction}
 use Rattle.lrc_script.specs.Plan.{Plan}
 use Rattle.lrc_script.specs.Lawful.{plan_addresses}
-use Rattle.conformance.specs.Follows.{followed_plan_sizes}
+use Rattle.conformance.specs.Follows.{plan_sizes}
 use Rattle.explore.specs.Prefixes.Beginnings.{IsFlatBeginning}
-use Rattle.explore.specs.Prefixes.Laws.{MayComeNextByLaw, NoNeighboursByLaw, NeighboursLaw}
+use Rattle.explore.specs.Prefixes.Laws.{MayComeNext, HasNoNeighbours, NeighboursLaw}
 use Rattle.explore.proofs.prefixes.Beginnings.{beginning_next}
 use Rattle.explore.proofs.prefixes.Removal.Places.{removal_item_out}
 use Rattle.explore.proofs.prefixes.Removal.Follows.{IsUnneededByRemoval, follows_left}
@@ -31,7 +31,7 @@ module _ (s : Plan) (a b : List Event) (x e : Event) (last : ℕ)
   neighbour_reaches_nothing = last_race_unreached s (a ++ x ∷ (b ++ e ∷ [])) (length a) last r
 
   -- what comes before e, with x and without it
-  neighbour_both : IsFlatBeginning s (a ++ x ∷ b) × MayComeNextByLaw s (a ++ x ∷ b) e.processor e.kind
+  neighbour_both : IsFlatBeginning s (a ++ x ∷ b) × MayComeNext s (a ++ x ∷ b) e.processor e.kind
   neighbour_both = (beginning_next s (a ++ x ∷ b) e.processor e.kind).0 (subst (IsFlatBeginning s) (sym whole) r.begins)
 
   short : length (a ++ x ∷ b) ≡ last
@@ -67,21 +67,21 @@ module _ (s : Plan) (a b : List Event) (x e : Event) (last : ℕ)
   neighbour_conflict : Conflict x e
   neighbour_conflict = subst (λ y. Conflict y e) neighbour_first_is (subst (Conflict r.race.first) neighbour_second_is r.race.conflict)
 
-  neighbour_unneeded_now : IsUnneededByRemoval (followed_plan_sizes s) a b x e
+  neighbour_unneeded_now : IsUnneededByRemoval (plan_sizes s) a b x e
   neighbour_unneeded_now = removed_is_unneeded s a b x e neighbour_reaches_nothing (removed_follows_front s a (b ++ e ∷ []) x r.begins).may_follow
 
-  neighbour_first_next : MayComeNextByLaw s (a ++ b) x.processor (replied memory x.kind)
+  neighbour_first_next : MayComeNext s (a ++ b) x.processor (replied memory x.kind)
   neighbour_first_next =
       neighbour_replied_access_over s a b x.processor x.kind neighbour_conflict.address neighbour_conflict.first (removed_others_behind a b x neighbour_reaches_none)
       (removed_follows_front s a (b ++ e ∷ []) x r.begins)
 
-  neighbour_second_next : MayComeNextByLaw s (a ++ b) e.processor (replied memory e.kind)
+  neighbour_second_next : MayComeNext s (a ++ b) e.processor (replied memory e.kind)
   neighbour_second_next =
       next_replied s (a ++ x ∷ b) (a ++ b) e.processor e.kind
-      (follows_left (followed_plan_sizes s) a b x e neighbour_unneeded_now neighbour_both.1.may_follow)
+      (follows_left (plan_sizes s) a b x e neighbour_unneeded_now neighbour_both.1.may_follow)
       (removed_calls_left a b x e.processor neighbour_unneeded_now.apart) neighbour_both.1
 
-  neighbours_now : ¬ NoNeighboursByLaw s
+  neighbours_now : ¬ HasNoNeighbours s
   neighbours_now none =
       none (a ++ b) x.processor e.processor (replied memory x.kind) (replied memory e.kind)
       ((beginning_next s (a ++ b) x.processor (replied memory x.kind)).1 (neighbour_without, neighbour_first_next))
@@ -90,7 +90,7 @@ module _ (s : Plan) (a b : List Event) (x e : Event) (last : ℕ)
       (neighbour_replied_conflict_second x e.processor memory e.kind neighbour_conflict))
 
 -- a last race, of x with what is behind it
-neighbour_last_race : (s : Plan) (a b : List Event) (x : Event) (last : ℕ) → NoNeighboursByLaw s
+neighbour_last_race : (s : Plan) (a b : List Event) (x : Event) (last : ℕ) → HasNoNeighbours s
     → ¬ RacesLast s (a ++ x ∷ b) (length a) last
 neighbour_last_race s a b x last none =
     slice_push_induction (λ es. ¬ RacesLast s (a ++ x ∷ es) (length a) last)
@@ -101,7 +101,7 @@ neighbour_last_race s a b x last none =
     (λ es e ih r. neighbours_now s a es x e last r none) b
 
 -- no beginning's last event races, where no shorter one does
-neighbour_last_free : (s : Plan) (g : List Event) (last : ℕ) → NoNeighboursByLaw s → IsFlatBeginning s g → length g ≡ suc last
+neighbour_last_free : (s : Plan) (g : List Event) (last : ℕ) → HasNoNeighbours s → IsFlatBeginning s g → length g ≡ suc last
     → ((f : List Event) → length f ≤ last → IsFlatBeginning s f → RaceFree f) → (d i : ℕ) → last ≤ i + d
     → ¬ Race g i last
 neighbour_last_free s g last none begins long shorter zero i le race = let less = race.before in absurd (omega arith)
@@ -116,7 +116,7 @@ neighbour_last_free s g last none begins long shorter (suc d) i le race =
     })
 
 -- so none up to a length does
-neighbour_free_up_to : (s : Plan) → NoNeighboursByLaw s → (n : ℕ) (g : List Event) → length g ≤ n → IsFlatBeginning s g → RaceFree g
+neighbour_free_up_to : (s : Plan) → HasNoNeighbours s → (n : ℕ) (g : List Event) → length g ≤ n → IsFlatBeginning s g → RaceFree g
 neighbour_free_up_to s none zero g le h i k race =
     let within = numbered_at_within g k race.second race.second_at in absurd (omega arith)
 neighbour_free_up_to s none (suc n) g le h i k race =

@@ -15,7 +15,7 @@ use Rattle.journal.proofs.Order.CountedAndNumbered.{numbered_at_same, numbered_a
 use Rattle.journal.proofs.Order.HappensBefore.{before_goes_forward}
 use Rattle.base.proofs.SlicesAndCounts.{slice_push_cases}
 use Rattle.lrc_script.specs.Lawful.{plan_addresses}
-use Rattle.explore.specs.Prefixes.Laws.{MayComeNextByLaw, RacingLaw}
+use Rattle.explore.specs.Prefixes.Laws.{MayComeNext, RacingLaw}
 use Rattle.explore.proofs.prefixes.Beginnings.{beginning_next}
 use Rattle.explore.proofs.prefixes.Neighbours.Replies.{replied, replied_replyless, neighbour_replied_conflict_second, neighbour_replied_access_over}
 
@@ -78,7 +78,7 @@ racing s g p q a b first second apart conflict = record {
       | inr new ↦ apart (ap (λ (e : Event). e.processor) new.1 ∙ is)
     ]
 
-    next : MayComeNextByLaw s (did g p a) q kind
+    next : MayComeNext s (did g p a) q kind
     next = neighbour_replied_access_over s g (event p a ∷ []) q b conflict.address conflict.second others ((beginning_next s g q b).0 second).1
 
     here : At (did (did g p a) q kind) (length g) (event p a)

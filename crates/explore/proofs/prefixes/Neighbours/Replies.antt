@@ -14,12 +14,12 @@ use Rattle.journal.specs.WellFormed.{AnswersCall, Allowed, MayFollow}
 use Rattle.journal.proofs.Journals.WellFormedLast.{last_shorter}
 use Rattle.lrc_script.specs.Plan.{Plan}
 use Rattle.lrc_script.specs.Lawful.{plan_addresses}
-use Rattle.conformance.specs.Follows.{followed_plan_sizes, followed_calls, is_followed_fetch}
+use Rattle.conformance.specs.Follows.{plan_sizes, calls_of, is_fetch}
 use Rattle.conformance.proofs.Calls.{followed_calls-append, calls_of_first-other}
 use Rattle.explore.specs.declared.prefixes.script_call.ScriptCall.{ScriptCall}
 use Rattle.explore.specs.declared.prefixes.script_call.ScriptCall.TheVariants.{Call, Adds}
-use Rattle.explore.specs.Prefixes.Calling.{replyless_call, last_reply_of_calls, IsCallOfStep, IsCalledNext, prefix_calling_section_steps, prefix_calling_shown_by}
-use Rattle.explore.specs.Prefixes.Laws.{MayComeNextByLaw}
+use Rattle.explore.specs.Prefixes.Calling.{replyless_call, last_reply_of_calls, IsCallOfStep, IsCalledNext, calling_section_steps, calling_shown_by}
+use Rattle.explore.specs.Prefixes.Laws.{MayComeNext}
 
 -- the call, with the reply that a load of it has in this memory
 abbrev pub replied : List ℕ → Kind → Kind
@@ -39,7 +39,7 @@ replied_store : (memory : List ℕ) (k : Kind) → is_store (replied memory k) �
 replied_store memory (Load w v) = refl
 replied_store memory _ = refl
 
-replied_fetch : (memory : List ℕ) (k : Kind) → is_followed_fetch (replied memory k) ≡ is_followed_fetch k
+replied_fetch : (memory : List ℕ) (k : Kind) → is_fetch (replied memory k) ≡ is_fetch k
 replied_fetch memory (Load w v) = refl
 replied_fetch memory _ = refl
 
@@ -87,18 +87,18 @@ step_replied reply (Call c) k memory is = replied_replyless memory k ∙ is
 step_replied reply (Adds a v) k memory is = ap (replied memory) is
 
 -- after events that leave q's calls, its next call is the same but for the reply
-pub next_replied : (s : Plan) (g h : List Event) (q : ℕ) (k : Kind) → MayFollow (followed_plan_sizes s) h (event q k)
-    → followed_calls g q ≡ followed_calls h q → MayComeNextByLaw s g q k → MayComeNextByLaw s h q (replied (memory_after (replicate (plan_addresses s) 0) h) k)
+pub next_replied : (s : Plan) (g h : List Event) (q : ℕ) (k : Kind) → MayFollow (plan_sizes s) h (event q k)
+    → calls_of g q ≡ calls_of h q → MayComeNext s g q k → MayComeNext s h q (replied (memory_after (replicate (plan_addresses s) 0) h) k)
 next_replied s g h q k may same next = record {
-  may_follow = follows_replied (followed_plan_sizes s) h q k memory may;
+  may_follow = follows_replied (plan_sizes s) h q k memory may;
   calls = record {
     call = replied_fetch memory k ∙ next.calls.call;
     next = λ section at. (let is = next.calls.next section at in
-        subst (λ calls. IsCalledNext (prefix_calling_section_steps section (prefix_calling_shown_by s q)) calls (replied memory k)) same
+        subst (λ calls. IsCalledNext (calling_section_steps section (calling_shown_by s q)) calls (replied memory k)) same
         (record {
           step = is.step;
           at = is.at;
-          is = step_replied (last_reply_of_calls (followed_calls g q)) is.step k memory is.is;
+          is = step_replied (last_reply_of_calls (calls_of g q)) is.step k memory is.is;
         }));
   };
   answers = answers k next.answers;
@@ -118,7 +118,7 @@ next_replied s g h q k may same next = record {
     answers _ word = word
 
 -- events that are none of r's make no calls of r
-neighbour_replied_calls_away : (es : List Event) (r : ℕ) → ((m : ℕ) (f : Event) → At es m f → f.processor ≢ r) → followed_calls es r ≡ []
+neighbour_replied_calls_away : (es : List Event) (r : ℕ) → ((m : ℕ) (f : Event) → At es m f → f.processor ≢ r) → calls_of es r ≡ []
 neighbour_replied_calls_away [] r away = refl
 neighbour_replied_calls_away (e ∷ es) r away =
     calls_of_first-other e.processor r e.kind es (away 0 e refl) ∙ neighbour_replied_calls_away es r (λ m. away (suc m))
@@ -131,15 +131,15 @@ neighbour_replied_access_allowed s j r _ w at = absurd (none-some w at)
 
 -- an access that may come next may do so after others' events
 pub neighbour_replied_access_over : (s : Plan) (g es : List Event) (q : ℕ) (k : Kind) (w : ℕ) → address_of k ≡ Some w
-    → ((m : ℕ) (f : Event) → At es m f → f.processor ≢ q) → MayComeNextByLaw s g q k
-    → MayComeNextByLaw s (g ++ es) q (replied (memory_after (replicate (plan_addresses s) 0) (g ++ es)) k)
+    → ((m : ℕ) (f : Event) → At es m f → f.processor ≢ q) → MayComeNext s g q k
+    → MayComeNext s (g ++ es) q (replied (memory_after (replicate (plan_addresses s) 0) (g ++ es)) k)
 neighbour_replied_access_over s g es q k w at away next =
     next_replied s g (g ++ es) q k
     (record {
       processor = next.may_follow.processor;
       in_range = next.may_follow.in_range;
       answers = λ i c last. next.may_follow.answers i c (last_shorter g es q i c away last);
-      allowed = neighbour_replied_access_allowed (followed_plan_sizes s) (g ++ es) q k w at;
+      allowed = neighbour_replied_access_allowed (plan_sizes s) (g ++ es) q k w at;
     })
-    (sym (append-nil (followed_calls g q)) ∙ ap (λ ks. followed_calls g q ++ ks) (sym (neighbour_replied_calls_away es q away))
+    (sym (append-nil (calls_of g q)) ∙ ap (λ ks. calls_of g q ++ ks) (sym (neighbour_replied_calls_away es q away))
     ∙ sym (followed_calls-append g es q)) next

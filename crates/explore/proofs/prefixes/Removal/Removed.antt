@@ -13,11 +13,11 @@ use Rattle.journal.proofs.Order.HappensBefore.{before_longer}
 use Rattle.base.proofs.SlicesAndCounts.{slice_push_induction}
 use Rattle.lrc_script.specs.Plan.{Plan}
 use Rattle.lrc_script.specs.Lawful.{plan_addresses}
-use Rattle.conformance.specs.Follows.{followed_plan_sizes, followed_calls}
+use Rattle.conformance.specs.Follows.{plan_sizes, calls_of}
 use Rattle.conformance.proofs.Calls.{followed_calls-append, calls_of_first-other}
 use Rattle.explore.specs.Prefixes.Beginnings.{IsFlatBeginning}
-use Rattle.explore.specs.Prefixes.Calling.{IsCalledNext, prefix_calling_section_steps, prefix_calling_shown_by}
-use Rattle.explore.specs.Prefixes.Laws.{MayComeNextByLaw}
+use Rattle.explore.specs.Prefixes.Calling.{IsCalledNext, calling_section_steps, calling_shown_by}
+use Rattle.explore.specs.Prefixes.Laws.{MayComeNext}
 use Rattle.explore.proofs.prefixes.Beginnings.{beginning_front, beginning_next}
 use Rattle.explore.proofs.prefixes.Removal.Places.{removal_item_out}
 use Rattle.explore.proofs.prefixes.Removal.Follows.{IsUnneededByRemoval, follows_left}
@@ -64,8 +64,8 @@ module _ (a b : List Event) (x : Event) (unreached : (m : ℕ) → ¬ HappensBef
 
 -- the last event behind it doesn't need it
 pub removed_is_unneeded : (s : Plan) (a b : List Event) (x e : Event)
-    → ((m : ℕ) → ¬ HappensBefore (a ++ x ∷ (b ++ e ∷ [])) (length a) m) → MayFollow (followed_plan_sizes s) a x
-    → IsUnneededByRemoval (followed_plan_sizes s) a b x e
+    → ((m : ℕ) → ¬ HappensBefore (a ++ x ∷ (b ++ e ∷ [])) (length a) m) → MayFollow (plan_sizes s) a x
+    → IsUnneededByRemoval (plan_sizes s) a b x e
 removed_is_unneeded s a b x e unreached may = record {
   follows = may;
   away = λ m f at. removed_others_behind a (b ++ e ∷ []) x unreached m f (numbered_at_longer b (e ∷ []) m f at);
@@ -93,20 +93,20 @@ removed_is_unneeded s a b x e unreached may = record {
         ∙ ap (λ (es : List Event). count_of is_depart es e.processor) (sym front)
 
 -- others' calls are the same without it
-pub removed_calls_left : (a b : List Event) (x : Event) (r : ℕ) → x.processor ≢ r → followed_calls (a ++ x ∷ b) r ≡ followed_calls (a ++ b) r
+pub removed_calls_left : (a b : List Event) (x : Event) (r : ℕ) → x.processor ≢ r → calls_of (a ++ x ∷ b) r ≡ calls_of (a ++ b) r
 removed_calls_left a b x r apart =
-    followed_calls-append a (x ∷ b) r ∙ ap (λ ks. followed_calls a r ++ ks) (calls_of_first-other x.processor r x.kind b apart)
+    followed_calls-append a (x ∷ b) r ∙ ap (λ ks. calls_of a r ++ ks) (calls_of_first-other x.processor r x.kind b apart)
     ∙ sym (followed_calls-append a b r)
 
 -- so what comes next may do so without it
-removed_next_left : (s : Plan) (a b : List Event) (x e : Event) → IsUnneededByRemoval (followed_plan_sizes s) a b x e → ¬ Conflict x e
-    → MayComeNextByLaw s (a ++ x ∷ b) e.processor e.kind → MayComeNextByLaw s (a ++ b) e.processor e.kind
+removed_next_left : (s : Plan) (a b : List Event) (x e : Event) → IsUnneededByRemoval (plan_sizes s) a b x e → ¬ Conflict x e
+    → MayComeNext s (a ++ x ∷ b) e.processor e.kind → MayComeNext s (a ++ b) e.processor e.kind
 removed_next_left s a b x e u apart next = record {
-  may_follow = follows_left (followed_plan_sizes s) a b x e u next.may_follow;
+  may_follow = follows_left (plan_sizes s) a b x e u next.may_follow;
   calls = record {
     call = next.calls.call;
     next = λ section at. subst
-        (λ calls. IsCalledNext (prefix_calling_section_steps section (prefix_calling_shown_by s e.processor)) calls e.kind)
+        (λ calls. IsCalledNext (calling_section_steps section (calling_shown_by s e.processor)) calls e.kind)
         (removed_calls_left a b x e.processor u.apart) (next.calls.next section at);
   };
   answers = removal_answers_left (replicate (plan_addresses s) 0) a b x e.processor e.kind apart next.answers;
@@ -114,7 +114,7 @@ removed_next_left s a b x e u apart next = record {
 
 -- an event in a beginning may come next after what is before it
 pub removed_follows_front : (s : Plan) (a b : List Event) (x : Event) → IsFlatBeginning s (a ++ x ∷ b)
-    → MayComeNextByLaw s a x.processor x.kind
+    → MayComeNext s a x.processor x.kind
 removed_follows_front s a b x h =
     ((beginning_next s a x.processor x.kind).0
     (beginning_front s (a ++ x ∷ []) b (subst (IsFlatBeginning s) (sym (append_assoc a (x ∷ []) b)) h))).1

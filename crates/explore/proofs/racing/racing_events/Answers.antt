@@ -8,7 +8,7 @@ use Rattle.journal.specs.DidEvent.{did, event}
 use Rattle.lrc_script.specs.Plan.{Plan}
 use Rattle.explore.specs.declared.prefixes.script_call.ScriptCall.{ScriptCall}
 use Rattle.explore.specs.Prefixes.Beginnings.{IsFlatBeginning}
-use Rattle.explore.specs.Prefixes.Laws.{LawRacesAfter}
+use Rattle.explore.specs.Prefixes.Laws.{RacesAfter}
 use Rattle.explore.proofs.prefixes.Neighbours.Racing.{racing}
 use Rattle.explore.specs.declared.states.States.{States}
 use Rattle.explore.specs.declared.flat_state.FlatState.{FlatState}
@@ -40,7 +40,7 @@ module _ (s : Plan) (x : States) (steps : List (Vec ScriptCall)) (ns : Neighbour
       let many = machine_rows_many s steps are.lawful in
       omega arith
 
-  races : LawRacesAfter s g ns.first.processor ns.second.processor ns.first.kind ns.second.kind
+  races : RacesAfter s g ns.first.processor ns.second.processor ns.first.kind ns.second.kind
   races =
       racing s g ns.first.processor ns.second.processor ns.first.kind ns.second.kind first_next second_next are.are.apart
       are.are.conflict

@@ -4,10 +4,10 @@ use Rattle.std.proofs.lemmas.Bool.{cases_eq, false≢true}
 use Rattle.std.proofs.lemmas.Option.{same_Some, slice_get_within}
 use Rattle.journal.specs.declared.event.Event.{Event}
 use Rattle.lrc_script.specs.Plan.{Plan}
-use Rattle.conformance.specs.Follows.{followed_calls}
+use Rattle.conformance.specs.Follows.{calls_of}
 use Rattle.explore.specs.declared.prefixes.script_call.ScriptCall.{ScriptCall}
-use Rattle.explore.specs.Prefixes.Calling.{prefix_calling_shown_by}
-use Rattle.explore.specs.Prefixes.Laws.{AreAllDoneByLaw}
+use Rattle.explore.specs.Prefixes.Calling.{calling_shown_by}
+use Rattle.explore.specs.Prefixes.Laws.{AreAllDone}
 use Rattle.explore.proofs.prefixes.Beginnings.{beginning_whole_done}
 use Rattle.explore.specs.declared.flat_state.FlatState.{FlatState}
 use Rattle.explore.specs.Machines.{AreLawfulMachineSteps, Knows}
@@ -19,7 +19,7 @@ module _ (s : Plan) (g : List Event) (m : FlatState) (steps : List (Vec ScriptCa
     (knows : Knows s g m) where
   -- who isn't done yet
   not_done : (p : ℕ) (row : Vec ScriptCall) → slice_get steps p ≡ Some row → slice_index m.done p < length row.items
-      → ¬ AreAllDoneByLaw s g
+      → ¬ AreAllDone s g
   not_done p row at under done =
       let of = machine_row_steps s steps p row lawful.are at in
       let all = done p of.section of.at in
@@ -30,7 +30,7 @@ module _ (s : Plan) (g : List Event) (m : FlatState) (steps : List (Vec ScriptCa
       omega arith
 
   all_done : ((p : ℕ) (row : Vec ScriptCall) → p < length steps → slice_get steps p ≡ Some row
-      → length row.items ≤ slice_index m.done p) → AreAllDoneByLaw s g
+      → length row.items ≤ slice_index m.done p) → AreAllDone s g
   all_done over p section at =
       let within = slice_get_within s.sections p section at in
       let long = lawful.are.long in
@@ -39,7 +39,7 @@ module _ (s : Plan) (g : List Event) (m : FlatState) (steps : List (Vec ScriptCa
       let row = machine_some_at steps p lt in
       let are = ap (λ (xs : List ScriptCall). length xs) (lawful.are.each p section row.0 at row.1) in
       let past = over p row.0 lt row.1 in
-      let begun = begun_length_few section (prefix_calling_shown_by s p) (followed_calls g p) (knows.beginning.begins p section at) in
+      let begun = begun_length_few section (calling_shown_by s p) (calls_of g p) (knows.beginning.begins p section at) in
       let is = knows.done p (omega arith) in
       omega arith
 

@@ -8,7 +8,7 @@ use Rattle.journal.specs.DidEvent.{did, event}
 use Rattle.journal.specs.FlatMemory.{AnswersFlatWord}
 use Rattle.journal.specs.WellFormed.{KindInRange, MayFollow}
 use Rattle.lrc_script.specs.Plan.{Plan}
-use Rattle.conformance.specs.Follows.{followed_calls, followed_plan_sizes}
+use Rattle.conformance.specs.Follows.{calls_of, plan_sizes}
 use Rattle.explore.specs.declared.prefixes.script_call.ScriptCall.{ScriptCall}
 use Rattle.explore.specs.Prefixes.Beginnings.{IsFlatBeginning}
 use Rattle.explore.specs.Prefixes.Calling.{IsCallOfStep, last_reply_of_calls}
@@ -52,16 +52,16 @@ call_of-kind-requires c =
 module _ (s : Plan) (g : List Event) (m : FlatState) (steps : List (Vec ScriptCall)) (p : ℕ) (row : Vec ScriptCall)
     (lawful : AreLawfulMachineSteps s steps) (knows : Knows s g m) (lt : p < length steps) (at : slice_get steps p ≡ Some row)
     (x : ScriptCall) (here : slice_get row.items (slice_index m.done p) ≡ Some x) (reply : ℕ) (words : List ℕ)
-    (told : (t : Plan) (h : List Event) → Knows t h m → reply ≡ last_reply_of_calls (followed_calls h p))
+    (told : (t : Plan) (h : List Event) → Knows t h m → reply ≡ last_reply_of_calls (calls_of h p))
     (are : words ≡ m.memory.items) (c : Kind)
     (says : (k : Kind) → (c ≡ k) ↔ (IsCallOfStep reply x k × AnswersFlatWord words k)) where
-  in_range : KindInRange (followed_plan_sizes s) c
+  in_range : KindInRange (plan_sizes s) c
   in_range =
       machine_step_range s reply x c
       (machine_row_proper s p row (slice_index m.done p) x lawful.lawful (machine_row_steps s steps p row lawful.are at) here)
       ((says c).0 refl).0
 
-  goes : (k : Kind) → IsFlatBeginning s (did g p k) ↔ (MayFollow (followed_plan_sizes s) g (event p c) × (c ≡ k))
+  goes : (k : Kind) → IsFlatBeginning s (did g p k) ↔ (MayFollow (plan_sizes s) g (event p c) × (c ≡ k))
   goes =
       let few = machine_rows_few s steps lawful in
       machine_at_step s g m p row lawful.lawful (machine_row_steps s steps p row lawful.are at) (omega arith) knows reply (told s g knows) x
@@ -79,7 +79,7 @@ may_follow-requires c =
     let under = c.if-done-len.false in
     let here = machine_read_at row.items (slice_index m.done p) c.index.result.now (omega arith) c.index.ensures in
     record {
-      sizes = followed_plan_sizes run.plan;
+      sizes = plan_sizes run.plan;
       small = machine_sizes_small run.plan run.lawful.lawful;
       processors_are = machine_rows_many run.plan c.args.steps.now run.lawful;
       processor = lt;
@@ -105,7 +105,7 @@ returns-then-may_follow c = λ s g lawful knows k.
     c.deref.result.now c.reply_before.ensures c.deref.ensures.value c.call_of-kind.result c.call_of-kind.ensures k in
     let range = in_range s g m c.args.steps.now p row lawful knows lt at c.index.result.now here c.reply_before.result
     c.deref.result.now c.reply_before.ensures c.deref.ensures.value c.call_of-kind.result c.call_of-kind.ensures in
-    let may = c.may_follow.ensures (followed_plan_sizes s) g (machine_rows_many s c.args.steps.now lawful) range knows.waiting in (
+    let may = c.may_follow.ensures (plan_sizes s) g (machine_rows_many s c.args.steps.now lawful) range knows.waiting in (
       λ is. goes_on.1 (may.0 c.if-may_follow.true, same_Some c.call_of-kind.result k is),
       λ h. ap Some (goes_on.0 h).1,
     )
@@ -124,7 +124,7 @@ returns-else-may_follow c = λ s g lawful knows k.
     c.deref.result.now c.reply_before.ensures c.deref.ensures.value c.call_of-kind.result c.call_of-kind.ensures k in
     let range = in_range s g m c.args.steps.now p row lawful knows lt at c.index.result.now here c.reply_before.result
     c.deref.result.now c.reply_before.ensures c.deref.ensures.value c.call_of-kind.result c.call_of-kind.ensures in
-    let may = c.may_follow.ensures (followed_plan_sizes s) g (machine_rows_many s c.args.steps.now lawful) range knows.waiting in (
+    let may = c.may_follow.ensures (plan_sizes s) g (machine_rows_many s c.args.steps.now lawful) range knows.waiting in (
       λ none. absurd (none-some k none),
       λ h. absurd (false≢true (sym c.if-may_follow.false ∙ may.1 (goes_on.0 h).0)),
     )

@@ -3,7 +3,7 @@ use Rattle.std.proofs.Math.ListN.{length-set}
 use Rattle.std.proofs.lemmas.List.{with_items_is}
 use Rattle.base.specs.LastWritten.{wrote}
 use Rattle.journal.specs.FlatMemory.{flat_write}
-use Rattle.conformance.specs.Follows.{followed_plan_sizes}
+use Rattle.conformance.specs.Follows.{plan_sizes}
 use Rattle.explore.proofs.Lengths.{calls_length_few, history_length_few}
 use Rattle.explore.proofs.Machines.{machine_done_next, machine_kind_address, machine_memory_long, machine_memory_next, machine_next_call, machine_next_may, machine_next_within, machine_read_at, machine_sizes_small}
 use Rattle.explore.proofs.Replies.{length-machine_rows, replies_next}
@@ -13,7 +13,7 @@ pub note-requires : goal.note-requires
 note-requires c =
     let r = c.requires in
     record {
-      sizes = followed_plan_sizes r.plan;
+      sizes = plan_sizes r.plan;
       small = machine_sizes_small r.plan r.lawful;
       events = r.events;
       tells = r.knows.waiting;
@@ -89,5 +89,5 @@ returns c = λ s g knows next small.
           with_items_is m.memory c.write.new.memory kept ∙ c.write.ensures
           ∙ ap (λ words. wrote words (flat_write k)) c.deref_mut.ensures.value
           ∙ machine_memory_next s g p k next m.memory.items knows.memory;
-      waiting = c.in_ok-note.ensures (followed_plan_sizes s) g knows.waiting (machine_next_may s g p k next) small;
+      waiting = c.in_ok-note.ensures (plan_sizes s) g knows.waiting (machine_next_may s g p k next) small;
     }

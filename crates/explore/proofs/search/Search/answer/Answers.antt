@@ -10,7 +10,7 @@ use Rattle.explore.specs.Explored.{AreAllOutcomesExplored, AreExploredOutcomes, 
 use Rattle.explore.specs.Found.{states_found}
 use Rattle.explore.specs.Guarded.{AreGuarded}
 use Rattle.explore.specs.Machines.{AreLawfulMachineSteps}
-use Rattle.explore.specs.Prefixes.Beginnings.{IsRaceFreeBeginning}
+use Rattle.explore.specs.Prefixes.Beginnings.{IsFlatRaceFree}
 use Rattle.explore.specs.Racing.{AreRacing}
 use Rattle.lrc_script.specs.Lawful.{plan_addresses}
 use Rattle.explore.proofs.locksets.Law.{guarded_law}
@@ -49,7 +49,7 @@ past most states o through tells none isnt = elim (cases_lt most states) [
 race_free : (s : Plan) (x : Search) (steps : List (Vec ScriptCall)) (words : List Bool) (through all : Bool)
     → AreLawfulMachineSteps s steps → IsSearched s x steps through → AreGuarded steps words → length words ≡ plan_addresses s
     → (IsTrue all → (w : ℕ) → w < length words → IsTrue (slice_index_or words w false)) → IsTrue (through || all)
-    → IsRaceFreeBeginning s
+    → IsFlatRaceFree s
 race_free s x steps words true all lawful looked guarded long each shown =
     neighbours s (searched_no_neighbours s x steps lawful (looked.all refl))
 race_free s x steps words false all lawful looked guarded long each shown =

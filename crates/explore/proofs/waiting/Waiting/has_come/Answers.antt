@@ -1,6 +1,6 @@
 use Rattle.std.proofs.Common.{IsTrue, ◌↔◌, false, slice_index_or, subst, sym}
 use Rattle.journal.specs.WellFormed.{Allowed}
-use Rattle.judge.specs.Why.{WhyWaitsFor}
+use Rattle.judge.specs.Why.{AwaitsKind}
 use Rattle.explore.proofs.Following.{acquire_following, await_following, depart_following, other_awaited_following}
 use Rattle.explore.proofs.waiting.Waiting.has_come.Goals as goal
 
@@ -9,7 +9,7 @@ returns-in-Acquire c = λ s j many tells waits.
     let p = c.args.processor in
     let is = c.in-Acquire.is in
     subst (λ k. IsTrue c.may_acquire.result ↔ Allowed s j p k) (sym is)
-    (acquire_following s j p c.in-Acquire.lock c.may_acquire.result (subst (WhyWaitsFor j p) is waits)
+    (acquire_following s j p c.in-Acquire.lock c.may_acquire.result (subst (AwaitsKind j p) is waits)
     (c.may_acquire.ensures j tells))
 
 pub returns-in-Depart : goal.returns-in-Depart
@@ -17,8 +17,8 @@ returns-in-Depart c = λ s j many tells waits.
     let p = c.args.processor in
     let is = c.in-Depart.is in
     subst (λ k. IsTrue c.may_depart.result ↔ Allowed s j p k) (sym is)
-    (depart_following s j p c.args.processors c.may_depart.result many (subst (WhyWaitsFor j p) is waits)
-    (c.may_depart.ensures j tells (subst (WhyWaitsFor j p) is waits)))
+    (depart_following s j p c.args.processors c.may_depart.result many (subst (AwaitsKind j p) is waits)
+    (c.may_depart.ensures j tells (subst (AwaitsKind j p) is waits)))
 
 pub returns-in-Await : goal.returns-in-Await
 returns-in-Await c = λ s j many tells waits.
@@ -26,7 +26,7 @@ returns-in-Await c = λ s j many tells waits.
     let is = c.in-Await.is in
     let set = slice_index_or c.args.self.now.flags c.in-Await.flag false in
     subst (λ k. IsTrue set ↔ Allowed s j p k) (sym is)
-    (await_following s j p c.in-Await.flag set (subst (WhyWaitsFor j p) is waits) (tells.flags c.in-Await.flag))
+    (await_following s j p c.in-Await.flag set (subst (AwaitsKind j p) is waits) (tells.flags c.in-Await.flag))
 
 pub returns-in_default : goal.returns-in_default
 returns-in_default c = λ s j many tells waits.

@@ -2,7 +2,7 @@ use Rattle.std.proofs.Common.{◌<◌, refl, subst, sym, ◌∙◌}
 use Rattle.std.proofs.lemmas.Bool.{false≢true}
 use Rattle.std.proofs.lemmas.Option.{none-some}
 use Rattle.journal.specs.declared.event.Kind.{Kind}
-use Rattle.judge.specs.Why.{WhyWaitsFor}
+use Rattle.judge.specs.Why.{AwaitsKind}
 use Rattle.explore.proofs.Following.{idle_follows, waiting_follows, waits_only_following}
 use Rattle.explore.proofs.waiting.Waiting.may_follow.Goals as goal
 
@@ -11,7 +11,7 @@ returns-then-is_same c = λ s j many range tells.
     let p = c.args.processor in
     let k = c.args.kind in
     let waits =
-    subst (WhyWaitsFor j p) (c.if-is_same.ensures.0 refl) ((c.of.ensures j tells c.in-Some.awaited).0 c.in-Some.is) in
+    subst (AwaitsKind j p) (c.if-is_same.ensures.0 refl) ((c.of.ensures j tells c.in-Some.awaited).0 c.in-Some.is) in
     let within = subst (λ n. p < n) (sym many) c.requires.processor in
     let come = c.has_come.ensures s j many tells waits in
     let follows = waiting_follows s j p k within range waits in
@@ -28,7 +28,7 @@ returns-else-is_same c = λ s j many range tells. (
 pub returns-in-None : goal.returns-in-None
 returns-in-None c = λ s j many range tells.
     let p = c.args.processor in
-    let idle : (b : Kind) → ¬ WhyWaitsFor j p b = λ b waits. none-some b (sym c.in-None.is ∙ (c.of.ensures j tells b).1 waits) in
+    let idle : (b : Kind) → ¬ AwaitsKind j p b = λ b waits. none-some b (sym c.in-None.is ∙ (c.of.ensures j tells b).1 waits) in
     let within = subst (λ n. p < n) (sym many) c.requires.processor in
     let begins = c.may_begin.ensures s j tells idle in
     let follows = idle_follows s j p c.args.kind within range idle in

@@ -19,7 +19,7 @@ use Rattle.explore.specs.declared.wait.Seat.{Seat}
 use Rattle.journal.specs.declared.event.Kind.TheVariants.{Depart}
 use Rattle.journal.specs.Sizes.{Sizes}
 use Rattle.journal.specs.WellFormed.{MayFollow}
-use Rattle.judge.specs.Why.{WhyWaitsFor}
+use Rattle.judge.specs.Why.{AwaitsKind}
 use Rattle.journal.specs.declared.event.Kind.{Kind}
 use Rattle.explore.proofs.waiting.Waiting.note.Goals as goal
 
@@ -36,7 +36,7 @@ arrivals_small x p q k due =
 
 -- who departs has waited for that
 departs_waits : (s : Sizes) (j : List Event) (p : ℕ) (k : Kind) → MayFollow s j (event p k) → k ≡ Depart
-    → WhyWaitsFor j p Depart
+    → AwaitsKind j p Depart
 departs_waits s j p Depart may is = taking_waits_following s j p Depart refl may.allowed
 departs_waits s j p k may is = absurd cc
 
