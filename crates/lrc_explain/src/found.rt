@@ -1,7 +1,11 @@
 //! What is looked up of a history before it is told.
-ghost use Rattle.std.specs.Prelude.{◌≡◌, ◌≤◌, IfOk, length, vec_len};
+ghost use Rattle.std.specs.Prelude.{◌≡◌, ℕ, ◌≤◌, IfOk, MatchOption, length, vec_len};
 ghost use Rattle.base.specs.Prelude.{most_held, most_processors};
-ghost use Rattle.journal.specs.Prelude.{AddressesInRange, ProcessorsInRange};
+ghost use Rattle.journal.specs.declared.event.Event.{Event};
+ghost use Rattle.journal.specs.Events.{At};
+ghost use Rattle.journal.specs.Prelude.{AddressesInRange, IsFirstRace, ProcessorsInRange, RaceFree};
+ghost use Rattle.judge.specs.Prelude.{AreSizesSmall, IsEventInSizes, sizes_of};
+ghost use Rattle.causes.specs.Prelude.{IsRaceApart};
 
 use crate::earlier::{Earlier, stores_before};
 use crate::fault::ExplainFault;
@@ -10,9 +14,11 @@ use crate::lacks::{MOST_LOCKS, are_within, sizes_for};
 use crate::rivals::{Rival, rivals_of};
 use crate::shape::RunShape;
 use causes::{
-    Due, FirstRace, Source, Ways, WordOrigin, dues, incoming, loads, locks_held, origins, race,
+    Due, EventState, RaceApart, Source, Ways, WordOrigin, dues, incoming, loads, origins,
+    race_apart, states,
 };
-use journal::Event;
+use journal::{Event, first_race_of};
+use judge::Sizes;
 use judge::sources::latest;
 use std::alloc::{AllocError, Global};
 
@@ -31,14 +37,6 @@ pub struct LoadsFound {
     pub ways: Vec<Option<Vec<usize>>>,
 }
 
-/// A history's first race, and the locks that its processors hold at their accesses.
-#[derive(Drop)]
-pub struct RaceFound {
-    pub race: FirstRace,
-    pub first_locks: Vec<usize>,
-    pub second_locks: Vec<usize>,
-}
-
 /// What is found of a history whose pages are known.
 #[derive(Drop)]
 struct FoundByPages {
@@ -46,47 +44,41 @@ struct FoundByPages {
     origins: Vec<Option<WordOrigin>>,
     /// Of each event, the records that it tells of.
     dues: Vec<Vec<Due>>,
+    /// Of each event, the protocol's state at it, where that is told.
+    states: Vec<Option<EventState>>,
 }
 
 /// What is found of a history.
 #[derive(Drop)]
 pub struct Findings {
-    pub race: Option<RaceFound>,
+    /// Its first race, and what keeps that apart.
+    pub race: Option<RaceApart>,
     pub loads: LoadsFound,
     /// Of each event, the records that it tells of; empty where nobody knows what a page is.
     pub dues: Vec<Vec<Due>>,
+    /// Of each event, the protocol's state at it, where that is told; empty where it is told of none.
+    pub states: Vec<Option<EventState>>,
     /// Of each event, the events of others that let it through and that its processor had not heard of.
     pub incoming: Vec<Vec<usize>>,
 }
 
-/// The locks that the processor of the event at this place holds at it; none where there is no such event. The only error is
-/// running out of memory.
-fn locks_at(alloc: Global, events: &[Event], place: usize) -> Result<Vec<usize>, AllocError> {
-    if place >= events.len() {
-        return Ok(Vec::new(alloc));
-    }
-    locks_held(alloc, &events[..place], events[place].processor, MOST_LOCKS)
-}
-
-/// The first race of these events. The only error is running out of memory.
+/// The first race of these events, and what keeps it apart. The only error is running out of memory.
 fn race_of(
     alloc: Global,
     shape: RunShape,
     events: &[Event],
-) -> Result<Option<RaceFound>, AllocError>
+) -> Result<Option<RaceApart>, AllocError>
     requires few { length events.now ≤ most_held }
     requires few_processors { shape.processors ≤ most_processors }
     requires addresses { AddressesInRange shape.addresses events.now }
     requires processors { ProcessorsInRange shape.processors events.now }
+    ensures { IfOk result (λ o. MatchOption o (RaceFree events.now)
+        (λ x. IsFirstRace events.now x.first x.second × IsRaceApart MOST_LOCKS events.now x.first x.second x)) }
 {
-    let Some(race) = race(alloc, shape.processors, shape.addresses, events)? else {
-        return Ok(None);
-    };
-    Ok(Some(RaceFound {
-        race,
-        first_locks: locks_at(alloc, events, race.first)?,
-        second_locks: locks_at(alloc, events, race.second)?,
-    }))
+    match first_race_of(alloc, shape.processors, shape.addresses, events)? {
+        Some(race) => Ok(Some(race_apart(alloc, shape.processors, MOST_LOCKS, events, race)?)),
+        None => Ok(None),
+    }
 }
 
 /// What is found of the loads of these events, whose words come from these origins. The only error is running out of memory.
@@ -117,12 +109,31 @@ fn loads_of(
     })
 }
 
+/// The protocol's state at each of these events that is asked for; nothing where `asked` hasn't one for each event. The only
+/// error is running out of memory.
+fn states_of(
+    alloc: Global,
+    sizes: Sizes,
+    events: &[Event],
+    asked: &[bool],
+) -> Result<Vec<Option<EventState>>, AllocError>
+    requires sizes { AreSizesSmall (sizes_of sizes) }
+    requires few { length events.now ≤ most_held }
+    requires within { (k : ℕ) (e : Event) → At events.now k e → IsEventInSizes (sizes_of sizes) e }
+{
+    if asked.len() != events.len() {
+        return Ok(Vec::new(alloc));
+    }
+    states(alloc, sizes, events, asked)
+}
+
 /// What is found of these events of a run of this shape by its pages; nothing where nobody knows how many words a page has.
 /// OutOfRange where its addresses aren't pages of so many words, or a memory of such pages can't have the events.
 fn found_by_pages(
     alloc: Global,
     shape: RunShape,
     events: &[Event],
+    asked: &[bool],
 ) -> Result<FoundByPages, ExplainFault>
     ensures { IfOk result (λ f. vec_len f.origins ≡ length events.now) }
 {
@@ -130,6 +141,7 @@ fn found_by_pages(
         return Ok(FoundByPages {
             origins: vec![in alloc; None; events.len()]?,
             dues: Vec::new(alloc),
+            states: Vec::new(alloc),
         });
     };
     if !are_within(events, sizes) {
@@ -137,18 +149,33 @@ fn found_by_pages(
     }
     let origins = origins(alloc, sizes, events)?;
     let dues = dues(alloc, sizes, events)?;
-    Ok(FoundByPages { origins, dues })
+    let states = states_of(alloc, sizes, events, asked)?;
+    Ok(FoundByPages {
+        origins,
+        dues,
+        states,
+    })
 }
 
-/// What is found of these events of a run of this shape. OutOfRange where its addresses aren't pages of so many words, or a
-/// memory of such pages can't have the events.
-pub fn found_of(alloc: Global, shape: RunShape, events: &[Event]) -> Result<Findings, ExplainFault>
+/// What is found of these events of a run of this shape, and the protocol's state at those for which `asked` has true; it is
+/// empty where no state is asked for. OutOfRange where its addresses aren't pages of so many words, or a memory of such pages
+/// can't have the events.
+pub fn found_of(
+    alloc: Global,
+    shape: RunShape,
+    events: &[Event],
+    asked: &[bool],
+) -> Result<Findings, ExplainFault>
     requires few { length events.now ≤ most_held }
     requires few_processors { shape.processors ≤ most_processors }
     requires addresses { AddressesInRange shape.addresses events.now }
     requires processors { ProcessorsInRange shape.processors events.now }
 {
-    let FoundByPages { origins, dues } = found_by_pages(alloc, shape, events)?;
+    let FoundByPages {
+        origins,
+        dues,
+        states,
+    } = found_by_pages(alloc, shape, events, asked)?;
     let race = race_of(alloc, shape, events)?;
     let loads = loads_of(alloc, shape, events, origins)?;
     let incoming = incoming(alloc, shape.processors, events)?;
@@ -156,6 +183,7 @@ pub fn found_of(alloc: Global, shape: RunShape, events: &[Event]) -> Result<Find
         race,
         loads,
         dues,
+        states,
         incoming,
     })
 }

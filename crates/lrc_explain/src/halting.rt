@@ -2,8 +2,8 @@
 
 use crate::held::HeldNow;
 use crate::marked::Marked;
-use crate::text::Text;
 use journal::{Event, Journal, Kind};
+use lrc_prose::text::Text;
 
 /// A run that can't go on: what is held at its end, and the last event of each processor.
 #[derive(Clone, Copy)]

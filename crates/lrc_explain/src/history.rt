@@ -4,34 +4,8 @@ ghost use Rattle.base.specs.Prelude.{most_held, most_processors};
 ghost use Rattle.journal.specs.Prelude.{AddressInRange, AddressesInRange, ProcessorsInRange};
 
 use journal::{Event, Journal, Kind, MOST_HELD, MOST_PROCESSORS};
+pub use lrc_prose::numbers::EventNumbers;
 use std::alloc::{AllocError, Global};
-
-/// How the events of a history are numbered: on from those that were cut off.
-#[derive(Clone, Copy)]
-pub struct EventNumbers {
-    /// How many events were cut off.
-    pub cut: u64,
-    /// How many arrivals in front stand for them.
-    pub opening: usize,
-}
-
-impl EventNumbers {
-    /// The number of the event at this place of the history.
-    pub fn of(self, place: usize) -> u64 {
-        let left = place.saturating_sub(self.opening);
-        self.cut.saturating_add(left as u64)
-    }
-
-    /// Whether some events were cut off.
-    pub fn has_cut(self) -> bool {
-        self.cut > 0
-    }
-
-    /// Whether the event at this place stands for some that were cut off.
-    pub fn is_cut(self, place: usize) -> bool {
-        place < self.opening
-    }
-}
 
 /// The journal's numbers, where it is of so many processors.
 pub fn numbers_of(processors: usize, journal: &Journal) -> EventNumbers {

@@ -3,9 +3,9 @@ ghost use Rattle.std.specs.Prelude.{◌<◌, length};
 ghost use Rattle.causes.specs.Prelude.{ArePathWays};
 
 use crate::history::EventNumbers;
-use crate::text::Text;
 use causes::{Source, Ways};
 use journal::{Event, Kind};
+use lrc_prose::text::Text;
 use std::alloc::{AllocError, Global};
 
 /// How many crossings are told at most.

@@ -3,14 +3,14 @@ ghost use Rattle.std.specs.Prelude.{ℕ, ◌≤◌, IsTrue, length};
 ghost use Rattle.base.specs.Prelude.{most_held};
 ghost use Rattle.journal.specs.declared.event.Event.{Event};
 ghost use Rattle.journal.specs.Events.{At};
-ghost use Rattle.judge.specs.Prelude.{AreSizesSmall, IsMiscountWithin, sizes_of};
+ghost use Rattle.judge.specs.Prelude.{AreSizesSmall, IsEventInSizes, sizes_of};
 
 use crate::fault::ExplainFault;
 use crate::shape::RunShape;
-use crate::text::Text;
 use causes::Due;
 use journal::{Event, Kind, MOST_HELD};
 use judge::Sizes;
+use lrc_prose::text::Text;
 
 /// How many pages a memory has at most.
 const MOST_PAGES: usize = 64;
@@ -25,7 +25,7 @@ const MOST_TOLD: usize = 3;
 pub fn are_within(events: &[Event], sizes: Sizes) -> bool
     ensures small { IsTrue result → AreSizesSmall (sizes_of sizes) }
     ensures few { IsTrue result → length events.now ≤ most_held }
-    ensures within { IsTrue result → (k : ℕ) (e : Event) → At events.now k e → IsMiscountWithin (sizes_of sizes) e }
+    ensures within { IsTrue result → (k : ℕ) (e : Event) → At events.now k e → IsEventInSizes (sizes_of sizes) e }
 {
     if !sizes.are_small() {
         return false;

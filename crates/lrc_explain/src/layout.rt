@@ -1,8 +1,9 @@
 //! How wide the columns are, and what stands in them.
 
-use crate::label::put_label;
-use crate::text::Text;
+use causes::Part;
 use journal::Event;
+use lrc_prose::label::put_label;
+use lrc_prose::text::Text;
 use std::alloc::{AllocError, Global};
 
 /// How wide a lane is at most.
@@ -14,7 +15,8 @@ const MOST_IN_LANES: usize = 66;
 /// How many spaces stand in front of a column.
 const APART: usize = 2;
 
-/// How wide the columns are: one of the events' numbers, and a lane for each processor, with two spaces in front of each.
+/// How wide the columns are: one of the events' numbers, and a lane for each processor that is told, with two spaces in front
+/// of each.
 ///
 /// A lane is as wide as its longest label or its title, but at most 16. A label that is longer than its lane runs on, and
 /// what stands to its right moves. Where the lanes are too wide together, there is a column of processors in their place,
@@ -23,8 +25,14 @@ const APART: usize = 2;
 pub struct Columns {
     /// The width of the column of numbers.
     number: usize,
-    /// The width of each processor's lane.
-    lanes: Vec<usize>,
+    lanes: Vec<Lane>,
+}
+
+/// A processor's lane.
+#[derive(Clone, Copy)]
+struct Lane {
+    processor: usize,
+    width: usize,
 }
 
 /// How many digits a number has.
@@ -58,32 +66,51 @@ fn fit_titles(lanes: &mut [usize]) {
     }
 }
 
-/// Makes each lane as wide as its processor's labels, which are put into an empty text one after the other.
-fn fit_labels(lanes: &mut [usize], label: &mut Text, events: &[Event]) {
-    for event in events {
-        label.clear_line();
-        put_label(label, event.kind);
-        widen(lanes, event.processor, label.len());
+/// Makes each lane as wide as its processor's labels of events that are told, which are put into an empty text one after the
+/// other.
+fn fit_labels(lanes: &mut [usize], label: &mut Text, events: &[Event], told: &[bool]) {
+    for (event, is_told) in events.iter().zip(told) {
+        if *is_told {
+            label.clear_line();
+            put_label(label, event.kind);
+            widen(lanes, event.processor, label.len());
+        }
     }
     label.clear_line();
 }
 
-/// The layout of these events of so many processors, the last of which has this number. The only error is running out of
-/// memory.
+/// The lanes of those processors that the part has, by the widths of all lanes. The only error is running out of memory.
+fn lanes_of(alloc: Global, part: &Part, widths: &[usize]) -> Result<Vec<Lane>, AllocError> {
+    let mut lanes = Vec::new(alloc);
+    for (processor, width) in widths.iter().enumerate() {
+        if part.processors.get(processor) == Some(&true) {
+            lanes.push(Lane {
+                processor,
+                width: *width,
+            })?;
+        }
+    }
+    Ok(lanes)
+}
+
+/// The layout of this part of these events of so many processors, the last of which has this number; `told` says of each
+/// event whether it is told. The only error is running out of memory.
 pub fn layout_of(
     alloc: Global,
     processors: usize,
+    part: &Part,
     events: &[Event],
+    told: &[bool],
     last: u64,
 ) -> Result<Columns, AllocError> {
-    let mut lanes = vec![in alloc; 0; processors]?;
+    let mut widths = vec![in alloc; 0; processors]?;
     let mut label = Text::new(alloc);
-    fit_titles(&mut lanes);
-    fit_labels(&mut lanes, &mut label, events);
+    fit_titles(&mut widths);
+    fit_labels(&mut widths, &mut label, events, told);
     label.finish()?;
     Ok(Columns {
         number: digits(last),
-        lanes,
+        lanes: lanes_of(alloc, part, &widths)?,
     })
 }
 
@@ -92,7 +119,7 @@ impl Columns {
     fn has_lanes(&self) -> bool {
         let mut width = self.number;
         for lane in &self.lanes {
-            width = width.saturating_add(*lane).saturating_add(APART);
+            width = width.saturating_add(lane.width).saturating_add(APART);
         }
         width <= MOST_IN_LANES
     }
@@ -101,21 +128,30 @@ impl Columns {
     fn widest(&self) -> usize {
         let mut widest: usize = 0;
         for lane in &self.lanes {
-            widest = widest.max(*lane);
+            widest = widest.max(lane.width);
+        }
+        widest
+    }
+
+    /// The width of the widest title.
+    fn widest_title(&self) -> usize {
+        let mut widest: usize = 0;
+        for lane in &self.lanes {
+            widest = widest.max(title_width(lane.processor));
         }
         widest
     }
 
     /// Puts the line of the lanes' titles, where there are lanes.
     pub fn put_titles(&self, text: &mut Text) {
-        if !self.has_lanes() {
+        if self.lanes.is_empty() || !self.has_lanes() {
             return;
         }
         text.leave(self.number);
-        for (lane, width) in self.lanes.iter().enumerate() {
+        for lane in &self.lanes {
             text.leave(APART);
-            let end = text.len().saturating_add(*width);
-            text.put_number("p", lane);
+            let end = text.len().saturating_add(lane.width);
+            text.put_number("p", lane.processor);
             text.leave_to(end);
         }
         text.end_line();
@@ -123,10 +159,10 @@ impl Columns {
 
     /// Puts what an event did in its processor's lane.
     fn put_lanes(&self, text: &mut Text, event: Event) {
-        for (lane, width) in self.lanes.iter().enumerate() {
+        for lane in &self.lanes {
             text.leave(APART);
-            let end = text.len().saturating_add(*width);
-            if lane == event.processor {
+            let end = text.len().saturating_add(lane.width);
+            if lane.processor == event.processor {
                 put_label(text, event.kind);
             }
             text.leave_to(end);
@@ -136,9 +172,7 @@ impl Columns {
     /// Puts an event's processor, and what it did.
     fn put_column(&self, text: &mut Text, event: Event) {
         text.leave(APART);
-        let end = text
-            .len()
-            .saturating_add(title_width(self.lanes.len().saturating_sub(1)));
+        let end = text.len().saturating_add(self.widest_title());
         text.put_number("p", event.processor);
         text.leave_to(end);
         text.leave(APART);
@@ -156,6 +190,14 @@ impl Columns {
         } else {
             self.put_column(text, event);
         }
+        text.leave(APART);
+        text.break_from_here();
+    }
+
+    /// Begins a line below an event, which is indented further than the event's.
+    pub fn begin_below(&self, text: &mut Text) {
+        text.leave(self.number);
+        text.leave(APART);
         text.leave(APART);
         text.break_from_here();
     }

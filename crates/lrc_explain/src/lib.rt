@@ -7,29 +7,29 @@
 //! verdict and the traffic, byte for byte as `lrc_report` prints them. After NoMemory and OutOfRange nothing was written.
 //! The loads' sources, the ways to them, the race and the records that are told are those of crate `causes`.
 //!
-//! **What is only tested** (in `test_lrc`): the rest of the text, and that the text is one write.
+//! **What is only tested** (in `test_lrc`): the rest of the text, which `lrc_prose` puts together, and that it is one write.
 #![tactic(auto)]
 
 mod earlier;
+mod extent;
 mod fault;
 mod found;
 mod halting;
 mod held;
 mod history;
 mod journey;
-mod label;
 mod lacks;
 mod layout;
 mod marked;
 mod notes;
-mod racing;
 mod rendering;
 mod rivals;
 mod shape;
 mod sketching;
+mod state;
 mod story;
-mod text;
 
+pub use extent::Extent;
 pub use fault::ExplainFault;
 pub use rendering::render;
 pub use sketching::{Sketch, sketch_run};

@@ -1,6 +1,6 @@
 //! Processors that are told by their marks.
 
-use crate::text::Text;
+use lrc_prose::text::Text;
 
 /// Processors: those that have this mark, but for one.
 #[derive(Clone, Copy)]

@@ -8,15 +8,17 @@ use crate::journey::Crossings;
 use crate::lacks::{GoneStale, Stale, Writers};
 use crate::marked::Marked;
 use crate::rivals::Rival;
-use crate::text::Text;
+use crate::shape::RunShape;
+use crate::state::ToldState;
 use causes::{Due, Source, WordOrigin};
 use journal::{Event, Kind};
+use lrc_prose::text::Text;
 
 /// What is known of a history.
 #[derive(Clone, Copy)]
 pub struct Known<'a> {
     pub numbers: EventNumbers,
-    pub processors: usize,
+    pub shape: RunShape,
     pub events: &'a [Event],
     pub found: &'a Findings,
 }
@@ -252,6 +254,22 @@ impl Known<'_> {
             is_cut: self.numbers.has_cut(),
         };
         gone.put(text);
+    }
+
+    /// The protocol's state at the event at this place, where that is told.
+    pub fn state(&self, place: usize, event: Event) -> Option<ToldState<'_>> {
+        let words = self.shape.words?;
+        match self.found.states.get(place) {
+            Some(Some(state)) => Some(ToldState {
+                event,
+                processors: self.shape.processors,
+                pages: self.shape.addresses.checked_div(words)?,
+                words,
+                is_cut: self.numbers.has_cut(),
+                state,
+            }),
+            _ => None,
+        }
     }
 
     /// Puts the same, without what is said of records.

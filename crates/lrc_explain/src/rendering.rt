@@ -4,14 +4,15 @@ ghost use Rattle.std.specs.Io.KnownBytes.{Appends};
 ghost use Rattle.lrc_explain.specs.declared.fault.ExplainFault.TheVariants.{Output};
 ghost use Rattle.lrc_explain.specs.Prelude.{IsExplainText, ExplainWritten, ExplainUnwritten, end_text};
 
+use crate::extent::Extent;
 use crate::fault::ExplainFault;
 use crate::halting::put_waits;
 use crate::held::HeldNow;
 use crate::shape::RunShape;
 use crate::story::put_story;
-use crate::text::Text;
 use conformance::Ended;
 use journal::{Journal, MOST_PROCESSORS};
+use lrc_prose::text::Text;
 use lrc_report::render::put_report;
 use std::alloc::Global;
 use std::io::Write;
@@ -30,6 +31,7 @@ fn put_run(
     alloc: Global,
     processors: usize,
     words: Option<usize>,
+    extent: &Extent,
     ended: &Ended,
 ) -> Result<(), ExplainFault> {
     if processors > MOST_PROCESSORS {
@@ -42,7 +44,7 @@ fn put_run(
         words,
     };
     let mut held = HeldNow::new(alloc, processors)?;
-    put_story(text, &mut held, alloc, shape, journal)?;
+    put_story(text, &mut held, alloc, extent, shape, journal)?;
     if let Ended::Halted(_) = ended {
         put_waits(text, &held, journal);
     }
@@ -67,12 +69,13 @@ fn text_of(
     alloc: Global,
     processors: usize,
     words: Option<usize>,
+    extent: &Extent,
     ended: &Ended,
 ) -> Result<Vec<u8>, ExplainFault>
     ensures { IfOk result (λ v. IsExplainText ended.now v.items) }
 {
     let mut text = Text::new(alloc);
-    put_run(&mut text, alloc, processors, words, ended)?;
+    put_run(&mut text, alloc, processors, words, extent, ended)?;
     let mut bytes = text.finish()?;
     put_end(&mut bytes, ended)?;
     Ok(bytes)
@@ -101,14 +104,19 @@ fn write_text<W: Write>(text: &[u8], out: &mut W) -> Result<(), ExplainFault>
 ///
 /// Where `words` says how many words a page has, there stands besides, of each event that takes, which pages go stale by
 /// it, by how many records of whom; and of each fetch, whose records it brings. Of the pages at most three are told. What
-/// was cut off isn't told: a page may lack records from before the cut besides. With None no pages are told.
+/// was cut off isn't told: a page may lack records from before the cut besides. With None no pages are told, and no states.
+///
+/// Of the events those alone are told that the extent's part has, in lanes of its processors; their numbers are their places.
+/// Where the extent has the state, a line below each tells the protocol's state at it (`causes::states`): the timestamp, the
+/// interval that the event lies in or closes, with its records, the write notices that it brings, and which copies are stale or
+/// dirty. Interval N of processor W is `pW:N`. After a cut, intervals are counted from the last arrivals before it on.
 ///
 /// A lane is as wide as its longest label, but at most 16. Where there are more than eight processors, labels are short
 /// and a lane is at most 10 wide, so that sixteen lanes and numbers of eight digits take 200 columns. A longer label runs
 /// on. What stands to the right of the lanes doesn't count.
 ///
 /// It takes time and memory as `causes::loads`, `causes::race` and `causes::Ways` do, with `words` time as `causes::dues` does besides,
-/// and memory for the whole text.
+/// with the state as `causes::states`, and memory for the whole text.
 ///
 /// # Errors
 ///
@@ -119,12 +127,13 @@ pub fn render<W: Write>(
     alloc: Global,
     processors: usize,
     words: Option<usize>,
+    extent: &Extent,
     ended: &Ended,
     out: &mut W,
 ) -> Result<(), ExplainFault>
     ensures written { OnOk result (ExplainWritten (W.contents out.old) (W.contents out.new) ended.now) }
     ensures unwritten { IfErr result (ExplainUnwritten (W.contents out.old) (W.contents out.new)) }
 {
-    let text = text_of(alloc, processors, words, ended)?;
+    let text = text_of(alloc, processors, words, extent, ended)?;
     write_text(&text, out)
 }

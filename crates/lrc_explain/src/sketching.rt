@@ -12,10 +12,10 @@ use crate::lacks::Stale;
 use crate::notes::Known;
 use crate::rendering::journal_of;
 use crate::shape::RunShape;
-use crate::text::Text;
 use causes::Source;
 use conformance::Ended;
 use journal::{Event, Journal, MOST_PROCESSORS};
+use lrc_prose::text::Text;
 use std::alloc::{AllocError, Global};
 
 /// What is told of a run's events, those alone that are left in the journal: their places are counted from 0.
@@ -159,10 +159,10 @@ fn sketch_history(
     requires addresses { AddressesInRange shape.addresses events.now }
     requires processors { ProcessorsInRange shape.processors events.now }
 {
-    let found = found_of(alloc, shape, events)?;
+    let found = found_of(alloc, shape, events, &[])?;
     let known = Known {
         numbers,
-        processors: shape.processors,
+        shape,
         events,
         found: &found,
     };

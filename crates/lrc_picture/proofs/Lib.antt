@@ -1,2 +1,4 @@
 pub mod Lanes
 pub mod Marking
+pub mod Cutouts
+pub mod Timestamps

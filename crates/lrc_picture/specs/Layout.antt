@@ -1,5 +1,5 @@
 -- The layout of a picture.
-use Rattle.std.specs.Prelude.{ℕ, ◌≡◌, ◌≢◌, ◌+◌, ◌*◌, ◌<◌, ◌≤◌, IfSome, List, Option, length}
+use Rattle.std.specs.Prelude.{ℕ, ◌≡◌, ◌≢◌, ◌+◌, ◌*◌, ◌<◌, ◌≤◌, List, length}
 use Rattle.std.specs.Global.{Vec}
 use Rattle.base.specs.Limits.{most_held, most_processors}
 use Rattle.journal.specs.declared.event.Event.{Event}
@@ -34,7 +34,3 @@ pub record IsGridOf (n : ℕ) (j : List Event) (g : Grid) : Type 0 where
 pub record IsLayoutOf (n : ℕ) (j : List Event) (l : DiagramLayout) : Type 0 where
   pub grid : IsGridOf n j l.grid
   pub marks : AreMarks l.grid j l.marks.items
-
--- both places lie below n
-abbrev pub ArrowInside : ℕ → Option (ℕ × ℕ) → Type 0
-ArrowInside n o = IfSome o (λ r. (r.0 < n) × (r.1 < n))

@@ -4,5 +4,8 @@ pub mod Marks
 pub mod Arrows
 pub mod Bars
 pub mod Layout
+pub mod Cutout
+pub mod Timestamps
+pub mod Changes
 pub mod Laws
 pub mod Prelude

@@ -1,9 +1,8 @@
 //! The bars of a picture: one for each episode of the barrier that is complete.
-ghost use Rattle.std.specs.Prelude.{◌≡◌, ◌≤◌, length};
+ghost use Rattle.std.specs.Prelude.{◌≡◌, ◌<◌, ◌≤◌, All, IfOk, map};
 ghost use Rattle.lrc_picture.specs.Prelude.{bar_for};
 
 use crate::grid::{Grid, Point};
-use journal::{Event, Kind};
 use std::alloc::{AllocError, Global};
 
 /// A line from one point to another.
@@ -24,29 +23,14 @@ fn bar_across(grid: Grid, row: usize) -> Bar
     }
 }
 
-/// Whether it is an arrival.
-fn arrives(kind: Kind) -> bool {
-    match kind {
-        Kind::Arrive => true,
-        _ => false,
-    }
-}
-
-/// A bar in the row of each arrival that completes an episode: it is drawn below that row. The only error is running out of
-/// memory.
-pub fn bars(alloc: Global, grid: Grid, events: &[Event]) -> Result<Vec<Bar>, AllocError>
-    requires { length events.now ≤ grid.rows }
+/// A bar in each of these rows: it is drawn below that row. The only error is running out of memory.
+pub fn bars(alloc: Global, grid: Grid, rows: &[usize]) -> Result<Vec<Bar>, AllocError>
+    requires { All (λ r. r < grid.rows) rows.now }
+    ensures { IfOk result (λ v. v.items ≡ map (bar_for grid) rows.now) }
 {
     let mut bars = Vec::new(alloc);
-    let mut missing = grid.lanes;
-    for row in 0..events.len() {
-        if arrives(events[row].kind) {
-            missing = missing.saturating_sub(1);
-            if missing == 0 {
-                bars.push(bar_across(grid, row))?;
-                missing = grid.lanes;
-            }
-        }
+    for row in rows {
+        bars.push(bar_across(grid, *row))?;
     }
     Ok(bars)
 }

@@ -1,5 +1,6 @@
 //! The edges of a picture: from each store to the loads that answer it.
 
+use crate::cutout::Cutout;
 use crate::elements::{begin_path, end_path};
 use crate::grid::Point;
 use crate::marks::Mark;
@@ -38,28 +39,35 @@ fn put_edge(text: &mut Svg, load: usize, at: Point, store: usize, from: Point) {
     text.put("</g>\n");
 }
 
-/// The point of the mark at this place.
-fn point_at(marks: &[Mark], place: usize) -> Option<Point> {
-    match marks.get(place) {
+/// The point of the mark of the event at this place, where it is drawn.
+fn point_at(cutout: &Cutout, marks: &[Mark], place: usize) -> Option<Point> {
+    match marks.get(cutout.row(place)?) {
         Some(mark) => Some(mark.at),
         None => None,
     }
 }
 
-/// Puts an edge to the load at this place from the store that it answers, if both have marks.
-fn put_read(text: &mut Svg, story: &Story<'_>, marks: &[Mark], place: usize, store: usize) {
-    if let Some(to) = point_at(marks, place)
-        && let Some(from) = point_at(marks, store)
+/// Puts an edge to the load at this place from the store that it answers, if both are drawn.
+fn put_read(
+    text: &mut Svg,
+    story: &Story<'_>,
+    cutout: &Cutout,
+    marks: &[Mark],
+    place: usize,
+    store: usize,
+) {
+    if let Some(to) = point_at(cutout, marks, place)
+        && let Some(from) = point_at(cutout, marks, store)
     {
         put_edge(text, story.number(place), to, story.number(store), from);
     }
 }
 
 /// Puts an edge to each load from the store that it answers.
-pub fn put_edges(text: &mut Svg, story: &Story<'_>, marks: &[Mark]) {
+pub fn put_edges(text: &mut Svg, story: &Story<'_>, cutout: &Cutout, marks: &[Mark]) {
     for (place, read) in story.details.reads.iter().enumerate() {
         if let Some(store) = read {
-            put_read(text, story, marks, place, *store);
+            put_read(text, story, cutout, marks, place, *store);
         }
     }
 }

@@ -1,5 +1,6 @@
 //! What stands at the head of a picture: the script's name, and the run's verdict.
 
+use crate::cutout::Cutout;
 use crate::elements::{WordStyle, begin_words, end_words};
 use crate::grid::Point;
 use crate::story::Story;
@@ -14,9 +15,18 @@ fn put_count(text: &mut Svg, count: usize, one: &str, many: &str) {
     text.put(if count == 1 { one } else { many });
 }
 
+/// Whether all of the run is drawn.
+fn is_whole(story: &Story<'_>, cutout: &Cutout) -> bool {
+    cutout.lanes.len() == story.processors && cutout.places.len() == story.events.len()
+}
+
 /// Puts the title of the file: what the picture is of.
-pub fn put_title(text: &mut Svg, story: &Story<'_>) {
-    text.put("<title>A run of ");
+pub fn put_title(text: &mut Svg, story: &Story<'_>, cutout: &Cutout) {
+    text.put(if is_whole(story, cutout) {
+        "<title>A run of "
+    } else {
+        "<title>Part of a run of "
+    });
     put_count(
         text,
         story.processors,
@@ -55,12 +65,20 @@ fn verdict(is_racy: bool, halted: bool) -> &'static str {
     }
 }
 
-/// Puts the head: the script's name, where it has one, and the verdict.
-pub fn put_head(text: &mut Svg, story: &Story<'_>) {
-    begin_words(text, WordStyle::Title, AT);
+/// Puts the headline: the script's name, where it has one, the verdict, and whether only a part is drawn.
+pub fn put_headline(text: &mut Svg, story: &Story<'_>, cutout: &Cutout) {
     if let Some(path) = story.name {
         put_name(text, path);
     }
     text.put(verdict(story.race.is_some(), story.halted));
+    if !is_whole(story, cutout) {
+        text.put(" (part of the run)");
+    }
+}
+
+/// Puts the head of the picture: its headline.
+pub fn put_head(text: &mut Svg, story: &Story<'_>, cutout: &Cutout) {
+    begin_words(text, WordStyle::Title, AT);
+    put_headline(text, story, cutout);
     end_words(text);
 }

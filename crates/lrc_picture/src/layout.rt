@@ -1,5 +1,5 @@
 //! The layout of a picture: what stands where.
-ghost use Rattle.std.specs.Prelude.{◌≤◌, IfOk, length};
+ghost use Rattle.std.specs.Prelude.{◌<◌, ◌≤◌, All, IfOk, length};
 ghost use Rattle.base.specs.Prelude.{most_held, most_processors};
 ghost use Rattle.lrc_picture.specs.Prelude.{CanBeDrawn, IsGridOf, IsLayoutOf};
 
@@ -63,20 +63,23 @@ fn grid_of(alloc: Global, processors: usize, events: &[Event]) -> Result<Grid, A
 }
 
 /// The layout of the picture of these events of so many processors: `incoming` names for each event the places of those
-/// that let it through. The only error is running out of memory. It takes time in the order of the events and the places.
+/// that let it through, `episodes` those below which all have arrived at the barrier. The only error is running out of
+/// memory. It takes time in the order of the events and the places.
 pub fn lay_out(
     alloc: Global,
     processors: usize,
     events: &[Event],
     incoming: &[Vec<usize>],
+    episodes: &[usize],
 ) -> Result<DiagramLayout, AllocError>
-    requires { CanBeDrawn processors events.now incoming.now }
+    requires drawn { CanBeDrawn processors events.now incoming.now }
+    requires episodes { All (λ k. k < length events.now) episodes.now }
     ensures { IfOk result (IsLayoutOf processors events.now) }
 {
     let grid = grid_of(alloc, processors, events)?;
     let marks = marks(alloc, grid, events)?;
     let arrows = arrows(alloc, grid, events, incoming)?;
-    let bars = bars(alloc, grid, events)?;
+    let bars = bars(alloc, grid, episodes)?;
     Ok(DiagramLayout {
         grid,
         marks,

@@ -1,6 +1,7 @@
 //! The legend of a picture: it explains the signs that occur there, and no others.
 
 use crate::arrows::Way;
+use crate::cutout::Cutout;
 use crate::elements::{WordStyle, put_line, put_mark, put_words};
 use crate::grid::Point;
 use crate::layout::DiagramLayout;
@@ -95,20 +96,22 @@ fn has_arrow(layout: &DiagramLayout, way: Way) -> bool {
     false
 }
 
-/// Whether some load is stale.
-fn has_stale(story: &Story<'_>) -> bool {
-    for is_stale in story.details.stale {
-        if *is_stale {
+/// Whether some load that is drawn is stale.
+fn has_stale(story: &Story<'_>, cutout: &Cutout) -> bool {
+    for place in &cutout.places {
+        if story.is_stale(*place) {
             return true;
         }
     }
     false
 }
 
-/// Whether some load answers a store that is drawn.
-fn has_reads(story: &Story<'_>) -> bool {
-    for read in story.details.reads {
-        if read.is_some() {
+/// Whether some load that is drawn answers a store that is.
+fn has_reads(story: &Story<'_>, cutout: &Cutout) -> bool {
+    for place in &cutout.places {
+        if let Some(store) = story.read(*place)
+            && cutout.row(store).is_some()
+        {
             return true;
         }
     }
@@ -116,22 +119,22 @@ fn has_reads(story: &Story<'_>) -> bool {
 }
 
 /// Whether the sign occurs.
-fn occurs(sign: Sign, layout: &DiagramLayout, story: &Story<'_>) -> bool {
+fn occurs(sign: Sign, layout: &DiagramLayout, story: &Story<'_>, cutout: &Cutout) -> bool {
     match sign {
         Sign::Store => has_mark(layout, MarkShape::Disc),
         Sign::Load => has_mark(layout, MarkShape::Ring),
-        Sign::Stale => has_stale(story),
+        Sign::Stale => has_stale(story, cutout),
         Sign::Fetch => has_mark(layout, MarkShape::Dash),
         Sign::LetsOn => has_mark(layout, MarkShape::Block),
         Sign::BeginsToWait => has_mark(layout, MarkShape::Frame),
         Sign::GoesOn => has_mark(layout, MarkShape::Wedge),
-        Sign::Reads => has_reads(story),
+        Sign::Reads => has_reads(story, cutout),
         Sign::Lock => has_arrow(layout, Way::Lock),
         Sign::Flag => has_arrow(layout, Way::Flag),
         Sign::Barrier => !layout.bars.is_empty(),
-        Sign::Race => story.race.is_some(),
-        Sign::Waits => story.halted,
-        Sign::Holder => count_holders(story) > 0,
+        Sign::Race => cutout.race(story).is_some(),
+        Sign::Waits => story.halted && cutout.has_end,
+        Sign::Holder => count_holders(story, cutout) > 0,
     }
 }
 
@@ -170,10 +173,10 @@ fn put_sign(text: &mut Svg, sign: Sign, y: usize) {
 }
 
 /// How high the legend is.
-pub fn legend_height(layout: &DiagramLayout, story: &Story<'_>) -> usize {
+pub fn legend_height(layout: &DiagramLayout, story: &Story<'_>, cutout: &Cutout) -> usize {
     let mut height: usize = 0;
     for sign in &SIGNS {
-        if occurs(*sign, layout, story) {
+        if occurs(*sign, layout, story, cutout) {
             height = height.saturating_add(ROW);
         }
     }
@@ -181,11 +184,17 @@ pub fn legend_height(layout: &DiagramLayout, story: &Story<'_>) -> usize {
 }
 
 /// Puts the legend below this height: each sign that occurs, and what it means.
-pub fn put_legend(text: &mut Svg, layout: &DiagramLayout, story: &Story<'_>, top: usize) {
+pub fn put_legend(
+    text: &mut Svg,
+    layout: &DiagramLayout,
+    story: &Story<'_>,
+    cutout: &Cutout,
+    top: usize,
+) {
     let mut y = top;
     text.put("<g class=\"legend\">\n");
     for sign in &SIGNS {
-        if occurs(*sign, layout, story) {
+        if occurs(*sign, layout, story, cutout) {
             y = y.saturating_add(ROW);
             put_sign(text, *sign, y);
             put_words(

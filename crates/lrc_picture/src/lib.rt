@@ -1,4 +1,5 @@
-//! The picture of a run: its space-time diagram as an SVG file, which a browser opens without anything else.
+//! The picture of a run: its space-time diagram as an SVG file, which a browser opens without anything else; and a page with it
+//! that steps through the run, as an HTML file (module `page`).
 //!
 //! A line a processor downwards, an event a row: its number, its mark and its label, and what is said of it where one points
 //! at the mark. Arrows lead from releases and sets to the acquires and awaits that they hand news on to, between rows and
@@ -8,19 +9,31 @@
 //! go on. Shapes and dashes tell what colours tell. Where lanes with labels would be too wide for a page, the labels stand in
 //! a column right of all lanes.
 //!
-//! **What contracts see.** Which point a processor's line and a row meet at (specs/Grid), the mark of an event, its label,
-//! the arrow between two events, the bar of a row. A writer by the bytes that it was given (`contents`).
+//! A picture may be of a part of the run (module `cutout`): of the events of some processors from one to another. An arrow or an
+//! edge from an event outside is left out.
 //!
-//! **What is proved.** The layout has a mark for each event, in a row of its own on its processor's line, and lanes, or a
-//! column of labels, with room for the longest label; so no two lanes overlap, and each mark lies within the picture
-//! (module `laws`). An arrow leads from the first event's mark to the second one's. A bar ends at the last lane. Where memory
-//! runs out nothing was written.
+//! A page has, beside the picture, the state before the first event as tables (`panel`), what each event changes in them
+//! (`changes`, `steps`), and a short script (`page_looks`) that applies one event's changes after the other, or takes them back.
 //!
-//! **What is only tested** (crate `test_lrc`): that each arrow, edge and bar is there; the file's text.
+//! **What contracts see.** Which events a part's picture has (specs/Cutout), which point a processor's line and a row meet at
+//! (specs/Grid), the mark of an event, its label, the arrow between two events, the bar of a row. A writer by the bytes that it
+//! was given (`contents`).
+//!
+//! **What is proved.** Exactly the part's events are drawn, in order, on the lanes of its processors. The layout has a mark
+//! for each event, in a row of its own on its processor's line, and lanes, or a column of labels, with room for the longest
+//! label; so no two lanes overlap, and each mark lies within the picture (module `laws`). An arrow leads from the first
+//! event's mark to the second one's. A bar ends at the last lane. Where memory runs out nothing was written. Of each event, a
+//! page has its processor's vector timestamp after it, exactly the words that it writes in copies, and exactly the records by
+//! which copies go stale (specs/Changes).
+//!
+//! **What is only tested** (crate `test_lrc`, and `tests/pictures`, which reads files back): that each arrow, edge and bar is
+//! there; the file's text; of a page its locks, flags and messages, and that it shows the state after each number of events.
 #![tactic(auto)]
 
 pub mod arrows;
 pub mod bars;
+pub mod changes;
+pub mod cutout;
 mod edges;
 mod elements;
 pub mod grid;
@@ -31,8 +44,14 @@ pub mod layout;
 mod legend;
 mod looks;
 pub mod marks;
+pub mod page;
+mod page_looks;
+pub mod panel;
 pub mod picture;
+mod run_front;
+mod steps;
 pub mod story;
 mod svg;
 mod text;
+pub mod times;
 mod waiters;

@@ -1,10 +1,11 @@
 //! Writes a run's picture.
-ghost use Rattle.std.specs.Prelude.{◌≡◌, ◌≢◌, ◌≤◌, Err, length};
-ghost use Rattle.lrc_picture.specs.Prelude.{CanBeDrawn, ArrowInside};
+ghost use Rattle.std.specs.Prelude.{◌≡◌, ◌≢◌, Err};
+ghost use Rattle.lrc_picture.specs.Prelude.{CanBeDrawn};
 
-use crate::layout::lay_out;
+use crate::cutout::{cut_out, part_from};
 use crate::story::Story;
 use crate::text::text_of;
+use causes::Part;
 use std::alloc::{AllocError, Global};
 use std::io::Write;
 use thiserror::Error;
@@ -20,17 +21,18 @@ pub enum PictureFault {
     NoMemory,
 }
 
-/// The text of the story's picture. The only error is running out of memory.
-fn drawn(alloc: Global, story: &Story<'_>) -> Result<String, AllocError>
+/// The text of the picture of this part of the story. The only error is running out of memory.
+fn drawn(alloc: Global, story: &Story<'_>, part: &Part) -> Result<String, AllocError>
     requires drawn { CanBeDrawn story.now.processors story.now.events.now story.now.incoming.now }
-    requires race { ArrowInside (length story.now.events.now) story.now.race }
 {
-    let layout = lay_out(alloc, story.processors, story.events, story.incoming)?;
-    text_of(alloc, &layout, story)
+    let part = part_from(part, story.number(0));
+    let cutout = cut_out(alloc, story, &part)?;
+    let layout = cutout.lay_out(alloc)?;
+    text_of(alloc, &layout, story, &cutout)
 }
 
 /// Writes the text, and flushes the writer.
-fn write<W: Write>(text: &str, out: &mut W) -> Result<(), PictureFault>
+pub(crate) fn write<W: Write>(text: &str, out: &mut W) -> Result<(), PictureFault>
     ensures { result ≢ Err PictureFault.NoMemory }
 {
     match out.write_all(text.as_bytes()) {
@@ -43,16 +45,21 @@ fn write<W: Write>(text: &str, out: &mut W) -> Result<(), PictureFault>
     }
 }
 
-/// Writes the story's picture as an SVG file, and flushes the writer. The text is made whole first and then written; after
+/// Writes the picture of this part of the story as an SVG file, and flushes the writer. The part's places are the events'
+/// numbers. What lies outside of it isn't drawn, nor an arrow or an edge that comes from there. The text is made whole first and then written; after
 /// `NoMemory` nothing was written, after `Output` a beginning of it.
 ///
 /// It takes time and memory in the order of the events and of the places that let them through.
-pub fn render<W: Write>(alloc: Global, story: &Story<'_>, out: &mut W) -> Result<(), PictureFault>
+pub fn render<W: Write>(
+    alloc: Global,
+    story: &Story<'_>,
+    part: &Part,
+    out: &mut W,
+) -> Result<(), PictureFault>
     requires drawn { CanBeDrawn story.now.processors story.now.events.now story.now.incoming.now }
-    requires race { ArrowInside (length story.now.events.now) story.now.race }
     ensures no_memory { result ≡ Err PictureFault.NoMemory → W.contents out.new ≡ W.contents out.old }
 {
-    let Ok(text) = drawn(alloc, story) else {
+    let Ok(text) = drawn(alloc, story, part) else {
         return Err(PictureFault::NoMemory);
     };
     write(text.as_str(), out)

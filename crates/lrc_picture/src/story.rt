@@ -67,6 +67,15 @@ impl Story<'_> {
         }
     }
 
+    /// The place of the store that the load at this place answers.
+    pub fn read(&self, place: usize) -> Option<usize> {
+        let reads = self.details.reads;
+        match reads.get(place) {
+            Some(read) => *read,
+            None => None,
+        }
+    }
+
     /// For what the processor waits, where the run can't go on, in words.
     pub fn wait(&self, processor: usize) -> Option<&str> {
         let details = self.details;

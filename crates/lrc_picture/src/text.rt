@@ -1,9 +1,11 @@
 //! The text of a picture's file.
-ghost use Rattle.std.specs.Prelude.{◌≡◌, ◌≤◌, length};
-ghost use Rattle.lrc_picture.specs.Prelude.{CanBeDrawn, IsLayoutOf, ArrowInside};
+ghost use Rattle.std.specs.Prelude.{◌≡◌, ◌<◌, ◌≤◌, All, length, vec_len};
+ghost use Rattle.causes.specs.declared.part.Part.{Part};
+ghost use Rattle.lrc_picture.specs.Prelude.{IsCutout, IsLayoutOf};
 
 use crate::arrows::{Arrow, Way};
 use crate::bars::Bar;
+use crate::cutout::Cutout;
 use crate::edges::put_edges;
 use crate::elements::{
     HALF_ROW, WordStyle, begin_path, begin_words, end_path, end_words, put_line, put_mark,
@@ -53,7 +55,7 @@ fn name(shape: MarkShape) -> &'static str {
 }
 
 /// Puts what the file begins with: its size, its title, how all looks, and the ground.
-fn put_opening(text: &mut Svg, width: usize, height: usize, story: &Story<'_>) {
+fn put_opening(text: &mut Svg, width: usize, height: usize, story: &Story<'_>, cutout: &Cutout) {
     text.put_number(
         "<svg xmlns=\"http://www.w3.org/2000/svg\" role=\"img\" width=\"",
         width,
@@ -62,10 +64,10 @@ fn put_opening(text: &mut Svg, width: usize, height: usize, story: &Story<'_>) {
     text.put_number("\" viewBox=\"0 0 ", width);
     text.put_number(" ", height);
     text.put("\">\n");
-    put_title(text, story);
+    put_title(text, story, cutout);
     text.put(LOOKS);
     text.put("<rect class=\"page\" width=\"100%\" height=\"100%\"/>\n");
-    put_head(text, story);
+    put_head(text, story, cutout);
 }
 
 /// Puts a processor's line, and its name above, with this in front of its number.
@@ -78,17 +80,18 @@ fn put_lane(text: &mut Svg, front: &str, x: usize, end: usize, processor: usize)
 }
 
 /// Puts the processors' lines, down to this row.
-fn put_lanes(text: &mut Svg, grid: Grid, row: usize)
-    requires { row ≤ grid.rows }
+fn put_lanes(text: &mut Svg, grid: Grid, row: usize, cutout: &Cutout)
+    requires row { row ≤ grid.rows }
+    requires lanes { vec_len cutout.now.lanes ≤ grid.lanes }
 {
     let front = if grid.side == 0 { "processor " } else { "p" };
-    for processor in 0..grid.lanes {
+    for lane in 0..cutout.lanes.len() {
         put_lane(
             text,
             front,
-            grid.lane_x(processor),
+            grid.lane_x(lane),
             grid.row_y(row),
-            processor,
+            cutout.processor(lane),
         );
     }
 }
@@ -148,12 +151,13 @@ fn put_race(text: &mut Svg, first: Point, second: Point) {
     put_words(text, WordStyle::Race, second, "race");
 }
 
-/// Puts the first race, if there is one.
-fn put_first_race(text: &mut Svg, marks: &[Mark], race: Option<(usize, usize)>)
-    requires { ArrowInside (length marks.now) race }
-{
-    if let Some((first, second)) = race {
-        put_race(text, marks[first].at, marks[second].at);
+/// Puts the first race, if both of its accesses are drawn.
+fn put_first_race(text: &mut Svg, marks: &[Mark], race: Option<(usize, usize)>) {
+    if let Some((first, second)) = race
+        && let Some(from) = marks.get(first)
+        && let Some(to) = marks.get(second)
+    {
+        put_race(text, from.at, to.at);
     }
 }
 
@@ -189,7 +193,7 @@ fn put_event_label(text: &mut Svg, grid: Grid, mark: Mark, event: Event) {
     end_words(text);
 }
 
-/// Puts the event at this place: its number, its mark and its label.
+/// Puts the event at this place of the run: its number, its mark and its label.
 fn put_event(
     text: &mut Svg,
     grid: Grid,
@@ -211,70 +215,75 @@ fn put_event(
 }
 
 /// Puts the events.
-fn put_events(text: &mut Svg, grid: Grid, story: &Story<'_>, marks: &[Mark])
-    requires { length marks.now ≡ length story.now.events.now }
+fn put_events(text: &mut Svg, grid: Grid, story: &Story<'_>, cutout: &Cutout, marks: &[Mark])
+    requires places { All (λ k. k < length story.now.events.now) cutout.now.places.items }
+    requires marks { length marks.now ≡ vec_len cutout.now.places }
 {
-    for place in 0..story.events.len() {
-        put_event(text, grid, story, place, marks[place], story.events[place]);
+    for row in 0..cutout.places.len() {
+        let place = cutout.places[row];
+        put_event(text, grid, story, place, marks[row], story.events[place]);
     }
 }
 
 /// Puts what lies below the marks: the processors' lines, bars and arrows, edges, and the first race.
-fn put_ground(text: &mut Svg, layout: &DiagramLayout, story: &Story<'_>)
-    requires layout { IsLayoutOf story.now.processors story.now.events.now layout.now }
-    requires race { ArrowInside (length story.now.events.now) story.now.race }
+fn put_ground(text: &mut Svg, layout: &DiagramLayout, story: &Story<'_>, cutout: &Cutout)
+    requires { IsLayoutOf (vec_len cutout.now.lanes) cutout.now.events.items layout.now }
 {
-    put_lanes(text, layout.grid, story.events.len());
+    put_lanes(text, layout.grid, cutout.events.len(), cutout);
     put_bars(text, &layout.bars);
-    put_edges(text, story, &layout.marks);
+    put_edges(text, story, cutout, &layout.marks);
     put_arrows(text, &layout.arrows);
-    put_first_race(text, &layout.marks, story.race);
+    put_first_race(text, &layout.marks, cutout.race(story));
 }
 
 /// Puts what stands on the ground: events, and where the run can't go on who waits.
-fn put_figures(text: &mut Svg, layout: &DiagramLayout, story: &Story<'_>)
-    requires drawn { CanBeDrawn story.now.processors story.now.events.now story.now.incoming.now }
-    requires layout { IsLayoutOf story.now.processors story.now.events.now layout.now }
+fn put_figures(text: &mut Svg, layout: &DiagramLayout, story: &Story<'_>, cutout: &Cutout)
+    requires layout { IsLayoutOf (vec_len cutout.now.lanes) cutout.now.events.items layout.now }
+    requires cutout { (part : Part) × IsCutout part story.now.processors story.now.events.now cutout.now }
 {
-    put_events(text, layout.grid, story, &layout.marks);
-    if story.halted {
-        put_crosses(text, layout.grid, story.events.len(), story);
-        put_holders(text, layout.grid, story.events.len(), story);
+    put_events(text, layout.grid, story, cutout, &layout.marks);
+    if story.halted && cutout.has_end {
+        put_crosses(text, layout.grid, cutout.events.len(), story, cutout);
+        put_holders(text, layout.grid, cutout.events.len(), story, cutout);
     }
 }
 
 /// Below which height the legend stands.
-fn legend_top(layout: &DiagramLayout, story: &Story<'_>) -> usize {
+fn legend_top(layout: &DiagramLayout, story: &Story<'_>, cutout: &Cutout) -> usize {
     layout
         .grid
         .height()
-        .saturating_add(waiters_height(layout.grid, story))
+        .saturating_add(waiters_height(layout.grid, story, cutout))
 }
 
-/// The text of the picture of this story. The only error is running out of memory.
+/// Puts the picture of what is drawn of this story.
+pub fn put_picture(text: &mut Svg, layout: &DiagramLayout, story: &Story<'_>, cutout: &Cutout)
+    requires layout { IsLayoutOf (vec_len cutout.now.lanes) cutout.now.events.items layout.now }
+    requires cutout { (part : Part) × IsCutout part story.now.processors story.now.events.now cutout.now }
+{
+    let top = legend_top(layout, story, cutout);
+    let height = top
+        .saturating_add(legend_height(layout, story, cutout))
+        .saturating_add(2 * HALF_ROW);
+    let width = layout.grid.width().max(LEAST_WIDTH);
+    put_opening(text, width, height, story, cutout);
+    put_ground(text, layout, story, cutout);
+    put_figures(text, layout, story, cutout);
+    put_legend(text, layout, story, cutout, top);
+    text.put("</svg>\n");
+}
+
+/// The text of the picture of what is drawn of this story. The only error is running out of memory.
 pub fn text_of(
     alloc: Global,
     layout: &DiagramLayout,
     story: &Story<'_>,
+    cutout: &Cutout,
 ) -> Result<String, AllocError>
-    requires drawn { CanBeDrawn story.now.processors story.now.events.now story.now.incoming.now }
-    requires layout { IsLayoutOf story.now.processors story.now.events.now layout.now }
-    requires race { ArrowInside (length story.now.events.now) story.now.race }
+    requires layout { IsLayoutOf (vec_len cutout.now.lanes) cutout.now.events.items layout.now }
+    requires cutout { (part : Part) × IsCutout part story.now.processors story.now.events.now cutout.now }
 {
     let mut text = Svg::new(alloc);
-    let top = legend_top(layout, story);
-    let height = top
-        .saturating_add(legend_height(layout, story))
-        .saturating_add(2 * HALF_ROW);
-    put_opening(
-        &mut text,
-        layout.grid.width().max(LEAST_WIDTH),
-        height,
-        story,
-    );
-    put_ground(&mut text, layout, story);
-    put_figures(&mut text, layout, story);
-    put_legend(&mut text, layout, story, top);
-    text.put("</svg>\n");
+    put_picture(&mut text, layout, story, cutout);
     text.finish()
 }

@@ -1,7 +1,8 @@
 //! Those of a picture that wait, where the run can't go on: a cross for each, for what it waits, and an arrow to who could
 //! let it go on.
-ghost use Rattle.std.specs.Prelude.{◌≤◌};
+ghost use Rattle.std.specs.Prelude.{◌≤◌, vec_len};
 
+use crate::cutout::Cutout;
 use crate::elements::{
     HALF_ROW, WordStyle, begin_path, begin_words, end_path, end_words, put_mark,
 };
@@ -57,13 +58,15 @@ fn put_cross(text: &mut Svg, grid: Grid, at: Point, words_at: Point, waiter: Wai
 }
 
 /// Puts a cross for each processor that waits, in this row. In the column of labels their words stand below each other.
-pub fn put_crosses(text: &mut Svg, grid: Grid, row: usize, story: &Story<'_>)
-    requires { row ≤ grid.rows }
+pub fn put_crosses(text: &mut Svg, grid: Grid, row: usize, story: &Story<'_>, cutout: &Cutout)
+    requires row { row ≤ grid.rows }
+    requires lanes { vec_len cutout.now.lanes ≤ grid.lanes }
 {
     let mut below: usize = 0;
-    for processor in 0..grid.lanes {
+    for lane in 0..cutout.lanes.len() {
+        let processor = cutout.processor(lane);
         if let Some(hint) = story.wait(processor) {
-            let at = grid.point(processor, row);
+            let at = grid.point(lane, row);
             let mut words_at = grid.label_point(at);
             if grid.side != 0 {
                 words_at.y = words_at.y.saturating_add(below);
@@ -80,10 +83,10 @@ pub fn put_crosses(text: &mut Svg, grid: Grid, row: usize, story: &Story<'_>)
 }
 
 /// How many arrows there are.
-pub fn count_holders(story: &Story<'_>) -> usize {
+pub fn count_holders(story: &Story<'_>, cutout: &Cutout) -> usize {
     let mut count: usize = 0;
-    for processor in 0..story.processors {
-        if story.holder(processor).is_some() {
+    for lane in 0..cutout.lanes.len() {
+        if cutout.holder(story, lane).is_some() {
             count = count.saturating_add(1);
         }
     }
@@ -91,9 +94,9 @@ pub fn count_holders(story: &Story<'_>) -> usize {
 }
 
 /// How much is below the crosses, in pixels: the arrows between them, and in the column of labels what is said of them.
-pub fn waiters_height(grid: Grid, story: &Story<'_>) -> usize {
-    let arrows = count_holders(story).saturating_mul(HALF_ROW);
-    if story.halted && grid.side != 0 {
+pub fn waiters_height(grid: Grid, story: &Story<'_>, cutout: &Cutout) -> usize {
+    let arrows = count_holders(story, cutout).saturating_mul(HALF_ROW);
+    if story.halted && cutout.has_end && grid.side != 0 {
         return arrows.max(grid.lanes.saturating_mul(LINE));
     }
     arrows
@@ -113,15 +116,15 @@ fn put_holder(text: &mut Svg, from: Point, to: Point, below: usize) {
 }
 
 /// Puts the arrows between the crosses of this row, each at a depth of its own.
-pub fn put_holders(text: &mut Svg, grid: Grid, row: usize, story: &Story<'_>)
+pub fn put_holders(text: &mut Svg, grid: Grid, row: usize, story: &Story<'_>, cutout: &Cutout)
     requires row { row ≤ grid.rows }
-    requires lanes { story.now.processors ≤ grid.lanes }
+    requires lanes { vec_len cutout.now.lanes ≤ grid.lanes }
 {
     let mut below = HALF_ROW;
-    for processor in 0..story.processors {
-        if let Some(to) = story.holder(processor) {
+    for lane in 0..cutout.lanes.len() {
+        if let Some(to) = cutout.holder(story, lane) {
             below = below.saturating_add(HALF_ROW);
-            put_holder(text, grid.point(processor, row), grid.point(to, row), below);
+            put_holder(text, grid.point(lane, row), grid.point(to, row), below);
         }
     }
 }
