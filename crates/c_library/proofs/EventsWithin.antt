@@ -6,17 +6,17 @@ use Rattle.journal.specs.declared.event.Event.{Event}
 use Rattle.journal.specs.Events.{At}
 use Rattle.journal.specs.InRange.{AddressesInRange, ProcessorsInRange}
 use Rattle.journal.specs.Sizes.{Sizes, addresses}
-use Rattle.judge.specs.Miscounted.{IsMiscountWithin}
+use Rattle.judge.specs.Miscounted.{IsEventInSizes}
 use Rattle.judge.proofs.InRange.{address_in_range}
 use Rattle.c_library.specs.declared.given.GivenEvent.{GivenEvent}
 use Rattle.c_library.specs.Given.{event_of}
 use Rattle.c_library.specs.Histories.{AreEventsWithin}
 
 within_at : (s : Sizes) (es : List GivenEvent) → AreEventsWithin s es → (i : ℕ) (e : Event) → At (map event_of es) i e
-    → IsMiscountWithin s e
+    → IsEventInSizes s e
 within_at s es all i e at =
-    subst (IsMiscountWithin s) (get_or_from_slice_get (map event_of es) i e e at)
-    (All-map (IsMiscountWithin s) event_of es (λ k d lt. (all k d lt).within) i e (slice_get_within (map event_of es) i e at))
+    subst (IsEventInSizes s) (get_or_from_slice_get (map event_of es) i e e at)
+    (All-map (IsEventInSizes s) event_of es (λ k d lt. (all k d lt).within) i e (slice_get_within (map event_of es) i e at))
 
 -- their processors
 pub events_processors : (s : Sizes) (es : List GivenEvent) (j : List Event) → j ≡ map event_of es → AreEventsWithin s es

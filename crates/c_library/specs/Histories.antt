@@ -7,7 +7,7 @@ use Rattle.journal.specs.Sizes.{Sizes, addresses}
 use Rattle.journal.specs.FlatMemory.{Replays, memory_after}
 use Rattle.journal.specs.InRange.{AddressesInRange, ProcessorsInRange}
 use Rattle.journal.specs.Races.{IsFirstRace, RaceFree}
-use Rattle.judge.specs.Miscounted.{IsMiscountWithin}
+use Rattle.judge.specs.Miscounted.{IsEventInSizes}
 use Rattle.judge.specs.Sizes.{AreSizesSmall}
 use Rattle.c_library.specs.declared.call_fault.CallFault.{CallFault}
 use Rattle.c_library.specs.declared.call_fault.CallFault.TheVariants.{BadSizes, BadRoom, TooMany, BadEvent, NoMemory}
@@ -20,7 +20,7 @@ use Rattle.c_library.specs.Told.{told_race}
 -- there is such a kind, and the numbers that it names are within the sizes
 pub record IsEventWithin (s : Sizes) (e : GivenEvent) : Type 0 where
   pub known : HasKind e
-  pub within : IsMiscountWithin s (event_of e)
+  pub within : IsEventInSizes s (event_of e)
 
 abbrev pub AreEventsWithin : Sizes → List GivenEvent → Type 0
 AreEventsWithin s es = All (IsEventWithin s) es

@@ -4,7 +4,7 @@ ghost use Rattle.c_library.specs.Prelude.{IsCodeOf, IsJudgeFault, IsToldOf};
 
 use crate::call_fault::CallFault;
 use crate::given::{GivenEvent, GivenRules, GivenSizes, are_few, events_of, have_kinds};
-use crate::told::{ToldVerdict, verdict};
+use crate::told::{ToldVerdict, told_verdict};
 use lrc_check::judge_history;
 use std::alloc::Global;
 
@@ -33,7 +33,7 @@ fn judge(
     }
     let history = events_of(alloc, events)?;
     let found = judge_history(alloc, judged, &history, rules.rules())?;
-    Ok(verdict(&found))
+    Ok(told_verdict(&found))
 }
 
 /// Judges the events by the rules, and writes what was found of them; answers 0. Else it answers the code of a fault, and

@@ -5,7 +5,7 @@ ghost use Rattle.c_library.specs.Prelude.{IsCodeOf, IsHistoryFault, IsRaceTold};
 use crate::call_fault::CallFault;
 use crate::given::{GivenEvent, GivenSizes};
 use crate::histories::history;
-use crate::told::{ToldRace, race};
+use crate::told::{ToldRace, told_race};
 use journal::first_race_of;
 use std::alloc::Global;
 
@@ -28,7 +28,7 @@ fn first_race(
     let addresses = addresses(sizes);
     let history = history(alloc, sizes, addresses, events)?;
     let found = first_race_of(alloc, sizes.processors as usize, addresses, &history)?;
-    Ok(race(found))
+    Ok(told_race(found))
 }
 
 /// Writes the first race of the events, which need not be ones that a cluster can make; answers 0. Else it answers the code

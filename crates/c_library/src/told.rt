@@ -4,7 +4,7 @@ ghost use Rattle.judge.specs.Why.{why_rank};
 ghost use Rattle.c_library.specs.Prelude.{earlier_of, number_or_none, other_of, told_ill_formed, told_lie, told_miscounted};
 ghost use Rattle.c_library.specs.Prelude.{told_of, told_race, told_traffic, told_unexplained};
 
-use journal::Traffic;
+use journal::{MOST_PROCESSORS, Traffic};
 use judge::{IllFormed, Miscounted, Permitted, Why};
 use lrc_check::{Checked, Lie, TraceVerdict, Unexplained};
 
@@ -47,7 +47,7 @@ pub struct ToldLie {
     pub words: u64,
     /// What the load may answer: of each processor, the place of its store that is a latest one of the load's past. Where
     /// there is none of anyone's, 0 alone. Under happens-before consistency there may be others.
-    pub stores: [u64; 16],
+    pub stores: [u64; MOST_PROCESSORS],
     /// Under sequential consistency, the place of the one store that it may answer.
     pub last: u64,
 }
@@ -79,7 +79,7 @@ const NO_LIE: ToldLie = ToldLie {
     writers: 0,
     records: 0,
     words: 0,
-    stores: [NONE; 16],
+    stores: [NONE; MOST_PROCESSORS],
     last: NONE,
 };
 
@@ -101,11 +101,11 @@ fn number_or(number: Option<usize>) -> u64
 }
 
 /// The places, of each processor.
-fn places(latest: &[Option<usize>; 16]) -> [u64; 16]
+fn told_places(latest: &[Option<usize>; MOST_PROCESSORS]) -> [u64; MOST_PROCESSORS]
     ensures { result ≡ map number_or_none latest.now }
 {
-    let mut places = [NONE; 16];
-    for by in 0..16 {
+    let mut places = [NONE; MOST_PROCESSORS];
+    for by in 0..MOST_PROCESSORS {
         places[by] = number_or(latest[by]);
     }
     places
@@ -130,7 +130,7 @@ fn why_number(why: Why) -> u64
 }
 
 /// Whom a reason names.
-fn other(why: Why) -> u64
+fn told_other(why: Why) -> u64
     ensures { result ≡ other_of why }
 {
     match why {
@@ -140,7 +140,7 @@ fn other(why: Why) -> u64
 }
 
 /// The earlier place that a reason names.
-fn earlier(why: Why) -> u64
+fn told_earlier(why: Why) -> u64
     ensures { result ≡ earlier_of why }
 {
     match why {
@@ -150,20 +150,20 @@ fn earlier(why: Why) -> u64
 }
 
 /// An event that may not follow.
-fn ill_formed(event: &IllFormed) -> ToldLie
+fn told_ill_formed(event: &IllFormed) -> ToldLie
     ensures { result ≡ told_ill_formed event.now }
 {
     ToldLie {
         why: why_number(event.why),
         place: event.place as u64,
-        other: other(event.why),
-        earlier: earlier(event.why),
+        other: told_other(event.why),
+        earlier: told_earlier(event.why),
         ..NO_LIE
     }
 }
 
 /// A load of what it may not answer.
-fn unexplained(load: &Unexplained) -> ToldLie
+fn told_unexplained(load: &Unexplained) -> ToldLie
     ensures { result ≡ told_unexplained load.now }
 {
     let place = load.place as u64;
@@ -171,7 +171,7 @@ fn unexplained(load: &Unexplained) -> ToldLie
         Permitted::Latest(latest) | Permitted::Heard(latest, _) => ToldLie {
             why: 1,
             place,
-            stores: places(latest),
+            stores: told_places(latest),
             ..NO_LIE
         },
         Permitted::Last(last) => ToldLie {
@@ -184,7 +184,7 @@ fn unexplained(load: &Unexplained) -> ToldLie
 }
 
 /// A fetch that counts what it should not.
-fn miscounted(fetch: &Miscounted) -> ToldLie
+fn told_miscounted(fetch: &Miscounted) -> ToldLie
     ensures { result ≡ told_miscounted fetch.now }
 {
     ToldLie {
@@ -198,18 +198,18 @@ fn miscounted(fetch: &Miscounted) -> ToldLie
 }
 
 /// The lie.
-fn lie(found: &Lie) -> ToldLie
+fn told_lie(found: &Lie) -> ToldLie
     ensures { result ≡ told_lie found.now }
 {
     match found {
-        Lie::IllFormed(event) => ill_formed(event),
-        Lie::Unexplained(load) => unexplained(load),
-        Lie::Miscounted(fetch) => miscounted(fetch),
+        Lie::IllFormed(event) => told_ill_formed(event),
+        Lie::Unexplained(load) => told_unexplained(load),
+        Lie::Miscounted(fetch) => told_miscounted(fetch),
     }
 }
 
 /// The race.
-pub fn race(found: Option<(usize, usize)>) -> ToldRace
+pub fn told_race(found: Option<(usize, usize)>) -> ToldRace
     ensures { result ≡ told_race found }
 {
     match found {
@@ -225,7 +225,7 @@ pub fn race(found: Option<(usize, usize)>) -> ToldRace
 }
 
 /// The costs.
-fn traffic(spent: &Traffic) -> ToldTraffic
+fn told_traffic(spent: &Traffic) -> ToldTraffic
     ensures { result ≡ told_traffic spent.now }
 {
     ToldTraffic {
@@ -236,11 +236,11 @@ fn traffic(spent: &Traffic) -> ToldTraffic
 }
 
 /// All that was found.
-pub fn verdict(found: &Checked) -> ToldVerdict
+pub fn told_verdict(found: &Checked) -> ToldVerdict
     ensures { result ≡ told_of found.now }
 {
     let judged = found.count as u64;
-    let race = race(found.race);
+    let race = told_race(found.race);
     match &found.verdict {
         TraceVerdict::Faithful {
             traffic: spent,
@@ -250,13 +250,13 @@ pub fn verdict(found: &Checked) -> ToldVerdict
             judged,
             lie: NO_LIE,
             race,
-            traffic: traffic(spent),
+            traffic: told_traffic(spent),
             unjudged: *unjudged as u64,
         },
         TraceVerdict::Lie(found) => ToldVerdict {
             verdict: 1,
             judged,
-            lie: lie(found),
+            lie: told_lie(found),
             race,
             traffic: NO_TRAFFIC,
             unjudged: 0,

@@ -1,23 +1,21 @@
 -- A faithful history and one more event: what is faithful, and what never is.
-use Rattle.std.proofs.Common.{◌≡◌, ℕ, ◌+◌, ◌<◌, ◌≤◌, ◌⊎◌, inl, inr, suc, ◌↔◌, Bool, true, false, List, [], ◌∷◌, ◌++◌, Some, length, take, subst, sym, refl, ap, ◌∙◌, take-take, arith, length-append}
+use Rattle.std.proofs.Common.{◌≡◌, ℕ, ◌≤◌, inl, inr, suc, Bool, true, false, List, [], ◌∷◌, ◌++◌, length, take, subst, sym, ap, ◌∙◌, arith, length-append}
 use Rattle.std.proofs.lemmas.List.{take-append-le, take_all}
 use Rattle.std.proofs.Math.Seq.{take-append_seam}
 use Rattle.base.proofs.SlicesAndCounts.{slice_push_cases}
 use Rattle.journal.specs.declared.event.Event.{Event}
-use Rattle.journal.specs.declared.event.Kind.{Kind}
 use Rattle.journal.specs.declared.event.Kind.TheVariants.{Fetch, Load}
 use Rattle.journal.specs.DidEvent.{event}
 use Rattle.journal.specs.Sizes.{Sizes}
 use Rattle.journal.specs.Events.{At}
-use Rattle.journal.specs.WellFormed.{Does}
 use Rattle.journal.specs.PageImages.{GapCounts}
 use Rattle.journal.specs.Counted.{AreCounted}
-use Rattle.journal.proofs.Order.CountedAndNumbered.{numbered_at_last, numbered_at_longer, numbered_at_within}
+use Rattle.journal.proofs.Order.CountedAndNumbered.{numbered_at_last, numbered_at_longer}
 use Rattle.judge.specs.declared.miscounted.Miscounted.{Miscounted}
 use Rattle.judge.specs.declared.models.MemoryModel.{MemoryModel}
 use Rattle.judge.specs.declared.models.MemoryModel.TheVariants.{LazyRelease}
 use Rattle.judge.specs.Lax.{MayFollowOrLax, WellFormedOrLax}
-use Rattle.judge.specs.Miscounted.{MiscountsNoGap, IsFirstMiscounted, Miscounts}
+use Rattle.judge.specs.Miscounted.{CountsItsGap, IsFirstMiscounted, Miscounts}
 use Rattle.judge.specs.Models.{ExplainedUnderModel, IsOwed}
 use Rattle.judge.proofs.OwedStays.{owed_stays_law}
 use Rattle.lrc_check.specs.Faithful.{IsFaithfulAndCounted, IsFirstNotFaithful}
@@ -57,7 +55,7 @@ accepting_explained_next m s j e all now k p a v does = elim (slice_push_cases j
   | inr new ↦ subst (λ n. IsOwed m s (j ++ e ∷ []) n a v) (sym new.0) (now a v (ap (λ (x : Event). x.kind) new.1))
 ]
 
-accepting_counted_next : (s : Sizes) (j : List Event) (e : Event) → AreCounted s j → MiscountsNoGap s j e → AreCounted s (j ++ e ∷ [])
+accepting_counted_next : (s : Sizes) (j : List Event) (e : Event) → AreCounted s j → CountsItsGap s j e → AreCounted s (j ++ e ∷ [])
 accepting_counted_next s j e all now k p n w r d does = elim (slice_push_cases j e k (event p (Fetch w n r d)) does) [
   | inl old ↦
       (let le : k ≤ length j = omega (arith, old.0) in
@@ -72,19 +70,11 @@ accepting_counted_next s j e all now k p n w r d does = elim (slice_push_cases j
 -- the history with the event is faithful
 pub accepted_next : (m : MemoryModel) (lax : Bool) (s : Sizes) (j : List Event) (e : Event) → IsFaithfulAndCounted m lax s j
     → MayFollowOrLax lax s j e → ((a v : ℕ) → e.kind ≡ Load a v → IsOwed m s (j ++ e ∷ []) (length j) a v)
-    → (m ≡ LazyRelease → lax ≡ false → MiscountsNoGap s j e) → IsFaithfulAndCounted m lax s (j ++ e ∷ [])
+    → (m ≡ LazyRelease → lax ≡ false → CountsItsGap s j e) → IsFaithfulAndCounted m lax s (j ++ e ∷ [])
 accepted_next m lax s j e accepted may owed counts = record {
   well_formed = accepting_well_next lax s j e accepted.well_formed may;
   explained = accepting_explained_next m s j e accepted.explained owed;
   counted = λ lazy strict. accepting_counted_next s j e (accepted.counted lazy strict) (counts lazy strict);
-}
-
--- the empty one is
-pub accepted_empty : (m : MemoryModel) (lax : Bool) (s : Sizes) → IsFaithfulAndCounted m lax s []
-accepted_empty m lax s = record {
-  well_formed = accepting_well_of_each lax s [] (λ k e at. absurd cc);
-  explained = λ k p a v does. absurd cc;
-  counted = λ lazy strict k p n w r d does. absurd cc;
 }
 
 -- ---- the event is a lie, however the history goes on
@@ -152,7 +142,7 @@ accepting_miscounted_here s j e x all place w = record {
   first = λ k f lt at. elim (slice_push_cases j e k f at) [
     | inl old ↦
         (let le : k ≤ length j = omega (arith, old.0) in
-        subst (λ xs. MiscountsNoGap s xs f) (sym (take-append-le k j (e ∷ []) le))
+        subst (λ xs. CountsItsGap s xs f) (sym (take-append-le k j (e ∷ []) le))
         (λ n ws rs ds is. all k f.processor n ws rs ds (subst (λ z. At j k (event f.processor z)) is old.1)))
     | inr new ↦ absurd (omega (arith, new.0))
   ];

@@ -1,12 +1,10 @@
 -- What is found of a history, by what its judge tells.
-use Rattle.std.proofs.Common.{◌≡◌, ℕ, ◌+◌, ◌<◌, ◌≤◌, ◌-◌, suc, Bool, true, false, List, [], ◌∷◌, ◌++◌, Option, Some, length, take, subst, sym, refl, ap, ◌∙◌, take-take, arith}
+use Rattle.std.proofs.Common.{◌≡◌, ℕ, ◌+◌, ◌<◌, ◌≤◌, Bool, List, [], ◌∷◌, ◌++◌, Option, Some, length, take, subst, sym, refl, ap, ◌∙◌, take-take, arith}
 use Rattle.std.specs.Prelude.{None, MatchOption}
 use Rattle.std.proofs.lemmas.List.{length-take-le, take_all}
 use Rattle.journal.specs.declared.event.Event.{Event}
 use Rattle.journal.specs.Sizes.{Sizes}
 use Rattle.journal.specs.Races.{RaceFree}
-use Rattle.journal.specs.declared.traffic.Traffic.{Traffic}
-use Rattle.journal.proofs.Passes.NextClocks.{front_next}
 use Rattle.judge.specs.declared.models.MemoryModel.{MemoryModel}
 use Rattle.judge.specs.declared.sizes.Sizes.{Sizes as JudgedSizes}
 use Rattle.judge.specs.NearestRaces.{IsNearestRace}
@@ -18,7 +16,7 @@ use Rattle.lrc_check.specs.declared.checked.Rules.{Rules}
 use Rattle.lrc_check.specs.declared.checked.TraceVerdict.{TraceVerdict}
 use Rattle.lrc_check.specs.declared.checked.TraceVerdict.TheVariants as verdict
 use Rattle.lrc_check.specs.declared.judging.TraceJudge.{TraceJudge}
-use Rattle.lrc_check.specs.Checked.{IsChecked, IsLie, IsRaceFoundByCheck, IsRaceOf, IsCheckVerdictOf, IsCheckedWhole, checked_lie_place, checked_for_race}
+use Rattle.lrc_check.specs.Checked.{IsChecked, IsLie, IsRaceOf, IsCheckVerdictOf, IsCheckedWhole, checked_for_race}
 use Rattle.lrc_check.specs.Faithful.{IsFaithfulAndCounted}
 use Rattle.lrc_check.specs.Judged.{IsJudgedFaithful, IsJudged}
 use Rattle.lrc_check.proofs.Judged.{judged_race_last}

@@ -1,20 +1,12 @@
 -- A judge of histories: what it is before the first event, and the race that it tells.
-use Rattle.std.proofs.Common.{◌≡◌, ℕ, ◌+◌, ◌<◌, ◌≤◌, suc, Bool, true, false, List, [], ◌∷◌, ◌++◌, inl, inr, Option, Some, length, subst, sym}
-use Rattle.std.specs.Prelude.{None, MatchBool, MatchOption, is_some}
-use Rattle.std.proofs.lemmas.Option.{none-some}
+use Rattle.std.proofs.Common.{◌≡◌, ℕ, Bool, true, false, List, [], ◌∷◌, ◌++◌, inl, inr, Option, Some, length, subst, sym}
+use Rattle.std.specs.Prelude.{None, is_some}
 use Rattle.journal.specs.declared.event.Event.{Event}
-use Rattle.journal.specs.Sizes.{addresses}
-use Rattle.journal.specs.Races.{Race, RaceFree}
-use Rattle.judge.specs.declared.gaps.Gaps.{Gaps}
-use Rattle.judge.specs.declared.models.MemoryModel.{MemoryModel}
+use Rattle.journal.specs.Races.{RaceFree}
 use Rattle.judge.specs.NearestRaces.{IsNearestRace, IsNearestTo}
-use Rattle.judge.specs.Owed.{IsOwedRacyWith}
+use Rattle.judge.specs.Owed.{IsRacyWithNext}
 use Rattle.judge.proofs.NearestRaces.{nearest_race_longer, nearest_race_new, race_cases, race_free_next}
 use Rattle.lrc_check.specs.Checked.{IsRaceOf}
-
--- there is no race before the first event
-pub judged_no_race : IsRaceOf [] None
-judged_no_race i k r = none-some r.first r.first_at
 
 -- a race stays the first
 pub judged_race_stays : (j : List Event) (e : Event) (o : Option (ℕ × ℕ)) → is_some o ≡ true → IsRaceOf j o
@@ -38,9 +30,9 @@ judged_race_none j e free x = race_free_next j e free x
 
 -- whether there is one
 pub judged_racy_with : (j : List Event) (e : Event) (race : Option (ℕ × ℕ)) (b : Bool) → b ≡ is_some race
-    → IsRaceOf (j ++ e ∷ []) race → IsOwedRacyWith j e b
-judged_racy_with j e None b is x = subst (IsOwedRacyWith j e) (sym is) x
-judged_racy_with j e (Some r) b is x = subst (IsOwedRacyWith j e) (sym is) (λ free. free r.0 r.1 x.race)
+    → IsRaceOf (j ++ e ∷ []) race → IsRacyWithNext j e b
+judged_racy_with j e None b is x = subst (IsRacyWithNext j e) (sym is) x
+judged_racy_with j e (Some r) b is x = subst (IsRacyWithNext j e) (sym is) (λ free. free r.0 r.1 x.race)
 
 -- the first race of a history and not of what stands before its last event has that event
 pub judged_race_last : (j : List Event) (e : Event) (i k : ℕ) → RaceFree j → IsNearestRace (j ++ e ∷ []) i k → k ≡ length j

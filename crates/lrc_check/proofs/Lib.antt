@@ -2,3 +2,4 @@ pub mod Accepting
 pub mod LyingTraces
 pub mod Judged
 pub mod CheckedHistories
+pub mod FoundRaces

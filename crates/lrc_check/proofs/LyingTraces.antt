@@ -1,11 +1,8 @@
 -- The event behind a faithful history that is a lie, and why; and the race that is told.
-use Rattle.std.proofs.Common.{◌≡◌, ℕ, ◌+◌, ◌<◌, ◌≤◌, suc, Bool, false, List, [], ◌∷◌, ◌++◌, Option, Some, length, take, subst, sym, refl, ap, ◌∙◌, arith, length-append}
-use Rattle.std.specs.Prelude.{None}
+use Rattle.std.proofs.Common.{◌≡◌, ℕ, suc, Bool, false, List, [], ◌∷◌, ◌++◌, length, take, subst, sym, ap, ◌∙◌, arith, length-append}
 use Rattle.std.proofs.Math.Seq.{take-append_seam}
 use Rattle.journal.specs.declared.event.Event.{Event}
-use Rattle.journal.specs.declared.event.Kind.{Kind}
 use Rattle.journal.specs.declared.event.Kind.TheVariants.{Load}
-use Rattle.journal.specs.DidEvent.{did, event}
 use Rattle.journal.specs.Sizes.{Sizes}
 use Rattle.journal.specs.Events.{At}
 use Rattle.journal.specs.WellFormed.{Does}
@@ -15,20 +12,20 @@ use Rattle.judge.specs.declared.miscounted.Miscounted.{Miscounted}
 use Rattle.judge.specs.declared.models.MemoryModel.{MemoryModel}
 use Rattle.judge.specs.declared.models.MemoryModel.TheVariants.{LazyRelease}
 use Rattle.judge.specs.Lax.{MayFollowOrLax, LaxMayFollow, WellFormedOrLax}
-use Rattle.judge.specs.Miscounted.{IsMiscountWithin, Miscounts}
+use Rattle.judge.specs.Miscounted.{IsEventInSizes, Miscounts}
 use Rattle.judge.specs.Models.{IsOwed}
 use Rattle.judge.specs.Owed.{ArePermitted}
-use Rattle.judge.specs.Why.{IsFirstIllFormed, IsFirstTrueWhy}
+use Rattle.judge.specs.Why.{IsFirstTrueWhy}
 use Rattle.judge.proofs.Fronts.{front_may_lax_in}
 use Rattle.judge.proofs.Refusing.{why_law}
 use Rattle.lrc_check.specs.declared.checked.Unexplained.{Unexplained}
 use Rattle.lrc_check.specs.declared.checked.Lie.TheVariants as lie
-use Rattle.lrc_check.specs.Checked.{IsLie, IsUnexplainedByCheck}
+use Rattle.lrc_check.specs.Checked.{IsLie, IsNextUnexplained}
 use Rattle.lrc_check.specs.Faithful.{IsFaithfulAndCounted, IsFirstNotFaithful}
 use Rattle.lrc_check.proofs.Accepting.{accepting_ill_formed_lie, accepting_miscounted_here, accepting_miscounted_lie, accepting_unexplained_lie}
 
 -- what may follow is within the sizes
-pub lying_may_within : (lax : Bool) (s : Sizes) (j : List Event) (e : Event) → MayFollowOrLax lax s j e → IsMiscountWithin s e
+pub lying_may_within : (lax : Bool) (s : Sizes) (j : List Event) (e : Event) → MayFollowOrLax lax s j e → IsEventInSizes s e
 lying_may_within lax s j e may =
     let m : LaxMayFollow s j e = front_may_lax_in lax s j e may in record { processor = m.processor; kind = m.in_range }
 
@@ -42,54 +39,28 @@ lying_front_at j e n is = ap (λ m. take m (j ++ e ∷ [])) is ∙ take-append_s
 lying_at_place : (j : List Event) (e : Event) (n : ℕ) → n ≡ length j → At (j ++ e ∷ []) n e
 lying_at_place j e n is = subst (λ m. At (j ++ e ∷ []) m e) (sym is) (numbered_at_last j e)
 
--- a load that isn't paid is one of a value that it may not answer
-pub record IsLyingUnpaid (m : MemoryModel) (s : Sizes) (j : List Event) (e : Event) : Type 0 where
-  pub address : ℕ
-  pub value : ℕ
-  pub is : e.kind ≡ Load address value
-  pub wrong : ¬ IsOwed m s (j ++ e ∷ []) (length j) address value
-
 -- what is said of a load is said of its address and value
-lying_same_load : (P : ℕ → ℕ → Type 0) (a v b w : ℕ) → Load a v ≡ Load b w → P a v → P b w
+pub lying_same_load : (P : ℕ → ℕ → Type 0) (a v b w : ℕ) → Load a v ≡ Load b w → P a v → P b w
 lying_same_load P a v b w is p =
     let address : a ≡ b = cc in
     let value : v ≡ w = cc in
     subst (λ x. P x w) address (subst (P a) value p)
 
-lying_unpaid_of : (m : MemoryModel) (s : Sizes) (j : List Event) (e : Event) (k : Kind) → e.kind ≡ k
-    → ¬ ((a v : ℕ) → e.kind ≡ Load a v → IsOwed m s (j ++ e ∷ []) (length j) a v) → IsLyingUnpaid m s j e
-lying_unpaid_of m s j e (Load a v) is wrong = record {
-  address = a;
-  value = v;
-  is = is;
-  wrong = λ owed. wrong (λ b w same. lying_same_load (IsOwed m s (j ++ e ∷ []) (length j)) a v b w (sym is ∙ same) owed);
-}
-lying_unpaid_of m s j e _ is wrong = absurd (wrong (λ a v same. absurd (cc (is, same))))
-
-pub lying_unpaid : (m : MemoryModel) (s : Sizes) (j : List Event) (e : Event)
-    → ¬ ((a v : ℕ) → e.kind ≡ Load a v → IsOwed m s (j ++ e ∷ []) (length j) a v) → IsLyingUnpaid m s j e
-lying_unpaid m s j e wrong = lying_unpaid_of m s j e e.kind refl wrong
-
--- such a load is a lie
+-- a load that answers what it may not is a lie
 pub lying_unexplained : (m : MemoryModel) (lax : Bool) (s : Sizes) (j : List Event) (e : Event) (x : Unexplained)
-    → IsFaithfulAndCounted m lax s j → x.place ≡ length j → IsLyingUnpaid m s j e
-    → ((a v : ℕ) → e.kind ≡ Load a v → ArePermitted m (did j e.processor (Load a v)) (length j) a x.permitted)
-    → IsLie m lax s (j ++ e ∷ []) (lie.Unexplained x)
-lying_unexplained m lax s j e x accepted place u permitted = record {
-  last = lying_place_last j e x.place place;
+    → IsFaithfulAndCounted m lax s j → IsNextUnexplained m s j e x → IsLie m lax s (j ++ e ∷ []) (lie.Unexplained x)
+lying_unexplained m lax s j e x accepted u = record {
+  last = lying_place_last j e x.place u.place;
   first =
-      subst (IsFirstNotFaithful m lax s (j ++ e ∷ [])) (sym place)
-      (accepting_unexplained_lie m lax s j e u.address u.value accepted u.is u.wrong);
+      subst (IsFirstNotFaithful m lax s (j ++ e ∷ [])) (sym u.place)
+      (accepting_unexplained_lie m lax s j e u.address u.value accepted u.loads u.wrong);
   reason = record {
     by = e.processor;
     address = u.address;
     value = u.value;
-    does = subst (λ k. Does (j ++ e ∷ []) x.place e.processor k) u.is (lying_at_place j e x.place place);
-    wrong = subst (λ n. ¬ IsOwed m s (j ++ e ∷ []) n u.address u.value) (sym place) u.wrong;
-    permitted =
-        subst (λ n. ArePermitted m (j ++ e ∷ []) n u.address x.permitted) (sym place)
-        (subst (λ k. ArePermitted m (j ++ event e.processor k ∷ []) (length j) u.address x.permitted) (sym u.is)
-        (permitted u.address u.value u.is));
+    does = subst (λ k. Does (j ++ e ∷ []) x.place e.processor k) u.loads (lying_at_place j e x.place u.place);
+    wrong = subst (λ n. ¬ IsOwed m s (j ++ e ∷ []) n u.address u.value) (sym u.place) u.wrong;
+    permitted = subst (λ n. ArePermitted m (j ++ e ∷ []) n u.address x.permitted) (sym u.place) u.permitted;
   };
 }
 

@@ -1,5 +1,5 @@
 -- What is found of a history.
-use Rattle.std.specs.Prelude.{ℕ, ◌≡◌, ◌≤◌, ◌-◌, suc, Bool, true, false, Option, Some, None, MatchOption, List, count_by, drop, length, take}
+use Rattle.std.specs.Prelude.{ℕ, ◌≡◌, ◌≤◌, suc, Bool, true, false, Option, Some, MatchOption, List, [], ◌∷◌, ◌++◌, count_by, drop, length, take}
 use Rattle.journal.specs.declared.event.Event.{Event}
 use Rattle.journal.specs.declared.event.Kind.{Kind}
 use Rattle.journal.specs.declared.event.Kind.TheVariants.{Load}
@@ -39,9 +39,9 @@ is_checked_load (Load a v) = true
 is_checked_load _ = false
 
 -- how many loads aren't judged
-abbrev pub loads_not_checked : MemoryModel → Option (ℕ × ℕ) → List Event → ℕ
-loads_not_checked model.RaceFree (Some r) j = count_by (λ (e : Event). is_checked_load e.kind) (drop r.1 j)
-loads_not_checked _ _ j = 0
+abbrev pub unjudged_loads : MemoryModel → Option (ℕ × ℕ) → List Event → ℕ
+unjudged_loads model.RaceFree (Some r) j = count_by (λ (e : Event). is_checked_load e.kind) (drop r.1 j)
+unjudged_loads _ _ j = 0
 
 -- the load at its place answers what it may not under the model, and what it may
 pub record IsUnexplainedByCheck (m : MemoryModel) (s : Sizes) (j : List Event) (x : Unexplained) : Type 0 where
@@ -51,6 +51,15 @@ pub record IsUnexplainedByCheck (m : MemoryModel) (s : Sizes) (j : List Event) (
   pub does : Does j x.place by (Load address value)
   pub wrong : ¬ IsOwed m s j x.place address value
   pub permitted : ArePermitted m j x.place address x.permitted
+
+-- the event, which comes next after these, is a load that answers what it may not, and what it may
+pub record IsNextUnexplained (m : MemoryModel) (s : Sizes) (j : List Event) (e : Event) (x : Unexplained) : Type 0 where
+  pub address : ℕ
+  pub value : ℕ
+  pub loads : e.kind ≡ Load address value
+  pub place : x.place ≡ length j
+  pub wrong : ¬ IsOwed m s (j ++ e ∷ []) (length j) address value
+  pub permitted : ArePermitted m (j ++ e ∷ []) (length j) address x.permitted
 
 abbrev pub checked_lie_place : Lie → ℕ
 checked_lie_place (lie.IllFormed x) = x.place
@@ -86,7 +95,7 @@ pub record IsRaceFoundByCheck (m : MemoryModel) (lax : Bool) (s : Sizes) (j : Li
 -- what is said of these events is true
 abbrev pub IsCheckVerdictOf : MemoryModel → Bool → Sizes → List Event → Option (ℕ × ℕ) → TraceVerdict → Type 0
 IsCheckVerdictOf m lax s j race (verdict.Faithful traffic unjudged) =
-    IsFaithfulAndCounted m lax s j × IsRaceOf j race × IsCheckedTraffic j traffic × (unjudged ≡ loads_not_checked m race j)
+    IsFaithfulAndCounted m lax s j × IsRaceOf j race × IsCheckedTraffic j traffic × (unjudged ≡ unjudged_loads m race j)
 IsCheckVerdictOf m lax s j race (verdict.Lie x) = IsLie m lax s j x × IsRaceOf (checked_for_race x j) race
 IsCheckVerdictOf m lax s j race verdict.Racy = IsRaceFoundByCheck m lax s j race
 

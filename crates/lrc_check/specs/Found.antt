@@ -20,11 +20,11 @@ pub record IsFoundOf (r : Rules) (bytes : List ℕ) (found : Checked) : Type 0 w
   pub checked : IsChecked r sizes events found
 
 -- the fault is the trace's
-abbrev pub IsFoundInTrace : CheckFault → Type 0
-IsFoundInTrace (Trace line fault) = ⊤
-IsFoundInTrace _ = ⊥
+abbrev pub IsFaultOfTrace : CheckFault → Type 0
+IsFaultOfTrace (Trace line fault) = ⊤
+IsFaultOfTrace _ = ⊥
 
 -- the fault came before anything was written
-abbrev pub IsFoundBeforeOutput : CheckFault → Type 0
-IsFoundBeforeOutput Output = ⊥
-IsFoundBeforeOutput _ = ⊤
+abbrev pub CameBeforeOutput : CheckFault → Type 0
+CameBeforeOutput Output = ⊥
+CameBeforeOutput _ = ⊤

@@ -14,7 +14,7 @@ use Rattle.judge.specs.FrontTells.{FrontTellsHistory}
 use Rattle.lrc_check.specs.declared.judging.TraceJudge.{TraceJudge}
 use Rattle.lrc_check.specs.declared.checked.TraceVerdict.{TraceVerdict}
 use Rattle.lrc_check.specs.declared.checked.TraceVerdict.TheVariants as verdict
-use Rattle.lrc_check.specs.Checked.{IsRaceOf, IsCheckedTraffic, loads_not_checked}
+use Rattle.lrc_check.specs.Checked.{IsRaceOf, IsCheckedTraffic, unjudged_loads}
 use Rattle.lrc_check.specs.Faithful.{IsFaithfulAndCounted}
 
 -- the gaps are there exactly if counts are judged, and tell the history
@@ -37,5 +37,5 @@ pub record IsJudged (j : List Event) (x : TraceJudge) : Type 0 where
 -- that is what is told of a faithful history
 abbrev pub IsJudgedFaithful : MemoryModel → Option (ℕ × ℕ) → List Event → TraceVerdict → Type 0
 IsJudgedFaithful m race j (verdict.Faithful traffic unjudged) =
-    IsCheckedTraffic j traffic × (unjudged ≡ loads_not_checked m race j)
+    IsCheckedTraffic j traffic × (unjudged ≡ unjudged_loads m race j)
 IsJudgedFaithful m race j _ = ⊥

@@ -1,24 +1,27 @@
 //! Reads a trace, judges it, and prints what was found.
-ghost use Rattle.std.specs.Prelude.{◌≡◌, IfErr, IfOk, OnOk};
+ghost use Rattle.std.specs.Prelude.{◌≡◌, IfErr, IfOk, IfSome, MatchOption, OnOk};
 ghost use Rattle.std.specs.Io.KnownBytes.{Appends, Keeps};
+ghost use Rattle.causes.specs.Prelude.{IsRaceApart};
+ghost use Rattle.journal.specs.Prelude.{Race};
 ghost use Rattle.lrc_check.specs.Traces.Prelude.{IsNoTrace};
 ghost use Rattle.judge.specs.Prelude.{AreSizesSmall};
 ghost use Rattle.judge.specs.Prelude.{sizes_of as judged_sizes};
 ghost use Rattle.lrc_check.specs.Traces.Prelude.{IsTrace, bare, trace_sizes_head, trace_sizes_of};
 ghost use Rattle.lrc_script.specs.Prelude.{AreLawfulSizes};
-ghost use Rattle.lrc_check.specs.Prelude.{IsFoundBeforeOutput, IsChecked, IsFoundOf, IsFoundInTrace};
+ghost use Rattle.lrc_check.specs.Prelude.{CameBeforeOutput, IsChecked, IsFoundOf, IsFaultOfTrace};
 
 use crate::checked::{Checked, Rules};
 use crate::fault::CheckFault;
 use crate::judging::judge_history;
 use crate::text::{Told, text_of};
-use crate::traces::trace::{LabelledTrace, read};
+use crate::traces::trace::{LabelledTrace, Trace, TraceSizes, read};
+use causes::{RaceApart, race_apart};
 use lrc_report::render::OutFault;
-use std::alloc::Global;
+use std::alloc::{AllocError, Global};
 use std::io::Write;
 
 /// The trace's sizes, as they are judged by.
-fn sizes_for(sizes: crate::traces::trace::TraceSizes) -> judge::Sizes
+fn sizes_for(sizes: TraceSizes) -> judge::Sizes
     requires { AreLawfulSizes (trace_sizes_head (trace_sizes_of sizes)) }
     ensures same { judged_sizes result ≡ trace_sizes_of sizes }
     ensures small { AreSizesSmall (judged_sizes result) }
@@ -29,6 +32,28 @@ fn sizes_for(sizes: crate::traces::trace::TraceSizes) -> judge::Sizes
         words: sizes.words,
         locks: sizes.locks,
         flags: sizes.flags,
+    }
+}
+
+/// What keeps the accesses of this race of the trace apart; None where no race was found.
+fn apart_of(
+    alloc: Global,
+    trace: &Trace,
+    race: Option<(usize, usize)>,
+) -> Result<Option<RaceApart>, AllocError>
+    requires trace { IsTrace (trace_sizes_of trace.now.sizes) trace.now.events.items }
+    requires race { IfSome race (λ r. Race trace.now.events.items r.0 r.1) }
+    ensures { IfOk result (λ o. MatchOption race (o ≡ None)
+        (λ r. IfSome o (IsRaceApart trace.now.sizes.locks trace.now.events.items r.0 r.1))) }
+{
+    let TraceSizes {
+        processors,
+        locks,
+        ..
+    } = trace.sizes;
+    match race {
+        Some(race) => Ok(Some(race_apart(alloc, processors, locks, &trace.events, race)?)),
+        None => Ok(None),
     }
 }
 
@@ -45,6 +70,26 @@ fn write<W: Write>(out: &mut W, bytes: &[u8]) -> Result<(), OutFault>
     }
 }
 
+/// What was found of a trace, and of its race.
+#[derive(Drop)]
+pub struct JudgedTrace {
+    pub found: Checked,
+    /// What keeps the race's accesses apart; None where no race was found.
+    pub race: Option<RaceApart>,
+}
+
+/// Judges the trace. The only error is running out of memory.
+pub fn judge_trace(alloc: Global, trace: &Trace, rules: Rules) -> Result<JudgedTrace, AllocError>
+    requires { IsTrace (trace_sizes_of trace.now.sizes) trace.now.events.items }
+    ensures found { IfOk result (λ x. IsChecked rules (trace_sizes_of trace.now.sizes) trace.now.events.items x.found) }
+    ensures race { IfOk result (λ x. MatchOption x.found.race (x.race ≡ None)
+        (λ r. IfSome x.race (IsRaceApart trace.now.sizes.locks trace.now.events.items r.0 r.1))) }
+{
+    let found = judge_history(alloc, sizes_for(trace.sizes), &trace.events, rules)?;
+    let race = apart_of(alloc, trace, found.race)?;
+    Ok(JudgedTrace { found, race })
+}
+
 /// Judges the trace, and writes what was found.
 ///
 /// # Errors
@@ -58,17 +103,16 @@ pub fn check_trace<W: Write>(
 ) -> Result<Checked, CheckFault>
     requires { IsTrace (trace_sizes_of labelled.now.trace.sizes) labelled.now.trace.events.items }
     ensures found { IfOk result (IsChecked rules (trace_sizes_of labelled.now.trace.sizes) labelled.now.trace.events.items) }
-    ensures refused { IfErr result (λ fault. IsFoundInTrace fault → ⊥) }
+    ensures refused { IfErr result (λ fault. IsFaultOfTrace fault → ⊥) }
     ensures early { IfErr result
-        (λ fault. IsFoundBeforeOutput fault → Keeps (W.contents out.old) (W.contents out.new)) }
+        (λ fault. CameBeforeOutput fault → Keeps (W.contents out.old) (W.contents out.new)) }
 {
-    let trace = &labelled.trace;
-    let found = judge_history(alloc, sizes_for(trace.sizes), &trace.events, rules)?;
+    let JudgedTrace { found, race } = judge_trace(alloc, &labelled.trace, rules)?;
     let told = Told {
-        events: &trace.events,
+        events: &labelled.trace.events,
         labels: &labelled.labels,
     };
-    let text = text_of(alloc, told, &found, rules)?;
+    let text = text_of(alloc, told, race.as_ref(), &found, rules)?;
     write(out, &text)?;
     Ok(found)
 }
@@ -88,9 +132,9 @@ pub fn check<W: Write>(
     // What is found is true of the one trace that has these bytes.
     ensures found { IfOk result (IsFoundOf rules bytes.now) }
     // What is refused as a trace is none.
-    ensures refused { IfErr result (λ fault. IsFoundInTrace fault → IsNoTrace (bare bytes.now)) }
+    ensures refused { IfErr result (λ fault. IsFaultOfTrace fault → IsNoTrace (bare bytes.now)) }
     ensures early { IfErr result
-        (λ fault. IsFoundBeforeOutput fault → Keeps (W.contents out.old) (W.contents out.new)) }
+        (λ fault. CameBeforeOutput fault → Keeps (W.contents out.old) (W.contents out.new)) }
 {
     let labelled = read(alloc, bytes)?;
     check_trace(alloc, &labelled, rules, out)

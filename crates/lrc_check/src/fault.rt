@@ -2,7 +2,7 @@
 ghost use Rattle.std.specs.Prelude.{◌≡◌, ◌≢◌};
 ghost use Rattle.lrc_check.specs.declared.traces.fault.TraceFault.TheVariants as trace;
 ghost use Rattle.lrc_check.specs.declared.fault.CheckFault.TheVariants as check;
-ghost use Rattle.lrc_check.specs.Prelude.{IsFoundInTrace};
+ghost use Rattle.lrc_check.specs.Prelude.{IsFaultOfTrace};
 
 use crate::traces::fault::TraceFault;
 use lrc_report::render::OutFault;
@@ -20,7 +20,7 @@ pub enum CheckFault {
 }
 
 impl From<(usize, TraceFault)> for CheckFault {
-    ghost from_gives = { λ given fault. IsFoundInTrace fault → given.1 ≢ trace.NoMemory };
+    ghost from_gives = { λ given fault. IsFaultOfTrace fault → given.1 ≢ trace.NoMemory };
 
     fn from((line, fault): (usize, TraceFault)) -> CheckFault {
         match fault {

@@ -5,19 +5,16 @@ ghost use Rattle.base.specs.Prelude.{most_held};
 ghost use Rattle.journal.specs.Sizes.{addresses};
 ghost use Rattle.journal.specs.declared.event.Event.{Event};
 ghost use Rattle.journal.specs.declared.event.Kind.TheVariants.{Load};
-ghost use Rattle.journal.specs.Prelude.{did};
 ghost use Rattle.judge.specs.Lax.{MayFollowOrLax};
 ghost use Rattle.judge.specs.declared.models.MemoryModel.TheVariants.{LazyRelease};
-ghost use Rattle.judge.specs.Prelude.{AreSizesSmall, ArePermitted, MiscountsNoGap, IsOwedRacyWith, IsMiscountWithin, Miscounts, sizes_of};
+ghost use Rattle.judge.specs.Prelude.{AreSizesSmall, CountsItsGap, IsRacyWithNext, IsEventInSizes, IsOwed, Miscounts, sizes_of};
 ghost use Rattle.lrc_check.specs.declared.checked.TraceVerdict.TheVariants as verdict;
-ghost use Rattle.lrc_check.specs.Prelude.{AreGapsJudged, IsFaithfulAndCounted, IsChecked, IsJudgedFaithful, IsJudged, IsLie, IsRaceOf};
-ghost use Rattle.lrc_check.specs.Prelude.{is_checked_load as is_a_load, checked_for_race, loads_not_checked};
+ghost use Rattle.lrc_check.specs.Prelude.{AreGapsJudged, IsFaithfulAndCounted, IsChecked, IsJudgedFaithful, IsJudged, IsLie, IsNextUnexplained, IsRaceOf};
+ghost use Rattle.lrc_check.specs.Prelude.{is_checked_load as is_a_load, checked_for_race, unjudged_loads};
 
 use crate::checked::{Checked, Lie, Rules, TraceVerdict, Unexplained};
 use journal::{Event, Kind, traffic_of};
-use judge::{
-    Frontier, Gaps, IllFormed, MemoryModel, Miscounted, Owed, Permitted, Races, Sizes, miscount,
-};
+use judge::{Frontier, Gaps, IllFormed, MemoryModel, Miscounted, Owed, Races, Sizes, miscount};
 use std::alloc::{AllocError, Global};
 
 /// A history that is judged, an event at a time, and is faithful so far: each of its events is one that a memory of the
@@ -99,7 +96,7 @@ impl TraceJudge {
     /// The first race with the event, which comes next, at this place.
     fn race_with(&self, event: Event, place: usize) -> Option<(usize, usize)>
         requires judged { (j : List Event) × IsJudged j self.now }
-        requires within { IsMiscountWithin (sizes_of self.now.sizes) event }
+        requires within { IsEventInSizes (sizes_of self.now.sizes) event }
         ensures { (j : List Event) → IsJudged j self.now → length j ≡ place
             → IsRaceOf (j ++ event ∷ []) result }
     {
@@ -112,39 +109,43 @@ impl TraceJudge {
         }
     }
 
-    /// What the event, which comes next, at this place, may answer instead, if it is a load.
+    /// What the event, which comes next after these, may answer instead, if it is a load that answers what it may not.
+    /// `is_racy` says whether there is a race with it. The only error is running out of memory.
     fn unexplained(
         &self,
         alloc: Global,
+        front: &[Event],
         event: Event,
-        place: usize,
-    ) -> Result<Unexplained, AllocError>
-        requires judged { (j : List Event) × IsJudged j self.now }
-        requires within { IsMiscountWithin (sizes_of self.now.sizes) event }
-        ensures place { IfOk result (λ x. x.place ≡ place) }
-        ensures permitted { IfOk result (λ x. (j : List Event) → IsJudged j self.now → (a v : ℕ)
-            → event.kind ≡ Load a v
-            → ArePermitted self.now.model (did j event.processor (Load a v)) (length j) a x.permitted) }
+        is_racy: bool,
+    ) -> Result<Option<Unexplained>, AllocError>
+        requires judged { IsJudged front.now self.now }
+        requires within { IsEventInSizes (sizes_of self.now.sizes) event }
+        requires racy { IsRacyWithNext front.now event is_racy }
+        ensures { IfOk result (λ o. MatchOption o
+            ((a v : ℕ) → event.kind ≡ Load a v
+            → IsOwed self.now.model (sizes_of self.now.sizes) (front.now ++ event ∷ []) (length front.now) a v)
+            (IsNextUnexplained self.now.model (sizes_of self.now.sizes) front.now event)) }
     {
-        match event.kind {
-            Kind::Load(address, _) => {
-                let permitted = self.owed.permitted(alloc, event.processor, address)?;
-                Ok(Unexplained { place, permitted })
-            }
-            _ => {
-                let permitted = Permitted::Last(None);
-                Ok(Unexplained { place, permitted })
-            }
+        if self.owed.is_paid(front, event, is_racy) {
+            return Ok(None);
         }
+        let Kind::Load(address, _) = event.kind else {
+            return Ok(None);
+        };
+        let permitted = self.owed.permitted(alloc, event.processor, address)?;
+        Ok(Some(Unexplained {
+            place: front.len(),
+            permitted,
+        }))
     }
 
     /// What the event, which comes next, at this place, has to count instead, if it is a fetch that counts something else.
     fn miscounted(&self, event: Event, place: usize) -> Option<Miscounted>
         requires judged { (j : List Event) × IsJudged j self.now × (length j < 2 ^ 22) }
-        requires within { IsMiscountWithin (sizes_of self.now.sizes) event }
+        requires within { IsEventInSizes (sizes_of self.now.sizes) event }
         ensures { (j : List Event) → IsJudged j self.now
             → MatchOption result
-            (self.now.model ≡ LazyRelease → self.now.lax ≡ false → MiscountsNoGap (sizes_of self.now.sizes) j event)
+            (self.now.model ≡ LazyRelease → self.now.lax ≡ false → CountsItsGap (sizes_of self.now.sizes) j event)
             (λ x. (self.now.model ≡ LazyRelease) × (self.now.lax ≡ false) × (x.place ≡ place)
             × Miscounts (sizes_of self.now.sizes) j event x) }
     {
@@ -166,18 +167,16 @@ impl TraceJudge {
         requires few { length front.now < most_held }
         requires judged { IsJudged front.now self.now }
         requires follows { MayFollowOrLax self.now.lax (sizes_of self.now.sizes) front.now event }
-        requires racy { IsOwedRacyWith front.now event is_racy }
+        requires racy { IsRacyWithNext front.now event is_racy }
         ensures { IfOk result (λ o. MatchOption o
             (IsFaithfulAndCounted self.now.model self.now.lax (sizes_of self.now.sizes) (front.now ++ event ∷ []))
             (λ x. IsLie self.now.model self.now.lax (sizes_of self.now.sizes) (front.now ++ event ∷ []) x
             × (checked_for_race x (front.now ++ event ∷ []) ≡ front.now ++ event ∷ []))) }
     {
-        let place = front.len();
-        if !self.owed.is_paid(front, event, is_racy) {
-            let load = self.unexplained(alloc, event, place)?;
+        if let Some(load) = self.unexplained(alloc, front, event, is_racy)? {
             return Ok(Some(Lie::Unexplained(load)));
         }
-        match self.miscounted(event, place) {
+        match self.miscounted(event, front.len()) {
             Some(fetch) => Ok(Some(Lie::Miscounted(fetch))),
             None => Ok(None),
         }
@@ -271,7 +270,7 @@ fn is_load(kind: Kind) -> bool
 /// How many loads of the events weren't judged, whose race is this.
 fn unjudged(model: MemoryModel, race: Option<(usize, usize)>, events: &[Event]) -> usize
     requires { IfSome race (λ r. r.1 ≤ length events.now) }
-    ensures { result ≡ loads_not_checked model race events.now }
+    ensures { result ≡ unjudged_loads model race events.now }
 {
     match (model, race) {
         (MemoryModel::RaceFree, Some((_, second))) => events[second..]

@@ -22,6 +22,7 @@ mod text;
 pub mod traces;
 
 pub use checked::{Checked, Lie, Rules, TraceVerdict, Unexplained};
-pub use checking::{check, check_trace};
+pub use checking::{JudgedTrace, check, check_trace, judge_trace};
 pub use fault::CheckFault;
 pub use judging::{TraceJudge, judge_history};
+pub use text::{AnswersTold, answers_told, reason_text};

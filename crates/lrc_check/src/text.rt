@@ -4,13 +4,20 @@ ghost use Rattle.lrc_check.specs.Prelude.{label_mark, told_line};
 
 use crate::checked::{Checked, Lie, Rules, TraceVerdict, Unexplained};
 use crate::traces::labels::Labels;
+use causes::RaceApart;
 use journal::{Event, Kind, Traffic};
 use judge::{IllFormed, MemoryModel, Miscounted, Permitted, Why};
+use lrc_prose::numbers::EventNumbers;
+use lrc_prose::racing::RaceStory;
+use lrc_prose::text::Text;
 use lrc_report::{Line, render};
 use std::alloc::{AllocError, Global};
 
 /// How many stores are told that a load may answer, at most.
 const MOST_TOLD: usize = 64;
+
+/// How far the sentences on a race are indented.
+const INDENT: usize = 2;
 
 /// What is told of a trace: its events, with their labels.
 #[derive(Clone, Copy)]
@@ -20,7 +27,7 @@ pub(crate) struct Told<'a> {
 }
 
 /// Adds a label behind two spaces, if there is one.
-fn put_label(text: &mut Vec<u8>, label: &[u8]) -> Result<(), AllocError>
+fn put_label_text(text: &mut Vec<u8>, label: &[u8]) -> Result<(), AllocError>
     ensures { OnOk result (text.new.items ≡ text.old.items ++ label_mark label.now) }
 {
     if label.is_empty() {
@@ -32,7 +39,7 @@ fn put_label(text: &mut Vec<u8>, label: &[u8]) -> Result<(), AllocError>
 }
 
 /// Adds the line of the event at this place, as the trace has it, with its label.
-fn put_event(text: &mut Vec<u8>, told: Told<'_>, place: usize) -> Result<(), AllocError>
+fn put_event_text(text: &mut Vec<u8>, told: Told<'_>, place: usize) -> Result<(), AllocError>
     ensures { OnOk result (text.new.items ≡ text.old.items
         ++ told_line told.entry.events.now told.entry.labels.now place) }
 {
@@ -43,21 +50,21 @@ fn put_event(text: &mut Vec<u8>, told: Told<'_>, place: usize) -> Result<(), All
     render::put_event(&mut line, place as u64, event);
     let bytes = line.bytes();
     text.extend_from_slice(&bytes[..bytes.len() - 1])?;
-    put_label(text, told.labels.of(place))?;
+    put_label_text(text, told.labels.of(place))?;
     text.push(b'\n')?;
     Ok(())
 }
 
 /// Adds the lines of the events at these places.
-fn put_events(text: &mut Vec<u8>, told: Told<'_>, places: &[usize]) -> Result<(), AllocError> {
+fn put_events_text(text: &mut Vec<u8>, told: Told<'_>, places: &[usize]) -> Result<(), AllocError> {
     for place in places {
-        put_event(text, told, *place)?;
+        put_event_text(text, told, *place)?;
     }
     Ok(())
 }
 
 /// What its processor waits for.
-fn put_awaited(alloc: Global, kind: Kind) -> Result<String, AllocError> {
+fn put_awaited_text(alloc: Global, kind: Kind) -> Result<String, AllocError> {
     match kind {
         Kind::Acquire(lock) => format!(in alloc; "its processor waits for lock {lock}"),
         Kind::Await(flag) => format!(in alloc; "its processor waits for flag {flag}"),
@@ -66,7 +73,7 @@ fn put_awaited(alloc: Global, kind: Kind) -> Result<String, AllocError> {
 }
 
 /// A reason that names nobody.
-fn plain_reason(why: Why) -> &'static str {
+fn plain_reason_text(why: Why) -> &'static str {
     match why {
         Why::NoSuchProcessor => "there is no such processor",
         Why::OutOfRange => "a number of it is out of range",
@@ -78,22 +85,26 @@ fn plain_reason(why: Why) -> &'static str {
     }
 }
 
-/// Why an event may not follow what stands before it.
-fn reason(alloc: Global, why: Why) -> Result<String, AllocError> {
+/// Why an event may not follow what stands before it. The only error is running out of memory.
+pub fn reason_text(alloc: Global, why: Why) -> Result<String, AllocError> {
     match why {
-        Why::Waits(kind) => put_awaited(alloc, kind),
+        Why::Waits(kind) => put_awaited_text(alloc, kind),
         Why::HeldBy(holder) => format!(in alloc; "processor {holder} holds the lock"),
         Why::AskedEarlier(asker, place) => format!(in alloc;
             "processor {asker} asked for the lock earlier, by event {place}"
         ),
         Why::NotArrived(other) => format!(in alloc; "processor {other} has not arrived"),
-        _ => String::from_str(alloc, plain_reason(why)),
+        _ => String::from_str(alloc, plain_reason_text(why)),
     }
 }
 
 /// Adds why the event is ill formed.
-fn put_ill_formed(text: &mut Vec<u8>, alloc: Global, fault: IllFormed) -> Result<(), AllocError> {
-    let why = reason(alloc, fault.why)?;
+fn put_ill_formed_text(
+    text: &mut Vec<u8>,
+    alloc: Global,
+    fault: IllFormed,
+) -> Result<(), AllocError> {
+    let why = reason_text(alloc, fault.why)?;
     text.extend_from_slice(b"because ")?;
     text.extend_from_slice(why.as_bytes())?;
     text.push(b'\n')?;
@@ -148,50 +159,55 @@ fn add_untold(
     Ok(())
 }
 
-/// Adds what a load may answer: 0, if it may, and the values of these stores.
-fn put_answers(
-    text: &mut Vec<u8>,
-    told: Told<'_>,
-    is_free: bool,
-    places: &[usize],
-) -> Result<(), AllocError> {
-    if places.is_empty() {
-        text.extend_from_slice(b"because it may answer 0 alone\n")?;
-        return Ok(());
+/// What a load may answer, as it is told: 0, if it may, and the values of some stores.
+#[derive(Drop)]
+pub struct AnswersTold {
+    pub zero: bool,
+    /// The places of the stores: of those of one value by one processor the first, and `MOST_TOLD` in all at most.
+    pub stores: Vec<usize>,
+}
+
+/// What a load of these events may answer, as it is told. The only error is running out of memory.
+pub fn answers_told(
+    alloc: Global,
+    events: &[Event],
+    permitted: &Permitted,
+) -> Result<AnswersTold, AllocError> {
+    let mut stores = match permitted {
+        Permitted::Latest(latest) | Permitted::Heard(latest, _) => places_of(alloc, latest)?,
+        Permitted::Last(Some(place)) => vec![in alloc; *place]?,
+        Permitted::Last(None) => Vec::new(alloc),
+    };
+    let zero = stores.is_empty();
+    if let Permitted::Heard(_, unordered) = permitted {
+        add_untold(&mut stores, events, unordered)?;
     }
-    if is_free {
-        text.extend_from_slice(b"because it may answer 0, or only what was stored by\n")?;
-    } else {
-        text.extend_from_slice(b"because it may answer only what was stored by\n")?;
-    }
-    put_events(text, told, places)
+    Ok(AnswersTold { zero, stores })
 }
 
 /// Adds what the load may answer.
-fn put_unexplained(
+fn put_unexplained_text(
     text: &mut Vec<u8>,
     alloc: Global,
     told: Told<'_>,
     load: &Unexplained,
 ) -> Result<(), AllocError> {
-    match &load.permitted {
-        Permitted::Latest(latest) => {
-            let places = places_of(alloc, latest)?;
-            put_answers(text, told, false, &places)
-        }
-        Permitted::Heard(latest, unordered) => {
-            let mut places = places_of(alloc, latest)?;
-            let is_free = places.is_empty();
-            add_untold(&mut places, told.events, unordered)?;
-            put_answers(text, told, is_free, &places)
-        }
-        Permitted::Last(Some(place)) => put_answers(text, told, false, &[*place]),
-        Permitted::Last(None) => put_answers(text, told, false, &[]),
-    }
+    let AnswersTold { zero, stores } = answers_told(alloc, told.events, &load.permitted)?;
+    let why: &[u8] = match (zero, stores.is_empty()) {
+        (_, true) => b"because it may answer 0 alone\n",
+        (true, false) => b"because it may answer 0, or only what was stored by\n",
+        (false, false) => b"because it may answer only what was stored by\n",
+    };
+    text.extend_from_slice(why)?;
+    put_events_text(text, told, &stores)
 }
 
 /// Adds what the fetch has to count.
-fn put_miscounted(text: &mut Vec<u8>, alloc: Global, fetch: Miscounted) -> Result<(), AllocError> {
+fn put_miscounted_text(
+    text: &mut Vec<u8>,
+    alloc: Global,
+    fetch: Miscounted,
+) -> Result<(), AllocError> {
     let Miscounted {
         writers,
         records,
@@ -205,11 +221,34 @@ fn put_miscounted(text: &mut Vec<u8>, alloc: Global, fetch: Miscounted) -> Resul
     Ok(())
 }
 
-/// Adds that there is a race, with its two events.
-fn put_race(text: &mut Vec<u8>, told: Told<'_>, race: (usize, usize)) -> Result<(), AllocError> {
+/// The sentences on the race: what keeps its accesses apart, and what would have ordered them.
+fn reasons_text(alloc: Global, events: &[Event], apart: &RaceApart) -> Result<Vec<u8>, AllocError> {
+    let race = RaceStory {
+        numbers: EventNumbers::whole(),
+        events,
+        apart,
+    };
+    let mut reasons = Text::new(alloc);
+    race.put_reasons(&mut reasons, INDENT);
+    reasons.finish()
+}
+
+/// Adds the race, if one was found: its two events, and the sentences on it.
+fn put_race_text(
+    text: &mut Vec<u8>,
+    alloc: Global,
+    told: Told<'_>,
+    race: Option<&RaceApart>,
+) -> Result<(), AllocError> {
+    let Some(apart) = race else {
+        return Ok(());
+    };
     text.extend_from_slice(b"verdict racy\n")?;
-    put_event(text, told, race.0)?;
-    put_event(text, told, race.1)
+    put_event_text(text, told, apart.first)?;
+    put_event_text(text, told, apart.second)?;
+    let reasons = reasons_text(alloc, told.events, apart)?;
+    text.extend_from_slice(&reasons)?;
+    Ok(())
 }
 
 /// The place of the lie.
@@ -222,20 +261,25 @@ fn place_of(lie: &Lie) -> usize {
 }
 
 /// Adds the lie: its place, its line, and why it is one.
-fn put_lie(text: &mut Vec<u8>, alloc: Global, told: Told<'_>, lie: &Lie) -> Result<(), AllocError> {
+fn put_lie_text(
+    text: &mut Vec<u8>,
+    alloc: Global,
+    told: Told<'_>,
+    lie: &Lie,
+) -> Result<(), AllocError> {
     let place = place_of(lie);
     let line = format!(in alloc; "unfaithful {place}\n")?;
     text.extend_from_slice(line.as_bytes())?;
-    put_event(text, told, place)?;
+    put_event_text(text, told, place)?;
     match lie {
-        Lie::IllFormed(fault) => put_ill_formed(text, alloc, *fault),
-        Lie::Unexplained(load) => put_unexplained(text, alloc, told, load),
-        Lie::Miscounted(fetch) => put_miscounted(text, alloc, *fetch),
+        Lie::IllFormed(fault) => put_ill_formed_text(text, alloc, *fault),
+        Lie::Unexplained(load) => put_unexplained_text(text, alloc, told, load),
+        Lie::Miscounted(fetch) => put_miscounted_text(text, alloc, *fetch),
     }
 }
 
 /// Adds the traffic.
-fn put_traffic(text: &mut Vec<u8>, alloc: Global, traffic: Traffic) -> Result<(), AllocError> {
+fn put_traffic_text(text: &mut Vec<u8>, alloc: Global, traffic: Traffic) -> Result<(), AllocError> {
     let Traffic {
         messages,
         records,
@@ -247,7 +291,7 @@ fn put_traffic(text: &mut Vec<u8>, alloc: Global, traffic: Traffic) -> Result<()
 }
 
 /// Adds how many loads weren't judged, if that is told: under the race-free model after a race.
-fn put_unjudged_loads(
+fn put_unjudged_loads_text(
     text: &mut Vec<u8>,
     alloc: Global,
     rules: Rules,
@@ -265,7 +309,7 @@ fn put_unjudged_loads(
 }
 
 /// Adds what isn't judged under lax rules.
-fn put_unjudged(text: &mut Vec<u8>, rules: Rules) -> Result<(), AllocError> {
+fn put_unjudged_text(text: &mut Vec<u8>, rules: Rules) -> Result<(), AllocError> {
     if rules.lax {
         text.extend_from_slice(b"unjudged counts order\n")?;
     }
@@ -295,10 +339,11 @@ fn opening(alloc: Global, count: usize, model: MemoryModel) -> Result<Vec<u8>, A
     Ok(text)
 }
 
-/// The text of what was found of this trace. The only error is running out of memory.
+/// The text of what was found of this trace, and of its race, if one was found. The only error is running out of memory.
 pub(crate) fn text_of(
     alloc: Global,
     told: Told<'_>,
+    race: Option<&RaceApart>,
     found: &Checked,
     rules: Rules,
 ) -> Result<Vec<u8>, AllocError> {
@@ -306,25 +351,19 @@ pub(crate) fn text_of(
     match &found.verdict {
         TraceVerdict::Faithful { traffic, unjudged } => {
             text.extend_from_slice(b"faithful\n")?;
-            put_unjudged(&mut text, rules)?;
-            put_unjudged_loads(&mut text, alloc, rules, found.race.is_some(), *unjudged)?;
-            match found.race {
-                Some(race) => put_race(&mut text, told, race)?,
-                None => text.extend_from_slice(b"verdict race-free\n")?,
+            put_unjudged_text(&mut text, rules)?;
+            put_unjudged_loads_text(&mut text, alloc, rules, race.is_some(), *unjudged)?;
+            if race.is_none() {
+                text.extend_from_slice(b"verdict race-free\n")?;
             }
-            put_traffic(&mut text, alloc, *traffic)?;
+            put_race_text(&mut text, alloc, told, race)?;
+            put_traffic_text(&mut text, alloc, *traffic)?;
         }
         TraceVerdict::Lie(lie) => {
-            if let Some(race) = found.race {
-                put_race(&mut text, told, race)?;
-            }
-            put_lie(&mut text, alloc, told, lie)?;
+            put_race_text(&mut text, alloc, told, race)?;
+            put_lie_text(&mut text, alloc, told, lie)?;
         }
-        TraceVerdict::Racy => {
-            if let Some(race) = found.race {
-                put_race(&mut text, told, race)?;
-            }
-        }
+        TraceVerdict::Racy => put_race_text(&mut text, alloc, told, race)?,
     }
     Ok(text)
 }

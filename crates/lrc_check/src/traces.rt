@@ -1,4 +1,4 @@
-//! Traces: journals given as text, of anyone's making, and the reader of that text.
+//! Traces: journals from any system, given as text, and the reader of that text.
 //!
 //! A trace's text is a script's first line, which has the sizes, and then a line for each event, as a report prints
 //! them: `event 8 1 fetch 0 1 1 1`, numbered from 0, each with its line feed, and nothing else. What stands on a line

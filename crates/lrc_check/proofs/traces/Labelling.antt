@@ -1,11 +1,10 @@
 -- Lines and their labels. A text is changed line by line, so what was read of its first lines stays as more comes.
-use Rattle.std.proofs.Common.{◌≡◌, ℕ, zero, suc, ◌+◌, ◌<◌, ◌≤◌, Bool, true, false, ◌&&◌, cond, eqb, List, [], ◌∷◌, ◌++◌, length, map, take, slice_index, slice_index_or, refl, sym, ap, subst, ◌∙◌, append_assoc, append-nil, eqb-true, arith}
+use Rattle.std.proofs.Common.{◌≡◌, ℕ, zero, suc, ◌+◌, ◌<◌, ◌≤◌, Bool, true, false, ◌&&◌, cond, eqb, List, [], ◌∷◌, ◌++◌, length, map, take, slice_index, slice_index_or, refl, sym, ap, ◌∙◌, append_assoc, eqb-true, arith}
 use Rattle.std.specs.List.{join_with_byte}
 use Rattle.std.proofs.lemmas.Bool.{eq-eqb}
-use Rattle.std.proofs.lemmas.List.{take_all}
 use Rattle.lrc_script.specs.LineReading.{IsLineCut, parts_of_line}
 use Rattle.lrc_script.proofs.Reading.Words.{HasNo, parts_first_word, parts_one_word}
-use Rattle.lrc_check.specs.Traces.Labels.{bare, bare_line, before_spaces, by_lines, label_at}
+use Rattle.lrc_check.specs.Traces.Labels.{bare_line, before_spaces, by_lines, label_at}
 use Rattle.lrc_check.proofs.traces.Texts.{trace_text_parts_some}
 
 -- ---- where a label stands

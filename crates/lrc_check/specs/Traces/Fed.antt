@@ -1,5 +1,5 @@
 -- What is read of the bytes of a trace so far.
-use Rattle.std.specs.Prelude.{◌≡◌, ℕ, List, [], ◌++◌}
+use Rattle.std.specs.Prelude.{◌≡◌, ℕ, List, ◌++◌}
 use Rattle.journal.specs.declared.event.Event.{Event}
 use Rattle.journal.specs.Sizes.{Sizes}
 use Rattle.lrc_check.specs.declared.traces.fault.TraceFault.{TraceFault}

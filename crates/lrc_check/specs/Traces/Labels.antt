@@ -1,5 +1,5 @@
 -- The labels of lines: what stands on a line behind two spaces in a row is the logger's own.
-use Rattle.std.specs.Prelude.{◌≡◌, ℕ, ◌+◌, suc, ◌==◌, ◌&&◌, if◌then◌else◌, List, [], ◌∷◌, ◌++◌, drop, map, slice_index, slice_index_or, take}
+use Rattle.std.specs.Prelude.{ℕ, ◌+◌, suc, ◌==◌, ◌&&◌, if◌then◌else◌, List, [], ◌∷◌, drop, map, slice_index, slice_index_or, take}
 use Rattle.std.specs.List.{join_with_byte}
 use Rattle.lrc_script.specs.LineReading.{parts_of_line}
 

@@ -27,5 +27,5 @@ returns-clause-told c =
           (subst (λ (t : Sizes). IsChecked (rules_of c.args.rules) t c.deref.result.now found) same
           (subst (λ (r : Rules). IsChecked r (sizes_of c.sizes-judged.result) c.deref.result.now found)
           c.rules.ensures c.in_ok-found.ensures));
-      is = c.verdict.ensures;
+      is = c.told_verdict.ensures;
     }

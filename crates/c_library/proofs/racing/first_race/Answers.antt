@@ -18,5 +18,5 @@ returns-clause-told c =
       first =
           subst (λ (j : List Event). MatchOption found (RaceFree j) (λ r. IsFirstRace j r.0 r.1)) is
           c.in_ok-found.ensures;
-      is = c.race.ensures;
+      is = c.told_race.ensures;
     }

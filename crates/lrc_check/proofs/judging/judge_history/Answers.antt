@@ -1,5 +1,4 @@
-use Rattle.std.proofs.Common.{◌≡◌, ℕ, ◌+◌, ◌<◌, ◌≤◌, [], ◌∷◌, ◌++◌, List, Some, length, take, slice_index_or, true, true≢false, subst, sym, ap, ◌∙◌, arith}
-use Rattle.std.specs.Prelude.{None}
+use Rattle.std.proofs.Common.{◌≡◌, ℕ, ◌+◌, ◌<◌, [], ◌∷◌, ◌++◌, List, length, take, slice_index_or, true≢false, subst, sym, ◌∙◌}
 use Rattle.std.proofs.lemmas.List.{take_all}
 use Rattle.std.proofs.lemmas.Option.{slice_get-get_or}
 use Rattle.journal.specs.declared.event.Event.{Event}
@@ -9,7 +8,6 @@ use Rattle.journal.proofs.Passes.NextClocks.{front_next}
 use Rattle.judge.specs.Sizes.{sizes_of}
 use Rattle.lrc_check.specs.Checked.{IsChecked, IsRaceOf, checked_for_race}
 use Rattle.lrc_check.specs.Judged.{IsJudged}
-use Rattle.lrc_check.specs.declared.checked.TraceVerdict.TheVariants as verdict
 use Rattle.lrc_check.proofs.CheckedHistories.{checked_accepted_by, checked_faithful, checked_lie, checked_racy, checked_lie_by, checked_race_read, checked_unraced_free}
 use Rattle.lrc_check.proofs.judging.judge_history.Goals as goal
 use Rattle.lrc_check.proofs.judging.judge_history.Goals.{then-ends+in_default, else-ends}

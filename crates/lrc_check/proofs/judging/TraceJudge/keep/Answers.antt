@@ -1,4 +1,4 @@
-use Rattle.std.proofs.Common.{◌≡◌, ℕ, ◌+◌, ◌<◌, ◌≤◌, [], ◌∷◌, ◌++◌, List, Some, length, take, slice_index_or, subst, sym, ◌∙◌, arith}
+use Rattle.std.proofs.Common.{◌≡◌, ℕ, ◌+◌, ◌≤◌, [], ◌∷◌, ◌++◌, List, length, take, slice_index_or, subst, sym, ◌∙◌, arith}
 use Rattle.std.proofs.lemmas.List.{take_all}
 use Rattle.std.proofs.lemmas.Option.{slice_get-get_or}
 use Rattle.journal.specs.declared.event.Event.{Event}
@@ -8,7 +8,7 @@ use Rattle.journal.specs.Events.{At}
 use Rattle.journal.proofs.Passes.NextClocks.{front_next}
 use Rattle.judge.specs.Gaps.{TellsGaps}
 use Rattle.judge.specs.Lax.{LaxMayFollow}
-use Rattle.judge.specs.Miscounted.{IsMiscountWithin}
+use Rattle.judge.specs.Miscounted.{IsEventInSizes}
 use Rattle.judge.specs.NearestRaces.{AreRacesOf}
 use Rattle.judge.specs.Owed.{AreOwedBy}
 use Rattle.judge.specs.Sizes.{sizes_of}
@@ -49,7 +49,7 @@ follows x events place last judged accepted =
 
 -- each event is within the sizes
 all_within : (x : TraceJudge) (events : List Event) → IsFaithfulAndCounted x.model x.lax (sizes_of x.sizes) events
-    → (k : ℕ) (e : Event) → At events k e → IsMiscountWithin (sizes_of x.sizes) e
+    → (k : ℕ) (e : Event) → At events k e → IsEventInSizes (sizes_of x.sizes) e
 all_within x events accepted k e at =
     lying_may_within x.lax (sizes_of x.sizes) (take k events) e
     (each_accepted x.lax (sizes_of x.sizes) events accepted.well_formed k e at)

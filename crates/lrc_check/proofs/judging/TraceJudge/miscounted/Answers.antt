@@ -5,7 +5,7 @@ use Rattle.judge.specs.declared.miscounted.Miscounted.{Miscounted}
 use Rattle.judge.specs.declared.models.MemoryModel.{MemoryModel}
 use Rattle.judge.specs.declared.models.MemoryModel.TheVariants.{LazyRelease}
 use Rattle.judge.specs.declared.sizes.Sizes.{Sizes}
-use Rattle.judge.specs.Miscounted.{MiscountsNoGap, Miscounts}
+use Rattle.judge.specs.Miscounted.{CountsItsGap, Miscounts}
 use Rattle.judge.specs.Sizes.{sizes_of}
 use Rattle.lrc_check.specs.Judged.{AreGapsJudged}
 use Rattle.lrc_check.proofs.judging.TraceJudge.miscounted.Goals as goal
@@ -13,11 +13,11 @@ use Rattle.lrc_check.proofs.judging.TraceJudge.miscounted.Goals as goal
 -- what the gaps tell, where counts are judged
 told : (m : MemoryModel) (lax : Bool) (s t : Sizes) (j : List Event) (e : Event) (place : ℕ) (r : Option Miscounted)
     → m ≡ LazyRelease → lax ≡ false → t ≡ s
-    → MatchOption r (MiscountsNoGap (sizes_of t) j e) (Miscounts (sizes_of t) j e) → IfSome r (λ x. x.place ≡ place)
-    → MatchOption r (m ≡ LazyRelease → lax ≡ false → MiscountsNoGap (sizes_of s) j e)
+    → MatchOption r (CountsItsGap (sizes_of t) j e) (Miscounts (sizes_of t) j e) → IfSome r (λ x. x.place ≡ place)
+    → MatchOption r (m ≡ LazyRelease → lax ≡ false → CountsItsGap (sizes_of s) j e)
     (λ x. (m ≡ LazyRelease) × (lax ≡ false) × (x.place ≡ place) × Miscounts (sizes_of s) j e x)
 told m lax s t j e place None lazy strict same counts at =
-    λ lazy' strict'. subst (λ x. MiscountsNoGap (sizes_of x) j e) same counts
+    λ lazy' strict'. subst (λ x. CountsItsGap (sizes_of x) j e) same counts
 told m lax s t j e place (Some x) lazy strict same counts at =
     (lazy, strict, at, subst (λ y. Miscounts (sizes_of y) j e x) same counts)
 

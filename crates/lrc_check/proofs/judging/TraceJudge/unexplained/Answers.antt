@@ -1,13 +1,16 @@
-use Rattle.std.proofs.Common.{◌≡◌, ℕ, length, subst, sym, ◌∙◌}
-use Rattle.journal.specs.declared.event.Kind.TheVariants.{Load}
-use Rattle.journal.specs.DidEvent.{did}
+use Rattle.std.proofs.Common.{◌∷◌, ◌++◌, [], length, subst, sym, refl, ◌∙◌}
+use Rattle.std.proofs.lemmas.Bool.{false≢true}
+use Rattle.journal.specs.DidEvent.{event}
 use Rattle.journal.specs.WellFormed.{KindInRange}
+use Rattle.judge.specs.Models.{IsOwed}
 use Rattle.judge.specs.Owed.{ArePermitted}
 use Rattle.judge.specs.Sizes.{sizes_of}
+use Rattle.lrc_check.proofs.LyingTraces.{lying_same_load}
 use Rattle.lrc_check.proofs.judging.TraceJudge.unexplained.Goals as goal
 
-load_address : (a v b w : ℕ) → Load a v ≡ Load b w → a ≡ b
-load_address a v b w is = cc
+pub is_paid-requires : goal.is_paid-requires
+is_paid-requires c =
+    let x = c.args.self.now in (x.model, sizes_of x.sizes, c.requires.judged.owed, c.requires.within)
 
 pub permitted-requires : goal.permitted-requires
 permitted-requires c =
@@ -15,18 +18,37 @@ permitted-requires c =
     let s = sizes_of x.sizes in (
       x.model,
       s,
-      c.requires.judged.0,
-      c.requires.judged.1.owed,
+      c.args.front.now,
+      c.requires.judged.owed,
       c.requires.within.processor,
       subst (KindInRange s) c.in-Load.is c.requires.within.kind,
     )
 
-pub returns-in_ok-permitted-in-Load-clause-permitted : goal.returns-in_ok-permitted-in-Load-clause-permitted
-returns-in_ok-permitted-in-Load-clause-permitted c = λ j judged a v is.
+pub returns-then-is_paid : goal.returns-then-is_paid
+returns-then-is_paid c =
+    let x = c.args.self.now in
+    let paid = c.if-is_paid.ensures x.model (sizes_of x.sizes) c.requires.judged.owed c.requires.within c.requires.racy in
+    paid.0 refl
+
+pub returns : goal.returns
+returns c =
     let x = c.args.self.now in
     let s = sizes_of x.sizes in
-    let p = c.args.event.processor in
-    let same = load_address c.in-Load.address c.in-Load.field-1 a v (sym c.in-Load.is ∙ is) in
-    let given = c.in_ok-permitted-in-Load.ensures x.model s j judged.owed c.requires.within.processor
-    (subst (KindInRange s) c.in-Load.is c.requires.within.kind) v in
-    subst (λ n. ArePermitted x.model (did j p (Load n v)) (length j) n c.in_ok-permitted-in-Load.permitted) same given
+    let j = c.args.front.now in
+    let e = c.args.event in
+    let a = c.in-Load.address in
+    let v = c.in-Load.field-1 in
+    let paid = c.if-is_paid.ensures x.model s c.requires.judged.owed c.requires.within c.requires.racy in
+    record {
+      address = a;
+      value = v;
+      loads = c.in-Load.is;
+      place = refl;
+      wrong = λ owed.
+          false≢true (paid.1 (λ b w is.
+          lying_same_load (IsOwed x.model s (j ++ e ∷ []) (length j)) a v b w (sym c.in-Load.is ∙ is) owed));
+      permitted =
+          subst (λ k. ArePermitted x.model (j ++ event e.processor k ∷ []) (length j) a c.in_ok-permitted.permitted) (sym c.in-Load.is)
+          (c.in_ok-permitted.ensures x.model s j c.requires.judged.owed c.requires.within.processor
+          (subst (KindInRange s) c.in-Load.is c.requires.within.kind) v);
+    }

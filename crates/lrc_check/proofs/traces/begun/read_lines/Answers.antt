@@ -1,7 +1,7 @@
-use Rattle.std.proofs.Common.{◌≡◌, ℕ, List, [], ◌∷◌, ◌++◌, refl, sym, ap, ◌∙◌, append_assoc, append-nil}
+use Rattle.std.proofs.Common.{[], ◌∷◌, ◌++◌, ◌∙◌}
 use Rattle.std.proofs.lemmas.Result.{err_from_is_err_and}
 use Rattle.lrc_check.specs.Traces.Begun.{begun_text}
-use Rattle.lrc_check.specs.Traces.Labels.{bare, bare_line, labels_of, line_label}
+use Rattle.lrc_check.specs.Traces.Labels.{bare_line, line_label}
 use Rattle.lrc_check.proofs.traces.Labelling.{bare_line_clean}
 use Rattle.lrc_check.proofs.traces.Places.{trace_line_among}
 use Rattle.lrc_check.proofs.traces.Feeding.{line_fault, line_kept, refused_label}

@@ -1,4 +1,4 @@
-use Rattle.std.proofs.Common.{◌≡◌, ◌+◌, ◌-◌, ◌<◌, ◌≤◌, ℕ, length, slice_index, ap, ◌∙◌, arith}
+use Rattle.std.proofs.Common.{◌≡◌, ◌+◌, ◌-◌, ◌<◌, ◌≤◌, slice_index, ap, ◌∙◌, arith}
 use Rattle.lrc_check.proofs.traces.Labelling.{double_within, labelled_there, unlabelled}
 use Rattle.lrc_check.proofs.traces.labels.spaces.Goals as goal
 

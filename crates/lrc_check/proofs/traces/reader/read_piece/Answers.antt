@@ -1,4 +1,4 @@
-use Rattle.std.proofs.Common.{◌≡◌, ap, sym, ◌∙◌, [], ◌∷◌, ◌++◌, List, ℕ}
+use Rattle.std.proofs.Common.{ap, sym, ◌∙◌, ◌++◌, List, ℕ}
 use Rattle.std.proofs.lemmas.Result.{err_from_is_err_and, on_ok_weaker}
 use Rattle.lrc_check.specs.Traces.Begun.{begun_text}
 use Rattle.lrc_check.specs.Traces.Labels.{bare, bare_line, labels_of, line_label}

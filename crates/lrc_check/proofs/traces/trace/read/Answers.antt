@@ -1,7 +1,7 @@
-use Rattle.std.proofs.Common.{◌≡◌, List, ℕ, [], ◌++◌, ap, sym, ◌∙◌, append-nil}
+use Rattle.std.proofs.Common.{List, ℕ, [], ◌++◌, ap, sym, ◌∙◌, append-nil}
 use Rattle.std.proofs.lemmas.Result.{err_from_is_err_and}
 use Rattle.lrc_check.specs.Traces.Begun.{begun_text}
-use Rattle.lrc_check.specs.Traces.Labels.{bare, bare_line, labels_of}
+use Rattle.lrc_check.specs.Traces.Labels.{bare, labels_of}
 use Rattle.lrc_check.proofs.traces.Feeding.{fault_same, labels_whole, text_whole}
 use Rattle.lrc_check.proofs.traces.Labelling.{bare_line_none}
 use Rattle.lrc_check.proofs.traces.Places.{trace_fault_only}

@@ -1,4 +1,4 @@
-use Rattle.std.proofs.Common.{◌≡◌, ℕ, ◌+◌, ◌≤◌, [], slice_index_or}
+use Rattle.std.proofs.Common.{◌≡◌, ℕ, ◌+◌, [], slice_index_or}
 use Rattle.lrc_script.specs.LineReading.{parts_of_line}
 use Rattle.lrc_check.proofs.traces.labels.Labels.of.Given as goal
 

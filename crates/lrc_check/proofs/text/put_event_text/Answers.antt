@@ -1,9 +1,9 @@
-use Rattle.std.proofs.Common.{◌≡◌, ℕ, ◌-◌, List, [], ◌∷◌, ◌++◌, Some, length, slice_get, take, sym, ap, ◌∙◌, append_assoc}
+use Rattle.std.proofs.Common.{◌-◌, [], ◌∷◌, ◌++◌, Some, length, take, sym, ap, ◌∙◌, append_assoc}
 use Rattle.std.proofs.lemmas.Option.{slice_get-get_or}
 use Rattle.lrc_report.specs.ReportText.{event_line}
-use Rattle.lrc_check.specs.Telling.{label_mark, told_event, told_line}
+use Rattle.lrc_check.specs.Telling.{label_mark, told_event}
 use Rattle.lrc_check.specs.Traces.Labels.{event_label}
-use Rattle.lrc_check.proofs.text.put_event.Goals as goal
+use Rattle.lrc_check.proofs.text.put_event_text.Goals as goal
 
 pub returns : goal.returns
 returns c =
@@ -15,6 +15,6 @@ returns c =
     let event = c.in-Some.event.now in
     let look = c.in-Some.ensures.lookup in
     let there = slice_get-get_or c.args.told.events.now place event look.3.0 ∙ ap (λ x. Some x) (sym look.1) in
-    rw (c.in_ok-push.ensures.items, c.in_ok-put_label.ensures, c.in_ok-extend_from_slice.ensures.items, c.of.ensures, c.bytes-bytes.ensures, c.put_event.ensures)
+    rw (c.in_ok-push.ensures.items, c.in_ok-put_label_text.ensures, c.in_ok-extend_from_slice.ensures.items, c.of.ensures, c.bytes-bytes.ensures, c.put_event.ensures)
     (ap (λ x. x ++ 10 ∷ []) (append_assoc text cut mark) ∙ append_assoc text (cut ++ mark) (10 ∷ [])
     ∙ ap (λ x. text ++ told_event c.args.told.labels.now place x) (sym there))

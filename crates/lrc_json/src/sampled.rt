@@ -1,0 +1,128 @@
+//! What a script's runs came to: an object for each result, and at the end how many runs there were.
+ghost use Rattle.std.specs.Prelude.{◌≡◌, ℕ, List, OnOk, Err};
+ghost use Rattle.std.specs.Io.KnownBytes.{Appends};
+ghost use Rattle.lrc_json.specs.declared.fault.JsonFault.TheVariants.{NoMemory};
+
+use crate::fault::JsonFault;
+use crate::outcomes::{replies_value, word_value};
+use crate::values::Members;
+use crate::writing::{put_line, write_text};
+use lrc_sample::TallyLine;
+use lrc_sample::outcome::{Answers, Reply, SampleOutcome};
+use lrc_sample::sampling::Sampled;
+use serde_json::Value;
+use std::alloc::{AllocError, Global};
+use std::io::Write;
+
+/// The shown addresses with their words.
+fn words_of(alloc: Global, words: &[(usize, u32)]) -> Result<Value, AllocError> {
+    let mut values = Vec::new(alloc);
+    for (address, word) in words {
+        values.push(word_value(alloc, *address, *word)?)?;
+    }
+    Ok(Value::Array(values))
+}
+
+/// The words that the loads of the processor answered.
+fn words_by(alloc: Global, processor: usize, replies: &[Reply]) -> Result<Vec<u32>, AllocError> {
+    let mut words = Vec::new(alloc);
+    for reply in replies {
+        if reply.processor == processor {
+            words.push(reply.word)?;
+        }
+    }
+    Ok(words)
+}
+
+/// What the loads answered, of each processor that loads.
+fn replies_of(alloc: Global, replies: &[Reply]) -> Result<Value, AllocError> {
+    let mut values = Vec::new(alloc);
+    let mut last = None;
+    for reply in replies {
+        let processor = reply.processor;
+        if last != Some(processor) {
+            let words = words_by(alloc, processor, replies)?;
+            values.push(replies_value(alloc, processor, &words)?)?;
+            last = Some(processor);
+        }
+    }
+    Ok(Value::Array(values))
+}
+
+/// Adds what a run that ended answered.
+fn put_answers(members: &mut Members, alloc: Global, answers: &Answers) -> Result<(), AllocError> {
+    let verdict = if answers.is_racy() {
+        "racy"
+    } else {
+        "race-free"
+    };
+    members.put_text("verdict", verdict)?;
+    members.put("words", words_of(alloc, answers.words())?)?;
+    members.put("replies", replies_of(alloc, answers.replies())?)
+}
+
+/// Adds what a run came to.
+fn put_outcome(
+    members: &mut Members,
+    alloc: Global,
+    outcome: &SampleOutcome,
+) -> Result<(), AllocError> {
+    match outcome {
+        SampleOutcome::Ended(answers) => put_answers(members, alloc, answers),
+        SampleOutcome::Stuck(processor) => {
+            members.put_text("verdict", "stuck")?;
+            members.put_number("processor", *processor)
+        }
+    }
+}
+
+/// A result: how often it came, and a schedule that shows it.
+fn result_of(alloc: Global, line: &TallyLine) -> Result<Members, AllocError> {
+    let mut schedule = String::new(alloc);
+    line.schedule.put(&mut schedule)?;
+    let mut members = Members::telling(alloc, "result")?;
+    members.put("runs", Value::from(line.times))?;
+    put_outcome(&mut members, alloc, &line.outcome)?;
+    members.put("schedule", Value::String(schedule))?;
+    Ok(members)
+}
+
+/// How many runs and results there were.
+fn end_of(alloc: Global, lines: &[TallyLine]) -> Result<Members, AllocError> {
+    let mut runs: u64 = 0;
+    for line in lines {
+        runs = runs.saturating_add(line.times);
+    }
+    let mut members = Members::telling(alloc, "end")?;
+    members.put("runs", Value::from(runs))?;
+    members.put_number("results", lines.len())?;
+    Ok(members)
+}
+
+/// The lines of what the runs came to.
+fn text_of(alloc: Global, sampled: &Sampled) -> Result<String, AllocError> {
+    let mut text = String::new(alloc);
+    for line in &sampled.lines {
+        put_line(&mut text, alloc, result_of(alloc, line)?)?;
+    }
+    put_line(&mut text, alloc, end_of(alloc, &sampled.lines)?)?;
+    Ok(text)
+}
+
+/// Writes what a script's runs came to, and flushes the writer: an object a line. First `result` for each result, in the order
+/// of `lrc_sample::text::render`, and at the end `end`.
+///
+/// # Errors
+///
+/// NoMemory, after which nothing was written. After Output a beginning of the lines may be.
+pub fn write_sampled<W: Write>(
+    alloc: Global,
+    sampled: &Sampled,
+    out: &mut W,
+) -> Result<(), JsonFault>
+    ensures written { OnOk result ((text : List ℕ) × Appends (W.contents out.old) (W.contents out.new) text) }
+    ensures unwritten { result ≡ Err NoMemory → W.contents out.new ≡ W.contents out.old }
+{
+    let text = text_of(alloc, sampled)?;
+    write_text(&text, out)
+}
