@@ -5,5 +5,5 @@ pub use interval::{Closed, Interval, Notice, Sent};
 pub use lockq::Locks;
 pub use page::{Page, Record};
 pub use transit::{Message, Transit};
-pub use turn::{ArrayLock, Chair, Held, Keeper, Outcome, Spent, TicketLock};
+pub use turn::{ArrayLock, Chair, Held, Keeper, Lesson, Outcome, Spent, TicketLock};
 pub use vtime::VTime;

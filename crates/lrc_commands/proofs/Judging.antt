@@ -5,9 +5,7 @@ use Rattle.std.specs.Prelude.{IfErr, IfSome}
 use Rattle.std.specs.Io.KnownBytes.{Consumes, IsAtEnd}
 use Rattle.journal.specs.declared.event.Event.{Event}
 use Rattle.journal.specs.Sizes.{Sizes}
-use Rattle.journal.specs.Races.{Race}
 use Rattle.judge.specs.declared.models.MemoryModel.{MemoryModel}
-use Rattle.judge.proofs.NearestRaces.{race_longer}
 use Rattle.lrc_check.specs.declared.checked.Lie.{Lie}
 use Rattle.lrc_check.specs.declared.checked.Rules.{Rules}
 use Rattle.lrc_check.specs.declared.checked.TraceVerdict.{TraceVerdict}
@@ -16,6 +14,7 @@ use Rattle.lrc_check.specs.Faithful.{IsFaithfulAndCounted}
 use Rattle.lrc_check.specs.Checked.{IsLie, IsCheckVerdictOf, IsCheckedWhole, checked_lie_place}
 use Rattle.lrc_check.specs.declared.traces.fault.TraceFault.{TraceFault}
 use Rattle.lrc_check.specs.declared.traces.fault.TraceFault.TheVariants.{NoMemory}
+use Rattle.lrc_check.proofs.FoundRaces.{found_race_of_front}
 use Rattle.lrc_check.specs.Traces.Fed.{BeginsTrace, IsReadOf, TextRead}
 use Rattle.lrc_check.specs.Traces.Labels.{bare}
 use Rattle.lrc_check.specs.Traces.Lawful.{IsNoTrace, IsTrace}
@@ -95,11 +94,6 @@ none_judged_faithful m lax s j n x lie faithful =
     let split = ap (λ (xs : List Event). xs ++ drop n j) whole ∙ take-append-drop n j in
     lie.first.never (drop n j) (subst (IsFaithfulAndCounted m lax s) (sym split) faithful)
 
--- a race of a front is one of the history
-race_whole : (j : List Event) (n i k : ℕ) → Race (take n j) i k → Race j i k
-race_whole j n i k r =
-    subst (λ xs. Race xs i k) (take-append-drop n j) (race_longer (take n j) (drop n j) i k r)
-
 -- what was found of the trace that the source had is said of the source
 pub judged_as : (r : Rules) (source : Option (List ℕ)) (s : Sizes) (es : List Event) (n : ℕ)
     (race : Option (ℕ × ℕ)) (v : TraceVerdict) → IsTrace s es → HasTraceText source s es
@@ -128,7 +122,7 @@ judged_as r source s es n race verdict.Racy trace text is whole = record {
   text_is = text;
   first = is.first;
   second = is.second;
-  race = race_whole es n is.first is.second is.nearest.race;
+  race = found_race_of_front es n is.first is.second is.nearest.race;
 }
 
 -- and so by the rules that were asked for

@@ -1,19 +1,17 @@
 -- What is drawn of a history behind some arrivals: its own events, each in range since the whole history is, with the
 -- places of its hand-overs. Places are counted from the arrivals' end, so each lies below the number of the events.
-use Rattle.std.proofs.Common.{◌≡◌, ℕ, ◌-◌, ◌+◌, ◌<◌, ◌≤◌, List, Option, Some, None, length, slice_get, slice_index_or, refl, ap, subst, ◌∙◌, arith, length-append}
-use Rattle.std.specs.Prelude.{All, MatchOption}
+use Rattle.std.proofs.Common.{◌≡◌, ℕ, ◌-◌, ◌+◌, ◌<◌, ◌≤◌, List, Some, length, slice_get, slice_index_or, refl, ap, subst, ◌∙◌, arith, length-append}
+use Rattle.std.specs.Prelude.{All}
 use Rattle.std.specs.Global.{Vec}
 use Rattle.std.proofs.lemmas.Option.{slice_get-get_or}
 use Rattle.base.specs.Limits.{most_held, most_processors}
 use Rattle.base.specs.InOrderOnce.{Has}
 use Rattle.base.proofs.SlicesAndCounts.{slice_get-append_right}
 use Rattle.journal.specs.declared.event.Event.{Event}
-use Rattle.journal.specs.Base.{Base}
 use Rattle.journal.specs.InRange.{ProcessorsInRange}
-use Rattle.journal.specs.RacesFrom.{IsFirstRaceFrom, RaceFreeFrom}
 use Rattle.journal.proofs.Order.CountedAndNumbered.{numbered_at_within}
 use Rattle.lrc_picture.specs.Arrows.{ArePlaces}
-use Rattle.lrc_picture.specs.Layout.{CanBeDrawn, ArrowInside}
+use Rattle.lrc_picture.specs.Layout.{CanBeDrawn}
 use Rattle.causes.specs.HandOvers.{AreAllHandOvers}
 use Rattle.lrc_commands.specs.Explained.{IsExplainedBehind}
 
@@ -53,12 +51,3 @@ drawn n opening events history rows behind few few_processors within places = re
 
     same : length history - opening ≡ length events
     same = omega (arith, long)
-
--- the places of the first race are of events
-pub picture_race_within : (b : Base) (j : List Event) (race : Option (ℕ × ℕ))
-    → MatchOption race (RaceFreeFrom b j) (λ r. IsFirstRaceFrom b j r.0 r.1) → ArrowInside (length j) race
-picture_race_within b j None free = tt
-picture_race_within b j (Some r) first = (
-  numbered_at_within j r.0 first.race.first first.race.first_at,
-  numbered_at_within j r.1 first.race.second first.race.second_at,
-)

@@ -37,12 +37,12 @@ serves_end o s e given by =
     record { by_seed = λ _. by; by_schedule = λ other is. absurd (none-some other (given ∙ is)) }
 
 -- it was sampled
-pub serves_sample : {A : Type 0} (came : Plan → Option ℕ → DrawnRun → Type 0) (runs : ℕ) (script : Plan)
+pub serves_sample : {A : Type 0} (came : Plan → Option ℕ → DrawnRun → Type 0) (runs : ℕ) (json : Bool) (script : Plan)
     (source old new : Option (List ℕ)) (result : Result A StudyFault) → IsScriptRead source script
-    → OnOk result (IsSampleWritten came runs script old new) → OnOk result (IsSampled came runs source old new)
-serves_sample came runs script source old new (Ok x) read written =
+    → OnOk result (IsSampleWritten came runs json script old new) → OnOk result (IsSampled came runs json source old new)
+serves_sample came runs json script source old new (Ok x) read written =
     record { script = script; read = read; sample = written }
-serves_sample came runs script source old new (Err fault) read written = tt
+serves_sample came runs json script source old new (Err fault) read written = tt
 
 -- it was explained
 pub serves_explanation : {A : Type 0} (picture : Bool) (o : ExplainOptions) (script : Plan)
@@ -55,11 +55,12 @@ serves_explanation picture o script source old new (Ok line) read told =
 serves_explanation picture o script source old new (Err fault) read told = tt
 
 -- its schedules were looked at
-pub serves_search : (most : ℕ) (script : Plan) (source old new : Option (List ℕ)) (result : Result Bool StudyFault)
-    → IsScriptRead source script → IfOk result (λ decided. IsSearchWritten most decided script old new)
-    → IfOk result (λ decided. SearchWritten most decided source old new)
-serves_search most script source old new (Ok x) read written = record { script = script; read = read; search = written }
-serves_search most script source old new (Err fault) read written = tt
+pub serves_search : (most : ℕ) (json : Bool) (script : Plan) (source old new : Option (List ℕ)) (result : Result Bool StudyFault)
+    → IsScriptRead source script → IfOk result (λ decided. IsSearchWritten most decided json script old new)
+    → IfOk result (λ decided. SearchWritten most decided json source old new)
+serves_search most json script source old new (Ok x) read written =
+    record { script = script; read = read; search = written }
+serves_search most json script source old new (Err fault) read written = tt
 
 -- a fault on the way isn't the input's
 pub serves_no_input : {A : Type 0} (source : Option (List ℕ)) (result : Result A StudyFault)

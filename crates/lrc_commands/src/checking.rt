@@ -2,7 +2,7 @@
 ghost use Rattle.std.specs.Prelude.{◌≡◌, ◌≢◌, ◌⊎◌, ℕ, ◌<◌, ◌≤◌, List, Option, IfErr, IfOk, length, take};
 ghost use Rattle.std.specs.Io.KnownBytes.{Consumes, IsAtEnd, Keeps};
 ghost use Rattle.lrc_check.specs.Traces.Prelude.{IsTrace, trace_sizes_of};
-ghost use Rattle.lrc_check.specs.Prelude.{IsFoundInTrace};
+ghost use Rattle.lrc_check.specs.Prelude.{IsChecked, IsFaultOfTrace};
 ghost use Rattle.lrc_commands.specs.Prelude.{HasTraceText, IsStatusBeforeAnswer, IsFaithfulTrace, IsInputsStatus, IsJudgedAs, IsNoTraceOf};
 ghost use Rattle.lrc_commands.specs.Prelude.{IsRacyTrace, IsTraceReadSoFar, IsUnfaithfulTrace, judged_model, judgement_in};
 
@@ -11,7 +11,8 @@ use judge::MemoryModel;
 use lrc_check::traces::fault::TraceFault;
 use lrc_check::traces::reader::Reader;
 use lrc_check::traces::trace::LabelledTrace;
-use lrc_check::{CheckFault, Checked, Rules, TraceVerdict, check_trace};
+use lrc_check::{CheckFault, Checked, Rules, TraceVerdict, check_trace, judge_trace};
+use lrc_json::write_checked;
 use lrc_options::options::{TraceModel, TraceOptions};
 use std::alloc::{AllocError, Global};
 use std::io;
@@ -76,7 +77,7 @@ fn finish(reading: Reading) -> Result<LabelledTrace, CheckFault>
     ensures trace { IfOk result (λ t. IsTrace (trace_sizes_of t.trace.sizes) t.trace.events.items) }
     ensures text { IfOk result (λ t. (source left : Option (List ℕ)) → IsTraceReadSoFar source left reading
         → IsAtEnd left → HasTraceText source (trace_sizes_of t.trace.sizes) t.trace.events.items) }
-    ensures refused { IfErr result (λ fault. IsFoundInTrace fault → (source left : Option (List ℕ))
+    ensures refused { IfErr result (λ fault. IsFaultOfTrace fault → (source left : Option (List ℕ))
         → IsTraceReadSoFar source left reading → IsAtEnd left → IsNoTraceOf source) }
 {
     let labelled = reading?.finish()?;
@@ -159,6 +160,44 @@ fn rules_of(options: &TraceOptions) -> Rules
     }
 }
 
+/// Judges a trace, and writes what was found as JSON.
+fn told_as_json<W: Write>(
+    alloc: Global,
+    labelled: &LabelledTrace,
+    rules: Rules,
+    out: &mut W,
+) -> Result<Checked, StudyFault>
+    requires { IsTrace (trace_sizes_of labelled.now.trace.sizes) labelled.now.trace.events.items }
+    ensures found { IfOk result (IsChecked rules (trace_sizes_of labelled.now.trace.sizes) labelled.now.trace.events.items) }
+    ensures refused { IfErr result (λ fault. IsInputsStatus fault → ⊥) }
+    ensures early { IfErr result
+        (λ fault. IsStatusBeforeAnswer fault → Keeps (W.contents out.old) (W.contents out.new)) }
+{
+    let judged = judge_trace(alloc, &labelled.trace, rules)?;
+    write_checked(alloc, labelled, rules, &judged, out)?;
+    Ok(judged.found)
+}
+
+/// Judges a trace, and writes what was found as text or as JSON.
+fn told_trace<W: Write>(
+    alloc: Global,
+    json: bool,
+    labelled: &LabelledTrace,
+    rules: Rules,
+    out: &mut W,
+) -> Result<Checked, StudyFault>
+    requires { IsTrace (trace_sizes_of labelled.now.trace.sizes) labelled.now.trace.events.items }
+    ensures found { IfOk result (IsChecked rules (trace_sizes_of labelled.now.trace.sizes) labelled.now.trace.events.items) }
+    ensures refused { IfErr result (λ fault. IsInputsStatus fault → ⊥) }
+    ensures early { IfErr result
+        (λ fault. IsStatusBeforeAnswer fault → Keeps (W.contents out.old) (W.contents out.new)) }
+{
+    if json {
+        return told_as_json(alloc, labelled, rules, out);
+    }
+    Ok(check_trace(alloc, labelled, rules, out)?)
+}
+
 /// Reads a trace, judges it and writes what was found: how judging ended.
 fn check_source<S: Read, W: Write>(
     alloc: Global,
@@ -174,7 +213,7 @@ fn check_source<S: Read, W: Write>(
 {
     let labelled = read_trace(alloc, source)?;
     let rules = rules_of(options);
-    let found = check_trace(alloc, &labelled, rules, out)?;
+    let found = told_trace(alloc, options.json, &labelled, rules, out)?;
     Ok(judgement_of(&found))
 }
 

@@ -3,14 +3,18 @@ ghost use Rattle.std.specs.Prelude.{ℕ, ◌-◌, ◌<◌, ◌≤◌, All, IfErr
 ghost use Rattle.std.specs.Io.KnownBytes.{Keeps};
 ghost use Rattle.base.specs.Prelude.{most_held, most_processors};
 ghost use Rattle.journal.specs.Prelude.{ProcessorsInRange};
-ghost use Rattle.lrc_picture.specs.Prelude.{ArePlaces};
+ghost use Rattle.lrc_picture.specs.Prelude.{ArePlaces, CanBeDrawn};
 ghost use Rattle.lrc_commands.specs.Prelude.{IsStatusBeforeAnswer, IsExplainedBehind, IsInputsStatus};
 
 use crate::fault::StudyFault;
-use causes::hand_overs;
+use causes::{Part, hand_overs};
 use conformance::Ended;
 use journal::{Event, Journal, Kind, MOST_HELD, MOST_PROCESSORS};
+use judge::Sizes;
 use lrc_explain::{Sketch, sketch_run};
+use lrc_picture::changes::changes;
+use lrc_picture::page::{RunState, render_page};
+use lrc_picture::panel::StartMemory;
 use lrc_picture::picture::render;
 use lrc_picture::story::{Details, Story};
 use lrc_script::script::Script;
@@ -125,11 +129,72 @@ fn details_of(sketch: &Sketch) -> Details<'_> {
     }
 }
 
-/// Draws the run of a script of this name, with this journal, of which this is told.
+/// How a run is drawn.
+#[derive(Clone, Copy)]
+pub(crate) struct Drawing<'a> {
+    /// The name of the script's file, where it has one.
+    pub name: Option<&'a str>,
+    /// What of the run is drawn.
+    pub part: Part,
+    /// Whether as a page that steps through it, and not as a picture alone.
+    pub is_page: bool,
+}
+
+/// The sizes of the script's memory.
+fn sizes_of(script: &Script) -> Sizes {
+    Sizes {
+        processors: script.processors,
+        pages: script.pages,
+        words: script.words,
+        locks: script.locks,
+        flags: script.flags,
+    }
+}
+
+/// Draws the story of the journal, as a picture or as a page. The history is the journal's events behind the arrivals that stand
+/// for what was cut off.
+fn draw_story<W: Write>(
+    alloc: Global,
+    drawing: &Drawing<'_>,
+    script: &Script,
+    story: &Story<'_>,
+    journal: &Journal,
+    history: &[Event],
+    out: &mut W,
+) -> Result<(), StudyFault>
+    requires drawn { CanBeDrawn story.now.processors story.now.events.now story.now.incoming.now }
+    ensures runs { IfErr result (λ fault. IsInputsStatus fault → ⊥) }
+    ensures early { IfErr result
+        (λ fault. IsStatusBeforeAnswer fault → Keeps (W.contents out.old) (W.contents out.new)) }
+{
+    if !drawing.is_page {
+        render(alloc, story, &drawing.part, out)?;
+        return Ok(());
+    }
+    let sizes = sizes_of(script);
+    let is_cut = journal.cut_events() > 0;
+    let Some(changes) = changes(alloc, sizes, is_cut, history)? else {
+        return Err(StudyFault::Untold);
+    };
+    let state = RunState {
+        start: StartMemory {
+            sizes,
+            words: journal.base(),
+            is_cut,
+        },
+        history,
+        opening: opening_of(script.processors, journal),
+        changes: &changes,
+    };
+    render_page(alloc, story, &drawing.part, &state, out)?;
+    Ok(())
+}
+
+/// Draws the run of a script with this journal, of which this is told.
 fn draw_journal<W: Write>(
     alloc: Global,
-    name: Option<&str>,
-    processors: usize,
+    drawing: &Drawing<'_>,
+    script: &Script,
     journal: &Journal,
     sketch: &Sketch,
     halted: bool,
@@ -139,6 +204,7 @@ fn draw_journal<W: Write>(
     ensures early { IfErr result
         (λ fault. IsStatusBeforeAnswer fault → Keeps (W.contents out.old) (W.contents out.new)) }
 {
+    let processors = script.processors;
     let opening = opening_of(processors, journal);
     let history = history_of(alloc, opening, journal)?;
     if !are_in_range(&history, processors) {
@@ -146,7 +212,7 @@ fn draw_journal<W: Write>(
     }
     let arrows = arrows_of(alloc, processors, opening, &history)?;
     let story = Story {
-        name,
+        name: drawing.name,
         processors,
         events: journal.events(),
         incoming: &arrows,
@@ -155,15 +221,14 @@ fn draw_journal<W: Write>(
         halted,
         details: details_of(sketch),
     };
-    render(alloc, &story, out)?;
-    Ok(())
+    draw_story(alloc, drawing, script, &story, journal, &history, out)
 }
 
-/// Draws how a run of the script ended, whose file has this name. The only faults are running out of memory, that of the
-/// output, and a journal that isn't one of the script.
+/// Draws how a run of the script ended. The only faults are running out of memory, that of the output, and a journal that
+/// isn't one of the script.
 pub(crate) fn draw<W: Write>(
     alloc: Global,
-    name: Option<&str>,
+    drawing: &Drawing<'_>,
     script: &Script,
     ended: &Ended,
     out: &mut W,
@@ -172,11 +237,10 @@ pub(crate) fn draw<W: Write>(
     ensures early { IfErr result
         (λ fault. IsStatusBeforeAnswer fault → Keeps (W.contents out.old) (W.contents out.new)) }
 {
-    let processors = script.processors;
-    let sketch = sketch_run(alloc, processors, script.words, ended)?;
+    let sketch = sketch_run(alloc, script.processors, script.words, ended)?;
     let (journal, halted) = match ended {
         Ended::Whole(report) => (&report.journal, false),
         Ended::Halted(halt) => (&halt.journal, true),
     };
-    draw_journal(alloc, name, processors, journal, &sketch, halted, out)
+    draw_journal(alloc, drawing, script, journal, &sketch, halted, out)
 }

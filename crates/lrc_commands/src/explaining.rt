@@ -6,11 +6,12 @@ ghost use Rattle.lrc_program.specs.Prelude.{IsNoScript};
 ghost use Rattle.lrc_commands.specs.Prelude.{IsStatusBeforeAnswer, IsEndAsked, IsExplained, IsInputsStatus, IsRunExplained, ExplainedWritten};
 ghost use Rattle.lrc_commands.specs.Prelude.{is_halted};
 
-use crate::drawing::draw;
+use crate::drawing::{Drawing, draw};
 use crate::fault::{HALTED, StudyFault};
 use crate::locks::lock_of;
+use causes::Part;
 use conformance::{Cause, Ended, RunFault, Runs, Schedule};
-use lrc_explain::render;
+use lrc_explain::{Extent, render};
 use lrc_options::options::ExplainOptions;
 use lrc_program::fault::ProgramFault;
 use lrc_program::program::{read_script, say_line};
@@ -35,6 +36,23 @@ fn halt_line(alloc: Global, file: Option<&str>, ended: &Ended) -> Result<Option<
     }
 }
 
+/// The part of the run that is told or drawn.
+fn part_of(options: &ExplainOptions) -> Part {
+    Part {
+        first: options.events.first,
+        end: options.events.end,
+        processors: options.processors,
+    }
+}
+
+/// How much of the run is told.
+fn extent_of(options: &ExplainOptions) -> Extent {
+    Extent {
+        part: part_of(options),
+        state: options.state,
+    }
+}
+
 /// Tells how a run of the script ended, or draws it.
 fn print_end<W: Write>(
     alloc: Global,
@@ -50,9 +68,21 @@ fn print_end<W: Write>(
         (λ fault. IsStatusBeforeAnswer fault → Keeps (W.contents out.old) (W.contents out.new)) }
 {
     if options.picture {
-        return draw(alloc, options.file.as_deref(), script, ended, out);
+        let drawing = Drawing {
+            name: options.file.as_deref(),
+            part: part_of(options),
+            is_page: options.page,
+        };
+        return draw(alloc, &drawing, script, ended, out);
     }
-    render(alloc, script.processors, Some(script.words), ended, out)?;
+    render(
+        alloc,
+        script.processors,
+        Some(script.words),
+        &extent_of(options),
+        ended,
+        out,
+    )?;
     Ok(())
 }
 

@@ -1,13 +1,14 @@
 //! The program that looks at all schedules of a script, over its reader and its writers.
-ghost use Rattle.std.specs.Prelude.{◌≡◌, ◌≢◌, IfErr, IfOk, false, true};
+ghost use Rattle.std.specs.Prelude.{◌≡◌, ◌≢◌, IfErr, IfOk, OnOk, false, true};
 ghost use Rattle.std.specs.Io.KnownBytes.{Keeps};
 ghost use Rattle.lrc_script.specs.Prelude.{IsLawful, plan_of};
 ghost use Rattle.lrc_program.specs.Prelude.{IsNoScript};
-ghost use Rattle.lrc_commands.specs.Prelude.{IsStatusBeforeAnswer, IsInputsStatus, IsSearchWritten, SearchWritten};
+ghost use Rattle.lrc_commands.specs.Prelude.{IsStatusBeforeAnswer, IsInputsStatus, IsSearchAnswer, IsSearchWritten, SearchWritten};
 
 use crate::fault::StudyFault;
-use explore::{Progress, explore};
+use explore::{Explored, Progress, explore};
 use lrc_explore::render;
+use lrc_json::write_explored;
 use lrc_options::options::ExploreOptions;
 use lrc_program::program::read_script;
 use lrc_script::script::Script;
@@ -16,6 +17,25 @@ use std::io::{Read, Write};
 
 /// The exit status if the search was given up.
 const UNDECIDED: u8 = 7;
+
+/// Writes what was found of all schedules of a script, as text or as JSON.
+fn write_search<W: Write>(
+    alloc: Global,
+    json: bool,
+    script: &Script,
+    explored: &Explored,
+    out: &mut W,
+) -> Result<(), StudyFault>
+    ensures written { OnOk result (IsSearchAnswer json (W.contents out.old) (W.contents out.new) explored.now) }
+    ensures runs { IfErr result (λ fault. IsInputsStatus fault → ⊥) }
+    ensures early { IfErr result
+        (λ fault. IsStatusBeforeAnswer fault → Keeps (W.contents out.old) (W.contents out.new)) }
+{
+    if json {
+        return Ok(write_explored(alloc, &script.shown, explored, out)?);
+    }
+    Ok(render(alloc, script, explored, out)?)
+}
 
 /// Looks at all schedules of a script, and writes what was found. Answers whether nothing is open.
 fn print_search<W: Write, P: Progress>(
@@ -26,14 +46,14 @@ fn print_search<W: Write, P: Progress>(
     progress: &mut P,
 ) -> Result<bool, StudyFault>
     requires { IsLawful (plan_of script.now) }
-    ensures written { IfOk result (λ decided. IsSearchWritten options.now.most decided
+    ensures written { IfOk result (λ decided. IsSearchWritten options.now.most decided options.now.json
         (plan_of script.now) (W.contents out.old) (W.contents out.new)) }
     ensures runs { IfErr result (λ fault. IsInputsStatus fault → ⊥) }
     ensures early { IfErr result
         (λ fault. IsStatusBeforeAnswer fault → Keeps (W.contents out.old) (W.contents out.new)) }
 {
     let explored = explore(alloc, script, options.most as usize, progress)?;
-    render(alloc, script, &explored, out)?;
+    write_search(alloc, options.json, script, &explored, out)?;
     Ok(explored.is_settled())
 }
 
@@ -46,7 +66,7 @@ fn explore_script<S: Read, W: Write, P: Progress>(
     out: &mut W,
     progress: &mut P,
 ) -> Result<bool, StudyFault>
-    ensures searched { IfOk result (λ decided. SearchWritten options.now.most decided
+    ensures searched { IfOk result (λ decided. SearchWritten options.now.most decided options.now.json
         (S.remaining source.old) (W.contents out.old) (W.contents out.new)) }
     ensures refused { IfErr result (λ fault. IsInputsStatus fault → IsNoScript (S.remaining source.old)) }
     ensures early { IfErr result
@@ -67,10 +87,10 @@ pub fn explore_program<S: Read, W: Write, E: Write, P: Progress>(
     progress: &mut P,
 ) -> u8
     // All schedules of the script that was read were looked at, and what was found was written, whole.
-    ensures decided { result ≡ 0 → SearchWritten options.now.most true (S.remaining source.old)
+    ensures decided { result ≡ 0 → SearchWritten options.now.most true options.now.json (S.remaining source.old)
         (W.contents out.old) (W.contents out.new) }
     // The search was given up after as many states as the options say, or as fit, and what it had found was written.
-    ensures undecided { result ≡ 7 → SearchWritten options.now.most false (S.remaining source.old)
+    ensures undecided { result ≡ 7 → SearchWritten options.now.most false options.now.json (S.remaining source.old)
         (W.contents out.old) (W.contents out.new) }
     // What is refused as a script is none.
     ensures refused { result ≡ 2 → IsNoScript (S.remaining source.old) }

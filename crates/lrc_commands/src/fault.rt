@@ -1,9 +1,10 @@
 //! Why a command that studies a script or a trace ends without an answer.
 ghost use Rattle.std.specs.Prelude.{◌≡◌, ◌≢◌};
-ghost use Rattle.lrc_check.specs.Prelude.{IsFoundInTrace};
-ghost use Rattle.lrc_check.specs.Prelude.{IsFoundBeforeOutput as IsBeforeText};
+ghost use Rattle.lrc_check.specs.Prelude.{IsFaultOfTrace};
+ghost use Rattle.lrc_check.specs.Prelude.{CameBeforeOutput as IsBeforeText};
 ghost use Rattle.lrc_explain.specs.declared.fault.ExplainFault.TheVariants as explain;
 ghost use Rattle.lrc_explore.specs.declared.fault.ExploreFault.TheVariants as explore;
+ghost use Rattle.lrc_json.specs.declared.fault.JsonFault.TheVariants as json;
 ghost use Rattle.lrc_picture.specs.declared.picture.PictureFault.TheVariants as picture;
 ghost use Rattle.lrc_sample.specs.declared.text.TextFault.TheVariants as sample;
 ghost use Rattle.lrc_commands.specs.declared.fault.StudyFault.TheVariants as study;
@@ -15,6 +16,7 @@ use lrc_check::CheckFault;
 use lrc_check::traces::fault::TraceFault;
 use lrc_explain::ExplainFault;
 use lrc_explore::ExploreFault;
+use lrc_json::JsonFault;
 use lrc_picture::picture::PictureFault;
 use lrc_program::fault::ProgramFault;
 use lrc_program::program::say_line;
@@ -170,6 +172,18 @@ impl From<ExploreFault> for StudyFault {
     }
 }
 
+impl From<JsonFault> for StudyFault {
+    ghost from_gives = { λ given fault. (IsInputsStatus fault → ⊥)
+        × (IsStatusBeforeAnswer fault → given ≡ json.NoMemory) };
+
+    fn from(fault: JsonFault) -> StudyFault {
+        match fault {
+            JsonFault::Output => StudyFault::Program(ProgramFault::Output),
+            JsonFault::NoMemory => StudyFault::Program(ProgramFault::NoMemory),
+        }
+    }
+}
+
 impl From<PictureFault> for StudyFault {
     ghost from_gives = { λ given fault. (IsInputsStatus fault → ⊥)
         × (IsStatusBeforeAnswer fault → given ≡ picture.NoMemory) };
@@ -183,7 +197,7 @@ impl From<PictureFault> for StudyFault {
 }
 
 impl From<CheckFault> for StudyFault {
-    ghost from_gives = { λ given fault. (IsInputsStatus fault → IsFoundInTrace given)
+    ghost from_gives = { λ given fault. (IsInputsStatus fault → IsFaultOfTrace given)
         × (IsStatusBeforeAnswer fault → IsBeforeText given) };
 
     fn from(fault: CheckFault) -> StudyFault {

@@ -4,19 +4,38 @@ ghost use Rattle.std.specs.Io.KnownBytes.{Keeps};
 ghost use Rattle.lrc_script.specs.Prelude.{IsLawful, plan_of};
 ghost use Rattle.lrc_program.specs.Prelude.{IsNoScript};
 ghost use Rattle.lrc_sample.specs.Prelude.{CameBySeed};
-ghost use Rattle.lrc_commands.specs.Prelude.{IsStatusBeforeAnswer, IsInputsStatus, IsSampleWritten, IsSampled, lock_asked};
+ghost use Rattle.lrc_commands.specs.Prelude.{IsStatusBeforeAnswer, IsInputsStatus, IsSampleAnswer, IsSampleWritten, IsSampled, lock_asked};
 
 use crate::fault::StudyFault;
 use crate::locks::lock_of;
 use conformance::Runs;
+use lrc_json::write_sampled;
 use lrc_options::options::SampleOptions;
 use lrc_program::program::read_script;
-use lrc_sample::sampling::sample;
+use lrc_sample::sampling::{Sampled, sample};
 use lrc_sample::text::render;
 use lrc_script::script::Script;
 use std::alloc::Global;
 use std::io::{Read, Write};
 use std::sync::Wait;
+
+/// Writes what a script's runs came to, as text or as JSON.
+fn write_sample<W: Write>(
+    alloc: Global,
+    json: bool,
+    sampled: &Sampled,
+    out: &mut W,
+) -> Result<(), StudyFault>
+    ensures written { OnOk result (IsSampleAnswer json (W.contents out.old) (W.contents out.new) sampled.now) }
+    ensures runs { IfErr result (λ fault. IsInputsStatus fault → ⊥) }
+    ensures early { IfErr result
+        (λ fault. IsStatusBeforeAnswer fault → Keeps (W.contents out.old) (W.contents out.new)) }
+{
+    if json {
+        return Ok(write_sampled(alloc, sampled, out)?);
+    }
+    Ok(render(alloc, sampled, out)?)
+}
 
 /// Runs a script under the seeds that the options ask for, and writes what that came to.
 fn print_sample<T: Runs, R: Wait, W: Write>(
@@ -29,14 +48,14 @@ fn print_sample<T: Runs, R: Wait, W: Write>(
 ) -> Result<(), StudyFault>
     requires { IsLawful (plan_of script.now) }
     ensures written { OnOk result (IsSampleWritten (CameBySeed T.followed T.drawn (lock_asked options.now.ticket))
-        (options.now.seeds + 1) (plan_of script.now) (W.contents out.old) (W.contents out.new)) }
+        (options.now.seeds + 1) options.now.json (plan_of script.now) (W.contents out.old) (W.contents out.new)) }
     ensures runs { IfErr result (λ fault. IsInputsStatus fault → ⊥) }
     ensures early { IfErr result
         (λ fault. IsStatusBeforeAnswer fault → Keeps (W.contents out.old) (W.contents out.new)) }
 {
     let lock = lock_of(options.ticket);
     let sampled = sample(runs, rt, alloc, script, lock, options.seeds)?;
-    render(alloc, &sampled, out)?;
+    write_sample(alloc, options.json, &sampled, out)?;
     Ok(())
 }
 
@@ -51,7 +70,7 @@ fn sample_script<T: Runs, R: Wait, S: Read, W: Write>(
     out: &mut W,
 ) -> Result<(), StudyFault>
     ensures sampled { OnOk result (IsSampled (CameBySeed T.followed T.drawn (lock_asked options.now.ticket))
-        (options.now.seeds + 1) (S.remaining source.old) (W.contents out.old) (W.contents out.new)) }
+        (options.now.seeds + 1) options.now.json (S.remaining source.old) (W.contents out.old) (W.contents out.new)) }
     ensures refused { IfErr result (λ fault. IsInputsStatus fault → IsNoScript (S.remaining source.old)) }
     ensures early { IfErr result
         (λ fault. IsStatusBeforeAnswer fault → Keeps (W.contents out.old) (W.contents out.new)) }
@@ -72,9 +91,9 @@ pub fn sample_program<T: Runs, R: Wait, S: Read, W: Write, E: Write>(
     err: &mut E,
 ) -> u8
     // The script that was read was run once by each of so many seeds and once without, with the lock that was asked for, and
-    // the text of what that came to was written, whole.
+    // what that came to was written, whole: as text, or as JSON if that was asked for.
     ensures sampled { result ≡ 0 → IsSampled (CameBySeed T.followed T.drawn (lock_asked options.now.ticket))
-        (options.now.seeds + 1) (S.remaining source.old) (W.contents out.old) (W.contents out.new) }
+        (options.now.seeds + 1) options.now.json (S.remaining source.old) (W.contents out.old) (W.contents out.new) }
     // What is refused as a script is none.
     ensures refused { result ≡ 2 → IsNoScript (S.remaining source.old) }
     // At any status but 4, the text is written whole or not at all.

@@ -1,1 +1,2 @@
 pub mod OptionRules
+pub mod WrittenProcessors

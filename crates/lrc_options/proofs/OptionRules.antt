@@ -189,7 +189,7 @@ pub options_out_of_memory : (locks models : ValueParser) (words : List Text) (e 
     → kind_of e ≡ OutOfMemory → IsRefusedCommandLine words e
 options_out_of_memory locks models words e are models_are is = record { locks = locks; locks_are = are; models = models; models_are = models_are; kind = inl (inl is) }
 
--- and so does a seed beside a schedule
+-- and so do a seed beside a schedule, and a text that can't be read
 pub options_refused_by : (locks models : ValueParser) (words : List Text) (name : Text) (rows : List Row) (e : Error)
     → OptionTakesNames (codes "array" ∷ codes "ticket" ∷ []) locks
     → OptionTakesNames (codes "race-free" ∷ codes "happens-before" ∷ codes "lazy-release" ∷ codes "sequential" ∷ []) models
@@ -197,12 +197,19 @@ pub options_refused_by : (locks models : ValueParser) (words : List Text) (name 
     → IsOptionUnanswered rows e → IsRefusedCommandLine words e
 options_refused_by locks models words name rows e are models_are command (inl memory) =
     options_out_of_memory locks models words e are models_are memory
-options_refused_by locks models words name rows e are models_are command (inr both) = record {
+options_refused_by locks models words name rows e are models_are command (inr (inl both)) = record {
   locks = locks;
   locks_are = are;
   models = models;
   models_are = models_are;
-  kind = inr (record { name = name; rows = rows; command = command; both = both.0; kind = both.1 });
+  kind = inr (inl (record { name = name; rows = rows; command = command; both = both.0; kind = both.1 }));
+}
+options_refused_by locks models words name rows e are models_are command (inr (inr bad)) = record {
+  locks = locks;
+  locks_are = are;
+  models = models;
+  models_are = models_are;
+  kind = inr (inr (record { name = name; rows = rows; command = command; unread = bad.0; kind = bad.1 }));
 }
 
 -- what is answered is what the words ask for

@@ -1,5 +1,5 @@
 -- What the program's words give.
-use Rattle.std.specs.Prelude.{ℕ, ◌≡◌, ◌<◌, ◌≤◌, ◌-◌, ◌^◌, ◌⊎◌, ◌&&◌, Bool, true, false, List, [], ◌∷◌, Option, Some, None, IfSome, codes, cond, is_some, map, option_map, string_bytes}
+use Rattle.std.specs.Prelude.{ℕ, ◌≡◌, ◌||◌, ◌<◌, ◌≤◌, ◌-◌, ◌^◌, ◌⊎◌, ◌&&◌, Bool, true, false, List, [], ◌∷◌, Option, Some, None, IfSome, codes, cond, is_some, map, option_map, replicate, string_bytes}
 use Rattle.std.specs.Option.{option_map_or}
 use Rattle.std.specs.Str.{bytes_eq}
 use Rattle.std.specs.Str.Parse.{IsNumeral, digits_value, without_leading_plus}
@@ -12,7 +12,11 @@ use Rattle.clap.specs.declared.builder.command.Command.TheViews.{out-Command}
 use Rattle.clap.specs.declared.builder.value_parser.ValueParser.{ValueParser}
 use Rattle.clap.specs.declared.builder.value_parser.ValueParser.TheVariants as vp
 use Rattle.clap.specs.declared.error.Error.{Error}
-use Rattle.clap.specs.declared.error.kind.ErrorKind.TheVariants.{ArgumentConflict, OutOfMemory}
+use Rattle.clap.specs.declared.error.kind.ErrorKind.TheVariants.{ArgumentConflict, OutOfMemory, ValueValidation}
+use Rattle.base.specs.Limits.{most_processors}
+use Rattle.lrc_script.specs.LineReading.{parts_of_line}
+use Rattle.lrc_options.specs.Ranges.{AreProcessorsWritten, IsRangeWritten}
+use Rattle.lrc_options.specs.declared.ranges.EventRange.{EventRange}
 use Rattle.lrc_options.specs.declared.options.Asked.{Asked}
 use Rattle.lrc_options.specs.declared.options.Asked.TheVariants.{Explain, Explore, Sample, Script, Trace}
 use Rattle.lrc_options.specs.declared.options.ExplainOptions.{ExplainOptions}
@@ -78,6 +82,21 @@ journal_rule = flag_rule (codes "journal")
 abbrev pub svg_rule : Rule
 svg_rule = flag_rule (codes "svg")
 
+abbrev pub html_rule : Rule
+html_rule = flag_rule (codes "html")
+
+abbrev pub state_rule : Rule
+state_rule = flag_rule (codes "state")
+
+abbrev pub events_rule : Rule
+events_rule = option_rule (codes "events")
+
+abbrev pub processors_rule : Rule
+processors_rule = option_rule (codes "processors")
+
+abbrev pub json_rule : Rule
+json_rule = flag_rule (codes "json")
+
 -- a command of this shape, of which no argument is global
 pub record IsCommand (a : App) (c : Command) : Type 0 where
   pub shape : app_of c ≡ a
@@ -104,15 +123,16 @@ step_rules locks = with_rule (flagged_rules (codes "step") seed_rule locks journ
 
 -- `lrc explain`
 abbrev pub explain_rules : ValueParser → App
-explain_rules locks = with_rule (flagged_rules (codes "explain") seed_rule locks svg_rule) schedule_rule
+explain_rules locks = with_rule (with_rule (with_rule (with_rule (with_rule
+    (flagged_rules (codes "explain") seed_rule locks svg_rule) html_rule) schedule_rule) state_rule) events_rule) processors_rule
 
 -- `lrc sample`
 abbrev pub sample_rules : ValueParser → App
-sample_rules locks = script_rules (codes "sample") seeds_rule locks
+sample_rules locks = flagged_rules (codes "sample") seeds_rule locks json_rule
 
 -- `lrc explore`
 abbrev pub explore_rules : App
-explore_rules = with_rule (file_rules (codes "explore")) most_rule
+explore_rules = with_rule (with_rule (file_rules (codes "explore")) most_rule) json_rule
 
 -- `lrc check`
 abbrev pub lax_rule : Rule
@@ -123,7 +143,7 @@ race_is_error_rule = flag_rule (codes "race-is-error")
 
 abbrev pub check_rules : ValueParser → App
 check_rules models =
-    with_rule (with_rule (with_rule (file_rules (codes "check")) (model_rule models)) lax_rule) race_is_error_rule
+    with_rule (with_rule (with_rule (with_rule (file_rules (codes "check")) (model_rule models)) lax_rule) race_is_error_rule) json_rule
 
 -- `lrc` without its commands: it wants one, and has a version
 abbrev pub bare_rules : App
@@ -169,6 +189,10 @@ pub record IsFlagOption (given : Option Text) (flag : Bool) : Type 0 where
   pub unset : given ≡ Some (codes "false") → flag ≡ false
   pub none : given ≡ None → flag ≡ false
 
+-- whether one of two flags is set
+abbrev pub IsOneOfFlags : Option Text → Option Text → Bool → Type 0
+IsOneOfFlags one two flag = (a : Bool) × (b : Bool) × IsFlagOption one a × IsFlagOption two b × (flag ≡ (a || b))
+
 -- the options that a command's name and its rows give
 pub record AreOptionsOf (name : Text) (rows : List Row) (o : Options) : Type 0 where
   pub step : o.step ≡ bytes_eq name (codes "step")
@@ -195,6 +219,7 @@ pub record AreTraceOptionsOf (rows : List Row) (o : TraceOptions) : Type 0 where
   pub model : o.model ≡ option_model_given rows
   pub lax : IsFlagOption (one_of (codes "lax") rows) o.lax
   pub race_is_error : IsFlagOption (one_of (codes "race-is-error") rows) o.race_is_error
+  pub json : IsFlagOption (one_of (codes "json") rows) o.json
 
 -- whether the ticket lock is asked for
 abbrev pub ticket_option : List Row → Bool
@@ -205,11 +230,23 @@ pub record AreSampleOptionsOf (rows : List Row) (o : SampleOptions) : Type 0 whe
   pub file : option_map (λ f. string_bytes f) o.file ≡ first_of (codes "FILE") rows
   pub seeds : IsNumberOption 1 most_seed_option default_seeds_option (one_of (codes "seeds") rows) o.seeds
   pub ticket : o.ticket ≡ ticket_option rows
+  pub json : IsFlagOption (one_of (codes "json") rows) o.json
 
 -- the options that the rows of `explore` give
 pub record AreExploreOptionsOf (rows : List Row) (o : ExploreOptions) : Type 0 where
   pub file : option_map (λ f. string_bytes f) o.file ≡ first_of (codes "FILE") rows
   pub most : IsNumberOption 0 most_seed_option default_most_option (one_of (codes "most") rows) o.most
+  pub json : IsFlagOption (one_of (codes "json") rows) o.json
+
+-- the events that are given, or all
+abbrev pub AreEventsGiven : Option Text → EventRange → Type 0
+AreEventsGiven None x = (x.first ≡ 0) × (x.end ≡ None)
+AreEventsGiven (Some t) x = IsRangeWritten t x
+
+-- the processors that are given, or all
+abbrev pub AreProcessorsGiven : Option Text → List Bool → Type 0
+AreProcessorsGiven None marks = marks ≡ replicate most_processors true
+AreProcessorsGiven (Some t) marks = AreProcessorsWritten (parts_of_line 44 t) marks
 
 -- the options that the rows of `explain` give
 pub record AreExplainOptionsOf (rows : List Row) (o : ExplainOptions) : Type 0 where
@@ -217,7 +254,11 @@ pub record AreExplainOptionsOf (rows : List Row) (o : ExplainOptions) : Type 0 w
   pub seed : IsSeedOption (one_of (codes "seed") rows) o.seed
   pub schedule : option_map (λ t. string_bytes t) o.schedule ≡ first_of (codes "schedule") rows
   pub ticket : o.ticket ≡ ticket_option rows
-  pub picture : IsFlagOption (one_of (codes "svg") rows) o.picture
+  pub picture : IsOneOfFlags (one_of (codes "svg") rows) (one_of (codes "html") rows) o.picture
+  pub page : IsFlagOption (one_of (codes "html") rows) o.page
+  pub state : IsFlagOption (one_of (codes "state") rows) o.state
+  pub events : AreEventsGiven (first_of (codes "events") rows) o.events
+  pub processors : AreProcessorsGiven (first_of (codes "processors") rows) o.processors
 
 -- what a command's name and its rows ask for
 abbrev pub AreAskedOptionsOf : Text → List Row → Asked → Type 0
@@ -257,15 +298,31 @@ pub record IsOptionConflict (locks models : ValueParser) (words : List Text) (e 
   pub both : has_both_options rows ≡ true
   pub kind : kind_of e ≡ ArgumentConflict
 
--- a command whose rows these are isn't answered: memory ran out, or a seed and a schedule are given
-abbrev pub IsOptionUnanswered : List Row → Error → Type 0
-IsOptionUnanswered rows e = (kind_of e ≡ OutOfMemory) ⊎ ((has_both_options rows ≡ true) × (kind_of e ≡ ArgumentConflict))
+-- what is given for the events or for the processors can't be read
+abbrev pub IsOptionUnread : List Row → Type 0
+IsOptionUnread rows = ((x : EventRange) → ¬ AreEventsGiven (first_of (codes "events") rows) x)
+    ⊎ ((marks : List Bool) → ¬ AreProcessorsGiven (first_of (codes "processors") rows) marks)
 
--- memory ran out, or the matches of that command find a fault of this kind in the words, or a seed beside a schedule
+-- the words give such a text, and the fault says so
+pub record IsOptionMisread (locks models : ValueParser) (words : List Text) (e : Error) : Type 0 where
+  pub name : Text
+  pub rows : List Row
+  pub command : subcommand_of (lrc_rules locks models) words ≡ Some (name, rows)
+  pub unread : IsOptionUnread rows
+  pub kind : kind_of e ≡ ValueValidation
+
+-- a command whose rows these are isn't answered: memory ran out, a seed and a schedule are given, or a text that can't be read
+abbrev pub IsOptionUnanswered : List Row → Error → Type 0
+IsOptionUnanswered rows e = (kind_of e ≡ OutOfMemory) ⊎ (((has_both_options rows ≡ true) × (kind_of e ≡ ArgumentConflict))
+    ⊎ (IsOptionUnread rows × (kind_of e ≡ ValueValidation)))
+
+-- memory ran out, or the matches of that command find a fault of this kind in the words, or a seed beside a schedule, or a text
+-- that can't be read
 pub record IsRefusedCommandLine (words : List Text) (e : Error) : Type 0 where
   pub locks : ValueParser
   pub locks_are : OptionTakesNames (codes "array" ∷ codes "ticket" ∷ []) locks
   pub models : ValueParser
   pub models_are : OptionTakesNames
       (codes "race-free" ∷ codes "happens-before" ∷ codes "lazy-release" ∷ codes "sequential" ∷ []) models
-  pub kind : HasKind (fault_of (lrc_rules locks models) words) e ⊎ IsOptionConflict locks models words e
+  pub kind : HasKind (fault_of (lrc_rules locks models) words) e
+      ⊎ (IsOptionConflict locks models words e ⊎ IsOptionMisread locks models words e)

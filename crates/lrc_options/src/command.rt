@@ -3,14 +3,15 @@ ghost use Rattle.std.specs.Prelude.{◌≡◌, IfOk, false, true};
 ghost use Rattle.clap.specs.Words.{App, app_of, rule_of, with_rule, with_subcommand};
 ghost use Rattle.clap.specs.declared.builder.command.Command.TheViews.{out-Command};
 ghost use Rattle.clap.specs.declared.builder.value_parser.ValueParser.TheVariants as vp;
-ghost use Rattle.lrc_options.specs.OptionRules.{flag_rule, lock_rule, model_rule, most_rule, number_rule, schedule_rule, seed_rule, seeds_rule};
+ghost use Rattle.lrc_options.specs.OptionRules.{flag_rule, lock_rule, model_rule, most_rule, number_rule, option_rule, schedule_rule, seed_rule, seeds_rule};
 ghost use Rattle.lrc_options.specs.OptionRules.{IsCommand, bare_rules, check_rules, explain_rules, explore_rules, file_rules};
 ghost use Rattle.lrc_options.specs.OptionRules.{flagged_rules, lrc_rules, run_rules, sample_rules, script_rules, step_rules};
 ghost use Rattle.lrc_options.specs.OptionRules.{tries_rule};
 
 use crate::help::{
-    ABOUT, AFTER, AFTER_RUN_AND_STEP, EXPLAIN, EXPLORE, JOURNAL, LAX, MODEL, MOST, RACE_IS_ERROR,
-    SAMPLE, SCHEDULE, SCRIPT, SCRIPT_FILE, SEED, SEEDS, SVG, TRACE, TRACE_FILE, TRIES, VERSION,
+    ABOUT, AFTER, AFTER_RUN_AND_STEP, EVENTS, EXPLAIN, EXPLORE, HTML, JOURNAL, JSON, LAX, MODEL,
+    MOST, PROCESSORS, RACE_IS_ERROR, SAMPLE, SCHEDULE, SCRIPT, SCRIPT_FILE, SEED, SEEDS, STATE,
+    SVG, TRACE, TRACE_FILE, TRIES, VERSION,
 };
 use crate::options::Commands;
 use clap::builder::ValueParser;
@@ -57,15 +58,23 @@ fn seed_arg<'a>(alloc: Global) -> Arg<'a>
     number_arg(alloc, "seed", 0, MOST_SEED, SEED)
 }
 
+/// The option of this name whose value is a text.
+fn text_arg<'a>(alloc: Global, name: &'a str, value: &'a str, help: &'a str) -> Arg<'a>
+    ensures rule { rule_of result ≡ option_rule name.entry.now }
+    ensures own { result.global ≡ false }
+{
+    Arg::new(alloc, name)
+        .long(name)
+        .value_name(value)
+        .help(help)
+}
+
 /// `--schedule S`.
 fn schedule_arg<'a>(alloc: Global) -> Arg<'a>
     ensures rule { rule_of result ≡ schedule_rule }
     ensures own { result.global ≡ false }
 {
-    Arg::new(alloc, "schedule")
-        .long("schedule")
-        .value_name("S")
-        .help(SCHEDULE)
+    text_arg(alloc, "schedule", "S", SCHEDULE)
 }
 
 /// `--seeds N`.
@@ -224,7 +233,11 @@ fn explain_command<'a>(alloc: Global, locks: &'a [&'a str]) -> Result<Command<'a
     let about = "Runs the processors as step does, and tells the run event by event";
     let own = seed_arg(alloc);
     let command = flagged_command(alloc, "explain", about, EXPLAIN, own, locks, "svg", SVG);
-    with_option(command, schedule_arg(alloc))
+    let command = with_option(command, flag_arg(alloc, "html", HTML));
+    let command = with_option(command, schedule_arg(alloc));
+    let command = with_option(command, flag_arg(alloc, "state", STATE));
+    let command = with_option(command, text_arg(alloc, "events", "A..B", EVENTS));
+    with_option(command, text_arg(alloc, "processors", "P,..", PROCESSORS))
 }
 
 /// `lrc sample`.
@@ -232,7 +245,8 @@ fn sample_command<'a>(alloc: Global, locks: &'a [&'a str]) -> Result<Command<'a>
     ensures { IfOk result (IsCommand (sample_rules (vp.Names locks.entry))) }
 {
     let about = "Runs the script by many drawn schedules, and tells each kind of result once";
-    script_command(alloc, "sample", about, SAMPLE, seeds_arg(alloc), locks)
+    let own = seeds_arg(alloc);
+    flagged_command(alloc, "sample", about, SAMPLE, own, locks, "json", JSON)
 }
 
 /// `lrc explore`.
@@ -242,18 +256,20 @@ fn explore_command<'a>(alloc: Global) -> Result<Command<'a>, AllocError>
     let about =
         "Looks at all schedules of a script: whether it can race or hang, and what it can show";
     let command = file_command(alloc, "explore", about, EXPLORE, SCRIPT_FILE);
-    with_option(command, most_arg(alloc))
+    let command = with_option(command, most_arg(alloc));
+    with_option(command, flag_arg(alloc, "json", JSON))
 }
 
 /// `lrc check`.
 fn check_command<'a>(alloc: Global, models: &'a [&'a str]) -> Result<Command<'a>, AllocError>
     ensures { IfOk result (IsCommand (check_rules (vp.Names models.entry))) }
 {
-    let about = "Judges a trace, of anyone's making: whether such a memory could have made it";
+    let about = "Judges a trace from any system: whether such a memory could have made it";
     let command = file_command(alloc, "check", about, TRACE, TRACE_FILE);
     let command = with_option(command, model_arg(alloc, models));
     let command = with_option(command, flag_arg(alloc, "lax", LAX));
-    with_option(command, flag_arg(alloc, "race-is-error", RACE_IS_ERROR))
+    let command = with_option(command, flag_arg(alloc, "race-is-error", RACE_IS_ERROR));
+    with_option(command, flag_arg(alloc, "json", JSON))
 }
 
 /// The command, which help names only if it is shown.

@@ -1,10 +1,11 @@
 //! Reads the program's words.
-ghost use Rattle.std.specs.Prelude.{◌≡◌, IfOk, IfErr, OnOk, false, is_some, map, option_map, string_bytes, codes};
+ghost use Rattle.std.specs.Prelude.{◌≡◌, Bool, List, IfOk, IfErr, MatchOption, OnOk, false, is_some, map, option_map, string_bytes, codes};
 ghost use Rattle.std.specs.Option.{option_map_or};
 ghost use Rattle.std.specs.Str.{bytes_eq};
 ghost use Rattle.clap.specs.Words.{first_of, one_of, rows_of, found_of};
-ghost use Rattle.lrc_options.specs.OptionRules.{IsOptionNumberRead, IsNumberOption, IsSeedOption, IsFlagOption, AreAskedOptionsOf, AreOptionsOf};
-ghost use Rattle.lrc_options.specs.OptionRules.{AreExplainOptionsOf, AreExploreOptionsOf, AreSampleOptionsOf};
+ghost use Rattle.lrc_options.specs.OptionRules.{IsOptionNumberRead, IsNumberOption, IsSeedOption, IsFlagOption, IsOneOfFlags, AreAskedOptionsOf, AreOptionsOf};
+ghost use Rattle.lrc_options.specs.declared.ranges.EventRange.{EventRange};
+ghost use Rattle.lrc_options.specs.OptionRules.{AreEventsGiven, AreExplainOptionsOf, AreExploreOptionsOf, AreProcessorsGiven, AreSampleOptionsOf};
 ghost use Rattle.lrc_options.specs.OptionRules.{AreTraceOptionsOf, default_most_option, has_both_options, option_model_given, option_named_model, ticket_option};
 ghost use Rattle.lrc_options.specs.OptionRules.{AreGivenOptions, IsRefusedCommandLine, IsOptionUnanswered, most_tries_option, most_seed_option, default_tries_option, default_seeds_option};
 
@@ -13,7 +14,9 @@ use crate::options::{
     Asked, Commands, DEFAULT_MOST, DEFAULT_SEEDS, DEFAULT_TRIES, ExplainOptions, ExploreOptions,
     Options, SampleOptions, TraceModel, TraceOptions,
 };
-use crate::tips::{both_given, with_tip};
+use crate::ranges::{ALL_EVENTS, EventRange, event_range, processors};
+use crate::tips::{both_given, not_read, with_tip};
+use base::MOST_PROCESSORS;
 use clap::{ArgMatches, Error};
 use std::alloc::{AllocError, Global};
 
@@ -84,11 +87,58 @@ fn wants_journal(matches: &ArgMatches<'_>) -> bool
     matches.get_flag("journal")
 }
 
-/// Whether a picture is asked for.
-fn wants_picture(matches: &ArgMatches<'_>) -> bool
+/// Whether a picture alone is asked for.
+fn wants_svg(matches: &ArgMatches<'_>) -> bool
     ensures { IsFlagOption (one_of (codes "svg") (rows_of (found_of matches.now))) result }
 {
     matches.get_flag("svg")
+}
+
+/// Whether a page with a picture is asked for.
+fn wants_page(matches: &ArgMatches<'_>) -> bool
+    ensures { IsFlagOption (one_of (codes "html") (rows_of (found_of matches.now))) result }
+{
+    matches.get_flag("html")
+}
+
+/// Whether a picture is asked for, alone or in a page.
+fn wants_picture(matches: &ArgMatches<'_>) -> bool
+    ensures { IsOneOfFlags (one_of (codes "svg") (rows_of (found_of matches.now)))
+        (one_of (codes "html") (rows_of (found_of matches.now))) result }
+{
+    let svg = wants_svg(matches);
+    let page = wants_page(matches);
+    svg || page
+}
+
+/// Whether the protocol's state is asked for.
+fn wants_state(matches: &ArgMatches<'_>) -> bool
+    ensures { IsFlagOption (one_of (codes "state") (rows_of (found_of matches.now))) result }
+{
+    matches.get_flag("state")
+}
+
+/// The range given for `--events`, or all events; None where what is given is no range.
+fn events_of(matches: &ArgMatches<'_>) -> Option<EventRange>
+    ensures { MatchOption result ((x : EventRange) → ¬ AreEventsGiven (first_of (codes "events") (rows_of (found_of matches.now))) x)
+        (AreEventsGiven (first_of (codes "events") (rows_of (found_of matches.now)))) }
+{
+    match matches.get_str("events") {
+        Some(text) => event_range(text),
+        None => Some(ALL_EVENTS),
+    }
+}
+
+/// The processors given for `--processors`, or all; None where what is given are none.
+fn processors_of(matches: &ArgMatches<'_>) -> Option<[bool; MOST_PROCESSORS]>
+    ensures { MatchOption result
+        ((marks : List Bool) → ¬ AreProcessorsGiven (first_of (codes "processors") (rows_of (found_of matches.now))) marks)
+        (AreProcessorsGiven (first_of (codes "processors") (rows_of (found_of matches.now)))) }
+{
+    match matches.get_str("processors") {
+        Some(text) => processors(text),
+        None => Some([true; MOST_PROCESSORS]),
+    }
 }
 
 /// Whether what only this memory asks is to be left out.
@@ -103,6 +153,13 @@ fn ends_at_race(matches: &ArgMatches<'_>) -> bool
     ensures { IsFlagOption (one_of (codes "race-is-error") (rows_of (found_of matches.now))) result }
 {
     matches.get_flag("race-is-error")
+}
+
+/// Whether the answer is to be JSON.
+fn wants_json(matches: &ArgMatches<'_>) -> bool
+    ensures { IsFlagOption (one_of (codes "json") (rows_of (found_of matches.now))) result }
+{
+    matches.get_flag("json")
 }
 
 /// The model of this name; the first one, if none has it.
@@ -172,8 +229,15 @@ fn options_of(alloc: Global, name: &str, matches: &ArgMatches<'_>) -> Result<Opt
     })
 }
 
-/// The options that the matches of `explain` give.
-fn explain_options_of(alloc: Global, matches: &ArgMatches<'_>) -> Result<ExplainOptions, AllocError>
+/// The options that the matches of `explain` give, of these events of these processors.
+fn explain_options_of(
+    alloc: Global,
+    matches: &ArgMatches<'_>,
+    events: EventRange,
+    processors: [bool; MOST_PROCESSORS],
+) -> Result<ExplainOptions, AllocError>
+    requires events { AreEventsGiven (first_of (codes "events") (rows_of (found_of matches.now))) events }
+    requires processors { AreProcessorsGiven (first_of (codes "processors") (rows_of (found_of matches.now))) processors }
     ensures { IfOk result (AreExplainOptionsOf (rows_of (found_of matches.now))) }
 {
     let file = text_of(alloc, matches, "FILE")?;
@@ -184,6 +248,10 @@ fn explain_options_of(alloc: Global, matches: &ArgMatches<'_>) -> Result<Explain
         schedule,
         ticket: is_ticket(matches),
         picture: wants_picture(matches),
+        page: wants_page(matches),
+        state: wants_state(matches),
+        events,
+        processors,
     })
 }
 
@@ -196,6 +264,7 @@ fn sample_options_of(alloc: Global, matches: &ArgMatches<'_>) -> Result<SampleOp
         file,
         seeds: seeds_of(matches),
         ticket: is_ticket(matches),
+        json: wants_json(matches),
     })
 }
 
@@ -207,6 +276,7 @@ fn explore_options_of(alloc: Global, matches: &ArgMatches<'_>) -> Result<Explore
     Ok(ExploreOptions {
         file,
         most: most_of(matches),
+        json: wants_json(matches),
     })
 }
 
@@ -220,15 +290,24 @@ fn trace_options_of(alloc: Global, matches: &ArgMatches<'_>) -> Result<TraceOpti
         model: model_of(matches),
         lax: is_lax(matches),
         race_is_error: ends_at_race(matches),
+        json: wants_json(matches),
     })
 }
 
-/// What a command's name and its matches ask for.
-fn asked_of(alloc: Global, name: &str, matches: &ArgMatches<'_>) -> Result<Asked, AllocError>
+/// What a command's name and its matches ask for, of these events of these processors where it asks for some.
+fn asked_of(
+    alloc: Global,
+    name: &str,
+    matches: &ArgMatches<'_>,
+    events: EventRange,
+    processors: [bool; MOST_PROCESSORS],
+) -> Result<Asked, AllocError>
+    requires events { AreEventsGiven (first_of (codes "events") (rows_of (found_of matches.now))) events }
+    requires processors { AreProcessorsGiven (first_of (codes "processors") (rows_of (found_of matches.now))) processors }
     ensures { IfOk result (AreAskedOptionsOf name.now (rows_of (found_of matches.now))) }
 {
     if name == "explain" {
-        explain_options_of(alloc, matches).map(Asked::Explain)
+        explain_options_of(alloc, matches, events, processors).map(Asked::Explain)
     } else if name == "sample" {
         sample_options_of(alloc, matches).map(Asked::Sample)
     } else if name == "explore" {
@@ -240,7 +319,7 @@ fn asked_of(alloc: Global, name: &str, matches: &ArgMatches<'_>) -> Result<Asked
     }
 }
 
-/// The same, or that a seed and a schedule are given.
+/// The same, or that a seed and a schedule are given, or events or processors that can't be read.
 fn answer_of(alloc: Global, name: &str, matches: &ArgMatches<'_>) -> Result<Asked, Error>
     ensures one { OnOk result (has_both_options (rows_of (found_of matches.now)) ≡ false) }
     ensures asked { IfOk result (AreAskedOptionsOf name.now (rows_of (found_of matches.now))) }
@@ -249,19 +328,29 @@ fn answer_of(alloc: Global, name: &str, matches: &ArgMatches<'_>) -> Result<Aske
     if has_both(matches) {
         return Err(both_given(alloc, name)?);
     }
-    Ok(asked_of(alloc, name, matches)?)
+    let Some(events) = events_of(matches) else {
+        let want = "a range of numbers, as 3..8, 3.. or ..8";
+        return Err(not_read(alloc, name, matches, "events", "A..B", want)?);
+    };
+    let Some(processors) = processors_of(matches) else {
+        let want = "numbers from 0 to 15, as 2 or 0,2";
+        return Err(not_read(alloc, name, matches, "processors", "P,..", want)?);
+    };
+    Ok(asked_of(alloc, name, matches, events, processors)?)
 }
 
 /// Reads the words, the program's name first: `lrc run [FILE] [--tries N] [--lock KIND] [--journal]`,
 /// `lrc step [FILE] [--seed N | --schedule S] [--lock KIND] [--journal]`,
-/// `lrc explain [FILE] [--seed N | --schedule S] [--lock KIND] [--svg]`, `lrc sample [FILE] [--seeds N] [--lock KIND]`,
-/// `lrc explore [FILE] [--most N]` or `lrc check [FILE] [--model NAME] [--lax] [--race-is-error]`.
+/// `lrc explain [FILE] [--seed N | --schedule S] [--lock KIND] [--svg | --html] [--state] [--events A..B] [--processors P,..]`,
+/// `lrc sample [FILE] [--seeds N] [--lock KIND] [--json]`, `lrc explore [FILE] [--most N] [--json]` or
+/// `lrc check [FILE] [--model NAME] [--lax] [--race-is-error] [--json]`.
 /// Help names the commands that the program has; the words of the others are read all the same.
 ///
 /// # Errors
 ///
 /// clap's, of just the kind that its own function of the command finds in the words: words that give no such command,
-/// a question for help; a conflict, if they give a seed and a schedule; or running out of memory.
+/// a question for help; a conflict, if they give a seed and a schedule; a bad value, if they give events or processors that can't
+/// be read; or running out of memory.
 pub fn options<'a>(alloc: Global, words: &'a [String], commands: Commands) -> Result<Asked, Error>
     ensures given { IfOk result (AreGivenOptions (map (λ w. string_bytes w) words.entry.now)) }
     ensures refused { IfErr result (IsRefusedCommandLine (map (λ w. string_bytes w) words.entry.now)) }

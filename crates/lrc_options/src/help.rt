@@ -60,6 +60,9 @@ What is printed:
 pub(crate) const EXPLAIN: &str = "The script is as `lrc run --help` tells it. What is printed:
   a line for each event    its number, what it did, in its processor's column, and why: which store a load
                            answers, what a fetch brought, for whom a processor waits
+  timestamp T ..           with --state, below each event: its processor's vector timestamp; the interval that
+                           it lies in or closes (pW:N is interval N of processor W), and its records; the
+                           write notices that it brings; which copies of pages are stale or dirty
   a race                   the first one: its two events, and what the second had heard of the first
   word, verdict, traffic   as `lrc step` prints them; where no processor gets on, what each waits for
 
@@ -116,7 +119,7 @@ What is printed:
   faithful                such a memory can make each of them, but for what isn't judged:
     unjudged counts order   with --lax: the counts of fetches, and the order of a lock's asks
     unjudged N loads        under race-free: N loads from the first race on
-    verdict race-free       or `racy`, and then the two events of the first race
+    verdict race-free       or `racy`, and then the two events of the first race, and what would have ordered them
     traffic M R W           M messages; R records with W words in all, as its fetches tell
   unfaithful I            no such memory makes event I after those before it, which are faithful; behind the
                           race, if it has one by then:
@@ -145,12 +148,25 @@ pub(crate) const JOURNAL: &str = "prints a line for each event too";
 
 pub(crate) const SVG: &str = "draws the run in place of its text: prints an SVG file";
 
+pub(crate) const HTML: &str =
+    "prints a page that steps through the picture and the memory's state, as an HTML file";
+
+pub(crate) const STATE: &str = "tells the protocol's state at each event, too";
+
+pub(crate) const EVENTS: &str =
+    "tells the events from A to B alone; A.. for those from A on, ..B for those up to B";
+
+pub(crate) const PROCESSORS: &str =
+    "tells the events of these processors alone, given by their numbers";
+
 pub(crate) const LAX: &str =
     "leaves out what only this memory asks: the order of a lock's asks, and counts of fetches";
 
 pub(crate) const MODEL: &str = "what the loads owe";
 
 pub(crate) const RACE_IS_ERROR: &str = "ends with the first race, and with status 8";
+
+pub(crate) const JSON: &str = "prints JSON in place of text: an object a line";
 
 /// The file that a command reads.
 pub(crate) const SCRIPT_FILE: &str = "the script; standard input where it isn't given";

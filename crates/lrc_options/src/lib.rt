@@ -14,4 +14,5 @@ mod command;
 pub mod command_line;
 mod help;
 pub mod options;
+pub mod ranges;
 mod tips;

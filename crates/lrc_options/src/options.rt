@@ -1,5 +1,8 @@
 //! What the program is to do.
 
+use crate::ranges::EventRange;
+use base::MOST_PROCESSORS;
+
 /// Which commands the program has.
 #[derive(Clone, Copy)]
 pub enum Commands {
@@ -35,8 +38,16 @@ pub struct ExplainOptions {
     pub schedule: Option<String>,
     /// Whether the book's lock is the ticket lock, and not the array lock.
     pub ticket: bool,
-    /// Whether a picture of the run is printed, as an SVG file, and not its text.
+    /// Whether a picture of the run is printed and not its text: as an SVG file, or in a page.
     pub picture: bool,
+    /// Whether it is printed in a page that steps through the run, as an HTML file.
+    pub page: bool,
+    /// Whether the protocol's state at each event is told, too.
+    pub state: bool,
+    /// Which events are told, by their numbers.
+    pub events: EventRange,
+    /// Of each processor, whether its events are told.
+    pub processors: [bool; MOST_PROCESSORS],
 }
 
 /// How a script is to be sampled.
@@ -48,6 +59,8 @@ pub struct SampleOptions {
     pub seeds: u32,
     /// Whether the book's lock is the ticket lock, and not the array lock.
     pub ticket: bool,
+    /// Whether the answer is JSON, an object a line, and not text.
+    pub json: bool,
 }
 
 /// How far all schedules of a script are to be looked at.
@@ -57,6 +70,8 @@ pub struct ExploreOptions {
     pub file: Option<String>,
     /// How many states are looked at before the search is given up.
     pub most: u32,
+    /// Whether the answer is JSON, an object a line, and not text.
+    pub json: bool,
 }
 
 /// How a trace is to be judged.
@@ -70,6 +85,8 @@ pub struct TraceOptions {
     pub lax: bool,
     /// Whether judging ends with a race, and the exit status tells it.
     pub race_is_error: bool,
+    /// Whether the answer is JSON, an object a line, and not text.
+    pub json: bool,
 }
 
 /// The model of memory by which a trace is judged.

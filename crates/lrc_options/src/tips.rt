@@ -3,11 +3,11 @@ ghost use Rattle.std.specs.Prelude.{◌≡◌, IfOk};
 ghost use Rattle.clap.specs.Words.{kind_of};
 
 use clap::error::ErrorKind;
-use clap::{Command, Error};
+use clap::{ArgMatches, Command, Error};
 use std::alloc::{AllocError, Global};
 
 /// Each command with each option that it has. Of the commands that have an option the first one is named.
-const OPTIONS: [(&str, &str); 17] = [
+const OPTIONS: [(&str, &str); 24] = [
     ("run", "--tries"),
     ("run", "--lock"),
     ("run", "--journal"),
@@ -19,12 +19,19 @@ const OPTIONS: [(&str, &str); 17] = [
     ("explain", "--schedule"),
     ("explain", "--lock"),
     ("explain", "--svg"),
+    ("explain", "--html"),
+    ("explain", "--state"),
+    ("explain", "--events"),
+    ("explain", "--processors"),
     ("sample", "--seeds"),
     ("sample", "--lock"),
+    ("sample", "--json"),
     ("explore", "--most"),
+    ("explore", "--json"),
     ("check", "--model"),
     ("check", "--lax"),
     ("check", "--race-is-error"),
+    ("check", "--json"),
 ];
 
 /// A command that was given an option that it lacks, and a command that has it.
@@ -62,6 +69,26 @@ pub(crate) fn both_given(alloc: Global, command: &str) -> Result<Error, AllocErr
     let usage = format!(in alloc; "lrc {command} [OPTIONS] [FILE]")?;
     let mut lrc = Command::new(alloc, "lrc").override_usage(&usage);
     lrc.error(ErrorKind::ArgumentConflict, text)
+}
+
+/// The fault of usage that what the command is given for this option, whose value is written so, isn't what this says.
+pub(crate) fn not_read(
+    alloc: Global,
+    command: &str,
+    matches: &ArgMatches<'_>,
+    option: &str,
+    value: &str,
+    want: &str,
+) -> Result<Error, AllocError>
+    ensures { IfOk result (λ e. kind_of e ≡ ErrorKind.ValueValidation) }
+{
+    let given = matches.get_str(option).unwrap_or("");
+    let text = format!(in alloc;
+        "invalid value '{given}' for '--{option} <{value}>': it isn't {want}"
+    )?;
+    let usage = format!(in alloc; "lrc {command} [OPTIONS] [FILE]")?;
+    let mut lrc = Command::new(alloc, "lrc").override_usage(&usage);
+    lrc.error(ErrorKind::ValueValidation, &text)
 }
 
 /// Whether it is a command.

@@ -1,3 +1,4 @@
 pub mod Served
 pub mod Statuses
 pub mod Prelude
+pub mod Hints

@@ -4,9 +4,9 @@ ghost use Rattle.lrc_script.specs.declared.fault.ScriptFault.TheVariants.{NoMemo
 ghost use Rattle.lrc_program.specs.Prelude.{IsScriptsStatus, status_of};
 ghost use Rattle.lrc_program.specs.declared.fault.ProgramFault.TheVariants as program;
 
+use crate::hints::hint::hint;
 use book::Refused;
 use conformance::{Cause, Misfit, RunFault, ScheduleFault};
-use lrc_hints::hint::hint;
 use lrc_report::render::OutFault;
 use lrc_script::fault::ScriptFault;
 use std::alloc::{AllocError, Global};

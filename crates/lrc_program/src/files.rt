@@ -3,13 +3,22 @@ ghost use Rattle.std.specs.Prelude.{◌<◌};
 
 use crate::fault::ProgramFault;
 use crate::program::{program, say};
+use crate::reasons::{KeepsReason, say_reason};
 use conformance::Runs;
 use lrc_options::options::Options;
 use std::fs::File;
 use std::sync::Wait;
 use std::thread::Threads;
 
-/// Runs the script of the file, or of standard input if no file is given, and answers the status. The handle is what
+/// The file to open, or None for standard input: no file is given, or `-`.
+pub fn file_named(file: &Option<String>) -> Option<&str> {
+    match file.as_deref() {
+        Some("-") | None => None,
+        Some(path) => Some(path),
+    }
+}
+
+/// Runs the script of the file, or of standard input if no file or `-` is given, and answers the status. The handle is what
 /// threads are started by.
 pub fn run_file<T: Runs, R: Threads + Wait + Sync>(
     rt: &HostRuntime,
@@ -20,8 +29,8 @@ pub fn run_file<T: Runs, R: Threads + Wait + Sync>(
     requires { 0 < options.now.tries }
 {
     let alloc = rt.alloc();
-    let (mut out, mut err) = (rt.stdout(), rt.stderr());
-    match options.file.as_deref() {
+    let (mut out, mut err) = (KeepsReason::new(rt.stdout()), rt.stderr());
+    let status = match file_named(&options.file) {
         None => program(
             runs,
             handle,
@@ -43,5 +52,7 @@ pub fn run_file<T: Runs, R: Threads + Wait + Sync>(
             ),
             Err(error) => say(alloc, Some(path), ProgramFault::from(error), &mut err),
         },
-    }
+    };
+    say_reason(alloc, out.reason(), &mut err);
+    status
 }

@@ -17,8 +17,10 @@
 
 pub mod fault;
 mod files;
+pub mod hints;
 pub mod program;
+pub mod reasons;
 mod words;
 
-pub use files::run_file;
+pub use files::{file_named, run_file};
 pub use words::{answer_words, refuse, words_of};

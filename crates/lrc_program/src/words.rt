@@ -2,6 +2,7 @@
 
 use crate::fault::ProgramFault;
 use crate::program::say;
+use crate::reasons::say_reason;
 use clap::Error;
 use clap::error::ErrorKind;
 use std::io;
@@ -19,7 +20,11 @@ pub fn answer_words(rt: &HostRuntime, error: &Error) -> u8 {
     let printed = error.print(rt);
     match (error.exit_code(), printed) {
         (0, Ok(())) => 0,
-        (0, Err(_)) => refuse(rt, ProgramFault::Output),
+        (0, Err(reason)) => {
+            let status = refuse(rt, ProgramFault::Output);
+            say_reason(rt.alloc(), Some(reason), &mut rt.stderr());
+            status
+        }
         _ => 5,
     }
 }

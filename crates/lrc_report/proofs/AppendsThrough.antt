@@ -13,15 +13,6 @@ use Rattle.lrc_report.specs.WritesThrough.{AppendsFront, PassesThrough}
 abbrev pub IsUnderWay : Option (List ℕ) → Option (List ℕ) → List ℕ → List ℕ → Type 0
 IsUnderWay old new text rest = (done : List ℕ) × (text ≡ done ++ rest) × Appends old new done
 
--- nothing yet
-pub under_way_none : (old : Option (List ℕ)) (text : List ℕ) → IsUnderWay old old text text
-under_way_none old text = ([], refl, Appends-nil old)
-
--- a text of which some was written
-pub under_way_front : (old new : Option (List ℕ)) (text rest : List ℕ) → IsUnderWay old new text rest
-    → AppendsFront old new text
-under_way_front old new text rest u = (u.0, rest, u.1, u.2)
-
 -- n bytes more
 pub under_way_more : (old mid new : Option (List ℕ)) (text rest : List ℕ) (n : ℕ) → IsUnderWay old mid text rest
     → Appends mid new (take n rest) → IsUnderWay old new text (take (length rest - n) (drop n rest))
@@ -63,10 +54,6 @@ passes_through_written old mid new before after text none first second =
       appends =
           Appends-trans old mid new before text first second;
     }
-
--- no text
-pub passes_through_none : (old : Option (List ℕ)) (before : List ℕ) → PassesThrough old old before before []
-passes_through_none old before = record { done = []; whole = append-nil before; appends = Appends-nil old }
 
 -- a text, and then another
 pub passes_through_then : (a b c : Option (List ℕ)) (k l m xs ys : List ℕ) → PassesThrough a b k l xs → PassesThrough b c l m ys

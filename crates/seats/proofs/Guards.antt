@@ -17,21 +17,6 @@ use Rattle.seats.specs.Deeds.{deeds, is_deed}
 use Rattle.seats.specs.Guards.{Guards, KeepsTo, held_on, held_then, holds_after, may_do, phase_after}
 use Rattle.seats.proofs.Deeds.{no_deed, others_deed, own_deed, own_deeds-append}
 
--- one thing more that it may do
-pub keeps_more : (g : Guards) (p : ℕ) (ks : List Kind) (k : Kind) → KeepsTo g p ks → may_do g p ks k ≡ true
-    → KeepsTo g p (ks ++ k ∷ [])
-keeps_more g p ks k keeps may = record {
-  each = λ i x at. elim (slice_push_cases ks k i x at) [
-    | inl old ↦ (let same : take i (ks ++ k ∷ []) ≡ take i ks = take-append-le i ks (k ∷ []) (omega (arith, old.0)) in
-        rw same (keeps.each i x old.1))
-    | inr new ↦ (let same : take i (ks ++ k ∷ []) ≡ ks = rw new.0 (take-append_seam ks (k ∷ [])) in
-        rw same (subst (λ y. may_do g p ks y ≡ true) new.1 may))
-  ];
-}
-
-pub keeps_none : (g : Guards) (p : ℕ) → KeepsTo g p []
-keeps_none g p = record { each = λ i k at. absurd (cc) }
-
 pub held_on-append : (ks ls : List Kind) (l : ℕ) (b : Bool) → held_on (ks ++ ls) l b ≡ held_on ls l (held_on ks l b)
 held_on-append [] ls l b = refl
 held_on-append (k ∷ ks) ls l b = held_on-append ks ls l (held_then k l b)

@@ -26,23 +26,6 @@ lines_joined_again : (rest : List ℕ) (parts : List (List ℕ)) → parts_of_li
 lines_joined_again rest [] e some = absurd (omega arith)
 lines_joined_again rest (v ∷ vs) e some = ap (λ (x : List ℕ). 10 ∷ x) (sym (parts_words_whole 10 rest v vs e))
 
-lines_count : (c : ℕ) (bytes : List ℕ) → 0 < length (parts_of_line c bytes)
-lines_count c bytes = omega (arith, length-slice_split (λ b. eqb b c) bytes)
-
-pub line_cut_from_parts : (bytes line rest : List ℕ) → parts_of_line 10 bytes ≡ line ∷ parts_of_line 10 rest → IsLineCut bytes line rest
-line_cut_from_parts bytes line rest e = record {
-  bytes_are =
-      parts_words_whole 10 bytes line (parts_of_line 10 rest) e
-      ∙ ap (λ (x : List ℕ). line ++ x) (lines_joined_again rest (parts_of_line 10 rest) refl (lines_count 10 rest));
-  one_line = (subst (λ (parts : List (List ℕ)). AllByRecursion (HasNo 10) parts) e (parts_of_words_clean 10 bytes)).0;
-}
-
-pub no_line_from_parts : (bytes line : List ℕ) → parts_of_line 10 bytes ≡ line ∷ [] → HasNo 10 bytes
-no_line_from_parts bytes line e =
-    let same : bytes ≡ line = parts_words_whole 10 bytes line [] e ∙ append-nil line in
-    subst (HasNo 10) (sym same)
-    (subst (λ (parts : List (List ℕ)). AllByRecursion (HasNo 10) parts) e (parts_of_words_clean 10 bytes)).0
-
 pub at_first_line : (bytes : List ℕ) → IsAtLine bytes 1 Nothing bytes
 at_first_line bytes = record { begun = tt; whole = refl; number = refl }
 

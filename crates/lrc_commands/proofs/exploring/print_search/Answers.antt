@@ -6,5 +6,5 @@ returns-clause-written g c = record {
   explored = c.in_ok-explored.explored;
   is = c.in_ok-explored.ensures;
   decided_is = sym c.is_settled.ensures;
-  written = c.in_ok-render.ensures.written;
+  written = c.in_ok-write_search.ensures.written;
 }

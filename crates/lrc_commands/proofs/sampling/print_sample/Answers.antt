@@ -11,5 +11,5 @@ returns-clause-written g c =
     record {
       sampled = c.in_ok-sampled.sampled;
       tells = subst P c.lock_of-lock.ensures c.in_ok-sampled.ensures;
-      written = c.in_ok-render.ensures.written;
+      written = c.in_ok-write_sample.ensures.written;
     }

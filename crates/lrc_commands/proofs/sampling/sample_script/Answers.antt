@@ -4,7 +4,7 @@ use Rattle.lrc_commands.proofs.sampling.sample_script.Goals as goal
 
 pub returns-clause-sampled : goal.returns-clause-sampled
 returns-clause-sampled g c =
-    serves_sample _ _ (plan_of c.in_ok-script.script) _ _ _ c.print_sample.result c.in_ok-script.ensures.read
+    serves_sample _ _ _ (plan_of c.in_ok-script.script) _ _ _ c.print_sample.result c.in_ok-script.ensures.read
     c.print_sample.ensures.written
 
 pub returns-clause-refused : goal.returns-clause-refused

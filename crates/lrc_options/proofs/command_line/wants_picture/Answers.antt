@@ -1,9 +1,23 @@
-use Rattle.std.proofs.Common.{codes}
-use Rattle.clap.specs.Words.{found_of}
-use Rattle.lrc_options.proofs.OptionRules.{flag_option_read}
+use Rattle.std.proofs.Common.{◌≡◌, refl, subst, sym}
+use Rattle.std.specs.Prelude.{Bool, ◌||◌}
 use Rattle.lrc_options.proofs.command_line.wants_picture.Goals as goal
 
-pub returns : goal.returns
-returns c =
-    flag_option_read (found_of c.args.matches.now) (codes "svg") c.get_flag.result c.get_flag.ensures.none
-    c.get_flag.ensures.value c.get_flag.ensures.other
+pub returns-then-svg : goal.returns-then-svg
+returns-then-svg c =
+    let page : Bool = c.wants_page-page.result in (
+      c.wants_svg-svg.result,
+      page,
+      c.wants_svg-svg.ensures,
+      c.wants_page-page.ensures,
+      subst (λ svg. svg ≡ (svg || page)) (sym c.if-svg.true) refl,
+    )
+
+pub returns-else-svg : goal.returns-else-svg
+returns-else-svg c =
+    let page : Bool = c.wants_page-page.result in (
+      c.wants_svg-svg.result,
+      page,
+      c.wants_svg-svg.ensures,
+      c.wants_page-page.ensures,
+      subst (λ svg. page ≡ (svg || page)) (sym c.if-svg.false) refl,
+    )

@@ -1,0 +1,112 @@
+//! Which events are told, and of which processors: what the texts of `--events` and `--processors` give.
+ghost use Rattle.std.specs.Prelude.{ℕ, ◌≡◌, ◌≢◌, ◌<◌, ◌≤◌, ◌↔◌, [], ◌∷◌, Bool, IfSome, IsTrue, List, MatchOption, Option};
+ghost use Rattle.base.specs.Prelude.{most_processors};
+ghost use Rattle.lrc_script.specs.Prelude.{number_read, parts_of_line};
+ghost use Rattle.lrc_options.specs.declared.ranges.EventRange.{EventRange};
+ghost use Rattle.lrc_options.specs.Ranges.{AreProcessorsWritten, IsRangeEnd, IsRangeStart, IsRangeWritten};
+
+use base::MOST_PROCESSORS;
+use lrc_script::line::{number, split_at_byte};
+
+/// Events by their numbers, which follow each other.
+#[derive(Clone, Copy)]
+pub struct EventRange {
+    /// The first one's number.
+    pub first: usize,
+    /// The number behind the last one; None where they go on to the end.
+    pub end: Option<usize>,
+}
+
+/// All events.
+pub(crate) const ALL_EVENTS: EventRange = EventRange {
+    first: 0,
+    end: None,
+};
+
+/// Where a range starts whose text begins so: at 0 where nothing is written.
+fn start_of(text: &[u8]) -> Option<usize>
+    ensures { MatchOption result ((n : ℕ) → ¬ IsRangeStart text.now n) (IsRangeStart text.now) }
+{
+    if text.is_empty() {
+        return Some(0);
+    }
+    let first = number(text)?;
+    Some(first as usize)
+}
+
+/// The number behind the last one of a range whose text ends so; None where nothing is written.
+fn end_of(text: &[u8]) -> Option<Option<usize>>
+    ensures { MatchOption result ((o : Option ℕ) → ¬ IsRangeEnd text.now o) (IsRangeEnd text.now) }
+{
+    if text.is_empty() {
+        return Some(None);
+    }
+    let last = number(text)?;
+    Some(Some(last as usize + 1))
+}
+
+/// What stands before the two dots of a text, and what stands behind them; None where it has no two dots, or others.
+fn around_dots(text: &str) -> Option<(&[u8], &[u8])>
+    ensures { MatchOption result ((from to : List ℕ) → parts_of_line 46 text.now ≢ from ∷ [] ∷ to ∷ [])
+        (λ x. parts_of_line 46 text.now ≡ x.0.now ∷ [] ∷ x.1.now ∷ []) }
+{
+    let (from, rest) = split_at_byte(text.as_bytes(), b'.');
+    let (between, rest) = split_at_byte(rest?, b'.');
+    let (to, rest) = split_at_byte(rest?, b'.');
+    if !between.is_empty() || rest.is_some() {
+        return None;
+    }
+    Some((from, to))
+}
+
+/// Whether events of these numbers are some.
+fn are_some(first: usize, end: Option<usize>) -> bool
+    ensures { IsTrue result ↔ IfSome end (λ n. first < n) }
+{
+    match end {
+        Some(end) => first < end,
+        None => true,
+    }
+}
+
+/// The range that a text gives: `A..B` for the events from A to B, both of them with it, `A..` for those from A on, and `..B` for
+/// those up to B. None where it gives none.
+pub(crate) fn event_range(text: &str) -> Option<EventRange>
+    ensures { MatchOption result ((x : EventRange) → ¬ IsRangeWritten text.now x) (IsRangeWritten text.now) }
+{
+    let (from, to) = around_dots(text)?;
+    let first = start_of(from)?;
+    let end = end_of(to)?;
+    if !are_some(first, end) {
+        return None;
+    }
+    Some(EventRange { first, end })
+}
+
+/// The processor that is written so, if there may be one of that number.
+fn processor(text: &[u8]) -> Option<usize>
+    ensures { MatchOption result ((p : ℕ) → number_read text.now ≡ Some p → most_processors ≤ p)
+        (λ p. (number_read text.now ≡ Some p) × (p < most_processors)) }
+{
+    let processor = number(text)? as usize;
+    if processor < MOST_PROCESSORS {
+        Some(processor)
+    } else {
+        None
+    }
+}
+
+/// Of each processor whether the text names it: numbers with commas between. None where one of them is no processor's.
+pub(crate) fn processors(text: &str) -> Option<[bool; MOST_PROCESSORS]>
+    ensures { MatchOption result ((marks : List Bool) → ¬ AreProcessorsWritten (parts_of_line 44 text.now) marks)
+        (AreProcessorsWritten (parts_of_line 44 text.now)) }
+{
+    let mut marks = [false; MOST_PROCESSORS];
+    let mut rest = Some(text.as_bytes());
+    while let Some(bytes) = rest {
+        let (item, after) = split_at_byte(bytes, b',');
+        marks[processor(item)?] = true;
+        rest = after;
+    }
+    Some(marks)
+}

@@ -1,0 +1,214 @@
+//! What is said of a faulty line: what may stand there, and the likely cause.
+
+use crate::hints::excerpt::line_at;
+use crate::hints::forms::meant;
+use crate::hints::word::{Amiss, amiss_in, no_below, no_number, no_size, place_of, word_at};
+use base::{MOST_FLAGS, MOST_LOCKS, MOST_PAGES, MOST_PROCESSORS, MOST_WORDS};
+use lrc_script::fault::ScriptFault;
+use lrc_script::line::split_at_byte;
+use lrc_script::script::{MOST_INSTRUCTIONS, MOST_SHOWN, read_sizes};
+use std::alloc::{AllocError, Global};
+
+/// A line of a script that has a fault.
+#[derive(Clone, Copy)]
+pub(crate) struct FaultyLine<'a> {
+    /// The script's bytes, and the line's, which has this number, counted from 1.
+    pub(crate) script: &'a [u8],
+    pub(crate) line: &'a [u8],
+    pub(crate) number: usize,
+    pub(crate) fault: ScriptFault,
+}
+
+/// How many of each a script has; none of each if its sizes can't be read.
+#[derive(Clone, Copy)]
+struct Bounds {
+    processors: usize,
+    addresses: usize,
+    locks: usize,
+    flags: usize,
+}
+
+/// Those that the script's first line gives.
+fn bounds_of(alloc: Global, script: &[u8]) -> Bounds {
+    match read_sizes(alloc, line_at(script, 1)) {
+        Ok(sizes) => Bounds {
+            processors: sizes.processors,
+            addresses: sizes.pages.saturating_mul(sizes.words),
+            locks: sizes.locks,
+            flags: sizes.flags,
+        },
+        Err(_) => Bounds {
+            processors: 0,
+            addresses: 0,
+            locks: 0,
+            flags: 0,
+        },
+    }
+}
+
+/// How many sections begin before the line.
+fn sections_before(at: FaultyLine<'_>) -> usize {
+    at.script
+        .split(|byte| *byte == b'\n')
+        .take(at.number.saturating_sub(1))
+        .filter(|line| line.starts_with(b"p "))
+        .count()
+}
+
+/// Adds which line is due there.
+fn put_due_advice(text: &mut String, at: FaultyLine<'_>, bounds: Bounds) -> Result<(), AllocError> {
+    if at.number == 1 {
+        return text.push_str("  expected cluster PROCESSORS PAGES WORDS LOCKS [FLAGS]\n");
+    }
+    if at.number == 2 {
+        return text.push_str("  expected p 0\n");
+    }
+    if line_at(at.script, at.number.saturating_sub(1)).starts_with(b"show ") {
+        return text.push_str("  expected no line behind show\n");
+    }
+    let section = sections_before(at);
+    if section < bounds.processors {
+        write!(text, "  expected an instruction, or p {section}\n")
+    } else {
+        text.push_str("  expected an instruction, or show ADDRESS ..\n")
+    }
+}
+
+/// Adds that one of so many is expected.
+fn put_bound_advice(text: &mut String, what: &str, count: usize) -> Result<(), AllocError> {
+    if count == 0 {
+        return text.push_str("  the script has none\n");
+    }
+    let last = count - 1;
+    write!(text, "  expected {what} from 0 to {last}\n")
+}
+
+/// Adds that one of the known words is meant, if one is near.
+fn put_meant_advice(alloc: Global, text: &mut String, line: &[u8]) -> Result<(), AllocError> {
+    let (word, _) = split_at_byte(line, b' ');
+    match meant(alloc, word)? {
+        Some(known) => write!(text, "  is {known} meant?\n"),
+        None => Ok(()),
+    }
+}
+
+/// What is likely the cause that a line isn't understood, or has a word that is no number.
+fn cause_of(amiss: Amiss) -> &'static str {
+    match amiss {
+        Amiss::Mark => "  the file begins with a byte order mark\n",
+        Amiss::Blank => "  scripts have no blank lines\n",
+        Amiss::Comment(_) => "  scripts have no comments\n",
+        Amiss::Return => "  the line ends with CR LF: lines end with LF alone\n",
+        Amiss::Tab(_) => "  a tab stands there: one space stands between two words\n",
+        Amiss::Indented => "  lines aren't indented\n",
+        Amiss::Spaces(_) => "  one space stands between two words, and none at the end\n",
+        Amiss::Unknown | Amiss::Count(_) | Amiss::Misplaced => "",
+    }
+}
+
+/// Adds what is said of a line that isn't understood.
+fn put_line_advice(
+    alloc: Global,
+    text: &mut String,
+    at: FaultyLine<'_>,
+    bounds: Bounds,
+) -> Result<(), AllocError> {
+    let amiss = amiss_in(at.line);
+    match amiss {
+        Amiss::Count(form) => {
+            let written = form.written;
+            write!(text, "  expected {written}\n")
+        }
+        Amiss::Misplaced => put_due_advice(text, at, bounds),
+        Amiss::Unknown => {
+            put_due_advice(text, at, bounds)?;
+            put_meant_advice(alloc, text, at.line)
+        }
+        _ => text.push_str(cause_of(amiss)),
+    }
+}
+
+/// Whether the word is of digits alone.
+fn is_of_digits(word: &[u8]) -> bool {
+    !word.is_empty() && word.iter().all(|byte| byte.is_ascii_digit())
+}
+
+/// Adds what is said of a word that is no number.
+fn put_number_advice(text: &mut String, at: FaultyLine<'_>) -> Result<(), AllocError> {
+    text.push_str("  expected a number from 0 to 4294967295\n")?;
+    if at.line.ends_with(b"\r") {
+        return text.push_str(cause_of(Amiss::Return));
+    }
+    let place = no_number(at.line).min(at.line.len());
+    let (word, _) = split_at_byte(&at.line[place..], b' ');
+    if word.starts_with(b"0") && is_of_digits(word) {
+        return text.push_str("  numbers have no leading zeros\n");
+    }
+    Ok(())
+}
+
+/// Adds what is said of a text that ends too early.
+fn put_end_advice(text: &mut String, at: FaultyLine<'_>, bounds: Bounds) -> Result<(), AllocError> {
+    if at.line.is_empty() {
+        return put_due_advice(text, at, bounds);
+    }
+    text.push_str("  expected a line feed at the end of the line\n")
+}
+
+/// Adds what is said of too many instructions or addresses.
+fn put_count_advice(text: &mut String, at: FaultyLine<'_>) -> Result<(), AllocError> {
+    if at.line.starts_with(b"show ") {
+        write!(text, "  expected {MOST_SHOWN} addresses at most\n")
+    } else {
+        write!(
+            text,
+            "  expected {MOST_INSTRUCTIONS} instructions at most\n"
+        )
+    }
+}
+
+/// What may stand there, and the likely cause, each in a line that begins with two spaces.
+pub(crate) fn advice(alloc: Global, at: FaultyLine<'_>) -> Result<String, AllocError> {
+    let mut text = String::new(alloc);
+    let bounds = bounds_of(alloc, at.script);
+    match at.fault {
+        ScriptFault::Truncated => put_end_advice(&mut text, at, bounds)?,
+        ScriptFault::BadLine => put_line_advice(alloc, &mut text, at, bounds)?,
+        ScriptFault::BadNumber => put_number_advice(&mut text, at)?,
+        ScriptFault::BadSize => write!(
+            text,
+            "  expected 1 to {MOST_PROCESSORS} processors, 1 to {MOST_PAGES} pages, 1 to {MOST_WORDS} words, 0 to {MOST_LOCKS} locks, 1 to {MOST_FLAGS} flags\n"
+        )?,
+        ScriptFault::OutOfRange => put_bound_advice(&mut text, "an address", bounds.addresses)?,
+        ScriptFault::BadLock => put_bound_advice(&mut text, "a lock", bounds.locks)?,
+        ScriptFault::BadFlag => put_bound_advice(&mut text, "a flag", bounds.flags)?,
+        ScriptFault::AlreadyHeld => text.push_str(
+            "  expected a lock that the section doesn't hold\n",
+        )?,
+        ScriptFault::NotHeld => text.push_str("  expected a lock that the section holds\n")?,
+        ScriptFault::TooLong => put_count_advice(&mut text, at)?,
+        ScriptFault::Uneven => text.push_str(
+            "  expected a section with as many barriers as section 0\n",
+        )?,
+        ScriptFault::NoMemory => {}
+    }
+    Ok(text)
+}
+
+/// Behind how many bytes of the line the faulty word begins.
+pub(crate) fn faulty_word(alloc: Global, at: FaultyLine<'_>) -> usize {
+    match at.fault {
+        ScriptFault::Truncated => at.line.len(),
+        ScriptFault::BadLine => place_of(amiss_in(at.line), at.line),
+        ScriptFault::BadNumber => no_number(at.line),
+        ScriptFault::BadSize => no_size(at.line),
+        ScriptFault::OutOfRange => no_below(at.line, bounds_of(alloc, at.script).addresses),
+        ScriptFault::BadLock
+        | ScriptFault::BadFlag
+        | ScriptFault::AlreadyHeld
+        | ScriptFault::NotHeld
+        | ScriptFault::Uneven => word_at(at.line, 1),
+        ScriptFault::TooLong if at.line.starts_with(b"show ") => word_at(at.line, MOST_SHOWN + 1),
+        ScriptFault::TooLong | ScriptFault::NoMemory => 0,
+    }
+}
