@@ -2,9 +2,10 @@
 ghost use Rattle.std.specs.Prelude.{◌≡◌, ◌<◌, ◌≤◌, All, IsTrue, length};
 ghost use Rattle.base.specs.Prelude.{most_held, most_processors};
 ghost use Rattle.journal.specs.Prelude.{ProcessorsInRange};
-ghost use Rattle.lrc_picture.specs.Prelude.{ArePlaces, ArrowInside};
+ghost use Rattle.lrc_picture.specs.Prelude.{ArePlaces};
 
 use super::{Row, history};
+use causes::Part;
 use journal::{Event, Kind, MOST_HELD, MOST_PROCESSORS};
 use lrc_picture::picture::render;
 use lrc_picture::story::{Details, Story};
@@ -59,16 +60,6 @@ fn are_places(count: usize, rows: &[Vec<usize>]) -> bool
         }
     }
     rows.len() == count
-}
-
-/// Whether the places of a race lie below `count`.
-fn is_within(count: usize, race: Option<(usize, usize)>) -> bool
-    ensures { IsTrue result → ArrowInside count race }
-{
-    match race {
-        Some((first, second)) => first < count && second < count,
-        None => true,
-    }
 }
 
 /// The places from which arrows lead to this one.
@@ -183,11 +174,11 @@ fn picture<R: Abort + AllocGlobal>(rt: &R, case: &Case<'_>) -> Result<Vec<u8>, F
     assert!(rt; story.events.len() <= MOST_HELD && story.processors <= MOST_PROCESSORS);
     assert!(rt; are_by(story.processors, story.events));
     assert!(rt; are_places(story.events.len(), story.incoming));
-    assert!(rt; is_within(story.events.len(), story.race));
+    let part = Part::whole();
     let mut out = Vec::new(alloc);
-    if render(alloc, &story, &mut out).is_err() {
+    if render(alloc, &story, &part, &mut out).is_err() {
         out.clear();
-        assert!(rt; render(alloc, &story, &mut out).is_ok());
+        assert!(rt; render(alloc, &story, &part, &mut out).is_ok());
     }
     Ok(out)
 }

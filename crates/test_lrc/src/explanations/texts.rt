@@ -7,7 +7,7 @@ mod cases;
 use cases::{CASES, Case};
 use conformance::{Ended, Halt};
 use journal::{Event, Journal, Kind, MOST_HELD, MOST_PROCESSORS, Traffic};
-use lrc_explain::{ExplainFault, render};
+use lrc_explain::{ExplainFault, Extent, render};
 use lrc_report::Report;
 use std::alloc::Global;
 use std::io;
@@ -84,7 +84,14 @@ fn run_of(alloc: Global, case: Case) -> Result<Ended, Fail> {
 fn has_text(alloc: Global, case: Case) -> Result<bool, Fail> {
     let run = run_of(alloc, case)?;
     let mut out = Vec::new(alloc);
-    let answer = render(alloc, case.processors, None, &run, &mut out);
+    let answer = render(
+        alloc,
+        case.processors,
+        None,
+        &Extent::whole(),
+        &run,
+        &mut out,
+    );
     Ok(answer.is_ok() && out.as_slice() == case.text.as_bytes())
 }
 
@@ -124,7 +131,7 @@ fn answer_of(
 ) -> Result<(Result<(), ExplainFault>, u32), Fail> {
     let run = run_of(alloc, case)?;
     let mut out = Counts { writes: 0, fails };
-    let answer = render(alloc, processors, None, &run, &mut out);
+    let answer = render(alloc, processors, None, &Extent::whole(), &run, &mut out);
     Ok((answer, out.writes))
 }
 
@@ -140,7 +147,7 @@ fn pages(rt: HostRuntime) -> Result<(), Fail> {
             fails: false,
         };
         let writes = u32::from(want.is_ok());
-        assert!(&rt; render(alloc, 2, Some(words), &run, &mut out) == want);
+        assert!(&rt; render(alloc, 2, Some(words), &Extent::whole(), &run, &mut out) == want);
         assert!(&rt; out.writes == writes);
     }
     Ok(())
