@@ -25,7 +25,12 @@ WANTED = {
     "a lock's number changed": ("no trace", "ill formed"),
     FLAT: ("unexplained",),
 }
-TURNS = {"texts": turns.TEXTS, "reports": turns.REPORTS, "cut reports": turns.REPORTS, "traces": turns.TRACES}
+TURNS = {"texts": turns.TEXTS, "reports": turns.REPORTS, "cut reports": turns.REPORTS, "states": turns.STATES,
+         "traces": turns.TRACES}
+STATES = ("runs", "events", "in parts", "records", "notices", "stale", "dirty")
+# Of JSON what has to be told.
+JSON = (("result", ("race-free", "racy")), ("search", ("race-free", "racy", "undecided")),
+        ("trace", ("race", "form", "answer", "count")))
 COUNTED = ("reports", "racy", "cut", "events", "fetches")
 
 
@@ -58,11 +63,14 @@ def lines(seen):
     yield from lines_of_texts(seen)
     for sort in SORTS:
         yield f"{name_of(sort)}: {counts(seen, sort, of=('scripts', *COUNTED, 'on threads'))}"
+    yield f"states: {counts(seen, 'states', of=('scripts', *STATES))}"
     yield f"traces: {counts(seen, 'traces', of=('scripts', *COUNTED, 'on threads'))}"
     for way in WANTED:
         yield line_of_way(seen, way)
     for model in verdicts.MODELS:
         yield f"traces under {model}: {counts(seen, 'model', model, of=OF_MODELS)}"
+    yield f"JSON: {seen['json', 'scripts']} scripts; " + "; ".join(
+        f"{what}: {counts(seen, 'json', what, of=kinds)}" for what, kinds in JSON)
     yield from lines_of_turns(seen)
 
 
@@ -77,10 +85,12 @@ def wanted():
     yield from (("texts", what) for what in ("scripts", "edited", "read", "stuck", *grammar.FAULTS))
     for sort in SORTS:
         yield from wanted_of_sort(sort)
+    yield from (("states", what) for what in STATES)
     for way in (AS_IT_IS, *(name for name, _, _ in ways.WAYS), FLAT):
         yield from (("traces", way, verdict) for verdict in WANTED[way])
     yield from (("model", model, kind) for model in verdicts.MODELS for kind in OF_MODELS
                 if model != verdicts.LAZY_RELEASE or kind == "racy")
+    yield from (("json", what, kind) for what, kinds in JSON for kind in kinds)
     for kind, all_turns in TURNS.items():
         yield from (("turned", kind, name) for name, turn in all_turns
                     if kind != "reports" or turn is not turns.more_cut_off)

@@ -99,10 +99,18 @@ REPORTS = (
     ("an event's processor", one_more("^event [0-9]+ ")), ("an event's place", one_more("^event ")),
     ("the events cut off", more_cut_off), ("no progress", STUCK),
 )
+STATES = (("a timestamp", one_more("timestamp ")), ("an interval", one_more("interval p[0-9]+:")),
+          ("a record's word", replaced(r"(records: page [0-9]+ \([0-9]+=)[0-9]+", rf"\g<1>{STRANGE}")),
+          ("the records", replaced(r", records: page [0-9]+ \([^)]*\)", ", no records")),
+          ("a notice left out", replaced(r"(notices: page [0-9]+ \(p[0-9]+:[0-9]+), p[0-9]+:[0-9]+", r"\1")),
+          ("what is applied", one_more("applies p[0-9]+:")),
+          ("a stale copy", replaced("copies: all valid", "copies: page 0 stale")),
+          ("an event's line left out", replaced("^ *[0-9]+  .*\n", "")))
 TRACES = (("the verdict", other_verdict), ("the place", one_more("^unfaithful ")),
           ("the reason", replaced("^because .*$", "because nobody has stored it")),
           ("a due count", one_more("has to count ")), ("the messages", one_more("^traffic ")),
-          ("a later line", later_line),
+          ("a later line", later_line), ("what was heard", replaced(" heard nothing of ", " heard all of ")),
+          ("what was missed", one_more("had stored ")), ("a lock that was held", replaced(" held none[.]$", " held 9.")),
           ("a faithful trace", instead(0, "events 1\nfaithful\nverdict race-free\ntraffic 0 0 0\n")),
           ("a trace refused", instead(6, "events 1\nunfaithful 0\nevent 0 0 release 0\n"
                                          "because its processor does not hold the lock\n")))

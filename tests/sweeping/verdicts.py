@@ -1,4 +1,5 @@
 """What `check` is to say of a trace, by the plain rules and the plain table."""
+from textwrap import wrap
 from typing import NamedTuple
 
 from checks import cost_of
@@ -11,6 +12,10 @@ MODELS = RACE_FREE, HAPPENS_BEFORE, LAZY_RELEASE, SEQUENTIAL = (
     "race-free", "happens-before", "lazy-release", "sequential")
 # How many stores are told that a load may answer, at most.
 MOST_TOLD = 64
+# How many columns a line of the sentences on a race has at most, and how far it is indented.
+WIDTH, INDENT = 100, "  "
+# What stands between an access's address and its word.
+ARROWS = {"load": "->", "store": "<-"}
 
 
 class Rules(NamedTuple):
@@ -121,8 +126,45 @@ def first_wrong(table, words, rules):
     return None
 
 
-def race_lines(events, race):
-    return ["verdict racy", *[events[place].line(place) for place in race]]
+def deed(event):
+    """What an event did, in the words of the sentences."""
+    first, *others = map(str, event.numbers) if event.numbers else ("",)
+    if event.kind in ARROWS:
+        return " ".join([event.kind, first, ARROWS[event.kind], *others])
+    return f"fetch page {first}" if event.kind == "fetch" else f"{event.kind} {first}".rstrip()
+
+
+def locks_at(events, place):
+    """Which locks the processor of the event at a place holds there, in words."""
+    held = set()
+    for event in events[:place]:
+        if event.processor == events[place].processor and event.kind in ("acquire", "release"):
+            (held.add if event.kind == "acquire" else held.remove)(event.numbers[0])
+    return ", ".join(map(str, sorted(held))) or "none"
+
+
+def reasons(table, race):
+    """The sentences on a race: what the later access's processor knew of the other, what it missed, the locks, the remedy."""
+    (place, first), (later, second) = ((it, table.events[it]) for it in race)
+    one, other = f"p{first.processor}", f"p{second.processor}"
+    heard = list(places_of(table.rows[later] & table.own[first.processor]))
+    yield "Neither happens before the other."
+    if heard:
+        yield f"{other} had last heard of {one}'s event {heard[-1]} ({deed(table.events[heard[-1]])})."
+    else:
+        yield f"{other} had heard nothing of {one}."
+    if (first.kind, second.kind) == ("store", "load") and first.numbers[1] != second.numbers[1]:
+        yield f"Stale: {deed(second)}, though event {place} had stored {first.numbers[1]}."
+    yield f"No lock in common: {one} held {locks_at(table.events, place)}, {other} held {locks_at(table.events, later)}."
+    yield ("What would order them: one lock round both, a barrier between them, or a flag that "
+           f"{one} sets behind event {place} and {other} awaits before event {later}.")
+
+
+def race_lines(table, race):
+    lines = ["verdict racy", *[table.events[place].line(place) for place in race]]
+    for sentence in reasons(table, race):
+        lines += wrap(sentence, WIDTH, initial_indent=INDENT, subsequent_indent=INDENT, break_on_hyphens=False)
+    return lines
 
 
 def faithful(table, rules):
@@ -132,7 +174,7 @@ def faithful(table, rules):
     is_told = race is not None and rules.model == RACE_FREE
     return Found("faithful", None, len(events), (
         "faithful", *["unjudged counts order"] * rules.is_lax, *[f"unjudged {loads} loads"] * is_told,
-        *(race_lines(events, race) if race else ["verdict race-free"]),
+        *(race_lines(table, race) if race else ["verdict race-free"]),
         "traffic {} {} {}".format(*cost_of(events))))
 
 
@@ -141,7 +183,7 @@ def lie(events, wrong):
     table = Table(events[:wrong.place + (wrong.kind != "ill formed")])
     race = nearest_race(table)
     return Found(wrong.kind, wrong.place, wrong.place + 1, (
-        *(race_lines(events, race) if race else ()),
+        *(race_lines(table, race) if race else ()),
         f"unfaithful {wrong.place}", events[wrong.place].line(wrong.place), *wrong.why))
 
 
@@ -155,7 +197,7 @@ def find(sizes, events, rules):
     table = Table(events if refused is None else events[:refused[0]])
     race, wrong = nearest_race(table), first_wrong(table, sizes.words, rules)
     if rules.ends_at_race and race is not None and (wrong is None or race[1] <= wrong.place):
-        return Found("racy", race[1], race[1] + 1, tuple(race_lines(events, race)))
+        return Found("racy", race[1], race[1] + 1, tuple(race_lines(table, race)))
     if wrong is None and refused is not None:
         wrong = Wrong("ill formed", refused[0], (f"because {refused[1]}",))
     return faithful(table, rules) if wrong is None else lie(events, wrong)

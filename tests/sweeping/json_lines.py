@@ -1,0 +1,120 @@
+"""The lines of JSON that the program prints with --json, and the text that they stand for."""
+import json
+
+from flaw import expect
+from schedules import Event
+
+# What an event's line has behind its kind, by name.
+NAMES = {"load": ("address", "value"), "store": ("address", "value"),
+         "fetch": ("page", "writers", "records", "words"), "ask": ("lock",), "acquire": ("lock",), "release": ("lock",),
+         "arrive": (), "depart": (), "set": ("flag",), "watch": ("flag",), "await": ("flag",)}
+NO_VERDICTS = {"race-free": "verdict race-free under every schedule", "undecided": "verdict undecided"}
+
+
+def objects_of(output):
+    """The objects, one a line, each with just one member of a name."""
+    def once(members):
+        expect(len(dict(members)) == len(members), f"no two members have one name: {members}")
+        return dict(members)
+
+    expect(output.endswith("\n"), "the last line ends")
+    return [json.loads(line, object_pairs_hook=once) for line in output.splitlines()]
+
+
+def event_of(told):
+    """An event, of which nothing is left out and nothing else is said."""
+    names = NAMES[told["kind"]]
+    expect(set(told) - {"label"} == {"place", "processor", "kind", *names}, f"that is an event: {told}")
+    return Event(told["processor"], told["kind"], tuple(told[name] for name in names))
+
+
+def line_of(told):
+    return event_of(told).line(told["place"]) + ("  " + told["label"] if "label" in told else "")
+
+
+def results_of(told):
+    """Shown words and replies, as `sample` and `explore` print them."""
+    words = [f"{it['address']} {it['word']}" for it in told["words"]]
+    replies = [" ".join(map(str, [f"p{it['processor']}", *it["words"]])) for it in told["replies"]]
+    return " ".join(["words", *words, *["replies", *replies] * bool(replies)])
+
+
+def sample_text(objects):
+    """The text of `sample`."""
+    *results, end = objects
+    expect(end["told"] == "end" and end["results"] == len(results), f"that is the end: {end}")
+    yield f"runs {end['runs']}"
+    for it in results:
+        expect(it["told"] == "result", f"that is a result: {it}")
+        stuck = it["verdict"] == "stuck"
+        shown = f"stuck {it['processor']}" if stuck else f"{it['verdict']} {results_of(it)}"
+        yield f"result {it['runs']} {shown} schedule {it['schedule']}"
+
+
+def wait_line(wait):
+    """How the line on who waits begins."""
+    what = f"for lock {wait['lock']}" if "lock" in wait else f"for flag {wait['flag']}" if "flag" in wait else "at the barrier"
+    return f"processor {wait['processor']} waits {what}"
+
+
+def explore_text(objects):
+    """The text of `explore`, of lines on who waits only how they begin."""
+    *others, end = objects
+    by = {name: [it for it in others if it["told"] == name] for name in ("race", "outcome", "hang")}
+    expect(end["told"] == "end" and sum(map(len, by.values())) == len(others), f"that is the end: {end}")
+    hangs = [line for hang in by["hang"]
+             for line in ["hangs", *map(line_of, hang["events"]), *map(wait_line, hang["waits"])]]
+    if end["verdict"] == "racy":
+        [race] = by["race"]
+        yield from ["verdict racy", *map(line_of, race["events"]), "race",
+                    *(line_of(race["events"][race[name]]) for name in ("first", "second")), *hangs]
+    else:
+        expect(end["outcomes"] == len(by["outcome"]), f"each outcome is told: {end}")
+        yield NO_VERDICTS[end["verdict"]]
+        yield f"outcomes {end['outcomes']}" + " so far" * (not end["all"])
+        yield from ("  " + results_of(it) for it in by["outcome"])
+        expect((end["hangs"] == "hangs") == bool(hangs), f"the hang is told: {end}")
+        yield from hangs or [f"hangs {end['hangs']}"]
+    yield f"states {end['states']}"
+
+
+def why(lie):
+    """Why an event is a lie, as `check` prints it."""
+    if lie["reason"] == "form":
+        return [f"because {lie['because']}"]
+    if lie["reason"] == "count":
+        return ["because the fetch has to count {writers} writers, {records} records and {words} words".format(**lie)]
+    stores = [line_of(it) for it in lie["stores"]]
+    zero = "0, or " * lie["zero"]
+    return [f"because it may answer {zero}only what was stored by", *stores] if stores else [
+        "because it may answer 0 alone"]
+
+
+def check_text(objects):
+    """The text of `check`, but for the sentences on a race."""
+    *others, end = objects
+    by = {it["told"]: it for it in others}
+    expect(end["told"] == "end" and list(by) == [it for it in ("race", "lie") if it in by] and len(by) == len(others),
+           f"first comes the race, then the lie, then the end: {objects}")
+    expect(end["racy"] == ("race" in by) and (end.get("faithful") is False) == ("lie" in by), f"that is the end: {end}")
+    yield f"events {end['events']}"
+    if end["model"] != "lazy-release":
+        yield f"model {end['model']}"
+    race = [f"verdict racy\n{line_of(by['race']['first'])}\n{line_of(by['race']['second'])}"] if "race" in by else []
+    if end.get("faithful"):
+        yield from ["faithful", *["unjudged counts order"] * end["lax"],
+                    *[f"unjudged {end['unjudged']} loads"] * (end["model"] == "race-free" and end["racy"]),
+                    *(race or ["verdict race-free"]), "traffic {messages} {records} {words}".format(**end["traffic"])]
+        return
+    yield from race
+    if "lie" in by:
+        yield from [f"unfaithful {by['lie']['event']['place']}", line_of(by["lie"]["event"]), *why(by["lie"])]
+
+
+def expect_same(text, output, begins=False):
+    """That the text is what was printed; of lines on who waits how they begin, where that is asked for."""
+    told, printed = "\n".join(text).split("\n"), output.splitlines()
+    same = len(told) == len(printed) and all(
+        other.startswith(line) if begins and line.startswith("processor ") else other == line
+        for line, other in zip(told, printed))
+    expect(same, f"the JSON stands for\n{chr(10).join(told)}\nwhere this is printed:\n{output}")
