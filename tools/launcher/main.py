@@ -208,6 +208,24 @@ def put(words):
     sys.exit(0)
 
 
+def is_text(word):
+    """Whether a word is UTF-8, as the program takes words."""
+    try:
+        os.fsencode(word).decode()
+    except UnicodeDecodeError:
+        return False
+    return True
+
+
+def with_odd_file_read(words):
+    """The words, with `-` in place of a file's name that is no UTF-8. That file is standard input then."""
+    for place, word in enumerate(words):
+        if not is_text(word) and os.path.isfile(word):
+            os.dup2(os.open(word, os.O_RDONLY), 0)
+            return [*words[:place], "-", *words[place + 1:]]
+    return words
+
+
 def run(words):
     """Builds where something changed, and then becomes the program."""
     own = {TEST: test, INSTALL: put}.get(words[0]) if words else None
@@ -218,7 +236,7 @@ def run(words):
         sys.exit(0)
     for it in (signal.SIGPIPE, signal.SIGXFSZ):
         signal.signal(it, signal.SIG_DFL)
-    os.execv(program.file, [WHOLE.file, *words])
+    os.execv(program.file, [WHOLE.file, *with_odd_file_read(words)])
 
 
 def end_by(number):

@@ -9,12 +9,13 @@ NAME = re.compile(r"[A-Za-z_]\w*")
 
 
 class Function(NamedTuple):
-    """A function of a source file: its name behind its type's, its type's trait's, and where it and its body begin and
-    end."""
+    """A function of a source file: its name behind its type's, its type's trait's with the names that this is given, and
+    where it and its body begin and end."""
 
     name: str
     owner: str
     trait: str
+    given: tuple
     begin: int
     body: int
     end: int
@@ -24,8 +25,13 @@ class Function(NamedTuple):
         impl of a trait. `stem`: what its file is called."""
         words = path.split("::")
         before = words[-2] if len(words) > 1 else ""
-        wanted = (self.owner, self.owner + self.trait) if self.owner else (stem, words[0])
-        return words[-1] == self.name and before in wanted
+        if words[-1] != self.name:
+            return False
+        if not self.owner:
+            return before in (stem, words[0])
+        # A trait that is given a type has its name too, as `RefusedFromCutFault` of `From<CutFault>`.
+        of_trait = self.owner + self.trait
+        return before in (self.owner, of_trait) or bool(self.given) and before == of_trait + self.given[0]
 
 
 def tokens(text):
@@ -70,19 +76,22 @@ def body_of(words, at):
 
 
 def owner_of(words, at):
-    """The type and the trait of the impl or trait that begins at a token, and the token that opens it."""
-    head, place, angles = [], at + 1, 0
+    """The type and the trait of the impl or trait that begins at a token, the names that the trait is given, and the token
+    that opens it."""
+    head, given, place, angles = [], [], at + 1, 0
     while place < len(words) and words[place][1] not in ("{", ";"):
         word = words[place][1]
         angles += (word == "<") - (word == ">" and words[place - 1][1] not in ("-", "="))
         if not angles and NAME.fullmatch(word):
             head.append(word)
+        elif head and "for" not in head and NAME.fullmatch(word):
+            given.append(word)
         place += 1
     head = head[:head.index("where")] if "where" in head else head
     if "for" in head:
         cut = head.index("for")
-        return head[-1], head[cut - 1] if cut else "", place
-    return (head[-1] if head else ""), "", place
+        return head[-1], head[cut - 1] if cut else "", tuple(given), place
+    return (head[-1] if head else ""), "", (), place
 
 
 def functions_of(text):
@@ -90,15 +99,15 @@ def functions_of(text):
     words, owners, found, place = list(tokens(text)), [], [], 0
     while place < len(words):
         at, word = words[place]
-        owners = [it for it in owners if at < it[2]]
+        owners = [it for it in owners if at < it[3]]
         if word in ("impl", "trait") and (place == 0 or words[place - 1][1] in ("}", ";", "{", "]", "pub", ")")):
-            owner, trait, opens = owner_of(words, place)
-            owners.append((owner, trait, words[closing(words, opens)][0]))
+            owner, trait, given, opens = owner_of(words, place)
+            owners.append((owner, trait, given, words[closing(words, opens)][0]))
             place = opens
         elif word == "fn" and place + 1 < len(words) and NAME.fullmatch(words[place + 1][1]):
             begin, end = body_of(words, place + 2)
-            owner, trait = owners[-1][:2] if owners else ("", "")
-            found.append(Function(words[place + 1][1], owner, trait, at, words[begin][0], words[end][0]))
+            owner, trait, given = owners[-1][:3] if owners else ("", "", ())
+            found.append(Function(words[place + 1][1], owner, trait, given, at, words[begin][0], words[end][0]))
             place = begin
         place += 1
     return found
