@@ -193,17 +193,6 @@ IsNewsOnceIf j q old places = IsOnce old → ((i : ℕ) → Has old i → ¬ Clo
 fresh_news_has_older : (xs : List ℕ) (y i : ℕ) → Has xs i → Has (xs ++ y ∷ []) i
 fresh_news_has_older xs y i at = (at.0, slice_get-append_left xs (y ∷ []) at.0 (slice_get_within xs at.0 i at.1) ∙ at.1)
 
--- at first there are none
-pub fresh_news_below_first : (j : List Event) (x : Step) (q n : ℕ) (old : List ℕ) → n ≡ slice_index x.before q
-    → HasNewsBelow j x q n old old
-fresh_news_below_first j x q n old is i = (
-  (λ at. inl at),
-  λ s. elim s [
-    | inl at ↦ at
-    | inr new ↦ (let late = new.0.late in let lt = new.1 in absurd (omega arith))
-  ],
-)
-
 -- q's closing of interval n is news
 pub fresh_news_below_next : (j : List Event) (x : Step) (q n p : ℕ) (old places : List ℕ) → IsIndexedClosing j q n p
     → slice_index x.before q ≤ n → n < slice_index x.after q → EdgeFromOther j p x.place
@@ -292,12 +281,6 @@ fresh_news_once_push j x q n p old places here was once first apart =
 pub record AreNewsBelow (j : List Event) (x : Step) (n : ℕ) (places : List ℕ) : Type 0 where
   pub has : (i : ℕ) → Has places i ↔ ((q : ℕ) × (q < n) × IsNewsOfStep j x q i)
   pub once : IsOnce places
-
-pub fresh_news_start : (j : List Event) (x : Step) → AreNewsBelow j x 0 []
-fresh_news_start j x = record {
-  has = λ i. ((λ at. absurd (none-some i at.1)), λ s. (let lt = s.1 in absurd (omega arith)));
-  once = λ m n a b lt at to. absurd (none-some a at);
-}
 
 -- and of one more
 pub fresh_news_next_processor : (j : List Event) (x : Step) (n : ℕ) (old new : List ℕ) → AreNewsBelow j x n old

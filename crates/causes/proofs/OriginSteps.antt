@@ -260,17 +260,3 @@ origin_rows_next s j rows k o long are now n other at = elim (slice_push_cases r
 
 origin_load_address : (a v b w : ℕ) → Load a v ≡ Load b w → a ≡ b
 origin_load_address a v b w is = cc
-
--- what is said of a load
-pub origin_read : (s : Sizes) (j : List Event) (k a v : ℕ) (e : Event) (words : List (Option WordOrigin))
-    → (o : Option WordOrigin) → At j k e → e.kind ≡ Load a v → e.processor < 16
-    → slice_get words (gap_tally_row_index a e.processor) ≡ Some o → AreOriginsBefore s j k words → IsOriginAt s j k o
-origin_read s j k a v e words o at kind low there are = record {
-  loads = λ p b w does.
-      (let here : Does j k e.processor (Load a v) = subst (λ x. At j k (event e.processor x)) kind at in
-      let same = numbered_does_same j k e.processor p (Load a v) (Load b w) here does in
-      subst (λ x. IsWordOriginOf s j x b k o) same.0
-      (subst (λ c. IsWordOriginOf s j e.processor c k o) (origin_load_address a v b w same.1)
-      (are.each a e.processor o low there)));
-  others = λ none. absurd (none e.processor a v (subst (λ x. At j k (event e.processor x)) kind at));
-}

@@ -285,14 +285,6 @@ reached_path_none_enters j q i k first none = go first.reached
     go (inl is) = sym is
     go (inr h) = let s = past_last_step j i k h in absurd (into s.0 s.1 s.2)
 
--- a way of one place
-pub path_way_one : (j : List Event) (i k : ℕ) → k ≡ i → IsWay j i k (k ∷ [])
-path_way_one j i k is = record {
-  first = ap (λ n. Some n) is;
-  last = refl;
-  steps = λ n a b at to. absurd (let lt = slice_get_within (k ∷ []) (n + 1) b to in omega arith);
-}
-
 -- a way goes on by an edge
 pub path_way_longer : (j : List Event) (i m k : ℕ) (places : List ℕ) → IsWay j i m places → Edge j m k
     → IsWay j i k (places ++ k ∷ [])

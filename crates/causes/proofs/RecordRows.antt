@@ -121,13 +121,6 @@ record_last_same j q m a v w x y =
     let is : x.place ≡ y.place = omega arith in
     (store_same j y.place q q a a v w (subst (λ i. Does j i q (Store a v)) is x.does) y.does).2
 
--- no words of no address
-pub record_words_none : (j : List Event) (q m a : ℕ) (words : List (ℕ × ℕ)) → words ≡ [] → AreRecordWordsBelow j q m a 0 words
-record_words_none j q m a words none = subst (AreRecordWordsBelow j q m a 0) (sym none) (record {
-  has = λ o v. (λ h. absurd (none-some (o, v) h.1), λ x. absurd (let lt = x.0 in omega arith));
-  rising = λ k l x y lt at. absurd (none-some x at);
-})
-
 -- an address that the interval doesn't store to
 pub record_words_quiet : (j : List Event) (q m a n : ℕ) (words : List (ℕ × ℕ)) → IsNoneOfInterval j q m (a + n)
     → AreRecordWordsBelow j q m a n words → AreRecordWordsBelow j q m a (n + 1) words
@@ -355,16 +348,6 @@ record_stores s j k q m n e at mine closes is = (there, back)
           stores_in_shorter s front (drop (k + 1) j) q m n y.0 (omega arith)
               (subst (λ h. StoresInInterval s h q m n y.0) (sym whole) z),
         )
-
--- no records of no page
-pub records_none : (s : Sizes) (j : List Event) (q m : ℕ) (records : List PageRecord) → records ≡ []
-    → AreClosedRecordsBelow s j q m 0 records
-records_none s j q m records none = subst (AreClosedRecordsBelow s j q m 0) (sym none) (record {
-  content = λ x h. absurd (none-some x h.1);
-  some = λ x h. absurd (none-some x h.1);
-  all = λ l i lt. absurd (omega arith);
-  order = λ k l x y lt at. absurd (none-some x at);
-})
 
 -- a page in which the interval doesn't store
 pub records_quiet : (s : Sizes) (j : List Event) (q m n : ℕ) (records : List PageRecord)

@@ -44,17 +44,6 @@ pub record AreWrittenBelow (s : Sizes) (j : List Event) (k p from to : ℕ) (wri
   pub among : AreWrittenAmong s j k p (record { first = from; end = to }) written
   pub below : (x : WrittenWord) → Has written x → x.address < to
 
--- at first there are none
-pub written_start : (s : Sizes) (j : List Event) (k p from : ℕ) → AreWrittenBelow s j k p from from []
-written_start s j k p from = record {
-  among = record {
-    each = λ x has. absurd (none-some x has.1);
-    all = λ a i low high writes. absurd (omega arith);
-    rising = λ m n x y lt at to. absurd (none-some x at);
-  };
-  below = λ x has. absurd (none-some x has.1);
-}
-
 -- what is written in all of the range
 pub written_end : (s : Sizes) (j : List Event) (k p : ℕ) (r : WrittenRange) (to : ℕ) (written : List WrittenWord) → r.end ≤ to
     → AreWrittenBelow s j k p r.first to written → AreWrittenAmong s j k p r written

@@ -1,5 +1,6 @@
 //! Which of a processor's copies of pages are stale or dirty. Each other one is valid and clean.
 ghost use Rattle.std.specs.Prelude.{ℕ, ◌<◌, ◌^◌, ◌↔◌, IfOk, IsTrue, List, length};
+ghost use Rattle.base.specs.Prelude.{most_processors};
 ghost use Rattle.journal.specs.declared.event.Event.{Event};
 ghost use Rattle.judge.specs.Prelude.{TellsGaps, sizes_of};
 ghost use Rattle.causes.specs.Prelude.{AreThose, IsDirtyPage, IsStalePage};
@@ -13,7 +14,7 @@ use std::alloc::{AllocError, Global};
 /// Whether the processor's copy of the page is stale.
 fn is_stale(gaps: &Gaps, reader: usize, page: usize) -> bool
     requires tells { (j : List Event) × TellsGaps j gaps.now }
-    requires reader { reader < 16 }
+    requires reader { reader < most_processors }
     requires page { page < gaps.now.sizes.pages }
     ensures { (j : List Event) → TellsGaps j gaps.now
         → IsTrue result ↔ IsStalePage (sizes_of gaps.now.sizes) j reader page }
@@ -34,7 +35,7 @@ pub(crate) fn stale_pages(
     reader: usize,
 ) -> Result<Vec<usize>, AllocError>
     requires tells { (j : List Event) × TellsGaps j gaps.now }
-    requires reader { reader < 16 }
+    requires reader { reader < most_processors }
     ensures { IfOk result (λ v. (j : List Event) → TellsGaps j gaps.now
         → AreThose (IsStalePage (sizes_of gaps.now.sizes) j reader) gaps.now.sizes.pages v.items) }
 {
@@ -50,7 +51,7 @@ pub(crate) fn stale_pages(
 /// The pages of which the processor's copy is dirty, rising. The only error is running out of memory.
 pub(crate) fn dirty_pages(alloc: Global, gaps: &Gaps, by: usize) -> Result<Vec<usize>, AllocError>
     requires tells { (j : List Event) × TellsGaps j gaps.now × (length j < 2 ^ 22) }
-    requires by { by < 16 }
+    requires by { by < most_processors }
     ensures { IfOk result (λ v. (j : List Event) → TellsGaps j gaps.now
         → AreThose (IsDirtyPage (sizes_of gaps.now.sizes) j by) gaps.now.sizes.pages v.items) }
 {

@@ -1,10 +1,11 @@
 //! What is looked up of a history again and again: how often each event's processor had arrived and departed, and where
 //! each processor closed its intervals.
 ghost use Rattle.std.specs.Prelude.{◌≡◌, ◌==◌, ◌&&◌, ◌+◌, ◌<◌, ◌≤◌, ◌^◌, IfOk, cond, length};
-ghost use Rattle.base.specs.Prelude.{most_held};
+ghost use Rattle.base.specs.Prelude.{most_held, most_processors};
 ghost use Rattle.journal.specs.Prelude.{ProcessorsInRange, is_arrive, is_closing, is_depart};
 ghost use Rattle.causes.specs.Prelude.{AreIndexedClosings, AreIndexedClosingsOf, AreIndexedTurns, IsIndex};
 
+use base::MOST_PROCESSORS;
 use journal::{Event, Kind};
 use std::alloc::{AllocError, Global};
 
@@ -59,13 +60,13 @@ fn turn_after(turn: Turn, kind: Kind) -> Turn
 /// The turn of each event.
 fn turns(alloc: Global, events: &[Event]) -> Result<Vec<Turn>, AllocError>
     requires few { length events.now ≤ most_held }
-    requires processors { ProcessorsInRange 16 events.now }
+    requires processors { ProcessorsInRange most_processors events.now }
     ensures { IfOk result (λ v. AreIndexedTurns events.now v.items) }
 {
     let mut next = [Turn {
         arrived: 0,
         departed: 0,
-    }; 16];
+    }; MOST_PROCESSORS];
     let mut turns = Vec::with_capacity(alloc, events.len())?;
     for place in 0..events.len() {
         let event = events[place];
@@ -93,7 +94,7 @@ fn closings_of(alloc: Global, events: &[Event], by: usize) -> Result<Vec<usize>,
 fn closings(alloc: Global, events: &[Event]) -> Result<Vec<Vec<usize>>, AllocError>
     ensures { IfOk result (λ v. AreIndexedClosings events.now v.items) }
 {
-    let mut closings = Vec::with_capacity(alloc, 16)?;
+    let mut closings = Vec::with_capacity(alloc, MOST_PROCESSORS)?;
     for by in 0..16 {
         closings.push(closings_of(alloc, events, by)?)?;
     }
@@ -103,7 +104,7 @@ fn closings(alloc: Global, events: &[Event]) -> Result<Vec<Vec<usize>>, AllocErr
 /// What is looked up of this history. The only error is running out of memory.
 pub(crate) fn index_of(alloc: Global, events: &[Event]) -> Result<Index, AllocError>
     requires few { length events.now ≤ most_held }
-    requires processors { ProcessorsInRange 16 events.now }
+    requires processors { ProcessorsInRange most_processors events.now }
     ensures { IfOk result (IsIndex events.now) }
 {
     let turns = turns(alloc, events)?;

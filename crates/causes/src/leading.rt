@@ -1,9 +1,11 @@
 //! What lets an event through: the events of other processors with an edge to it.
 ghost use Rattle.std.specs.Prelude.{◌≡◌, ◌↔◌, ◌==◌, ◌&&◌, ◌<◌, ◌≤◌, IsTrue, IfOk, cond, length, take};
+ghost use Rattle.base.specs.Prelude.{most_processors};
 ghost use Rattle.journal.specs.declared.event.Kind.TheVariants.{Release, Set};
 ghost use Rattle.journal.specs.Prelude.{ProcessorsInRange, count_of, is_arrive, is_depart};
 ghost use Rattle.causes.specs.Prelude.{AreEdges, EdgeLeadsOn};
 
+use base::MOST_PROCESSORS;
 use journal::{Event, Kind};
 use std::alloc::{AllocError, Global};
 
@@ -88,12 +90,12 @@ pub(crate) fn departures_before(events: &[Event], processor: usize, place: usize
 /// before it, so asking of each event of a history takes time in the order of the square of their number.
 pub fn edges(alloc: Global, events: &[Event], place: usize) -> Result<Vec<usize>, AllocError>
     requires place { place < length events.now }
-    requires processors { ProcessorsInRange 16 events.now }
+    requires processors { ProcessorsInRange most_processors events.now }
     ensures { IfOk result (λ v. AreEdges events.now place v.items) }
 {
     let to = events[place];
     let departed = departures_before(events, to.processor, place);
-    let mut arrivals = [0; 16];
+    let mut arrivals = [0; MOST_PROCESSORS];
     let mut places = Vec::new(alloc);
     for i in 0..place {
         let from = events[i];

@@ -1,6 +1,6 @@
 //! What copies of pages lack: of which records an event that takes brings word, and which a fetch brings.
 ghost use Rattle.std.specs.Prelude.{◌≡◌, ℕ, ◌+◌, ◌*◌, ◌<◌, ◌≤◌, ◌^◌, [], IfOk, List, OnOk, Some, length, slice_get, slice_index, take, true, vec_len};
-ghost use Rattle.base.specs.Prelude.{most_held};
+ghost use Rattle.base.specs.Prelude.{most_held, most_processors};
 ghost use Rattle.journal.specs.declared.event.Event.{Event};
 ghost use Rattle.journal.specs.declared.event.Kind.TheVariants.{Fetch};
 ghost use Rattle.journal.specs.Events.{At};
@@ -41,7 +41,7 @@ pub(crate) struct Span {
 /// What a fetch of the page by this processor brings, if it comes next.
 pub(crate) fn fetch_span(gaps: &Gaps, reader: usize, page: usize) -> Span
     requires tells { (j : List Event) × TellsGaps j gaps.now }
-    requires reader { reader < 16 }
+    requires reader { reader < most_processors }
     requires page { page < gaps.now.sizes.pages }
     ensures reader { result.reader ≡ reader }
     ensures first { result.first ≡ page }
@@ -62,7 +62,7 @@ pub(crate) fn fetch_span(gaps: &Gaps, reader: usize, page: usize) -> Span
 /// What this processor, whose timestamp was this, got word of since.
 pub(crate) fn taking_span(gaps: &Gaps, reader: usize, before: &Clock) -> Span
     requires tells { (j : List Event) × TellsGaps j gaps.now }
-    requires reader { reader < 16 }
+    requires reader { reader < most_processors }
     ensures reader { result.reader ≡ reader }
     ensures first { result.first ≡ 0 }
     ensures end { result.end ≡ gaps.now.sizes.pages }
@@ -84,7 +84,7 @@ fn found(gaps: &Gaps, span: &Span, page: usize, writer: usize) -> Option<Due>
     requires from { span.now.first ≤ page }
     requires to { page < span.now.end }
     requires page { page < gaps.now.sizes.pages }
-    requires writer { writer < 16 }
+    requires writer { writer < most_processors }
     ensures { (j : List Event) → TellsGaps j gaps.now
         → IsOneOfDues (sizes_of gaps.now.sizes) j span.now page writer result }
 {
@@ -109,8 +109,8 @@ fn add_dues(dues: &mut Vec<Due>, gaps: &Gaps, span: &Span, page: usize) -> Resul
     requires to { page < span.now.end }
     requires page { page < gaps.now.sizes.pages }
     ensures { OnOk result ((j : List Event) → TellsGaps j gaps.now
-        → DuesBelow (sizes_of gaps.now.sizes) j span.now (page * 16) dues.old.items
-        → DuesBelow (sizes_of gaps.now.sizes) j span.now (page * 16 + 16) dues.new.items) }
+        → DuesBelow (sizes_of gaps.now.sizes) j span.now (page * most_processors) dues.old.items
+        → DuesBelow (sizes_of gaps.now.sizes) j span.now (page * most_processors + most_processors) dues.new.items) }
 {
     for writer in 0..16 {
         if let Some(due) = found(gaps, span, page, writer) {
@@ -126,7 +126,7 @@ fn dues_in(alloc: Global, gaps: &Gaps, span: &Span) -> Result<Vec<Due>, AllocErr
     requires order { span.now.first ≤ span.now.end }
     requires pages { span.now.end ≤ gaps.now.sizes.pages }
     ensures { IfOk result (λ v. (j : List Event) → TellsGaps j gaps.now
-        → DuesBelow (sizes_of gaps.now.sizes) j span.now (span.now.end * 16) v.items) }
+        → DuesBelow (sizes_of gaps.now.sizes) j span.now (span.now.end * most_processors) v.items) }
 {
     let mut dues = Vec::new(alloc);
     for page in span.first..span.end {
@@ -146,7 +146,7 @@ fn fetched(
     requires few { length events.now ≤ most_held }
     requires tells { TellsGaps (take place events.now) gaps.now }
     requires place { place < length events.now }
-    requires processor { (e : Event) → At events.now place e → e.processor < 16 }
+    requires processor { (e : Event) → At events.now place e → e.processor < most_processors }
     requires fetch { (e : Event) → At events.now place e
         → (w : ℕ) × (r : ℕ) × (d : ℕ) × (e.kind ≡ Fetch w page r d) }
     requires page { page < gaps.now.sizes.pages }

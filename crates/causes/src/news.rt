@@ -48,7 +48,7 @@ fn add_news(
     step: &Step,
     by: usize,
 ) -> Result<(), AllocError>
-    requires by { by < 16 }
+    requires by { by < most_processors }
     requires index { IsIndex events.now index.now }
     requires step { TimesAroundNews events.now step.now }
     ensures has { OnOk result ((i : ℕ)
@@ -72,7 +72,7 @@ fn news(
     index: &Index,
     step: &Step,
 ) -> Result<Vec<usize>, AllocError>
-    requires processors { ProcessorsInRange 16 events.now }
+    requires processors { ProcessorsInRange most_processors events.now }
     requires index { IsIndex events.now index.now }
     requires step { TimesAroundNews events.now step.now }
     ensures { IfOk result (λ v. AreNewsInOrder events.now step.now.place v.items) }

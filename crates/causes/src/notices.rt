@@ -1,6 +1,6 @@
 //! Write notices: which intervals of other processors an event tells its processor of, page by page.
 ghost use Rattle.std.specs.Prelude.{◌≡◌, ℕ, ◌+◌, ◌*◌, ◌<◌, ◌≤◌, ◌^◌, ◌↔◌, IfOk, IsTrue, List, OnOk, length, take};
-ghost use Rattle.base.specs.Prelude.{most_held};
+ghost use Rattle.base.specs.Prelude.{most_held, most_processors};
 ghost use Rattle.journal.specs.declared.event.Event.{Event};
 ghost use Rattle.journal.specs.Events.{At};
 ghost use Rattle.judge.specs.Prelude.{GapStoresInPage, IsEventInSizes, TellsGaps, gap_tally_row_index, sizes_of};
@@ -28,7 +28,7 @@ pub struct WriteNotice {
 pub(crate) fn stores_in(gaps: &Gaps, page: usize, by: usize, interval: u32) -> bool
     requires tells { (j : List Event) × TellsGaps j gaps.now }
     requires page { page < gaps.now.sizes.pages }
-    requires by { by < 16 }
+    requires by { by < most_processors }
     requires interval { interval + 1 < 2 ^ 32 }
     ensures { (j : List Event) → TellsGaps j gaps.now
         → IsTrue result ↔ GapStoresInPage (sizes_of gaps.now.sizes) j page by interval }
@@ -40,7 +40,7 @@ pub(crate) fn stores_in(gaps: &Gaps, page: usize, by: usize, interval: u32) -> b
 pub(crate) fn has_of(gaps: &Gaps, span: &Span, page: usize, writer: usize) -> bool
     requires tells { (j : List Event) × TellsGaps j gaps.now }
     requires page { page < gaps.now.sizes.pages }
-    requires writer { writer < 16 }
+    requires writer { writer < most_processors }
     ensures { (j : List Event) → TellsGaps j gaps.now
         → IsTrue result ↔ HasNoticeOf (sizes_of gaps.now.sizes) j span.now page writer }
 {
@@ -59,7 +59,7 @@ fn add_of_writer(
     requires from { span.now.first ≤ page }
     requires to { page < span.now.end }
     requires page { page < gaps.now.sizes.pages }
-    requires writer { writer < 16 }
+    requires writer { writer < most_processors }
     ensures { OnOk result ((j : List Event) → TellsGaps j gaps.now
         → NoticesBelow (sizes_of gaps.now.sizes) j span.now (gap_tally_row_index page writer) 0 notices.old.items
         → NoticesBelow (sizes_of gaps.now.sizes) j span.now (gap_tally_row_index page writer + 1) 0 notices.new.items) }
@@ -91,8 +91,8 @@ fn add_of_page(
     requires to { page < span.now.end }
     requires page { page < gaps.now.sizes.pages }
     ensures { OnOk result ((j : List Event) → TellsGaps j gaps.now
-        → NoticesBelow (sizes_of gaps.now.sizes) j span.now (page * 16) 0 notices.old.items
-        → NoticesBelow (sizes_of gaps.now.sizes) j span.now (page * 16 + 16) 0 notices.new.items) }
+        → NoticesBelow (sizes_of gaps.now.sizes) j span.now (page * most_processors) 0 notices.old.items
+        → NoticesBelow (sizes_of gaps.now.sizes) j span.now (page * most_processors + most_processors) 0 notices.new.items) }
 {
     for writer in 0..MOST_PROCESSORS {
         add_of_writer(notices, gaps, span, page, writer)?;
@@ -106,7 +106,7 @@ fn notices_in(alloc: Global, gaps: &Gaps, span: &Span) -> Result<Vec<WriteNotice
     requires order { span.now.first ≤ span.now.end }
     requires pages { span.now.end ≤ gaps.now.sizes.pages }
     ensures { IfOk result (λ v. (j : List Event) → TellsGaps j gaps.now
-        → NoticesBelow (sizes_of gaps.now.sizes) j span.now (span.now.end * 16) 0 v.items) }
+        → NoticesBelow (sizes_of gaps.now.sizes) j span.now (span.now.end * most_processors) 0 v.items) }
 {
     let mut notices = Vec::new(alloc);
     for page in span.first..span.end {

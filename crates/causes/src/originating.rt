@@ -1,6 +1,6 @@
 //! Where the words of copies come from: of each load, the store whose word stands in its processor's copy.
 ghost use Rattle.std.specs.Prelude.{◌≡◌, ℕ, ◌+◌, ◌*◌, ◌/◌, ◌<◌, ◌≤◌, [], IfOk, List, None, OnOk, Option, Some, length, slice_get, take, vec_len};
-ghost use Rattle.base.specs.Prelude.{most_held};
+ghost use Rattle.base.specs.Prelude.{most_held, most_processors};
 ghost use Rattle.journal.specs.declared.event.Event.{Event};
 ghost use Rattle.journal.specs.PageImages.{FetchesPage};
 ghost use Rattle.journal.specs.Events.{At};
@@ -12,6 +12,7 @@ ghost use Rattle.causes.specs.Prelude.{IsOriginLookedUp, IsOriginAfter, IsOrigin
 
 use crate::index::{Index, index_of};
 use crate::stores::StoreRows;
+use base::MOST_PROCESSORS;
 use journal::{Clock, Event, Kind};
 use judge::{Gaps, Sizes};
 use std::alloc::{AllocError, Global};
@@ -55,7 +56,7 @@ pub(crate) struct LookedUp {
 fn brought_by(looked: &LookedUp, fetch: &PageFetch, address: usize, by: usize) -> Option<Applied>
     requires told { (s : SizesOf) × (j : List Event) × IsOriginLookedUp j looked.now × IsOriginFetch s j fetch.now }
     requires address { address < looked.now.stores.addresses }
-    requires by { by < 16 }
+    requires by { by < most_processors }
     ensures { (s : SizesOf) (j : List Event) → IsOriginLookedUp j looked.now → IsOriginFetch s j fetch.now
         → address / s.words ≡ fetch.now.page
         → OriginLastApplied s j fetch.now.reader address fetch.now.place (λ q. q ≡ by) result }
@@ -96,7 +97,7 @@ fn last_brought(looked: &LookedUp, fetch: &PageFetch, address: usize) -> Option<
     requires address { address < looked.now.stores.addresses }
     ensures { (s : SizesOf) (j : List Event) → IsOriginLookedUp j looked.now → IsOriginFetch s j fetch.now
         → address / s.words ≡ fetch.now.page
-        → OriginLastApplied s j fetch.now.reader address fetch.now.place (λ q. q < 16) result }
+        → OriginLastApplied s j fetch.now.reader address fetch.now.place (λ q. q < most_processors) result }
 {
     let mut last = None;
     for by in 0..16 {
@@ -128,7 +129,7 @@ fn fetch_words(words: &mut [Option<WordOrigin>], looked: &LookedUp, fetch: &Page
         × (s.pages * s.words ≡ looked.now.stores.addresses) × (size ≡ s.words)
         × AreOriginsBefore s j fetch.now.place words.old }
     requires page { fetch.now.page * size + size ≤ looked.now.stores.addresses }
-    requires reader { fetch.now.reader < 16 }
+    requires reader { fetch.now.reader < most_processors }
     requires few { looked.now.stores.addresses ≤ 4096 }
     ensures { (s : SizesOf) (j : List Event) → IsOriginLookedUp j looked.now → IsOriginFetch s j fetch.now → size ≡ s.words
         → AreOriginsBefore s j fetch.now.place words.old
@@ -137,7 +138,7 @@ fn fetch_words(words: &mut [Option<WordOrigin>], looked: &LookedUp, fetch: &Page
 {
     for offset in 0..size {
         let address = fetch.page * size + offset;
-        let row = address * 16 + fetch.reader;
+        let row = address * MOST_PROCESSORS + fetch.reader;
         words[row] = origin_after(
             words[row],
             fetch.place,
@@ -149,7 +150,7 @@ fn fetch_words(words: &mut [Option<WordOrigin>], looked: &LookedUp, fetch: &Page
 /// The fetch of the page by the processor, the event at this place. The gaps tell what stands before it.
 fn fetch_at(gaps: &Gaps, place: usize, reader: usize, page: usize) -> PageFetch
     requires tells { (j : List Event) × TellsGaps (take place j) gaps.now }
-    requires reader { reader < 16 }
+    requires reader { reader < most_processors }
     requires page { page < gaps.now.sizes.pages }
     ensures fetch { (j : List Event) → TellsGaps (take place j) gaps.now → place ≤ length j → FetchesPage j place reader page
         → IsOriginFetch (sizes_of gaps.now.sizes) j result }
@@ -187,7 +188,7 @@ pub(crate) fn note_words(
     let event = events[place];
     match event.kind {
         Kind::Store(address, _) => {
-            words[address * 16 + event.processor] = Some(WordOrigin {
+            words[address * MOST_PROCESSORS + event.processor] = Some(WordOrigin {
                 store: place,
                 write: place,
             });
@@ -204,14 +205,14 @@ pub(crate) fn note_words(
 fn origin_at(words: &[Option<WordOrigin>], events: &[Event], place: usize) -> Option<WordOrigin>
     requires place { place < length events.now }
     requires so_far { (s : SizesOf) × AreOriginsBefore s events.now place words.now
-        × ((k : ℕ) (e : Event) → At events.now k e → IsEventInSizes s e) × (s.processors ≤ 16) }
+        × ((k : ℕ) (e : Event) → At events.now k e → IsEventInSizes s e) × (s.processors ≤ most_processors) }
     ensures { (s : SizesOf) → AreOriginsBefore s events.now place words.now
-        → ((k : ℕ) (e : Event) → At events.now k e → IsEventInSizes s e) → s.processors ≤ 16
+        → ((k : ℕ) (e : Event) → At events.now k e → IsEventInSizes s e) → s.processors ≤ most_processors
         → IsOriginAt s events.now place result }
 {
     let event = events[place];
     match event.kind {
-        Kind::Load(address, _) => words[address * 16 + event.processor],
+        Kind::Load(address, _) => words[address * MOST_PROCESSORS + event.processor],
         _ => None,
     }
 }
@@ -280,7 +281,7 @@ pub fn origins(
         index: index_of(alloc, events)?,
         stores: StoreRows::of(alloc, addresses, events)?,
     };
-    let mut words = no_origins(alloc, addresses * 16)?;
+    let mut words = no_origins(alloc, addresses * MOST_PROCESSORS)?;
     let mut gaps = Gaps::new(alloc, sizes)?;
     all_origins(alloc, &mut words, &looked, &mut gaps, events, sizes)
 }

@@ -38,7 +38,7 @@ impl Ways {
     pub fn first(&self, events: &[Event], from: usize, processor: usize) -> Option<usize>
         requires tells { ArePathWays events.now self.now }
         requires from { from < length events.now }
-        requires processor { processor < 16 }
+        requires processor { processor < most_processors }
         ensures { PathFirstReached events.now from processor result }
     {
         self.reach.first(events, from, processor)

@@ -64,7 +64,7 @@ pub(crate) fn heard(
     requires few { length events.now ≤ most_held }
     requires few_processors { processors ≤ most_processors }
     requires processors { ProcessorsInRange processors events.now }
-    requires by { by < 16 }
+    requires by { by < most_processors }
     requires second { (e : Event) × At events.now second e × (is_taking e.kind ≡ false) × (by ≢ e.processor) }
     ensures { IfOk result (IsHeard events.now by second) }
 {

@@ -42,7 +42,7 @@ impl Reach {
     pub(crate) fn first(&self, events: &[Event], from: usize, processor: usize) -> Option<usize>
         requires tells { IsPathReach events.now self.now }
         requires from { from < length events.now }
-        requires processor { processor < 16 }
+        requires processor { processor < most_processors }
         ensures { PathFirstReached events.now from processor result }
     {
         let by = events[from].processor;

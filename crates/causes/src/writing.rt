@@ -1,6 +1,6 @@
 //! Which words of its processor's copies each event writes, and from which stores they are.
 ghost use Rattle.std.specs.Prelude.{◌≡◌, ℕ, ◌+◌, ◌*◌, ◌<◌, ◌≤◌, [], IfOk, List, length, vec_len};
-ghost use Rattle.base.specs.Prelude.{most_held};
+ghost use Rattle.base.specs.Prelude.{most_held, most_processors};
 ghost use Rattle.journal.specs.declared.event.Event.{Event};
 ghost use Rattle.journal.specs.Events.{At};
 ghost use Rattle.journal.specs.Sizes.{Sizes as SizesOf};
@@ -10,6 +10,7 @@ ghost use Rattle.causes.specs.Prelude.{AreAllWritten, AreOriginsBefore, AreWritt
 use crate::index::index_of;
 use crate::originating::{LookedUp, WordOrigin, no_origins, note_words};
 use crate::stores::StoreRows;
+use base::MOST_PROCESSORS;
 use journal::{Event, Kind};
 use judge::{Gaps, Sizes};
 use std::alloc::{AllocError, Global};
@@ -71,15 +72,15 @@ fn written_among(
     reader: usize,
     range: WrittenRange,
 ) -> Result<Vec<WrittenWord>, AllocError>
-    requires reader { reader < 16 }
+    requires reader { reader < most_processors }
     requires few { range.end ≤ 4096 }
-    requires long { range.end * 16 ≤ length words.now }
+    requires long { range.end * most_processors ≤ length words.now }
     ensures { IfOk result (λ v. (s : SizesOf) (j : List Event) → AreOriginsBefore s j (place + 1) words.now
         → AreWrittenAmong s j place reader range v.items) }
 {
     let mut written = Vec::new(alloc);
     for address in range.first..range.end {
-        if let Some(store) = store_at(words[address * 16 + reader], place) {
+        if let Some(store) = store_at(words[address * MOST_PROCESSORS + reader], place) {
             written.push(WrittenWord { address, store })?;
         }
     }
@@ -159,7 +160,7 @@ pub fn written_words(
         index: index_of(alloc, events)?,
         stores: StoreRows::of(alloc, addresses, events)?,
     };
-    let mut words = no_origins(alloc, addresses * 16)?;
+    let mut words = no_origins(alloc, addresses * MOST_PROCESSORS)?;
     let mut gaps = Gaps::new(alloc, sizes)?;
     all_written(alloc, &mut words, &looked, &mut gaps, events, sizes)
 }
