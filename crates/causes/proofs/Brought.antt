@@ -30,51 +30,75 @@ use Rattle.causes.specs.Stores.{AreStoresBelow, IsLastStoredUnder, NoneStoredUnd
 use Rattle.causes.proofs.FreshNews.{news_number_in_front}
 use Rattle.causes.proofs.StoreRows.{store_intervals_rise}
 
--- in the gap of p's next event after the first m are the stores that its timestamp counts and its last fetch doesn't
-origin_brought_gap_between : (s : Sizes) (j : List Event) (p m q i a v n : ℕ) (f t : ℕ → ℕ) → GapFetchedUpTo s (take m j) p n f
-    → IsTimeOf (take m j) p t → q ≢ p → Does j i q (Store a v) → a / s.words ≡ n
-    → InGap s (take m j) p n i ↔ ((f q ≤ interval_at j q i) × (interval_at j q i < t q))
-origin_brought_gap_between s j p m q i a v n f t fetched time apart does page = (there, back)
+-- a fetch of the page of a, and a processor that isn't its reader
+pub record FetchesFromOther (s : Sizes) (j : List Event) (x : PageFetch) (a q : ℕ) : Type 0 where
+  pub fetch : IsOriginFetch s j x
+  pub page : a / s.words ≡ x.page
+  pub apart : q ≢ x.reader
+
+-- in a fetch's gap are the stores of others to its page that its processor's timestamp counts and its last fetch doesn't
+origin_brought_gap_between : {s : Sizes} {j : List Event} {x : PageFetch} {a q : ℕ} (i v : ℕ) → FetchesFromOther s j x a q
+    → Does j i q (Store a v)
+    → InGap s (take x.place j) x.reader x.page i
+    ↔ ((slice_index x.from q ≤ interval_at j q i) × (interval_at j q i < slice_index x.to q))
+origin_brought_gap_between {s} {j} {x} {a} {q} i v from does = (there, back)
   where
+    m : ℕ
+    m = x.place
+
     h : List Event
     h = take m j
+
+    f : ℕ → ℕ
+    f = slice_index x.from
+
+    t : ℕ → ℕ
+    t = slice_index x.to
+
+    fetched : GapFetchedUpTo s h x.reader x.page f
+    fetched = from.fetch.from
+
+    time : IsTimeOf h x.reader t
+    time = from.fetch.to
 
     front : i < m → Does h i q (Store a v)
     front lt = slice_get-take j m i lt ∙ does
 
-    there : InGap s h p n i → (f q ≤ interval_at j q i) × (interval_at j q i < t q)
+    there : InGap s h x.reader x.page i → (f q ≤ interval_at j q i) × (interval_at j q i < t q)
     there g =
         let low : i < m = within_front i g in
         let here = front low in
         let same = news_number_in_front j m q i (omega arith) in
-        let less = (covered h p q i (Store a v) t time here apart).0 g.past in (
+        let less = (covered h x.reader q i (Store a v) t time here from.apart).0 g.past in (
           elim (cases_lt (interval_at h q i) (f q)) [
-            | inl before ↦ absurd (((brought_gap_is s h p n i).0 g).2 ((fetched.brought q i a v apart here page).1 before))
+            | inl before ↦
+                absurd (((brought_gap_is s h x.reader x.page i).0 g).2
+                ((fetched.brought q i a v from.apart here from.page).1 before))
             | inr le ↦ omega arith
           ],
           omega arith,
         )
       where
-        within_front : (k : ℕ) → InGap s h p n k → k < m
-        within_front k x = slice_get-take_within j m k (event x.store.by (Store x.store.address x.store.value)) x.store.does
+        within_front : (k : ℕ) → InGap s h x.reader x.page k → k < m
+        within_front k y = slice_get-take_within j m k (event y.store.by (Store y.store.address y.store.value)) y.store.does
 
-    back : (f q ≤ interval_at j q i) × (interval_at j q i < t q) → InGap s h p n i
+    back : (f q ≤ interval_at j q i) × (interval_at j q i < t q) → InGap s h x.reader x.page i
     back r =
-        let from = r.0 in
-        let to = r.1 in
+        let least = r.0 in
+        let most = r.1 in
         let low : i < m = elim (cases_lt i m) [
           | inl lt ↦ lt
           | inr le ↦
               (let up = count_of-mono is_closing j m i q le in
-              let most = time.within q in
+              let counted = time.within q in
               absurd (omega arith))
         ] in
         let here = front low in
         let same = news_number_in_front j m q i (omega arith) in
-        (brought_gap_is s h p n i).1 (
-          (covered h p q i (Store a v) t time here apart).1 (omega arith),
-          stores_to s h n i q a v here page,
-          λ b. (let less = (fetched.brought q i a v apart here page).0 b in omega arith),
+        (brought_gap_is s h x.reader x.page i).1 (
+          (covered h x.reader q i (Store a v) t time here from.apart).1 (omega arith),
+          stores_to s h x.page i q a v here from.page,
+          λ b. (let less = (fetched.brought q i a v from.apart here from.page).0 b in omega arith),
         )
 
 -- p's own stores are not brought
@@ -85,28 +109,26 @@ brought_own s j p a m q i c mine x =
     gaps_apart s (take m j) p (a / s.words) q i a x.value x.gap (slice_get-take j m i low ∙ x.does) mine
 
 -- the number of a brought store's interval lies between the fetch's timestamps
-pub brought_between : (s : Sizes) (j : List Event) (x : PageFetch) (a q i c : ℕ) → IsOriginFetch s j x
-    → a / s.words ≡ x.page → q ≢ x.reader → IsOriginBrought s j x.reader a x.place q i c
+pub brought_between : {s : Sizes} {j : List Event} {x : PageFetch} {a q : ℕ} (i c : ℕ) → FetchesFromOther s j x a q
+    → IsOriginBrought s j x.reader a x.place q i c
     → (slice_index x.from q ≤ interval_at j q i) × (interval_at j q i < slice_index x.to q)
-brought_between s j x a q i c fetch page apart b =
-    (origin_brought_gap_between s j x.reader x.place q i a b.value x.page (slice_index x.from) (slice_index x.to) fetch.from fetch.to
-    apart b.does page).0 (subst (λ n. InGap s (take x.place j) x.reader n i) page b.gap)
+brought_between {s} {j} {x} {a} {q} i c from b =
+    (origin_brought_gap_between i b.value from b.does).0
+    (subst (λ n. InGap s (take x.place j) x.reader n i) from.page b.gap)
 
 -- and one that lies there is brought
-pub between_brought : (s : Sizes) (j : List Event) (x : PageFetch) (a q i v c : ℕ) → IsOriginFetch s j x
-    → a / s.words ≡ x.page → q ≢ x.reader → Does j i q (Store a v)
-    → slice_index x.from q ≤ interval_at j q i → interval_at j q i < slice_index x.to q
+pub between_brought : {s : Sizes} {j : List Event} {x : PageFetch} {a q : ℕ} (i v c : ℕ) → FetchesFromOther s j x a q
+    → Does j i q (Store a v) → slice_index x.from q ≤ interval_at j q i → interval_at j q i < slice_index x.to q
     → IsIndexedClosing j q (interval_at j q i) c → IsOriginBrought s j x.reader a x.place q i c
-between_brought s j x a q i v c fetch page apart does from to closing = record {
+between_brought {s} {j} {x} {a} {q} i v c from does least most closing = record {
   fetches =
-      (let f = fetch.fetches in
-      subst (λ n. (w : ℕ) × (r : ℕ) × (d : ℕ) × Does j x.place x.reader (Fetch w n r d)) (sym page) f);
+      (let f = from.fetch.fetches in
+      subst (λ n. (w : ℕ) × (r : ℕ) × (d : ℕ) × Does j x.place x.reader (Fetch w n r d)) (sym from.page) f);
   value = v;
   does = does;
   gap =
-      subst (λ n. InGap s (take x.place j) x.reader n i) (sym page)
-      ((origin_brought_gap_between s j x.reader x.place q i a v x.page (slice_index x.from) (slice_index x.to) fetch.from fetch.to apart
-      does page).1 (from, to));
+      subst (λ n. InGap s (take x.place j) x.reader n i) (sym from.page)
+      ((origin_brought_gap_between i v from does).1 (least, most));
   closes = closing.closes;
   interval = closing.number;
 }
@@ -120,19 +142,19 @@ origin_brought_fetched_closed s j x q n fetch lt =
     omega arith
 
 -- of one's stores below the limit the last is applied last
-pub brought_last : (s : Sizes) (j : List Event) (x : PageFetch) (a q c : ℕ) (stores : List NumberedStore)
-    → (y : NumberedStore) → IsOriginFetch s j x → a / s.words ≡ x.page → q ≢ x.reader
-    → AreStoresBelow j a q (length j) stores → IsLastStoredUnder stores (slice_index x.to q) y
-    → slice_index x.from q ≤ y.interval → IsIndexedClosing j q y.interval c
+pub brought_last : {s : Sizes} {j : List Event} {x : PageFetch} {a q : ℕ} {stores : List NumberedStore} (c : ℕ)
+    → (y : NumberedStore) → FetchesFromOther s j x a q → AreStoresBelow j a q (length j) stores
+    → IsLastStoredUnder stores (slice_index x.to q) y → slice_index x.from q ≤ y.interval
+    → IsIndexedClosing j q y.interval c
     → IsOriginLastApplied s j x.reader a x.place (λ r. r ≡ q) (record { store = y.place; closed = c })
-brought_last s j x a q c stores y fetch page apart are is from closing = record {
+brought_last {s} {j} {x} {a} {q} {stores} c y from are is least closing = record {
   by = q;
   one = refl;
   brought =
       (let here = are.each is.index y is.at in
       let number = here.interval in
       let under = is.under in
-      between_brought s j x a q y.place here.value c fetch page apart here.does (omega arith) (omega arith)
+      between_brought y.place here.value c from here.does (omega arith) (omega arith)
       (subst (λ n. IsIndexedClosing j q n c) number closing));
   last = λ r i d mine b later.
       (let other : IsOriginBrought s j x.reader a x.place q i d =
@@ -142,7 +164,7 @@ brought_last s j x a q c stores y fetch page apart are is from closing = record 
   where
     not_later : (i d : ℕ) → IsOriginBrought s j x.reader a x.place q i d → ¬ IsOriginAppliedBefore y.place c i d
     not_later i d b later =
-        let between = brought_between s j x a q i d fetch page apart b in
+        let between = brought_between i d from b in
         let to = between.1 in
         let z = are.all i b.value (within i b.value b.does) b.does in
         let there = are.each z.0 z.1 z.2 in
@@ -179,11 +201,11 @@ brought_last s j x a q c stores y fetch page apart are is from closing = record 
         no_later k e le low b (inr w) = let lt = w.1 in omega arith
 
 -- where one has none below the limit, or the last of these lies before the last fetch, none of its stores is brought
-pub brought_none : (s : Sizes) (j : List Event) (x : PageFetch) (a q : ℕ) (stores : List NumberedStore)
-    → IsOriginFetch s j x → a / s.words ≡ x.page → q ≢ x.reader → AreStoresBelow j a q (length j) stores
-    → NoneStoredUnder stores (slice_index x.to q) → (i c : ℕ) → ¬ IsOriginBrought s j x.reader a x.place q i c
-brought_none s j x a q stores fetch page apart are none i c b =
-    let between = brought_between s j x a q i c fetch page apart b in
+pub brought_none : {s : Sizes} {j : List Event} {x : PageFetch} {a q : ℕ} {stores : List NumberedStore}
+    → FetchesFromOther s j x a q → AreStoresBelow j a q (length j) stores → NoneStoredUnder stores (slice_index x.to q)
+    → (i c : ℕ) → ¬ IsOriginBrought s j x.reader a x.place q i c
+brought_none {s} {j} {x} {a} {q} {stores} from are none i c b =
+    let between = brought_between i c from b in
     let to = between.1 in
     let z = are.all i b.value (numbered_at_within j i (event q (Store a b.value)) b.does) b.does in
     let there = are.each z.0 z.1 z.2 in
@@ -191,13 +213,13 @@ brought_none s j x a q stores fetch page apart are none i c b =
     let high = none z.0 z.1 z.2 in
     omega arith
 
-pub brought_before : (s : Sizes) (j : List Event) (x : PageFetch) (a q : ℕ) (stores : List NumberedStore)
-    → (y : NumberedStore) → IsOriginFetch s j x → a / s.words ≡ x.page → q ≢ x.reader
-    → AreStoresBelow j a q (length j) stores → IsLastStoredUnder stores (slice_index x.to q) y
-    → y.interval < slice_index x.from q → (i c : ℕ) → ¬ IsOriginBrought s j x.reader a x.place q i c
-brought_before s j x a q stores y fetch page apart are is low i c b =
-    let between = brought_between s j x a q i c fetch page apart b in
-    let from = between.0 in
+pub brought_before : {s : Sizes} {j : List Event} {x : PageFetch} {a q : ℕ} {stores : List NumberedStore}
+    → (y : NumberedStore) → FetchesFromOther s j x a q → AreStoresBelow j a q (length j) stores
+    → IsLastStoredUnder stores (slice_index x.to q) y → y.interval < slice_index x.from q
+    → (i c : ℕ) → ¬ IsOriginBrought s j x.reader a x.place q i c
+brought_before {s} {j} {x} {a} {q} {stores} y from are is low i c b =
+    let between = brought_between i c from b in
+    let least = between.0 in
     let to = between.1 in
     let z = are.all i b.value (numbered_at_within j i (event q (Store a b.value)) b.does) b.does in
     let there = are.each z.0 z.1 z.2 in
@@ -243,48 +265,60 @@ origin_brought_applied_longer i c k d l e (inr w) (inr z) = let low = w.1 in let
 pub origin_brought_applied_start : (s : Sizes) (j : List Event) (p a m : ℕ) → OriginLastApplied s j p a m (λ q. q < 0) None
 origin_brought_applied_start s j p a m q i c low = absurd (omega arith)
 
--- of those below n + 1 it is the later of that of those below n and that of n
-pub origin_brought_applied_next : (s : Sizes) (j : List Event) (p a m n : ℕ) (o b r : Option Applied) → IsOriginLaterApplied o b r
-    → OriginLastApplied s j p a m (λ q. q < n) o → OriginLastApplied s j p a m (λ q. q ≡ n) b
-    → OriginLastApplied s j p a m (λ q. q < n + 1) r
-origin_brought_applied_next s j p a m n None None r is none other = subst (OriginLastApplied s j p a m (λ q. q < n + 1)) (sym is)
-    (λ q i c low. elim (cases_eq q n) [ inl same ↦ other q i c same | inr isnt ↦ none q i c (omega arith) ])
-origin_brought_applied_next s j p a m n None (Some y) r is none last = subst (OriginLastApplied s j p a m (λ q. q < n + 1)) (sym is) (record {
-  by = last.by;
-  one = (let same = last.one in omega arith);
-  brought = last.brought;
-  last = λ q i c low x. elim (cases_eq q n) [
-    | inl same ↦ last.last q i c same x
-    | inr isnt ↦ absurd (none q i c (omega arith) x)
-  ];
-})
-origin_brought_applied_next s j p a m n (Some x) None r is last none = subst (OriginLastApplied s j p a m (λ q. q < n + 1)) (sym is) (record {
-  by = last.by;
-  one = (let low = last.one in omega arith);
-  brought = last.brought;
-  last = λ q i c low z. elim (cases_eq q n) [
-    | inl same ↦ absurd (none q i c same z)
-    | inr isnt ↦ last.last q i c (omega arith) z
-  ];
-})
-origin_brought_applied_next s j p a m n (Some x) (Some y) r (inl w) one two = subst (OriginLastApplied s j p a m (λ q. q < n + 1)) (sym w.0) (record {
-  by = one.by;
-  one = (let low = one.one in omega arith);
-  brought = one.brought;
-  last = λ q i c low z later. elim (cases_eq q n) [
-    | inl same ↦
-        w.1 (origin_brought_applied_under x.store x.closed y.store y.closed i c later (two.last q i c same z))
-    | inr isnt ↦ one.last q i c (omega arith) z later
-  ];
-})
-origin_brought_applied_next s j p a m n (Some x) (Some y) r (inr w) one two = subst (OriginLastApplied s j p a m (λ q. q < n + 1)) (sym w.0) (record {
-  by = two.by;
-  one = (let same = two.one in omega arith);
-  brought = two.brought;
-  last = λ q i c low z later. elim (cases_eq q n) [
-    | inl same ↦ two.last q i c same z later
-    | inr isnt ↦
-        one.last q i c (omega arith) z
-        (origin_brought_applied_longer x.store x.closed y.store y.closed i c w.1 later)
-  ];
-})
+-- the last of those of processors below n, that of n, and the later of the two
+pub record AppliedUpTo (s : Sizes) (j : List Event) (p a m n : ℕ) (o b r : Option Applied) : Type 0 where
+  pub later : IsOriginLaterApplied o b r
+  pub below : OriginLastApplied s j p a m (λ q. q < n) o
+  pub own : OriginLastApplied s j p a m (λ q. q ≡ n) b
+
+-- the later of the two is that of processors below n + 1
+pub origin_brought_applied_next : {s : Sizes} {j : List Event} {p a m n : ℕ} (o b r : Option Applied)
+    → AppliedUpTo s j p a m n o b r → OriginLastApplied s j p a m (λ q. q < n + 1) r
+origin_brought_applied_next {s} {j} {p} {a} {m} {n} None None r x =
+    subst (OriginLastApplied s j p a m (λ q. q < n + 1)) (sym x.later)
+    (λ q i c low. elim (cases_eq q n) [ inl same ↦ x.own q i c same | inr isnt ↦ x.below q i c (omega arith) ])
+origin_brought_applied_next {s} {j} {p} {a} {m} {n} None (Some y) r x =
+    subst (OriginLastApplied s j p a m (λ q. q < n + 1)) (sym x.later) (record {
+      by = x.own.by;
+      one = (let same = x.own.one in omega arith);
+      brought = x.own.brought;
+      last = λ q i c low z. elim (cases_eq q n) [
+        | inl same ↦ x.own.last q i c same z
+        | inr isnt ↦ absurd (x.below q i c (omega arith) z)
+      ];
+    })
+origin_brought_applied_next {s} {j} {p} {a} {m} {n} (Some y) None r x =
+    subst (OriginLastApplied s j p a m (λ q. q < n + 1)) (sym x.later) (record {
+      by = x.below.by;
+      one = (let low = x.below.one in omega arith);
+      brought = x.below.brought;
+      last = λ q i c low z. elim (cases_eq q n) [
+        | inl same ↦ absurd (x.own q i c same z)
+        | inr isnt ↦ x.below.last q i c (omega arith) z
+      ];
+    })
+origin_brought_applied_next {s} {j} {p} {a} {m} {n} (Some y) (Some z) r x = elim x.later [
+  | inl first ↦
+      subst (OriginLastApplied s j p a m (λ q. q < n + 1)) (sym first.0) (record {
+        by = x.below.by;
+        one = (let low = x.below.one in omega arith);
+        brought = x.below.brought;
+        last = λ q i c low b later. elim (cases_eq q n) [
+          | inl same ↦
+              first.1 (origin_brought_applied_under y.store y.closed z.store z.closed i c later (x.own.last q i c same b))
+          | inr isnt ↦ x.below.last q i c (omega arith) b later
+        ];
+      })
+  | inr second ↦
+      subst (OriginLastApplied s j p a m (λ q. q < n + 1)) (sym second.0) (record {
+        by = x.own.by;
+        one = (let same = x.own.one in omega arith);
+        brought = x.own.brought;
+        last = λ q i c low b later. elim (cases_eq q n) [
+          | inl same ↦ x.own.last q i c same b later
+          | inr isnt ↦
+              x.below.last q i c (omega arith) b
+              (origin_brought_applied_longer y.store y.closed z.store z.closed i c second.1 later)
+        ];
+      })
+]

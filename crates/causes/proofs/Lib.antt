@@ -1,3 +1,4 @@
+pub mod Rows
 pub mod CauseSources
 pub mod Heard
 pub mod EdgeLeadsOn

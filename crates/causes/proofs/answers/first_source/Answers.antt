@@ -1,10 +1,11 @@
-use Rattle.std.proofs.Common.{ℕ, inl, inr, List, length, slice_index_or, sym, refl, ◌∙◌, arith}
+use Rattle.std.proofs.Common.{ℕ, inl, inr, List, length, slice_index_or, sym, refl, ap, ◌∙◌, arith}
 use Rattle.std.proofs.lemmas.Bool.{eq-eqb, eqb-true, false≢true}
 use Rattle.std.proofs.lemmas.Option.{slice_get-get_or}
 use Rattle.journal.specs.declared.event.Event.{Event}
 use Rattle.journal.specs.declared.event.Kind.TheVariants.{Load}
 use Rattle.journal.specs.DidEvent.{event}
-use Rattle.causes.proofs.CauseSources.{found, cause_source_none_next, cause_source_is_nothing, cause_source_place_within, cause_source_unexplained}
+use Rattle.journal.proofs.Order.CountedAndNumbered.{numbered_at_same}
+use Rattle.causes.proofs.CauseSources.{cause_source_found, cause_source_none_next, cause_source_is_nothing, cause_source_place_within, cause_source_unexplained}
 use Rattle.causes.proofs.answers.first_source.Goals as goal
 
 -- the event at this place
@@ -38,7 +39,7 @@ returns-then-is_store_of c = λ k a are.
     let within = cause_source_place_within events k a n i places are at in
     let there = slice_get-get_or events i (event 0 (Load 0 0)) within in
     let stores = c.if-is_store_of.ensures.0 refl in
-    found events k a stores.0 c.args.value n i (here events i) places are at there stores.1
+    cause_source_found events k a c.args.value i places are (n, at) (here events i, there, stores)
 
 pub loop-place-preserved : goal.loop-place-preserved
 loop-place-preserved c =
@@ -50,8 +51,10 @@ loop-place-preserved c =
     let are = c.requires.latest in
     let within = cause_source_place_within events are.0 are.1 n i places are.2 at in
     let there = slice_get-get_or events i (event 0 (Load 0 0)) within in
-    cause_source_none_next events places n c.args.value i (here events i) at there
-    (λ a is. false≢true (c.if-is_store_of.ensures.1 (a, is))) c.loop-place.invariant
+    cause_source_none_next events places n c.args.value i at (λ stores.
+    (let same = numbered_at_same events i stores.0 (here events i) stores.1 there in
+    false≢true (c.if-is_store_of.ensures.1 (stores.2.0, sym (ap (λ (e : Event). e.kind) same) ∙ stores.2.1))))
+    c.loop-place.invariant
 
 pub returns-then-value-eq0 : goal.returns-then-value-eq0
 returns-then-value-eq0 c = λ k a are.

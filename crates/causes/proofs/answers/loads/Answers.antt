@@ -1,13 +1,15 @@
-use Rattle.std.proofs.Common.{◌≡◌, Option, length, slice_index_or, subst, sym, refl, arith}
+use Rattle.std.proofs.Common.{◌≡◌, ℕ, Option, length, slice_index_or, subst, sym, refl, ◌∙◌, arith}
 use Rattle.std.specs.Prelude.{None}
-use Rattle.std.proofs.lemmas.Option.{slice_get-get_or, slice_get_read}
+use Rattle.std.proofs.lemmas.Option.{same_Some, slice_get-get_or, slice_get_read}
 use Rattle.journal.specs.declared.event.Kind.TheVariants.{Load}
 use Rattle.journal.specs.DidEvent.{event}
 use Rattle.judge.specs.Sources.Latest.{IsLatestRow}
 use Rattle.causes.specs.declared.originating.WordOrigin.{WordOrigin}
-use Rattle.causes.specs.Origins.{NameOrigins}
-use Rattle.causes.specs.Source.{AreSources}
-use Rattle.causes.proofs.CauseSources.{cause_source_named_next, cause_source_rows_next}
+use Rattle.causes.specs.declared.source.Source.{Source}
+use Rattle.causes.specs.Origins.{NameOrigins, NamesOriginAt}
+use Rattle.causes.specs.Source.{AreSources, IsSourceAt}
+use Rattle.causes.proofs.CauseSources.{cause_source_named_next}
+use Rattle.causes.proofs.Rows.{rows_next}
 use Rattle.causes.proofs.answers.loads.Goals as goal
 
 pub source_at-source-requires : goal.source_at-source-requires
@@ -45,13 +47,16 @@ loop-place-preserved c =
       long = (let len = c.in_ok-push.ensures.len in let was = old.long in omega arith);
       sources =
           subst (AreSources events) (sym c.in_ok-push.ensures.items)
-          (cause_source_rows_next events sources.items place c.source_at-source.result long old.sources
-          (c.source_at-source.ensures.source place at row));
+          (rows_next (λ (k : ℕ) (o : Option Source). IsSourceAt events k o) sources.items place c.source_at-source.result long
+          old.sources (c.source_at-source.ensures.source place at row));
       named =
           subst (NameOrigins events c.args.origins.now) (sym c.in_ok-push.ensures.items)
-          (cause_source_named_next events c.args.origins.now sources.items place origin c.source_at-source.result long
-          (slice_get-get_or c.args.origins.now place None (omega arith)) old.named
-          (c.source_at-source.ensures.origin place at row));
+          (cause_source_named_next events c.args.origins.now sources.items place c.source_at-source.result long old.named
+          (λ x to.
+          (let same : origin ≡ x =
+          same_Some origin x (sym (slice_get-get_or c.args.origins.now place None (omega arith)) ∙ to) in
+          subst (λ y. NamesOriginAt events place y c.source_at-source.result) same
+          (c.source_at-source.ensures.origin place at row))));
     }
 
 pub returns-clause-sources : goal.returns-clause-sources

@@ -6,6 +6,7 @@ use Rattle.judge.specs.Gaps.{TellsGaps}
 use Rattle.judge.specs.Sizes.{sizes_of}
 use Rattle.judge.specs.declared.gaps.Gaps.{Gaps}
 use Rattle.causes.specs.Notices.{HasNoticeOf}
+use Rattle.causes.proofs.OwingDues.{IsFetchSpan}
 use Rattle.causes.proofs.StaleCopies.{stale_by, stale_has}
 use Rattle.causes.proofs.copies.is_stale.Goals as goal
 
@@ -28,21 +29,21 @@ loop-writer-preserved c = λ j q tells lt has. elim (cases_eq q c.loop-writer.wr
 
 pub returns-then-has_of : goal.returns-then-has_of
 returns-then-has_of c = λ j tells.
-    let is = c.fetch_span-span.ensures in (
-      λ yes.
-          stale_by (sizes_of c.args.gaps.now.sizes) j c.args.reader c.args.page c.loop-writer.writer c.fetch_span-span.result
-          is.reader (is.from j tells) (is.to j tells) ((c.has_of.ensures j tells).0 c.if-has_of.true),
+    let is = c.fetch_span-span.ensures in
+    let is_span : IsFetchSpan (sizes_of c.args.gaps.now.sizes) j c.args.reader c.args.page c.fetch_span-span.result =
+    record { reader = is.reader; first = is.first; end = is.end; from = is.from j tells; to = is.to j tells } in (
+      λ yes. stale_by c.loop-writer.writer is_span ((c.has_of.ensures j tells).0 c.if-has_of.true),
       λ stale. refl,
     )
 
 pub returns : goal.returns
 returns c = λ j tells.
-    let is = c.fetch_span-span.ensures in (
+    let is = c.fetch_span-span.ensures in
+    let is_span : IsFetchSpan (sizes_of c.args.gaps.now.sizes) j c.args.reader c.args.page c.fetch_span-span.result =
+    record { reader = is.reader; first = is.first; end = is.end; from = is.from j tells; to = is.to j tells } in (
       λ yes. absurd (false≢true yes),
       λ stale.
-          absurd (let x =
-          stale_has (sizes_of c.args.gaps.now.sizes) j c.args.reader c.args.page c.fetch_span-span.result is.reader
-          (is.from j tells) (is.to j tells) (low j c.args.gaps.now tells) stale in
+          absurd (let x = stale_has is_span (low j c.args.gaps.now tells) stale in
           let end = c.loop-writer-test.false in
           let under = x.1 in
           c.loop-writer.invariant j x.0 tells (omega arith) x.2),

@@ -1,10 +1,11 @@
-use Rattle.std.proofs.Common.{◌≡◌, ℕ, List, Some, length, slice_get, subst, sym, refl, arith}
+use Rattle.std.proofs.Common.{◌≡◌, ℕ, length, subst, sym, refl, arith}
 use Rattle.std.specs.Global.{Vec}
 use Rattle.std.proofs.lemmas.Option.{slice_get_read}
 use Rattle.journal.proofs.Order.CountedAndNumbered.{numbered_at_within}
 use Rattle.causes.specs.HandOvers.{AreHandOvers}
 use Rattle.causes.specs.News.{AreNewsInOrder}
-use Rattle.causes.proofs.HandOvers.{hand_over_rows_next, hand_over_last_all}
+use Rattle.causes.proofs.HandOvers.{hand_over_last_all}
+use Rattle.causes.proofs.Rows.{IsEachRow, rows_next}
 use Rattle.causes.proofs.handing.all_last.Goals as goal
 
 pub last_ones-requires : goal.last_ones-requires
@@ -38,14 +39,13 @@ loop-place-preserved c =
     let old = c.loop-place.invariant in
     let last = c.loop-place.last in
     let row = c.in_ok-last_ones.field-0 in
+    let handed = λ (k : ℕ) (xs : Vec ℕ). AreHandOvers events k xs.items in
     let so_far : length last.items ≡ place = omega (arith, last.ok.0, old.long) in
     record {
       long = (let len = c.in_ok-push.ensures.len in let was = old.long in omega arith);
       rows =
-          subst
-          (λ (xs : List (Vec ℕ)). (k : ℕ) (new : Vec ℕ) → slice_get xs k ≡ Some new → AreHandOvers events k new.items)
-          (sym c.in_ok-push.ensures.items)
-          (hand_over_rows_next events last.items place row so_far old.rows
+          subst (IsEachRow handed) (sym c.in_ok-push.ensures.items)
+          (rows_next handed last.items place row so_far old.rows
           (hand_over_last_all events place c.deref.result.now row.items news c.in_ok-last_ones.ensures));
     }
 

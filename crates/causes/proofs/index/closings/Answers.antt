@@ -1,7 +1,7 @@
-use Rattle.std.proofs.Common.{◌≡◌, ℕ, Some, length, slice_get, subst, sym, arith, List}
+use Rattle.std.proofs.Common.{◌≡◌, ℕ, length, subst, sym, arith}
 use Rattle.std.specs.Global.{Vec}
 use Rattle.causes.specs.Index.{AreIndexedClosingsOf}
-use Rattle.causes.proofs.LookedUpIndex.{index_closing_rows_next}
+use Rattle.causes.proofs.Rows.{IsEachRow, rows_next}
 use Rattle.causes.proofs.index.closings.Goals as goal
 
 pub loop-by-preserved : goal.loop-by-preserved
@@ -9,12 +9,11 @@ loop-by-preserved c =
     let events = c.args.events.now in
     let old = c.loop-by.invariant in
     let rows = c.loop-by.closings in
+    let closed = λ (q : ℕ) (row : Vec ℕ). AreIndexedClosingsOf events q row.items in
     let long : length rows.items ≡ c.loop-by.by = omega (arith, rows.ok.0, old.long) in
     record {
       long = (let len = c.in_ok-push.ensures.len in let was = old.long in omega arith);
       rows =
-          subst (λ (items : List (Vec ℕ)). (q : ℕ) (row : Vec ℕ) → slice_get items q ≡ Some row → AreIndexedClosingsOf events q row.items)
-          (sym c.in_ok-push.ensures.items)
-          (index_closing_rows_next events rows.items c.loop-by.by c.in_ok-closings_of.field-0 long old.rows
-          c.in_ok-closings_of.ensures);
+          subst (IsEachRow closed) (sym c.in_ok-push.ensures.items)
+          (rows_next closed rows.items c.loop-by.by c.in_ok-closings_of.field-0 long old.rows c.in_ok-closings_of.ensures);
     }

@@ -7,7 +7,8 @@ use Rattle.journal.specs.DidEvent.{event}
 use Rattle.journal.specs.Events.{At}
 use Rattle.causes.specs.declared.index.Turn.{Turn}
 use Rattle.causes.specs.Index.{IsIndexedTurn}
-use Rattle.causes.proofs.LookedUpIndex.{AreIndexNextTurns, index_next_turns_start, index_next_turns_next, index_turn_small, index_turns_next}
+use Rattle.causes.proofs.LookedUpIndex.{AreIndexNextTurns, HasTurn, index_next_turns_start, index_next_turns_next, index_turn_here, index_turn_small}
+use Rattle.causes.proofs.Rows.{IsEachRow, rows_next}
 use Rattle.causes.proofs.index.turns.Goals as goal
 
 abbrev zero : Turn
@@ -30,7 +31,7 @@ loop-place-init c = record {
   next_long = refl;
   next = index_next_turns_start c.args.events.now zero refl refl;
   long = c.in_ok-turns.ensures.len;
-  each = λ i e t at to.
+  each = λ i t to e at.
       absurd (none-some t (subst (λ (items : List Turn). slice_get items i ≡ Some t) c.in_ok-turns.ensures.items to));
 }
 
@@ -96,17 +97,18 @@ loop-place-preserved c =
     let low = c.requires.processors place e at in
     let mine = own events place c.loop-place.next lt old.next_long low old.next in
     let turn = slice_index_or c.loop-place.next e.processor zero in
+    let has : HasTurn events place e turn = record { at = at; turn = mine } in
+    let counted = λ (i : ℕ) (t : Turn). (f : Event) → At events i f → IsIndexedTurn events i f.processor t in
     let long : length turns.items ≡ place = omega (arith, turns.ok.0, old.long) in
     record {
       next_long = length-set c.loop-place.next e.processor _ ∙ old.next_long;
       next =
-          index_next_turns_next events place e c.loop-place.next turn c.turn_after.result at mine c.turn_after.ensures.arrived
+          index_next_turns_next c.loop-place.next c.turn_after.result has c.turn_after.ensures.arrived
           c.turn_after.ensures.departed old.next;
       long = (let len = c.in_ok-push.ensures.len in let was = old.long in omega arith);
       each =
-          subst (λ (items : List Turn). (i : ℕ) (f : Event) (t : Turn) → At events i f → slice_get items i ≡ Some t
-          → IsIndexedTurn events i f.processor t) (sym c.in_ok-push.ensures.items)
-          (index_turns_next events place e turns.items turn long at mine old.each);
+          subst (IsEachRow counted) (sym c.in_ok-push.ensures.items)
+          (rows_next counted turns.items place turn long old.each (index_turn_here has));
     }
 
 pub returns : goal.returns
@@ -114,4 +116,4 @@ returns c =
     let over = c.loop-place-test.false in
     let top = c.loop-place.auto.place-end in
     let old = c.loop-place.invariant in
-    record { long = omega (arith, c.loop-place.turns.ok.0, old.long); each = old.each }
+    record { long = omega (arith, c.loop-place.turns.ok.0, old.long); each = λ i e t at to. old.each i t to e at }

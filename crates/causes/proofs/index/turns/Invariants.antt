@@ -1,9 +1,10 @@
-use Rattle.std.proofs.Common.{◌≡◌, ℕ, Some, length, slice_get, vec_len}
+use Rattle.std.proofs.Common.{◌≡◌, ℕ, length, vec_len}
 use Rattle.journal.specs.declared.event.Event.{Event}
 use Rattle.journal.specs.Events.{At}
 use Rattle.causes.specs.declared.index.Turn.{Turn}
 use Rattle.causes.specs.Index.{IsIndexedTurn}
 use Rattle.causes.proofs.LookedUpIndex.{AreIndexNextTurns}
+use Rattle.causes.proofs.Rows.{IsEachRow}
 use Rattle.causes.proofs.index.turns.Given as goal
 
 abbrev pub invariant-loop-place : goal.invariant-loop-place
@@ -11,6 +12,5 @@ invariant-loop-place l = record {
   next_long : length l.next ≡ 16;
   next : AreIndexNextTurns l.events l.place l.next;
   long : vec_len l.turns ≡ l.place;
-  each : (i : ℕ) (e : Event) (t : Turn) → At l.events i e → slice_get l.turns.items i ≡ Some t
-      → IsIndexedTurn l.events i e.processor t;
+  each : IsEachRow (λ (i : ℕ) (t : Turn). (e : Event) → At l.events i e → IsIndexedTurn l.events i e.processor t) l.turns.items;
 }

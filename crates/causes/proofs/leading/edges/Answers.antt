@@ -1,6 +1,5 @@
-use Rattle.std.proofs.Common.{ℕ, ◌+◌, ◌<◌, List, length, slice_index, slice_index_or, take, subst, sym, refl, ◌∙◌, arith}
+use Rattle.std.proofs.Common.{ℕ, ◌+◌, ◌<◌, List, length, slice_index, slice_index_or, take, subst, sym, refl, arith}
 use Rattle.std.proofs.lemmas.Bool.{false≢true}
-use Rattle.std.proofs.lemmas.List.{length-set}
 use Rattle.std.proofs.lemmas.Option.{slice_get-get_or}
 use Rattle.journal.specs.declared.event.Event.{Event}
 use Rattle.journal.specs.declared.event.Kind.TheVariants.{Load}
@@ -25,8 +24,7 @@ low events place i lt inside range =
 
 pub loop-i-init : goal.loop-i-init
 loop-i-init c = record {
-  long = refl;
-  counts = λ q lt. entry_zeros_at 16 q;
+  counts = record { long = refl; each = λ q lt. entry_zeros_at 16 q };
   edges =
       subst (AreLeadingEdgesBelow c.args.events.now c.args.place 0) (sym c.new-places.ensures.items)
       (edges_start c.args.events.now c.args.place);
@@ -50,7 +48,7 @@ overflow_add-arrivals c =
     let inside = c.requires.place in
     let small = c.ranges.place.fits in
     let is = low events c.args.place i lt inside c.requires.processors in
-    let count = c.loop-i.invariant.counts p is in
+    let count = c.loop-i.invariant.counts.each p is in
     let most = edge_leads_count_within is_arrive events i p (omega arith) in
     let one = c.arrivals_of.ensures in
     let bit = edge_one_or_none (is_arrive (here events i).kind) in
@@ -78,12 +76,11 @@ loop-i-preserved c =
     let at = slice_get-get_or events i (event 0 (Load 0 0)) (omega arith) in
     let end = slice_get-get_or events k (event 0 (Load 0 0)) inside in
     let low = c.requires.processors i from at in
-    let arrived = old.counts from.processor low in
+    let arrived = old.counts.each from.processor low in
     let departed = c.departures_before-departed.ensures in
     let one = c.arrivals_of.ensures in
     record {
-      long = length-set c.loop-i.arrivals from.processor _ ∙ old.long;
-      counts = edge_leads_counts_next is_arrive events i from c.loop-i.arrivals _ at old.long old.counts (omega arith);
+      counts = edge_leads_counts_next from _ at old.counts (omega arith);
       edges = elim c.if-from-to.branch [
         | then-from-to+then-lets_on+in_ok-push w ↦
             (let on : EdgeLeadsOn from.kind (count_of is_arrive (take i events) from.processor) to.kind (count_of is_depart (take k events) to.processor) =

@@ -15,19 +15,18 @@ loop-writer-preserved c = λ j tells before.
     let span = c.args.span.now in
     let n = c.args.page in
     let q = c.loop-writer.writer in
-    let old = c.loop-writer.dues.items in
     let new = c.match-found.dues.items in
     let are = c.loop-writer.invariant j tells before in
     let next : gap_tally_row_index n q + 1 ≡ n * 16 + (q + 1) = omega arith in
     subst (λ row. DuesBelow s j span row new) next (elim c.match-found.branch [
       | in-Some+in_ok-push w ↦
-          dues_below_next s j span n q (Some w.in-Some.due) old new c.loop-writer-test.true
+          dues_below_next n q (Some w.in-Some.due) new c.loop-writer-test.true are
           (subst (IsOneOfDues s j span n q) w.in-Some.is (c.found.ensures j tells))
-          (ap (λ (v : Vec Due). v.items) w.dues-is ∙ w.in_ok-push.ensures.items) are
+          (ap (λ (v : Vec Due). v.items) w.dues-is ∙ w.in_ok-push.ensures.items)
       | in_default w ↦
-          dues_below_next s j span n q None old new c.loop-writer-test.true
+          dues_below_next n q None new c.loop-writer-test.true are
           (subst (IsOneOfDues s j span n q) w.in_default.is (c.found.ensures j tells))
-          (ap (λ (v : Vec Due). v.items) w.dues-is) are
+          (ap (λ (v : Vec Due). v.items) w.dues-is)
     ])
 
 pub returns : goal.returns

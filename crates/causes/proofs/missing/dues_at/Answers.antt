@@ -14,7 +14,7 @@ use Rattle.judge.specs.Miscounted.{IsEventInSizes}
 use Rattle.judge.specs.Sizes.{sizes_of}
 use Rattle.causes.specs.declared.missing.Due.{Due}
 use Rattle.causes.specs.Dues.{AreDues}
-use Rattle.causes.proofs.OwingDues.{dues_quiet}
+use Rattle.causes.proofs.OwingDues.{IsQuietAt, dues_quiet}
 use Rattle.causes.proofs.missing.dues_at.Goals as goal
 
 -- the event at this place
@@ -127,11 +127,13 @@ returns-else-takes c =
     let k = c.args.place in
     let s = sizes_of c.args.gaps.now.sizes in
     let there = slice_get-get_or events k (event 0 (Load 0 0)) c.requires.place in
+    let quiet : IsQuietAt events k (here events k) =
+    record { at = there; takes = sym c.takes.ensures ∙ c.if-takes.false; fetches = c.in_default.not-Fetch } in
     record {
       sizes = c.note-2.ensures.sizes;
       tells = c.in_ok-note-2.ensures.tells;
       dues = λ e at.
           subst (AreDues s events k e) (sym c.new.ensures.items)
           (subst (λ (f : Event). AreDues s events k f []) (numbered_at_same events k (here events k) e there at)
-          (dues_quiet s events k (here events k) there (sym c.takes.ensures ∙ c.if-takes.false) c.in_default.not-Fetch));
+          (dues_quiet s quiet));
     }

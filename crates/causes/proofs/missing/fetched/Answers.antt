@@ -12,7 +12,7 @@ use Rattle.judge.specs.Gaps.{TellsGaps}
 use Rattle.judge.specs.Sizes.{sizes_of}
 use Rattle.causes.specs.declared.missing.Due.{Due}
 use Rattle.causes.specs.Dues.{DuesBelow, AreDues}
-use Rattle.causes.proofs.OwingDues.{all_dues_below, due_if_ok, due_in_fetch}
+use Rattle.causes.proofs.OwingDues.{IsFetchSpan, all_dues_below, due_if_ok, due_in_fetch}
 use Rattle.causes.proofs.missing.fetched.Goals as goal
 
 -- the event at this place
@@ -48,9 +48,14 @@ returns c =
     let small = c.requires.tells.long.sizes.processors in
     omega arith) in
     let kind = c.requires.fetch own there in
-    let same =
-    due_in_fetch s events k own kind.0 c.args.page kind.1 kind.2 span kind.3 is.reader is.first is.end low
-    (is.from h c.requires.tells) (is.to h c.requires.tells) in
+    let is_span : IsFetchSpan s h own.processor c.args.page span = record {
+      reader = is.reader;
+      first = is.first;
+      end = is.end;
+      from = is.from h c.requires.tells;
+      to = is.to h c.requires.tells;
+    } in
+    let same = due_in_fetch events k own kind.3 is_span low in
     due_if_ok c.dues_in.result
     (λ (v : Vec Due). (j : List Event) → TellsGaps j g → DuesBelow s j span (span.end * 16) v.items)
     (λ (v : Vec Due). (e : Event) → At events k e → AreDues s events k e v.items)

@@ -1,5 +1,4 @@
 use Rattle.std.proofs.Common.{◌∙◌}
-use Rattle.judge.specs.Sizes.{sizes_of}
 use Rattle.causes.proofs.OwingDues.{due_none_between, due_none_counted}
 use Rattle.causes.proofs.missing.found.Goals as goal
 use Rattle.causes.proofs.missing.found.Goals.{then-writer-span-via-then-writer-span, then-writer-span-via-else-writer-span+then-span-writer}
@@ -9,10 +8,10 @@ returns-then-writer-span c = λ j tells x y page writer.
     elim c.then-writer-span.branch [
       | then-writer-span-via-then-writer-span w ↦ y.apart (writer ∙ w.if-writer-span.true)
       | then-writer-span-via-else-writer-span+then-span-writer w ↦
-          due_none_between (sizes_of c.args.gaps.now.sizes) j c.args.span.now x c.args.writer y writer w.if-span-writer.true
+          due_none_between c.args.writer y writer w.if-span-writer.true
     ]
 
 pub returns-then-records-eq0 : goal.returns-then-records-eq0
 returns-then-records-eq0 c = λ j tells x y page writer.
-    due_none_counted (sizes_of c.args.gaps.now.sizes) j c.args.span.now x c.args.page c.args.writer c.records-records.result
-    y page writer (c.records-records.ensures j tells) c.if-records-eq0.true
+    due_none_counted c.args.page c.args.writer c.records-records.result y page writer (c.records-records.ensures j tells)
+    c.if-records-eq0.true

@@ -12,7 +12,7 @@ use Rattle.judge.specs.Gaps.{TellsGaps}
 use Rattle.judge.specs.Sizes.{sizes_of}
 use Rattle.causes.specs.declared.missing.Due.{Due}
 use Rattle.causes.specs.Dues.{DuesBelow, AreDues}
-use Rattle.causes.proofs.OwingDues.{all_dues_below, due_if_ok, due_in_taken, due_pages_within}
+use Rattle.causes.proofs.OwingDues.{IsTakingSpan, all_dues_below, due_if_ok, due_in_taken, due_pages_within}
 use Rattle.causes.proofs.missing.taken.Goals as goal
 
 pub returns : goal.returns
@@ -30,11 +30,22 @@ returns c =
     λ i f at. (let lt = c.requires.tells.processors i f at in
     let small = c.requires.tells.long.sizes.processors in
     omega arith) in
-    let same =
-    due_in_taken s events k here span there (c.requires.takes here there) is.reader is.first is.end low
-    (due_pages_within s events (k + 1) c.requires.within)
-    (subst (λ t. IsTimeOf (take k events) here.processor (slice_index t)) (sym is.from) (c.requires.before here there))
-    (is.to h c.requires.tells) in
+    let round : IsTakingSpan s events k here span = record {
+      takes = record {
+        at = there;
+        takes = c.requires.takes here there;
+        before =
+            subst (λ t. IsTimeOf (take k events) here.processor (slice_index t)) (sym is.from)
+            (c.requires.before here there);
+        after = is.to h c.requires.tells;
+      };
+      reader = is.reader;
+      first = is.first;
+      end = is.end;
+      low = low;
+      pages = due_pages_within s events (k + 1) c.requires.within;
+    } in
+    let same = due_in_taken round in
     due_if_ok c.dues_in.result
     (λ (v : Vec Due). (j : List Event) → TellsGaps j g → DuesBelow s j span (span.end * 16) v.items)
     (λ (v : Vec Due). (e : Event) → At events k e → AreDues s events k e v.items)

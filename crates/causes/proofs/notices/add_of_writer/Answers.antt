@@ -11,8 +11,7 @@ use Rattle.causes.proofs.notices.add_of_writer.Goals.{then-stores_in+in_ok-push,
 
 pub loop-interval-init : goal.loop-interval-init
 loop-interval-init c = λ j tells before.
-    notices_from (sizes_of c.args.gaps.now.sizes) j c.args.span.now c.args.page c.args.writer c.args.notices.now.items
-    c.requires.writer before
+    notices_from c.args.page c.args.writer c.requires.writer before
 
 pub loop-interval-preserved : goal.loop-interval-preserved
 loop-interval-preserved c = λ j tells before.
@@ -21,7 +20,6 @@ loop-interval-preserved c = λ j tells before.
     let n = c.args.page in
     let q = c.args.writer in
     let m = c.loop-interval.interval in
-    let old = c.loop-interval.notices.items in
     let are = c.loop-interval.invariant j tells before in
     let row = gap_tally_row_index n q in
     elim c.if-stores_in.branch [
@@ -33,7 +31,7 @@ loop-interval-preserved c = λ j tells before.
           let x : WriteNotice = record { page = n; writer = q; interval = m } in
           subst (λ (v : Vec WriteNotice). NoticesBelow s j span row (m + 1) v.items) (sym w.notices-is)
           (subst (NoticesBelow s j span row (m + 1)) (sym w.in_ok-push.ensures.items)
-          (notices_next s j span n q m x old c.requires.writer refl refl refl (record {
+          (notices_next x (record {
             low = c.requires.writer;
             apart = apart;
             from = c.requires.from;
@@ -44,17 +42,15 @@ loop-interval-preserved c = λ j tells before.
           }) are)))
       | else-stores_in w ↦
           subst (λ (v : Vec WriteNotice). NoticesBelow s j span row (m + 1) v.items) (sym w.notices-is)
-          (notices_quiet s j span n q m old c.requires.writer
+          (notices_quiet n q c.requires.writer
           (λ stored. false≢true ((w.if-stores_in.ensures j tells).1 stored)) are)
     ]
 
 pub returns-then-not-has_of : goal.returns-then-not-has_of
 returns-then-not-has_of c = λ j tells before.
-    notices_row_none (sizes_of c.args.gaps.now.sizes) j c.args.span.now c.args.page c.args.writer c.args.notices.now.items
-    c.requires.writer (λ has. false≢true (sym c.if-not-has_of.true ∙ (c.has_of.ensures j tells).1 has)) before
+    notices_row_none c.args.page c.args.writer c.requires.writer (λ has. false≢true (sym c.if-not-has_of.true ∙ (c.has_of.ensures j tells).1 has)) before
 
 pub returns : goal.returns
 returns c = λ j tells before.
     let end = c.loop-interval-test.false in
-    notices_row_done (sizes_of c.args.gaps.now.sizes) j c.args.span.now c.args.page c.args.writer c.loop-interval.interval
-    c.loop-interval.notices.items c.requires.writer (omega arith) (c.loop-interval.invariant j tells before)
+    notices_row_done c.args.page c.args.writer c.requires.writer (omega arith) (c.loop-interval.invariant j tells before)

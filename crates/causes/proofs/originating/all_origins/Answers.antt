@@ -1,9 +1,10 @@
-use Rattle.std.proofs.Common.{◌≡◌, ◌+◌, length, subst, sym, ◌∙◌, arith}
+use Rattle.std.proofs.Common.{◌≡◌, ℕ, ◌+◌, Option, length, subst, sym, ◌∙◌, arith}
 use Rattle.judge.specs.declared.sizes.Sizes.{Sizes as Given}
 use Rattle.judge.specs.Sizes.{AreSizesSmall, sizes_of}
-use Rattle.causes.specs.Origins.{AreOrigins}
+use Rattle.causes.specs.declared.originating.WordOrigin.{WordOrigin}
+use Rattle.causes.specs.Origins.{AreOrigins, IsOriginAt}
 use Rattle.causes.specs.OriginSteps.{AreOriginsBefore}
-use Rattle.causes.proofs.OriginSteps.{origin_rows_next}
+use Rattle.causes.proofs.Rows.{rows_next}
 use Rattle.causes.proofs.originating.all_origins.Goals as goal
 
 pub loop-place-preserved : goal.loop-place-preserved
@@ -23,6 +24,6 @@ loop-place-preserved c =
       long = (let len = c.in_ok-push.ensures.len in let was = old.long in omega arith);
       rows =
           subst (AreOrigins s events) (sym c.in_ok-push.ensures.items)
-          (origin_rows_next s events rows.items place c.origin_at.result long old.rows
+          (rows_next (λ (k : ℕ) (o : Option WordOrigin). IsOriginAt s events k o) rows.items place c.origin_at.result long old.rows
           (c.origin_at.ensures s old.words c.requires.within small.processors));
     }

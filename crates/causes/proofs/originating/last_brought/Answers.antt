@@ -1,6 +1,6 @@
 use Rattle.std.proofs.Common.{◌≡◌, ◌<◌, subst, arith}
 use Rattle.causes.specs.OriginSteps.{OriginLastApplied}
-use Rattle.causes.proofs.Brought.{origin_brought_applied_next, origin_brought_applied_start}
+use Rattle.causes.proofs.Brought.{AppliedUpTo, origin_brought_applied_next, origin_brought_applied_start}
 use Rattle.causes.proofs.originating.last_brought.Goals as goal
 
 pub loop-by-init : goal.loop-by-init
@@ -8,9 +8,14 @@ loop-by-init c = λ s j looked fetch page. origin_brought_applied_start s j c.ar
 
 pub loop-by-preserved : goal.loop-by-preserved
 loop-by-preserved c = λ s j looked fetch page.
-    origin_brought_applied_next s j c.args.fetch.now.reader c.args.address c.args.fetch.now.place c.loop-by.by c.loop-by.last
-    c.brought_by.result c.later-last.result c.later-last.ensures (c.loop-by.invariant s j looked fetch page)
-    (c.brought_by.ensures s j looked fetch page)
+    let x : AppliedUpTo s j c.args.fetch.now.reader c.args.address c.args.fetch.now.place c.loop-by.by c.loop-by.last
+    c.brought_by.result c.later-last.result =
+    record {
+      later = c.later-last.ensures;
+      below = c.loop-by.invariant s j looked fetch page;
+      own = c.brought_by.ensures s j looked fetch page;
+    } in
+    origin_brought_applied_next c.loop-by.last c.brought_by.result c.later-last.result x
 
 pub returns : goal.returns
 returns c = λ s j looked fetch page.

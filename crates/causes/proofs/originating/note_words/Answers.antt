@@ -72,7 +72,7 @@ returns-in-Store c =
     let s = sizes_of c.args.gaps.now.sizes in
     let low = (c.requires.within k (here events k) (there events k c.requires.place)).processor in
     let few = c.requires.tells.long.sizes.processors in
-    origins_stored s events k (here events k).processor c.in-Store.address c.in-Store.field-1 c.args.words.now
+    origins_stored (here events k).processor c.in-Store.address c.in-Store.field-1
     (does events k (Store c.in-Store.address c.in-Store.field-1) c.requires.place c.in-Store.is) (omega arith)
     c.requires.so_far
 
@@ -86,11 +86,9 @@ returns-in-Fetch c =
     let fetches : FetchesPage events k (here events k).processor f.page =
     (f.writers, f.records, f.words, does events k (Fetch f.writers f.page f.records f.words) lt f.is) in
     let before = subst (λ n. AreOriginsBefore s events n c.args.words.now) (sym c.fetch_at-fetch.ensures.place) c.requires.so_far in
-    origins_fetched_done s events k (here events k).processor f.page f.writers f.records f.words c.fetch_at-fetch.result c.args.size
-    c.fetch_words.new.words c.fetch_at-fetch.ensures.place c.fetch_at-fetch.ensures.reader c.fetch_at-fetch.ensures.page
-    c.requires.size (does events k (Fetch f.writers f.page f.records f.words) lt f.is)
-    (c.fetch_words.ensures s events c.requires.looked
-    (c.fetch_at-fetch.ensures.fetch events c.requires.tells (omega arith) fetches) c.requires.size before)
+    let fetch = c.fetch_at-fetch.ensures.fetch events c.requires.tells (omega arith) fetches in
+    origins_fetched_done c.fetch_at-fetch.result k c.args.size c.fetch_at-fetch.ensures.place c.requires.size fetch.fetches
+    (c.fetch_words.ensures s events c.requires.looked fetch c.requires.size before)
 
 pub returns-in_default : goal.returns-in_default
 returns-in_default c =

@@ -1,9 +1,11 @@
-use Rattle.std.proofs.Common.{◌≡◌, ◌+◌, length, subst, sym, ◌∙◌, arith}
+use Rattle.std.proofs.Common.{◌≡◌, ℕ, ◌+◌, length, subst, sym, ◌∙◌, arith}
+use Rattle.std.specs.Global.{Vec}
 use Rattle.judge.specs.declared.sizes.Sizes.{Sizes as Given}
 use Rattle.judge.specs.Sizes.{AreSizesSmall, sizes_of}
+use Rattle.causes.specs.declared.writing.WrittenWord.{WrittenWord}
 use Rattle.causes.specs.OriginSteps.{AreOriginsBefore}
-use Rattle.causes.specs.Writing.{AreAllWritten}
-use Rattle.causes.proofs.WrittenWords.{written_rows_next}
+use Rattle.causes.specs.Writing.{AreAllWritten, AreWritten}
+use Rattle.causes.proofs.Rows.{rows_next}
 use Rattle.causes.proofs.writing.all_written.Goals as goal
 
 pub written_at-requires-clause-sizes : goal.written_at-requires-clause-sizes
@@ -32,5 +34,6 @@ loop-place-preserved c =
       long = (let len = c.in_ok-push.ensures.len in let was = old.long in omega arith);
       rows =
           subst (AreAllWritten s events) (sym c.in_ok-push.ensures.items)
-          (written_rows_next s events rows.items place c.in_ok-written_at.field-0 long old.rows c.in_ok-written_at.ensures);
+          (rows_next (λ (k : ℕ) (row : Vec WrittenWord). AreWritten s events k row.items) rows.items place
+          c.in_ok-written_at.field-0 long old.rows c.in_ok-written_at.ensures);
     }

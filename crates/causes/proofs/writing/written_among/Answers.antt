@@ -35,10 +35,10 @@ loop-address-preserved c =
                 let writes = written_now s j p a k w.in-Some.store (subst (IsWordOriginOf s j p a (k + 1)) is origin) in
                 subst (λ (v : Vec WrittenWord). AreWrittenBelow s j k p first (a + 1) v.items) (sym w.written-is)
                 (subst (AreWrittenBelow s j k p first (a + 1)) (sym w.in_ok-push.ensures.items)
-                (written_next s j k p first a w.in-Some.store c.loop-address.written.items writes (old.written s j before))))
+                (written_next w.in-Some.store writes (old.written s j before))))
             | in_default w ↦
                 subst (λ (v : Vec WrittenWord). AreWrittenBelow s j k p first (a + 1) v.items) (sym w.written-is)
-                (written_others s j k p first a c.loop-address.written.items
+                (written_others
                 (written_not s j p a k o origin (written_none o k c.store_at.result w.in_default.not-Some c.store_at.ensures))
                 (old.written s j before))
           ]);
