@@ -13,7 +13,7 @@ use Rattle.journal.specs.WellFormed.{Does}
 use Rattle.journal.proofs.Order.CountedAndNumbered.{numbered_at_within, numbered_at_same, numbered_does_same}
 use Rattle.judge.specs.Sources.Latest.{AreLatest, IsLatest}
 use Rattle.judge.proofs.sources.Answering.{answers_law, answering_untouched}
-use Rattle.causes.specs.declared.originating.WordOrigin.{WordOrigin}
+use Rattle.causes.specs.declared.origin.WordOrigin.{WordOrigin}
 use Rattle.causes.specs.declared.source.Source.{Source}
 use Rattle.causes.specs.declared.source.Source.TheVariants.{StoreAt}
 use Rattle.causes.specs.Origins.{IsOriginStore, NameOrigins, NamesOrigin, NamesOriginAt}

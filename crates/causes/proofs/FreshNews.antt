@@ -21,7 +21,7 @@ use Rattle.journal.specs.Pasts.{InPast}
 use Rattle.journal.specs.Times.{ClosesAt, IsTimeIn}
 use Rattle.journal.proofs.Order.HappensBefore.{before_longer, before_shorter}
 use Rattle.journal.proofs.Order.CountedAndNumbered.{numbered_at_same, count_of-take-le, numbered_does_at, numbered_does_same}
-use Rattle.causes.specs.declared.news.Step.{Step}
+use Rattle.causes.specs.declared.step.Step.{Step}
 use Rattle.causes.specs.Edges.{EdgeFromOther, EdgeLeadsOn}
 use Rattle.causes.specs.declared.index.Turn.{Turn}
 use Rattle.causes.specs.Index.{IsIndexedClosing}

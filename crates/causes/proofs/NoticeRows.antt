@@ -13,7 +13,7 @@ use Rattle.journal.specs.Sizes.{Sizes}
 use Rattle.judge.specs.Gaps.{GapFetchedUpTo, GapStoresInPage}
 use Rattle.judge.specs.GapTally.{gap_tally_row_index}
 use Rattle.judge.proofs.Counts.{count_some, count_zero}
-use Rattle.causes.specs.declared.missing.Span.{Span}
+use Rattle.causes.specs.declared.span.Span.{Span}
 use Rattle.causes.specs.declared.notices.WriteNotice.{WriteNotice}
 use Rattle.causes.specs.Dues.{DueLacks, IsDueToldBy}
 use Rattle.causes.specs.Notices.{AreWriteNotices, HasNoticeOf, IsNoticeBelow, IsNoticeInSpan, NoticesBelow, NoticesByPage}

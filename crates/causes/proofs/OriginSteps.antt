@@ -16,9 +16,9 @@ use Rattle.journal.specs.Sizes.{Sizes}
 use Rattle.journal.specs.WellFormed.{Does}
 use Rattle.journal.proofs.Order.CountedAndNumbered.{numbered_at_same}
 use Rattle.judge.specs.GapTally.{gap_tally_row_index}
-use Rattle.causes.specs.declared.originating.Applied.{Applied}
-use Rattle.causes.specs.declared.originating.WordOrigin.{WordOrigin}
-use Rattle.causes.specs.declared.originating.PageFetch.{PageFetch}
+use Rattle.causes.specs.declared.brought.Applied.{Applied}
+use Rattle.causes.specs.declared.origin.WordOrigin.{WordOrigin}
+use Rattle.causes.specs.declared.brought.PageFetch.{PageFetch}
 use Rattle.causes.specs.Origins.{IsOriginBrought, IsOrigin, IsWordOriginOf, OriginWritesWord}
 use Rattle.causes.specs.OriginSteps.{AreOriginsBefore, AreOriginsPartFetched, IsOriginAfter, OriginLastApplied}
 use Rattle.causes.proofs.StoreRows.{row_same}

@@ -32,8 +32,8 @@ use Rattle.judge.specs.Miscounted.{IsEventInSizes}
 use Rattle.judge.specs.GapTally.{gap_tally_row_index}
 use Rattle.judge.proofs.Counts.{count_some, count_unique}
 use Rattle.judge.proofs.InGaps.{own_none_in_gap, stored_is_in_gap}
-use Rattle.causes.specs.declared.missing.Due.{Due}
-use Rattle.causes.specs.declared.missing.Span.{Span}
+use Rattle.causes.specs.declared.event_dues.Due.{Due}
+use Rattle.causes.specs.declared.span.Span.{Span}
 use Rattle.causes.proofs.Rows.{rows_next}
 use Rattle.causes.specs.Dues.{AreAllDues, DuesBelow, AreDues, DueComesToLack, DuesByPageAndWriter, IsDueRecord, IsDueInSpan, IsOneOfDues, IsDueToldBy, DueLacks}
 

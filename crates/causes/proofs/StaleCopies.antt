@@ -7,7 +7,7 @@ use Rattle.journal.specs.Events.{count_of, interval_at, is_closing}
 use Rattle.journal.specs.InRange.{ProcessorsInRange}
 use Rattle.journal.specs.Sizes.{Sizes}
 use Rattle.judge.specs.Gaps.{GapStoresInPage}
-use Rattle.causes.specs.declared.missing.Span.{Span}
+use Rattle.causes.specs.declared.span.Span.{Span}
 use Rattle.causes.specs.Dues.{DueLacks}
 use Rattle.causes.specs.Notices.{HasNoticeOf}
 use Rattle.causes.specs.States.{IsDirtyPage, IsStalePage}

@@ -11,9 +11,9 @@ use Rattle.journal.specs.Events.{At}
 use Rattle.journal.specs.Sizes.{Sizes}
 use Rattle.journal.proofs.Order.CountedAndNumbered.{numbered_at_same}
 use Rattle.judge.specs.Prelude.{IsEventInSizes}
-use Rattle.causes.specs.declared.originating.WordOrigin.{WordOrigin}
-use Rattle.causes.specs.declared.writing.WrittenRange.{WrittenRange}
-use Rattle.causes.specs.declared.writing.WrittenWord.{WrittenWord}
+use Rattle.causes.specs.declared.origin.WordOrigin.{WordOrigin}
+use Rattle.causes.specs.declared.written.WrittenRange.{WrittenRange}
+use Rattle.causes.specs.declared.written.WrittenWord.{WrittenWord}
 use Rattle.causes.specs.Origins.{IsOrigin, IsWordOriginOf, OriginWritesWord}
 use Rattle.causes.proofs.OriginSteps.{origin_in_page}
 use Rattle.causes.specs.Writing.{AreWritten, AreWrittenAmong, IsStoreWrittenAt, IsWrittenRange}

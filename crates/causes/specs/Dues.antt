@@ -11,8 +11,8 @@ use Rattle.journal.specs.Events.{At}
 use Rattle.journal.specs.Sizes.{Sizes}
 use Rattle.judge.specs.Gaps.{GapStoresInPage}
 use Rattle.judge.specs.GapTally.{gap_tally_row_index}
-use Rattle.causes.specs.declared.missing.Due.{Due}
-use Rattle.causes.specs.declared.missing.Span.{Span}
+use Rattle.causes.specs.declared.event_dues.Due.{Due}
+use Rattle.causes.specs.declared.span.Span.{Span}
 
 -- p's copy of page n lacks what q stored there in its interval m
 abbrev pub DueLacks : Sizes → List Event → ℕ → ℕ → ℕ → ℕ → Type 0

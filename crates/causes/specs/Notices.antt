@@ -7,7 +7,7 @@ use Rattle.journal.specs.Sizes.{Sizes}
 use Rattle.judge.specs.Gaps.{GapStoresInPage}
 use Rattle.judge.specs.GapTally.{gap_tally_row_index}
 use Rattle.causes.specs.Dues.{IsDueToldBy}
-use Rattle.causes.specs.declared.missing.Span.{Span}
+use Rattle.causes.specs.declared.span.Span.{Span}
 use Rattle.causes.specs.declared.notices.WriteNotice.{WriteNotice}
 
 -- by rising pages, for each page by rising writers, and for each of these by rising intervals

@@ -8,10 +8,10 @@ use Rattle.journal.specs.Sizes.{Sizes}
 use Rattle.journal.specs.Times.{IsTimeOf}
 use Rattle.judge.specs.Gaps.{GapFetchedUpTo}
 use Rattle.judge.specs.GapTally.{gap_tally_row_index}
-use Rattle.causes.specs.declared.originating.Applied.{Applied}
-use Rattle.causes.specs.declared.originating.LookedUp.{LookedUp}
-use Rattle.causes.specs.declared.originating.WordOrigin.{WordOrigin}
-use Rattle.causes.specs.declared.originating.PageFetch.{PageFetch}
+use Rattle.causes.specs.declared.brought.Applied.{Applied}
+use Rattle.causes.specs.declared.brought.LookedUp.{LookedUp}
+use Rattle.causes.specs.declared.origin.WordOrigin.{WordOrigin}
+use Rattle.causes.specs.declared.brought.PageFetch.{PageFetch}
 use Rattle.causes.specs.Index.{IsIndex}
 use Rattle.causes.specs.Origins.{IsOriginAppliedBefore, IsOriginBrought, IsWordOriginOf}
 use Rattle.causes.specs.Stores.{AreStoreRows}

@@ -7,7 +7,7 @@ use Rattle.journal.specs.InRange.{ProcessorsInRange}
 use Rattle.journal.specs.HappensBeforeEdges.{Edge}
 use Rattle.journal.specs.Pasts.{UpTo}
 use Rattle.journal.specs.WellFormed.{Does}
-use Rattle.causes.specs.declared.paths.Ways.{Ways}
+use Rattle.causes.specs.declared.ways.Ways.{Ways}
 use Rattle.causes.specs.declared.reaching.Reach.{Reach}
 use Rattle.causes.specs.HandOvers.{AreAllHandOvers}
 use Rattle.causes.specs.Takings.{AreAllTakings, AreTakingNumbers}

@@ -58,7 +58,7 @@ fn turn_after(turn: Turn, kind: Kind) -> Turn
 }
 
 /// The turn of each event.
-fn turns(alloc: Global, events: &[Event]) -> Result<Vec<Turn>, AllocError>
+fn index_turns(alloc: Global, events: &[Event]) -> Result<Vec<Turn>, AllocError>
     requires few { length events.now ≤ most_held }
     requires processors { ProcessorsInRange most_processors events.now }
     ensures { IfOk result (λ v. AreIndexedTurns events.now v.items) }
@@ -78,7 +78,7 @@ fn turns(alloc: Global, events: &[Event]) -> Result<Vec<Turn>, AllocError>
 }
 
 /// The places of the events that close the processor's intervals.
-fn closings_of(alloc: Global, events: &[Event], by: usize) -> Result<Vec<usize>, AllocError>
+fn index_closings_of(alloc: Global, events: &[Event], by: usize) -> Result<Vec<usize>, AllocError>
     ensures { IfOk result (λ v. AreIndexedClosingsOf events.now by v.items) }
 {
     let mut places = Vec::new(alloc);
@@ -91,12 +91,12 @@ fn closings_of(alloc: Global, events: &[Event], by: usize) -> Result<Vec<usize>,
 }
 
 /// Those of each of sixteen processors.
-fn closings(alloc: Global, events: &[Event]) -> Result<Vec<Vec<usize>>, AllocError>
+fn index_closings(alloc: Global, events: &[Event]) -> Result<Vec<Vec<usize>>, AllocError>
     ensures { IfOk result (λ v. AreIndexedClosings events.now v.items) }
 {
     let mut closings = Vec::with_capacity(alloc, MOST_PROCESSORS)?;
     for by in 0..16 {
-        closings.push(closings_of(alloc, events, by)?)?;
+        closings.push(index_closings_of(alloc, events, by)?)?;
     }
     Ok(closings)
 }
@@ -107,7 +107,7 @@ pub(crate) fn index_of(alloc: Global, events: &[Event]) -> Result<Index, AllocEr
     requires processors { ProcessorsInRange most_processors events.now }
     ensures { IfOk result (IsIndex events.now) }
 {
-    let turns = turns(alloc, events)?;
-    let closings = closings(alloc, events)?;
+    let turns = index_turns(alloc, events)?;
+    let closings = index_closings(alloc, events)?;
     Ok(Index { turns, closings })
 }

@@ -6,7 +6,7 @@ ghost use Rattle.journal.specs.Events.{At};
 ghost use Rattle.judge.specs.Prelude.{GapStoresInPage, IsEventInSizes, TellsGaps, gap_tally_row_index, sizes_of};
 ghost use Rattle.causes.specs.Prelude.{AreWriteNotices, HasNoticeOf, NoticesBelow};
 
-use crate::missing::{Span, fetch_span, taking_span};
+use crate::span::{Span, fetch_span, taking_span};
 use crate::takings::takes;
 use base::MOST_PROCESSORS;
 use journal::{Event, Kind};
@@ -37,7 +37,7 @@ pub(crate) fn stores_in(gaps: &Gaps, page: usize, by: usize, interval: u32) -> b
 }
 
 /// Whether the span has something of the page and the writer.
-pub(crate) fn has_of(gaps: &Gaps, span: &Span, page: usize, writer: usize) -> bool
+pub(crate) fn has_notice_of(gaps: &Gaps, span: &Span, page: usize, writer: usize) -> bool
     requires tells { (j : List Event) × TellsGaps j gaps.now }
     requires page { page < gaps.now.sizes.pages }
     requires writer { writer < most_processors }
@@ -48,7 +48,7 @@ pub(crate) fn has_of(gaps: &Gaps, span: &Span, page: usize, writer: usize) -> bo
 }
 
 /// Adds what the span has of the page and the writer.
-fn add_of_writer(
+fn add_notices_of_writer(
     notices: &mut Vec<WriteNotice>,
     gaps: &Gaps,
     span: &Span,
@@ -64,7 +64,7 @@ fn add_of_writer(
         → NoticesBelow (sizes_of gaps.now.sizes) j span.now (gap_tally_row_index page writer) 0 notices.old.items
         → NoticesBelow (sizes_of gaps.now.sizes) j span.now (gap_tally_row_index page writer + 1) 0 notices.new.items) }
 {
-    if !has_of(gaps, span, page, writer) {
+    if !has_notice_of(gaps, span, page, writer) {
         return Ok(());
     }
     for interval in span.from[writer]..span.to[writer] {
@@ -80,7 +80,7 @@ fn add_of_writer(
 }
 
 /// Adds what the span has of the page.
-fn add_of_page(
+fn add_notices_of_page(
     notices: &mut Vec<WriteNotice>,
     gaps: &Gaps,
     span: &Span,
@@ -95,7 +95,7 @@ fn add_of_page(
         → NoticesBelow (sizes_of gaps.now.sizes) j span.now (page * most_processors + most_processors) 0 notices.new.items) }
 {
     for writer in 0..MOST_PROCESSORS {
-        add_of_writer(notices, gaps, span, page, writer)?;
+        add_notices_of_writer(notices, gaps, span, page, writer)?;
     }
     Ok(())
 }
@@ -110,7 +110,7 @@ fn notices_in(alloc: Global, gaps: &Gaps, span: &Span) -> Result<Vec<WriteNotice
 {
     let mut notices = Vec::new(alloc);
     for page in span.first..span.end {
-        add_of_page(&mut notices, gaps, span, page)?;
+        add_notices_of_page(&mut notices, gaps, span, page)?;
     }
     Ok(notices)
 }

@@ -60,7 +60,7 @@ fn last_value(
 }
 
 /// The words that the processor stores in its interval of this number, of so many from this address on.
-fn words_from(
+fn record_words(
     alloc: Global,
     stores: &StoreRows,
     events: &[Event],
@@ -129,7 +129,7 @@ impl RecordIndex {
         for page in 0..gaps.pages() {
             if stores_in(gaps, page, by, interval) {
                 let first = page * self.size;
-                let words = words_from(
+                let words = record_words(
                     alloc,
                     &self.stores,
                     events,

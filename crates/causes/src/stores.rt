@@ -30,7 +30,7 @@ pub(crate) struct StoreRows {
 }
 
 /// So many rows with nothing in them.
-fn empty_rows(alloc: Global, count: usize) -> Result<Vec<Vec<NumberedStore>>, AllocError>
+fn no_stores(alloc: Global, count: usize) -> Result<Vec<Vec<NumberedStore>>, AllocError>
     ensures long { IfOk result (λ v. vec_len v ≡ count) }
     ensures empty { IfOk result (λ v. (n : ℕ) (row : Vec NumberedStore) → slice_get v.items n ≡ Some row
         → row.items ≡ []) }
@@ -43,7 +43,7 @@ fn empty_rows(alloc: Global, count: usize) -> Result<Vec<Vec<NumberedStore>>, Al
 }
 
 /// The last of these stores that is of an interval below the limit. It is found by halving.
-fn last_under(stores: &[NumberedStore], limit: u32) -> Option<NumberedStore>
+fn last_store_under(stores: &[NumberedStore], limit: u32) -> Option<NumberedStore>
     requires { InOrder (λ x y. x.interval ≤ y.interval) stores.now }
     ensures { MatchOption result (NoneStoredUnder stores.now limit) (IsLastStoredUnder stores.now limit) }
 {
@@ -62,7 +62,7 @@ impl StoreRows {
         ensures rows { IfOk result (λ x. (j : List Event) → AreStoreRows j 0 x) }
         ensures addresses { IfOk result (λ x. x.addresses ≡ addresses) }
     {
-        let rows = empty_rows(alloc, addresses * MOST_PROCESSORS)?;
+        let rows = no_stores(alloc, addresses * MOST_PROCESSORS)?;
         Ok(StoreRows { addresses, rows })
     }
 
@@ -119,6 +119,6 @@ impl StoreRows {
         ensures { (row : Vec NumberedStore) × (slice_get self.now.rows.items (gap_tally_row_index address processor) ≡ Some row)
             × MatchOption result (NoneStoredUnder row.items limit) (IsLastStoredUnder row.items limit) }
     {
-        last_under(&self.rows[address * MOST_PROCESSORS + processor], limit)
+        last_store_under(&self.rows[address * MOST_PROCESSORS + processor], limit)
     }
 }

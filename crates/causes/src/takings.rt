@@ -7,7 +7,7 @@ ghost use Rattle.journal.specs.Prelude.{ProcessorsInRange, is_closing, is_taking
 ghost use Rattle.causes.specs.Prelude.{AreAllTakings, AreTakingNumbers, IsFirstTakingAbove, TimesAroundNews, NoTakingAbove};
 
 use crate::index::closes;
-use crate::news::{Step, take_step};
+use crate::step::{Step, take_step};
 use base::MOST_PROCESSORS;
 use journal::{Clock, Clocks, Event, Kind};
 use std::alloc::{AllocError, Global};
@@ -109,7 +109,7 @@ pub(crate) fn takings_of(
 
 /// The place of the first of these events after which the timestamp counts more than this many intervals of the
 /// processor. It is found by halving.
-pub(crate) fn first_above(takings: &[Taking], processor: usize, number: u32) -> Option<usize>
+pub(crate) fn first_taking_above(takings: &[Taking], processor: usize, number: u32) -> Option<usize>
     requires processor { processor < most_processors }
     requires parted { InOrder
         (λ x y. slice_index y.after processor ≤ number → slice_index x.after processor ≤ number) takings.now }

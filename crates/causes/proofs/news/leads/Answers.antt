@@ -35,4 +35,4 @@ returns-then-from-to c =
       at = to;
       turn = c.requires.turns.each k (here events k) t to (slice_get-get_or turns k zero (omega arith));
     } in
-    news_leads_by_turns c.lets_on.result one two c.if-from-to.true c.if-start-end.false c.lets_on.ensures
+    news_leads_by_turns c.edge_leads_on.result one two c.if-from-to.true c.if-start-end.false c.edge_leads_on.ensures

@@ -6,7 +6,7 @@ use Rattle.journal.specs.DidEvent.{event}
 use Rattle.journal.specs.Events.{At}
 use Rattle.journal.specs.Times.{IsTimeOf}
 use Rattle.journal.proofs.Order.CountedAndNumbered.{numbered_at_same}
-use Rattle.causes.specs.declared.news.Step.{Step}
+use Rattle.causes.specs.declared.step.Step.{Step}
 use Rattle.causes.specs.declared.takings.Taking.{Taking}
 use Rattle.causes.specs.News.{TimesAroundNews}
 use Rattle.causes.proofs.TakingRows.{IsTakingNoted, taking_rows_quiet, taking_rows_taken}

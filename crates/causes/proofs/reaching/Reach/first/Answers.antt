@@ -44,8 +44,8 @@ first_found {j} {p} {i} {q} {number} {takings} (Some m) besides first = first_re
 abbrev here : List Event → ℕ → Event
 here events place = slice_index_or events place (event 0 (Load 0 0))
 
-pub first_above-requires-clause-parted : goal.first_above-requires-clause-parted
-first_above-requires-clause-parted c =
+pub first_taking_above-requires-clause-parted : goal.first_taking_above-requires-clause-parted
+first_taking_above-requires-clause-parted c =
     let events = c.args.events.now in
     let x = c.args.self.now in
     let i = c.args.from in
@@ -91,4 +91,4 @@ returns c =
           row_read events x q c.index.result.now c.deref.result.now tells c.requires.processor c.index.ensures
           c.deref.ensures.value;
     } in
-    first_found c.first_above.result besides c.first_above.ensures
+    first_found c.first_taking_above.result besides c.first_taking_above.ensures

@@ -32,8 +32,8 @@ stores_in-requires-clause-interval c =
     let most = edge_leads_count_within is_closing events k (here events k).processor (omega arith) in
     omega arith
 
-pub words_from-requires-clause-by : goal.words_from-requires-clause-by
-words_from-requires-clause-by c =
+pub record_words-requires-clause-by : goal.record_words-requires-clause-by
+record_words-requires-clause-by c =
     let events = c.args.events.now in
     let k = c.args.place in
     let there = slice_get-get_or events k (event 0 (Load 0 0)) c.requires.place in
