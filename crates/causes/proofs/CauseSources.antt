@@ -3,7 +3,7 @@ use Rattle.std.proofs.Common.{◌≡◌, ◌≢◌, ℕ, ◌+◌, ◌<◌, inl, 
 use Rattle.std.specs.Prelude.{None}
 use Rattle.std.proofs.lemmas.Bool.{cases_eq}
 use Rattle.std.proofs.lemmas.Option.{same_Some, slice_get_within, slice_get-get_or}
-use Rattle.base.proofs.SlicesAndCounts.{slice_push_cases}
+use Rattle.base.specs.InOrderOnce.{Has}
 use Rattle.journal.specs.declared.event.Event.{Event}
 use Rattle.journal.specs.declared.event.Kind.TheVariants.{Load, Store}
 use Rattle.journal.specs.DidEvent.{event}
@@ -11,13 +11,18 @@ use Rattle.journal.specs.Events.{At}
 use Rattle.journal.specs.ExplainedAnswers.{IsAnswer, LatestStore, Untouched}
 use Rattle.journal.specs.WellFormed.{Does}
 use Rattle.journal.proofs.Order.CountedAndNumbered.{numbered_at_within, numbered_at_same, numbered_does_same}
-use Rattle.judge.specs.Sources.Latest.{AreLatest, IsLatest, IsLatestRow}
+use Rattle.judge.specs.Sources.Latest.{AreLatest, IsLatest}
 use Rattle.judge.proofs.sources.Answering.{answers_law, answering_untouched}
-use Rattle.causes.specs.declared.originating.WordOrigin.{WordOrigin}
+use Rattle.causes.specs.declared.origin.WordOrigin.{WordOrigin}
 use Rattle.causes.specs.declared.source.Source.{Source}
 use Rattle.causes.specs.declared.source.Source.TheVariants.{StoreAt}
 use Rattle.causes.specs.Origins.{IsOriginStore, NameOrigins, NamesOrigin, NamesOriginAt}
-use Rattle.causes.specs.Source.{AreSources, HasSource, IsSource, IsSourceAt}
+use Rattle.causes.specs.Source.{HasSource, IsSource, IsSourceAt}
+use Rattle.causes.proofs.Rows.{rows_next}
+
+-- the event at place i stores v
+abbrev pub IsSourceStore : List Event → ℕ → ℕ → Type 0
+IsSourceStore j i v = (e : Event) × At j i e × ((a : ℕ) × (e.kind ≡ Store a v))
 
 -- none of the first n places has a store of v
 abbrev pub NoSourceStores : List Event → List ℕ → ℕ → ℕ → Type 0
@@ -44,13 +49,15 @@ cause_source_place_within j k a m i places are at =
     let x = (are.has i).0 (m, at) in
     numbered_at_within j i (event x.1.store.by (Store a x.1.value)) (cause_source_stands j k a x.0 i x.1)
 
--- a place whose event stores v is the source
-pub found : (j : List Event) (k a b v m i : ℕ) (e : Event) (places : List ℕ) → AreLatest j k a places
-    → slice_get places m ≡ Some i → At j i e → e.kind ≡ Store b v → IsSource j k a v (StoreAt i)
-found j k a b v m i e places are at there is =
-    let x = ((are.has i).0 (m, at)).1 in
-    let same = numbered_at_same j i (event x.store.by (Store a x.value)) e (cause_source_stands j k a ((are.has i).0 (m, at)).0 i x) there in
-    let value = cause_source_stored_same a x.value b v (ap (λ (y : Event). y.kind) same ∙ is) in
+-- a place of these whose event stores v is the source
+pub cause_source_found : (j : List Event) (k a v i : ℕ) (places : List ℕ) → AreLatest j k a places → Has places i
+    → IsSourceStore j i v → IsSource j k a v (StoreAt i)
+cause_source_found j k a v i places are has stores =
+    let y = (are.has i).0 has in
+    let x = y.1 in
+    let stands = cause_source_stands j k a y.0 i x in
+    let same = numbered_at_same j i (event x.store.by (Store a x.value)) stores.0 stands stores.1 in
+    let value = cause_source_stored_same a x.value stores.2.0 v (ap (λ (z : Event). z.kind) same ∙ stores.2.1) in
     subst (λ w. (s : LatestStore j k a w) × (s.place ≡ i)) value (x.store, x.place)
 
 -- where there is no place, nothing was stored before the load
@@ -84,8 +91,7 @@ cause_source_unexplained j k a v places are none some answer = elim ((answers_la
 pub cause_source_origin_found : (j : List Event) (k a v i : ℕ) (origin : Option WordOrigin) (places : List ℕ) → AreLatest j k a places
     → IsOriginStore j places v origin i → IsSource j k a v (StoreAt i) × NamesOrigin j k a v origin (StoreAt i)
 cause_source_origin_found j k a v i origin places are x = (
-  (let there = x.stores in
-      found j k a there.2.0 v x.among.0 i there.0 places are x.among.1 there.1 there.2.1),
+  cause_source_found j k a v i places are x.among x.stores,
   λ y is l place.
       (let same : x.origin_is ≡ y = same_Some x.origin_is y (sym x.is ∙ is) in
       ap (λ (n : ℕ). StoreAt n) (sym x.store ∙ ap (λ (z : WordOrigin). z.store) same)),
@@ -103,12 +109,15 @@ cause_source_origin_others j k a v origin places s are none x is l place =
       stores = (event l.by (Store a v), subst (λ n. At j n (event l.by (Store a v))) place l.stores, (a, refl));
     }))
 
+-- what the event e at place k loads is loaded there
+pub cause_source_loads : (j : List Event) (k a v : ℕ) (e : Event) → At j k e → e.kind ≡ Load a v → Does j k e.processor (Load a v)
+cause_source_loads j k a v e at is = subst (λ kind. At j k (event e.processor kind)) is at
+
 -- the source of a load names the origin
-pub cause_source_origin_in : (j : List Event) (k a v : ℕ) (e : Event) (origin : Option WordOrigin) (s : Source) → At j k e
-    → e.kind ≡ Load a v → NamesOrigin j k a v origin s → NamesOriginAt j k origin (Some s)
-cause_source_origin_in j k a v e origin s at is names p b w x does some =
-    let here : Does j k e.processor (Load a v) = subst (λ kind. At j k (event e.processor kind)) is at in
-    let same = (numbered_does_same j k e.processor p (Load a v) (Load b w) here does).1 in
+pub cause_source_origin_in : (j : List Event) (k p a v : ℕ) (origin : Option WordOrigin) (s : Source) → Does j k p (Load a v)
+    → NamesOrigin j k a v origin s → NamesOriginAt j k origin (Some s)
+cause_source_origin_in j k p a v origin s here names q b w x does some =
+    let same = (numbered_does_same j k p q (Load a v) (Load b w) here does).1 in
     subst (NamesOrigin j k b w origin) (same_Some s x some)
     (subst (λ c. NamesOrigin j k c w origin s) (cause_source_address_same a v b w same)
     (subst (λ c. NamesOrigin j k a c origin s) (cause_source_value_same a v b w same) names))
@@ -121,40 +130,31 @@ cause_source_origin_out j k origin p a v x does some = absurd (none_is x some)
     none_is y is = cc
 
 -- one event more
-pub cause_source_named_next : (j : List Event) (origins : List (Option WordOrigin)) (rows : List (Option Source)) (k : ℕ)
-    → (origin : Option WordOrigin) (o : Option Source) → length rows ≡ k → slice_get origins k ≡ Some origin
-    → NameOrigins j origins rows → NamesOriginAt j k origin o → NameOrigins j origins (rows ++ o ∷ [])
-cause_source_named_next j origins rows k origin o long at are now n other source there to = elim (slice_push_cases rows o n source to) [
-  | inl old ↦ are n other source there old.1
-  | inr new ↦
-      (let is : k ≡ n = omega (arith, new.0) in
-      let same : origin ≡ other = same_Some origin other (sym at ∙ ap (slice_get origins) is ∙ there) in
-      subst (NamesOriginAt j n other) new.1
-      (subst (λ y. NamesOriginAt j n y o) same (subst (λ m. NamesOriginAt j m origin o) is now)))
-]
+pub cause_source_named_next : (j : List Event) (origins : List (Option WordOrigin)) (rows : List (Option Source)) (n : ℕ)
+    → (o : Option Source) → length rows ≡ n → NameOrigins j origins rows
+    → ((x : Option WordOrigin) → slice_get origins n ≡ Some x → NamesOriginAt j n x o) → NameOrigins j origins (rows ++ o ∷ [])
+cause_source_named_next j origins rows n o long are now k x source there to =
+    rows_next (λ (m : ℕ) (y : Option Source). (z : Option WordOrigin) → slice_get origins m ≡ Some z → NamesOriginAt j m z y)
+    rows n o long (λ m y at z here. are m z y here at) now k source to x there
 
 -- a place more
-pub cause_source_none_next : (j : List Event) (places : List ℕ) (n v i : ℕ) (e : Event) → slice_get places n ≡ Some i → At j i e
-    → ((a : ℕ) → e.kind ≢ Store a v) → NoSourceStores j places n v → NoSourceStores j places (n + 1) v
-cause_source_none_next j places n v i e at there away before m l f lt to cause_source_stands a is = elim (cases_eq m n) [
+pub cause_source_none_next : (j : List Event) (places : List ℕ) (n v i : ℕ) → slice_get places n ≡ Some i
+    → ¬ IsSourceStore j i v → NoSourceStores j places n v → NoSourceStores j places (n + 1) v
+cause_source_none_next j places n v i at away before m l f lt to there a is = elim (cases_eq m n) [
   | inl same ↦
       (let one : i ≡ l = same_Some i l (sym at ∙ sym (ap (slice_get places) same) ∙ to) in
-      let event = numbered_at_same j l e f (subst (λ x. At j x e) one there) cause_source_stands in
-      away a (ap (λ (y : Event). y.kind) event ∙ is))
-  | inr isnt ↦ before m l f (omega arith) to cause_source_stands a is
+      away (f, subst (λ x. At j x f) (sym one) there, (a, is)))
+  | inr isnt ↦ before m l f (omega arith) to there a is
 ]
 
 -- the source of a load is that of its event
-pub cause_source_in_load : (j : List Event) (k a v : ℕ) (e : Event) (s : Source) → At j k e → e.kind ≡ Load a v
-    → IsSource j k a v s → IsSourceAt j k (Some s)
-cause_source_in_load j k a v e s at is tells = record { loads = loads; others = λ none. absurd (none e.processor a v here) }
+pub cause_source_in_load : (j : List Event) (k p a v : ℕ) (s : Source) → Does j k p (Load a v) → IsSource j k a v s
+    → IsSourceAt j k (Some s)
+cause_source_in_load j k p a v s here tells = record { loads = loads; others = λ none. absurd (none p a v here) }
   where
-    here : Does j k e.processor (Load a v)
-    here = subst (λ kind. At j k (event e.processor kind)) is at
-
-    loads : (p b w : ℕ) → Does j k p (Load b w) → HasSource j k b w (Some s)
-    loads p b w does =
-        let same = (numbered_does_same j k e.processor p (Load a v) (Load b w) here does).1 in
+    loads : (q b w : ℕ) → Does j k q (Load b w) → HasSource j k b w (Some s)
+    loads q b w does =
+        let same = (numbered_does_same j k p q (Load a v) (Load b w) here does).1 in
         record {
           source = s;
           is = refl;
@@ -162,19 +162,3 @@ cause_source_in_load j k a v e s at is tells = record { loads = loads; others = 
               subst (λ x. IsSource j k x w s) (cause_source_address_same a v b w same)
               (subst (λ x. IsSource j k a x s) (cause_source_value_same a v b w same) tells);
         }
-
--- the row of a load has its latest stores
-pub cause_source_row_latest : (j : List Event) (k a v : ℕ) (e : Event) (places : List ℕ) → At j k e → e.kind ≡ Load a v
-    → IsLatestRow j k places → AreLatest j k a places
-cause_source_row_latest j k a v e places at is row =
-    row.loads e.processor a v (subst (λ kind. At j k (event e.processor kind)) is at)
-
--- one event more
-pub cause_source_rows_next : (j : List Event) (rows : List (Option Source)) (k : ℕ) (o : Option Source) → length rows ≡ k
-    → AreSources j rows → IsSourceAt j k o → AreSources j (rows ++ o ∷ [])
-cause_source_rows_next j rows k o long are now n other at = elim (slice_push_cases rows o n other at) [
-  | inl old ↦ are n other old.1
-  | inr new ↦
-      (let is : k ≡ n = omega (arith, new.0) in
-      subst (IsSourceAt j n) new.1 (subst (λ m. IsSourceAt j m o) is now))
-]

@@ -1,7 +1,7 @@
 -- The events of other processors with an edge to an event.
 use Rattle.std.proofs.Common.{◌≡◌, ◌≢◌, ℕ, ◌+◌, ◌<◌, ◌≤◌, ◌==◌, ◌&&◌, Bool, true, false, cond, inl, inr, List, [], ◌∷◌, ◌++◌, Some, length, take, slice_index, slice_set, subst, sym, refl, ap, ◌∙◌, arith}
 use Rattle.std.proofs.lemmas.Bool.{cases_eq, eq-eqb, ne_eqb}
-use Rattle.std.proofs.lemmas.List.{length-take-le, get_or-set_same, get_or-set_other}
+use Rattle.std.proofs.lemmas.List.{length-set, length-take-le, get_or-set_same, get_or-set_other}
 use Rattle.std.proofs.lemmas.List.Sums.{count_by-le-length}
 use Rattle.std.proofs.lemmas.Option.{none-some, slice_get_within}
 use Rattle.base.specs.InOrderOnce.{Has, InOrder}
@@ -141,26 +141,35 @@ pub edge_one_or_none : (b : Bool) → cond b 1 0 ≤ 1
 edge_one_or_none true = omega arith
 edge_one_or_none false = omega arith
 
--- counts of some kind one place on
-pub edge_leads_counts_next : (is : Kind → Bool) (j : List Event) (i : ℕ) (e : Event) (counts : List ℕ) (now : ℕ) → At j i e → length counts ≡ 16
-    → ((q : ℕ) → q < 16 → slice_index counts q ≡ count_of is (take i j) q)
-    → now ≡ slice_index counts e.processor + cond (is e.kind) 1 0
-    → (q : ℕ) → q < 16 → slice_index (slice_set counts e.processor now) q ≡ count_of is (take (i + 1) j) q
-edge_leads_counts_next is j i e counts now at long old set_now q lt = elim (cases_eq q e.processor) [
-  | inl mine ↦
-      (let next = count_next is j i q e at in
-      let set = get_or-set_same counts e.processor now 0 (omega arith) in
-      let read = ap (λ n. slice_index (slice_set counts e.processor now) n) mine in
-      let was = old q lt in
-      let same = ap (slice_index counts) mine in
-      let one : cond {A = ℕ} ((e.processor == q) && is e.kind) 1 0 ≡ cond (is e.kind) 1 0 =
-      rw (eq-eqb e.processor q (sym mine)) in
-      omega arith)
-  | inr other ↦
-      (let next = count_next is j i q e at in
-      let set = get_or-set_other counts e.processor q now 0 other in
-      let was = old q lt in
-      let none : cond {A = ℕ} ((e.processor == q) && is e.kind) 1 0 ≡ 0 =
-      rw (ne_eqb e.processor q (λ x. other (sym x))) in
-      omega arith)
-]
+-- these are the counts of each of sixteen processors' events of some kinds before place i
+pub record AreCountsBefore (is : Kind → Bool) (j : List Event) (i : ℕ) (counts : List ℕ) : Type 0 where
+  pub long : length counts ≡ 16
+  pub each : (q : ℕ) → q < 16 → slice_index counts q ≡ count_of is (take i j) q
+
+-- one place on
+pub edge_leads_counts_next : {is : Kind → Bool} {j : List Event} {i : ℕ} {counts : List ℕ} (e : Event) (now : ℕ) → At j i e
+    → AreCountsBefore is j i counts → now ≡ slice_index counts e.processor + cond (is e.kind) 1 0
+    → AreCountsBefore is j (i + 1) (slice_set counts e.processor now)
+edge_leads_counts_next {is} {j} {i} {counts} e now at old set_now =
+    record { long = length-set counts e.processor now ∙ old.long; each = each }
+  where
+    each : (q : ℕ) → q < 16 → slice_index (slice_set counts e.processor now) q ≡ count_of is (take (i + 1) j) q
+    each q lt = elim (cases_eq q e.processor) [
+      | inl mine ↦
+          (let next = count_next is j i q e at in
+          let long = old.long in
+          let set = get_or-set_same counts e.processor now 0 (omega arith) in
+          let read = ap (λ n. slice_index (slice_set counts e.processor now) n) mine in
+          let was = old.each q lt in
+          let same = ap (slice_index counts) mine in
+          let one : cond {A = ℕ} ((e.processor == q) && is e.kind) 1 0 ≡ cond (is e.kind) 1 0 =
+          rw (eq-eqb e.processor q (sym mine)) in
+          omega arith)
+      | inr other ↦
+          (let next = count_next is j i q e at in
+          let set = get_or-set_other counts e.processor q now 0 other in
+          let was = old.each q lt in
+          let none : cond {A = ℕ} ((e.processor == q) && is e.kind) 1 0 ≡ 0 =
+          rw (ne_eqb e.processor q (λ x. other (sym x))) in
+          omega arith)
+    ]

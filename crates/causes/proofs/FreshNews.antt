@@ -2,13 +2,12 @@
 use Rattle.std.proofs.Common.{◌≡◌, ◌≢◌, ℕ, ◌+◌, ◌<◌, ◌≤◌, ◌⊎◌, ◌↔◌, ◌==◌, Bool, false, IsTrue, inl, inr, List, [], ◌∷◌, ◌++◌, Some, length, take, drop, slice_index, slice_index_or, subst, sym, refl, ap, ◌∙◌, take-append-drop, take-take, arith}
 use Rattle.std.specs.List.{Contains}
 use Rattle.std.specs.List.Sorted.{IsNonDecreasing, IsPermutation, IsStrictlyIncreasing}
-use Rattle.std.specs.Global.{Vec}
 use Rattle.std.proofs.lemmas.Bool.{cases_eq, cases_lt, eq-eqb, ne_eqb}
 use Rattle.std.proofs.lemmas.List.{length-take-le}
 use Rattle.std.proofs.lemmas.List.Kept.{AllPairs-from_increasing}
 use Rattle.std.proofs.lemmas.List.Sorted.{Contains-permutation, IsPermutation-sym}
 use Rattle.std.proofs.lemmas.Map.Keys.{IsDistinct-from_apart, IsDistinct-IsPermutation, IsStrictlyIncreasing-from_distinct}
-use Rattle.std.proofs.lemmas.Option.{none-some, same_Some, slice_get-get_or, slice_get_read, slice_get_within}
+use Rattle.std.proofs.lemmas.Option.{same_Some, slice_get-get_or, slice_get_within}
 use Rattle.base.specs.InOrderOnce.{Has, InOrder, IsOnce}
 use Rattle.base.proofs.SlicesAndCounts.{slice_push_cases, slice_get-append_left, slice_get-last, slice_get-take}
 use Rattle.journal.specs.declared.event.Event.{Event}
@@ -19,15 +18,15 @@ use Rattle.journal.specs.InRange.{ProcessorsInRange}
 use Rattle.journal.specs.HappensBeforeEdges.{HappensBefore}
 use Rattle.journal.specs.HappensBeforeEdges.HappensBefore.{edge}
 use Rattle.journal.specs.Pasts.{InPast}
-use Rattle.journal.specs.Times.{ClosesAt, IsTimeIn, IsTimeOf}
+use Rattle.journal.specs.Times.{ClosesAt, IsTimeIn}
 use Rattle.journal.proofs.Order.HappensBefore.{before_longer, before_shorter}
 use Rattle.journal.proofs.Order.CountedAndNumbered.{numbered_at_same, count_of-take-le, numbered_does_at, numbered_does_same}
-use Rattle.causes.specs.declared.news.Step.{Step}
+use Rattle.causes.specs.declared.step.Step.{Step}
 use Rattle.causes.specs.Edges.{EdgeFromOther, EdgeLeadsOn}
 use Rattle.causes.specs.declared.index.Turn.{Turn}
-use Rattle.causes.specs.Index.{AreIndexedClosings, AreIndexedClosingsOf, IsIndexedClosing, IsIndexedTurn}
-use Rattle.causes.specs.News.{AreIncoming, AreNewsInOrder, IsNewsOfStep, IsNews, TimesAroundNews}
-use Rattle.causes.proofs.LookedUpIndex.{index_closing_same}
+use Rattle.causes.specs.Index.{IsIndexedClosing}
+use Rattle.causes.specs.News.{AreNewsInOrder, IsNewsOfStep, IsNews, TimesAroundNews}
+use Rattle.causes.proofs.LookedUpIndex.{HasTurn, index_closing_same}
 use Rattle.causes.proofs.EdgeLeadsOn.{leads, edge_leads_led}
 
 -- a timestamp with the same entries
@@ -181,6 +180,12 @@ news_is_of_step j x i low step news = record {
         (step.after.covers from.processor i (news_closes_in_front j (k + 1) from.processor i (omega arith) closes)).0 past in
         omega arith
 
+-- at place p, q closes its interval n, which the step's event counts and its processor had not counted before
+pub record IsClosingInStep (j : List Event) (x : Step) (q n p : ℕ) : Type 0 where
+  pub closing : IsIndexedClosing j q n p
+  pub late : slice_index x.before q ≤ n
+  pub counted : n < slice_index x.after q
+
 -- the places so far: those that were there, and q's news of intervals below n
 abbrev pub HasNewsBelow : List Event → Step → ℕ → ℕ → List ℕ → List ℕ → Type 0
 HasNewsBelow j x q n old places =
@@ -193,23 +198,14 @@ IsNewsOnceIf j q old places = IsOnce old → ((i : ℕ) → Has old i → ¬ Clo
 fresh_news_has_older : (xs : List ℕ) (y i : ℕ) → Has xs i → Has (xs ++ y ∷ []) i
 fresh_news_has_older xs y i at = (at.0, slice_get-append_left xs (y ∷ []) at.0 (slice_get_within xs at.0 i at.1) ∙ at.1)
 
--- at first there are none
-pub fresh_news_below_first : (j : List Event) (x : Step) (q n : ℕ) (old : List ℕ) → n ≡ slice_index x.before q
-    → HasNewsBelow j x q n old old
-fresh_news_below_first j x q n old is i = (
-  (λ at. inl at),
-  λ s. elim s [
-    | inl at ↦ at
-    | inr new ↦ (let late = new.0.late in let lt = new.1 in absurd (omega arith))
-  ],
-)
-
 -- q's closing of interval n is news
-pub fresh_news_below_next : (j : List Event) (x : Step) (q n p : ℕ) (old places : List ℕ) → IsIndexedClosing j q n p
-    → slice_index x.before q ≤ n → n < slice_index x.after q → EdgeFromOther j p x.place
-    → HasNewsBelow j x q n old places → HasNewsBelow j x q (n + 1) old (places ++ p ∷ [])
-fresh_news_below_next j x q n p old places here late counted leads was i = (there, back)
+pub fresh_news_below_next : {j : List Event} {x : Step} {q n p : ℕ} (old places : List ℕ) → IsClosingInStep j x q n p
+    → EdgeFromOther j p x.place → HasNewsBelow j x q n old places → HasNewsBelow j x q (n + 1) old (places ++ p ∷ [])
+fresh_news_below_next {j} {x} {q} {n} {p} old places closed leads was i = (there, back)
   where
+    here : IsIndexedClosing j q n p
+    here = closed.closing
+
     there : Has (places ++ p ∷ []) i → Has old i ⊎ (IsNewsOfStep j x q i × (interval_at j q i < n + 1))
     there at = elim (slice_push_cases places p at.0 i at.1) [
       | inl older ↦ elim ((was i).0 (at.0, older.1)) [
@@ -235,9 +231,9 @@ fresh_news_below_next j x q n p old places here late counted leads was i = (ther
     ]
 
 -- or isn't
-pub fresh_news_below_others : (j : List Event) (x : Step) (q n p : ℕ) (old places : List ℕ) → IsIndexedClosing j q n p
+pub fresh_news_below_others : {j : List Event} {x : Step} {q n p : ℕ} (old places : List ℕ) → IsClosingInStep j x q n p
     → ¬ EdgeFromOther j p x.place → HasNewsBelow j x q n old places → HasNewsBelow j x q (n + 1) old places
-fresh_news_below_others j x q n p old places here away was i = (there, back)
+fresh_news_below_others {j} {x} {q} {n} {p} old places closed away was i = (there, back)
   where
     there : Has places i → Has old i ⊎ (IsNewsOfStep j x q i × (interval_at j q i < n + 1))
     there at = elim ((was i).0 at) [
@@ -250,7 +246,7 @@ fresh_news_below_others j x q n p old places here away was i = (there, back)
       | inl first ↦ (was i).1 (inl first)
       | inr new ↦ elim (cases_eq (interval_at j q i) n) [
         | inl is ↦
-            (let same = index_closing_same j q n i p (record { closes = new.0.closes; number = is }) here in
+            (let same = index_closing_same j q n i p (record { closes = new.0.closes; number = is }) closed.closing in
             absurd (away (subst (λ m. EdgeFromOther j m x.place) same new.0.leads)))
         | inr isnt ↦ (let lt = new.1 in (was i).1 (inr (new.0, omega arith)))
       ]
@@ -280,24 +276,18 @@ fresh_news_once_next xs y once away m n a b lt at to is = elim (slice_push_cases
   ]
 ]
 
-pub fresh_news_once_push : (j : List Event) (x : Step) (q n p : ℕ) (old places : List ℕ) → IsIndexedClosing j q n p
+pub fresh_news_once_push : {j : List Event} {x : Step} {q n p : ℕ} (old places : List ℕ) → IsClosingInStep j x q n p
     → HasNewsBelow j x q n old places → IsNewsOnceIf j q old places → IsNewsOnceIf j q old (places ++ p ∷ [])
-fresh_news_once_push j x q n p old places here was once first apart =
+fresh_news_once_push {j} {x} {q} {n} {p} old places closed was once first apart =
     fresh_news_once_next places p (once first apart) (λ at. elim ((was p).0 at) [
-      | inl there ↦ apart p there here.closes
-      | inr new ↦ (let number = here.number in let lt = new.1 in absurd (omega arith))
+      | inl there ↦ apart p there closed.closing.closes
+      | inr new ↦ (let number = closed.closing.number in let lt = new.1 in absurd (omega arith))
     ])
 
 -- the places so far: the news of the first n processors, none twice
 pub record AreNewsBelow (j : List Event) (x : Step) (n : ℕ) (places : List ℕ) : Type 0 where
   pub has : (i : ℕ) → Has places i ↔ ((q : ℕ) × (q < n) × IsNewsOfStep j x q i)
   pub once : IsOnce places
-
-pub fresh_news_start : (j : List Event) (x : Step) → AreNewsBelow j x 0 []
-fresh_news_start j x = record {
-  has = λ i. ((λ at. absurd (none-some i at.1)), λ s. (let lt = s.1 in absurd (omega arith)));
-  once = λ m n a b lt at to. absurd (none-some a at);
-}
 
 -- and of one more
 pub fresh_news_next_processor : (j : List Event) (x : Step) (n : ℕ) (old new : List ℕ) → AreNewsBelow j x n old
@@ -350,10 +340,10 @@ fresh_news_flips a b = elim (cases_eq a b) [
 ]
 
 -- those of all processors, sorted, are the news
-pub fresh_news_sorted_all : (j : List Event) (x : Step) (n : ℕ) (places sorted : List ℕ) → 16 ≤ n → ProcessorsInRange 16 j
-    → TimesAroundNews j x → AreNewsBelow j x n places → IsPermutation places sorted → IsNonDecreasing sorted
-    → AreNewsInOrder j x.place sorted
-fresh_news_sorted_all j x n places sorted most low step are moved up = record { has = λ i. (there i, back i); order = order }
+pub fresh_news_sorted_all : {j : List Event} {x : Step} {n : ℕ} {places : List ℕ} (sorted : List ℕ) → 16 ≤ n
+    → ProcessorsInRange 16 j → TimesAroundNews j x → AreNewsBelow j x n places → IsPermutation places sorted
+    → IsNonDecreasing sorted → AreNewsInOrder j x.place sorted
+fresh_news_sorted_all {j} {x} {n} {places} sorted most low step are moved up = record { has = λ i. (there i, back i); order = order }
   where
     there : (i : ℕ) → Has sorted i → IsNews j i x.place
     there i at =
@@ -378,66 +368,31 @@ fresh_news_sorted_all j x n places sorted most low step are moved up = record { 
         (IsStrictlyIncreasing-from_distinct sorted up
         (IsDistinct-IsPermutation (λ (a b : ℕ). a == b) fresh_news_flips places sorted moved (IsDistinct-from_apart (λ (a b : ℕ). a == b) places apart)))
 
--- a row more
-pub fresh_news_incoming_next : (j : List Event) (rows : List (Vec ℕ)) (n : ℕ) (row : Vec ℕ) → length rows ≡ n
-    → AreIncoming j rows → AreNewsInOrder j n row.items → AreIncoming j (rows ++ row ∷ [])
-fresh_news_incoming_next j rows n row long are now k new at = elim (slice_push_cases rows row k new at) [
-  | inl old ↦ are k new old.1
-  | inr last ↦
-      (let is : n ≡ k = omega (arith, last.0) in
-      subst (λ (v : Vec ℕ). AreNewsInOrder j k v.items) last.1 (subst (λ m. AreNewsInOrder j m row.items) is now))
-]
-
 -- whether an edge leads on, by the turns of both events
-pub news_leads_by_turns : (j : List Event) (i k : ℕ) (e f : Event) (s t : Turn) (b : Bool) → At j i e → At j k f
-    → IsIndexedTurn j i e.processor s → IsIndexedTurn j k f.processor t → i < k → e.processor ≢ f.processor
-    → (IsTrue b ↔ EdgeLeadsOn e.kind s.arrived f.kind t.departed) → IsTrue b ↔ EdgeFromOther j i k
-news_leads_by_turns j i k e f s t b at to one two lt apart tells = (there, back)
+pub news_leads_by_turns : {j : List Event} {i k : ℕ} {e f : Event} {s t : Turn} (b : Bool) → HasTurn j i e s → HasTurn j k f t
+    → i < k → e.processor ≢ f.processor → (IsTrue b ↔ EdgeLeadsOn e.kind s.arrived f.kind t.departed)
+    → IsTrue b ↔ EdgeFromOther j i k
+news_leads_by_turns {j} {i} {k} {e} {f} {s} {t} b one two lt apart tells = (there, back)
   where
     there : IsTrue b → EdgeFromOther j i k
     there so =
-        leads j i k e f lt at to (
+        leads j i k e f lt one.at two.at (
           apart,
-          subst (λ n. EdgeLeadsOn e.kind n f.kind (count_of is_depart (take k j) f.processor)) one.arrived
-              (subst (λ m. EdgeLeadsOn e.kind s.arrived f.kind m) two.departed (tells.0 so)),
+          subst (λ n. EdgeLeadsOn e.kind n f.kind (count_of is_depart (take k j) f.processor)) one.turn.arrived
+              (subst (λ m. EdgeLeadsOn e.kind s.arrived f.kind m) two.turn.departed (tells.0 so)),
         )
 
     back : EdgeFromOther j i k → IsTrue b
     back x =
         tells.1
-        (subst (λ n. EdgeLeadsOn e.kind n f.kind t.departed) (sym one.arrived)
-        (subst (λ m. EdgeLeadsOn e.kind (count_of is_arrive (take i j) e.processor) f.kind m) (sym two.departed)
-        (edge_leads_led j i k e f at to x).1))
+        (subst (λ n. EdgeLeadsOn e.kind n f.kind t.departed) (sym one.turn.arrived)
+        (subst (λ m. EdgeLeadsOn e.kind (count_of is_arrive (take i j) e.processor) f.kind m) (sym two.turn.departed)
+        (edge_leads_led j i k e f one.at two.at x).1))
 
--- an interval that the step's event counts has its place
-pub fresh_news_number_within : (j : List Event) (x : Step) (q n : ℕ) (row : List ℕ) → TimesAroundNews j x → AreIndexedClosingsOf j q row
-    → n < slice_index x.after q → n < length row
-fresh_news_number_within j x q n row step are lt =
+-- an interval that the step's event counts is one that its processor closes
+pub fresh_news_number_closed : (j : List Event) (x : Step) (q n : ℕ) → TimesAroundNews j x → n < slice_index x.after q
+    → n < count_of is_closing j q
+fresh_news_number_closed j x q n step lt =
     let counts = step.after.within q in
     let all = count_of-take-le is_closing j (x.place + 1) q in
-    let long = are.long in
     omega arith
-
--- the timestamps of the journal's fronts are those of the step
-pub fresh_news_of_step : (j : List Event) (x : Step) (e : Event) (before after : ℕ → ℕ) → At j x.place e
-    → IsTimeOf (take x.place j) e.processor before → IsTimeOf (take (x.place + 1) j) e.processor after
-    → ((q : ℕ) → slice_index x.before q ≡ before q) → ((q : ℕ) → slice_index x.after q ≡ after q) → TimesAroundNews j x
-fresh_news_of_step j x e before after at old new one two = record {
-  event = e;
-  at = at;
-  before =
-      fresh_news_time_same (take x.place j) (InPast (take x.place j) e.processor) before (slice_index x.before) one old;
-  after =
-      fresh_news_time_same (take (x.place + 1) j) (InPast (take (x.place + 1) j) e.processor) after (slice_index x.after) two new;
-}
-
--- the place that was read closes q's interval of this number
-pub fresh_news_closing_read : (j : List Event) (x : Step) (q n p : ℕ) (rows : List (Vec ℕ)) (row : Vec ℕ) → q < 16 → TimesAroundNews j x
-    → AreIndexedClosings j rows → row ≡ slice_index_or rows q row → n < slice_index x.after q
-    → p ≡ slice_index_or row.items n p → IsIndexedClosing j q n p
-fresh_news_closing_read j x q n p rows row low step are read lt got =
-    let long = are.long in
-    let at = slice_get_read rows (length rows) q row refl (omega arith) read in
-    let mine = are.each q row at in
-    mine.each n p
-    (slice_get_read row.items (length row.items) n p refl (fresh_news_number_within j x q n row.items step mine lt) got)

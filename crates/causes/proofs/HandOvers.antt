@@ -1,7 +1,6 @@
 -- The last of the news, found from the end: one that is up to none of the last ones so far is one of them, for whatever stands
 -- behind it is up to one of those, and nothing before it happens after it.
 use Rattle.std.proofs.Common.{◌≡◌, ℕ, ◌+◌, ◌<◌, ◌≤◌, inl, inr, List, [], ◌∷◌, ◌++◌, Some, length, slice_get, subst, sym, ap, ◌∙◌, arith}
-use Rattle.std.specs.Global.{Vec}
 use Rattle.std.proofs.lemmas.Bool.{cases_eq, cases_lt}
 use Rattle.std.proofs.lemmas.Option.{none-some, same_Some, slice_get_within}
 use Rattle.base.specs.InOrderOnce.{Has, InOrder}
@@ -89,14 +88,3 @@ hand_over_last_all j k news places are last = record {
   last = λ n i has new. (let x = (are.has i).1 new in last.last n x.0 i has x.1);
   all = λ i new. (let x = (are.has i).1 new in last.all x.0 i (omega arith) x.1);
 }
-
--- a row more
-pub hand_over_rows_next : (j : List Event) (rows : List (Vec ℕ)) (n : ℕ) (row : Vec ℕ) → length rows ≡ n
-    → ((k : ℕ) (old : Vec ℕ) → slice_get rows k ≡ Some old → AreHandOvers j k old.items) → AreHandOvers j n row.items
-    → (k : ℕ) (new : Vec ℕ) → slice_get (rows ++ row ∷ []) k ≡ Some new → AreHandOvers j k new.items
-hand_over_rows_next j rows n row long are now k new at = elim (slice_push_cases rows row k new at) [
-  | inl old ↦ are k new old.1
-  | inr last ↦
-      (let is : n ≡ k = omega (arith, last.0) in
-      subst (λ (v : Vec ℕ). AreHandOvers j k v.items) last.1 (subst (λ m. AreHandOvers j m row.items) is now))
-]

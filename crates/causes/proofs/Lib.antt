@@ -1,5 +1,6 @@
+pub mod Rows
 pub mod CauseSources
-pub mod Heard
+pub mod LastHeard
 pub mod EdgeLeadsOn
 pub mod LookedUpIndex
 pub mod FreshNews
@@ -11,7 +12,7 @@ pub mod OwingDues
 pub mod NoticeRows
 pub mod StaleCopies
 pub mod StoreRows
-pub mod Brought
+pub mod BroughtStores
 pub mod OriginSteps
 pub mod RecordRows
 pub mod WrittenWords

@@ -1,9 +1,10 @@
 -- What is looked up of a history.
-use Rattle.std.proofs.Common.{◌≡◌, ◌≢◌, ℕ, ◌+◌, ◌<◌, ◌≤◌, ◌==◌, ◌&&◌, Bool, true, false, cond, inl, inr, List, [], ◌∷◌, ◌++◌, Some, length, replicate, take, slice_get, slice_set, subst, sym, refl, ap, ◌∙◌, arith}
+use Rattle.std.proofs.Common.{◌≡◌, ◌≢◌, ℕ, ◌+◌, ◌<◌, ◌≤◌, ◌==◌, ◌&&◌, Bool, true, false, cond, inl, inr, List, [], ◌∷◌, ◌++◌, Some, length, replicate, take, slice_get, slice_index_or, slice_set, subst, sym, refl, ap, ◌∙◌, arith}
 use Rattle.std.specs.Global.{Vec}
 use Rattle.std.proofs.lemmas.Bool.{cases_eq, cases_lt, eq-eqb, ne_eqb, eqb-true, and_parts}
 use Rattle.std.proofs.lemmas.List.{length-append, length-take-le, take_all}
 use Rattle.std.proofs.lemmas.List.Sums.{count_by-le-length}
+use Rattle.std.proofs.lemmas.Option.{slice_get_read}
 use Rattle.base.proofs.SlicesAndCounts.{slice_push_cases}
 use Rattle.base.proofs.SliceSets.{slice_get-set_found, slice_get-set_other, slice_get-replicate_found}
 use Rattle.journal.specs.declared.event.Event.{Event}
@@ -12,7 +13,7 @@ use Rattle.journal.specs.declared.event.Kind.{Kind}
 use Rattle.journal.proofs.Order.CountedAndNumbered.{numbered_at_same, count_of-past, numbered_does_at}
 use Rattle.journal.proofs.Passes.ReachedNextRaces.{count_next}
 use Rattle.causes.specs.declared.index.Turn.{Turn}
-use Rattle.causes.specs.Index.{AreIndexedClosingsOf, IsIndexedClosing, IsIndexedTurn}
+use Rattle.causes.specs.Index.{AreIndexedClosings, AreIndexedClosingsOf, IsIndexedClosing, IsIndexedTurn}
 
 -- q closes its first intervals, below place n, at these places, in order
 pub record AreIndexedClosingsBelow (j : List Event) (q n : ℕ) (places : List ℕ) : Type 0 where
@@ -72,16 +73,21 @@ index_closings_all j q n places is old = record {
   each = old.each;
 }
 
--- a processor's row more
-pub index_closing_rows_next : (j : List Event) (rows : List (Vec ℕ)) (n : ℕ) (row : Vec ℕ) → length rows ≡ n
-    → ((q : ℕ) (old : Vec ℕ) → slice_get rows q ≡ Some old → AreIndexedClosingsOf j q old.items) → AreIndexedClosingsOf j n row.items
-    → (q : ℕ) (new : Vec ℕ) → slice_get (rows ++ row ∷ []) q ≡ Some new → AreIndexedClosingsOf j q new.items
-index_closing_rows_next j rows n row long are now q new at = elim (slice_push_cases rows row q new at) [
-  | inl old ↦ are q new old.1
-  | inr last ↦
-      (let is : n ≡ q = omega (arith, last.0) in
-      subst (λ (v : Vec ℕ). AreIndexedClosingsOf j q v.items) last.1 (subst (λ m. AreIndexedClosingsOf j m row.items) is now))
-]
+-- a place that was read from the rows: from row q, at number n
+pub record IsReadClosing (rows : List (Vec ℕ)) (q n p : ℕ) : Type 0 where
+  pub row : Vec ℕ
+  pub row_is : row ≡ slice_index_or rows q row
+  pub place_is : p ≡ slice_index_or row.items n p
+
+-- q's interval of this number is closed there, if it closes so many
+pub index_closing_read : {j : List Event} {rows : List (Vec ℕ)} {q n p : ℕ} → AreIndexedClosings j rows → q < 16
+    → n < count_of is_closing j q → IsReadClosing rows q n p → IsIndexedClosing j q n p
+index_closing_read {j} {rows} {q} {n} {p} are low lt read =
+    let long = are.long in
+    let mine =
+    are.each q read.row (slice_get_read rows (length rows) q read.row refl (omega arith) read.row_is) in
+    let all = mine.long in
+    mine.each n p (slice_get_read read.row.items (length read.row.items) n p refl (omega arith) read.place_is)
 
 -- no two places close one interval
 pub index_closing_same : (j : List Event) (q n i m : ℕ) → IsIndexedClosing j q n i → IsIndexedClosing j q n m → i ≡ m
@@ -114,19 +120,24 @@ index_next_turns_start j zero arrived departed q t at =
       departed = sym (ap (λ (x : Turn). x.departed) is) ∙ departed;
     }
 
+-- the event e stands at place n, before which its processor has had this turn
+pub record HasTurn (j : List Event) (n : ℕ) (e : Event) (t : Turn) : Type 0 where
+  pub at : At j n e
+  pub turn : IsIndexedTurn j n e.processor t
+
 -- one place on
-pub index_next_turns_next : (j : List Event) (n : ℕ) (e : Event) (next : List Turn) (old new : Turn) → At j n e
-    → IsIndexedTurn j n e.processor old → new.arrived ≡ old.arrived + cond (is_arrive e.kind) 1 0
+pub index_next_turns_next : {j : List Event} {n : ℕ} {e : Event} {old : Turn} (next : List Turn) (new : Turn)
+    → HasTurn j n e old → new.arrived ≡ old.arrived + cond (is_arrive e.kind) 1 0
     → new.departed ≡ old.departed + cond (is_depart e.kind) 1 0 → AreIndexNextTurns j n next
     → AreIndexNextTurns j (n + 1) (slice_set next e.processor new)
-index_next_turns_next j n e next old new at was arrived departed are q t to = elim (cases_eq q e.processor) [
+index_next_turns_next {j} {n} {e} {old} next new has arrived departed are q t to = elim (cases_eq q e.processor) [
   | inl mine ↦
       (let is : new ≡ t =
       slice_get-set_found next e.processor new t (subst (λ m. slice_get (slice_set next e.processor new) m ≡ Some t) mine to) in
       subst (IsIndexedTurn j (n + 1) q) is
       (record {
-        arrived = counted is_arrive q mine old.arrived new.arrived was.arrived arrived;
-        departed = counted is_depart q mine old.departed new.departed was.departed departed;
+        arrived = counted is_arrive q mine old.arrived new.arrived has.turn.arrived arrived;
+        departed = counted is_depart q mine old.departed new.departed has.turn.departed departed;
       }))
   | inr other ↦
       (let x = are q t (sym (slice_get-set_other next e.processor q new other) ∙ to) in
@@ -139,7 +150,7 @@ index_next_turns_next j n e next old new at was arrived departed are q t to = el
     counted : (is : Kind → Bool) (q : ℕ) → q ≡ e.processor → (a b : ℕ) → a ≡ count_of is (take n j) e.processor
         → b ≡ a + cond (is e.kind) 1 0 → b ≡ count_of is (take (n + 1) j) q
     counted is q mine a b one two =
-        let next = count_next is j n q e at in
+        let next = count_next is j n q e has.at in
         let here = ap (count_of is (take n j)) mine in
         let which : cond {A = ℕ} ((e.processor == q) && is e.kind) 1 0 ≡ cond (is e.kind) 1 0 =
         rw (eq-eqb e.processor q (sym mine)) in
@@ -148,24 +159,16 @@ index_next_turns_next j n e next old new at was arrived departed are q t to = el
     same : (is : Kind → Bool) (q : ℕ) → q ≢ e.processor → (a : ℕ) → a ≡ count_of is (take n j) q
         → a ≡ count_of is (take (n + 1) j) q
     same is q other a one =
-        let next = count_next is j n q e at in
+        let next = count_next is j n q e has.at in
         let none : cond {A = ℕ} ((e.processor == q) && is e.kind) 1 0 ≡ 0 =
         rw (ne_eqb e.processor q (λ x. other (sym x))) in
         omega arith
 
--- the turn of the event that comes next
-pub index_turns_next : (j : List Event) (n : ℕ) (e : Event) (turns : List Turn) (turn : Turn) → length turns ≡ n → At j n e
-    → IsIndexedTurn j n e.processor turn
-    → ((i : ℕ) (f : Event) (t : Turn) → At j i f → slice_get turns i ≡ Some t → IsIndexedTurn j i f.processor t)
-    → (i : ℕ) (f : Event) (t : Turn) → At j i f → slice_get (turns ++ turn ∷ []) i ≡ Some t → IsIndexedTurn j i f.processor t
-index_turns_next j n e turns turn long at now are i f t to got = elim (slice_push_cases turns turn i t got) [
-  | inl old ↦ are i f t to old.1
-  | inr last ↦
-      (let is : n ≡ i = omega (arith, last.0) in
-      let here : IsIndexedTurn j i e.processor turn = subst (λ m. IsIndexedTurn j m e.processor turn) is now in
-      let same = numbered_at_same j i e f (subst (λ m. At j m e) is at) to in
-      subst (IsIndexedTurn j i f.processor) last.1 (subst (λ (x : Event). IsIndexedTurn j i x.processor turn) same here))
-]
+-- the turn of the event at place n
+pub index_turn_here : {j : List Event} {n : ℕ} {e : Event} {t : Turn} → HasTurn j n e t → (f : Event) → At j n f
+    → IsIndexedTurn j n f.processor t
+index_turn_here {j} {n} {e} {t} has f at =
+    subst (λ (x : Event). IsIndexedTurn j n x.processor t) (numbered_at_same j n e f has.at at) has.turn
 
 -- a count of a journal's front is small, where the journal is
 pub index_turn_small : (j : List Event) (n q : ℕ) (t : Turn) → n ≤ length j → length j ≤ 2097152 → IsIndexedTurn j n q t

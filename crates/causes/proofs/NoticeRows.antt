@@ -1,25 +1,23 @@
 -- Write notices, page by page, writer by writer and interval by interval: those before one interval of a row, with what there is
 -- of it, are those before the next one. What a span has round an event is what the event tells of.
-use Rattle.std.proofs.Common.{◌≡◌, ◌≢◌, ℕ, ◌+◌, ◌*◌, ◌<◌, ◌≤◌, ◌↔◌, inl, inr, List, [], ◌∷◌, ◌++◌, Some, length, slice_index, take, subst, sym, ap, ◌∙◌, true, arith}
+use Rattle.std.proofs.Common.{◌≡◌, ◌≢◌, ℕ, ◌+◌, ◌*◌, ◌<◌, ◌≤◌, ◌↔◌, inl, inr, List, [], ◌∷◌, ◌++◌, Some, length, slice_index, take, refl, subst, sym, ap, ◌∙◌, arith}
 use Rattle.std.proofs.lemmas.Bool.{cases_eq, cases_lt}
 use Rattle.std.proofs.lemmas.Option.{none-some, slice_get_within}
 use Rattle.base.specs.InOrderOnce.{Has, InOrder}
 use Rattle.base.proofs.SlicesAndCounts.{slice_push_cases, slice_get-append_left, slice_get-last}
 use Rattle.journal.specs.declared.event.Event.{Event}
 use Rattle.journal.specs.declared.event.Kind.TheVariants.{Fetch}
-use Rattle.journal.specs.Events.{At, is_taking}
 use Rattle.journal.specs.InRange.{ProcessorsInRange}
 use Rattle.journal.specs.PageImages.{HasImageCount}
 use Rattle.journal.specs.Sizes.{Sizes}
-use Rattle.journal.specs.Times.{IsTimeOf}
 use Rattle.judge.specs.Gaps.{GapFetchedUpTo, GapStoresInPage}
 use Rattle.judge.specs.GapTally.{gap_tally_row_index}
 use Rattle.judge.proofs.Counts.{count_some, count_zero}
-use Rattle.causes.specs.declared.missing.Span.{Span}
+use Rattle.causes.specs.declared.span.Span.{Span}
 use Rattle.causes.specs.declared.notices.WriteNotice.{WriteNotice}
 use Rattle.causes.specs.Dues.{DueLacks, IsDueToldBy}
 use Rattle.causes.specs.Notices.{AreWriteNotices, HasNoticeOf, IsNoticeBelow, IsNoticeInSpan, NoticesBelow, NoticesByPage}
-use Rattle.causes.proofs.OwingDues.{DueBetween, due_lacks_is, due_lacks_low, due_lacks_own, due_not_fetch, due_taken_is, due_told_is}
+use Rattle.causes.proofs.OwingDues.{DueBetween, IsFetchSpan, IsTakingSpan, due_lacks_is, due_lacks_low, due_lacks_own, due_not_fetch, due_taken_is, due_told_is}
 
 -- where intervals of a range are counted there is one, and no other way
 pub notice_counted : (s : Sizes) (j : List Event) (n q from to r : ℕ)
@@ -68,10 +66,11 @@ notices_none s j span row notices is none = subst (NoticesBelow s j span row 0) 
 })
 
 -- what stands before two places is the same where no notice of the span lies between
-notices_moved : (s : Sizes) (j : List Event) (span : Span) (row m next k : ℕ) (notices : List WriteNotice)
+notices_moved : {s : Sizes} {j : List Event} {span : Span} {row m : ℕ} {notices : List WriteNotice} (next k : ℕ)
+    → NoticesBelow s j span row m notices
     → ((x : WriteNotice) → IsNoticeInSpan s j span x → IsNoticeBelow row m x ↔ IsNoticeBelow next k x)
-    → NoticesBelow s j span row m notices → NoticesBelow s j span next k notices
-notices_moved s j span row m next k notices same are = record {
+    → NoticesBelow s j span next k notices
+notices_moved {s} {j} {span} {row} {m} {notices} next k are same = record {
   has = λ x. (
     λ h. (let y = (are.has x).0 h in (y.0, (same x y.0).0 y.1)),
     λ y. (are.has x).1 (y.0, (same x y.0).1 y.1),
@@ -80,11 +79,11 @@ notices_moved s j span row m next k notices same are = record {
 }
 
 -- of a row the span has nothing before its first interval
-pub notices_from : (s : Sizes) (j : List Event) (span : Span) (n q : ℕ) (notices : List WriteNotice) → q < 16
+pub notices_from : {s : Sizes} {j : List Event} {span : Span} {notices : List WriteNotice} (n q : ℕ) → q < 16
     → NoticesBelow s j span (gap_tally_row_index n q) 0 notices
     → NoticesBelow s j span (gap_tally_row_index n q) (slice_index span.from q) notices
-notices_from s j span n q notices low =
-    notices_moved s j span (gap_tally_row_index n q) 0 (gap_tally_row_index n q) (slice_index span.from q) notices (λ x y. (
+notices_from {s} {j} {span} {notices} n q low are =
+    notices_moved (gap_tally_row_index n q) (slice_index span.from q) are (λ x y. (
       λ h. elim h [ inl lt ↦ inl lt | inr none ↦ absurd (let lt = none.1 in omega arith) ],
       λ h. elim h [
         | inl lt ↦ inl lt
@@ -100,11 +99,11 @@ notices_from s j span n q notices low =
     ))
 
 -- and nothing behind its last one
-pub notices_row_done : (s : Sizes) (j : List Event) (span : Span) (n q m : ℕ) (notices : List WriteNotice) → q < 16
+pub notices_row_done : {s : Sizes} {j : List Event} {span : Span} {m : ℕ} {notices : List WriteNotice} (n q : ℕ) → q < 16
     → slice_index span.to q ≤ m → NoticesBelow s j span (gap_tally_row_index n q) m notices
     → NoticesBelow s j span (gap_tally_row_index n q + 1) 0 notices
-notices_row_done s j span n q m notices low end =
-    notices_moved s j span (gap_tally_row_index n q) m (gap_tally_row_index n q + 1) 0 notices (λ x y. (
+notices_row_done {s} {j} {span} {m} {notices} n q low end are =
+    notices_moved (gap_tally_row_index n q + 1) 0 are (λ x y. (
       λ h. elim h [ inl lt ↦ inl (omega arith) | inr here ↦ (let row = here.0 in inl (omega arith)) ],
       λ h. elim h [
         | inl lt ↦ elim (cases_lt (gap_tally_row_index x.page x.writer) (gap_tally_row_index n q)) [
@@ -121,18 +120,18 @@ notices_row_done s j span n q m notices low end =
     ))
 
 -- a notice of this page and writer
-notice_has : (s : Sizes) (j : List Event) (span : Span) (n q : ℕ) (x : WriteNotice) → x.page ≡ n → x.writer ≡ q
+notice_has : {s : Sizes} {j : List Event} {span : Span} {x : WriteNotice} (n q : ℕ) → x.page ≡ n → x.writer ≡ q
     → IsNoticeInSpan s j span x → HasNoticeOf s j span n q
-notice_has s j span n q x page writer y =
+notice_has {s} {j} {span} {x} n q page writer y =
     subst (λ l. HasNoticeOf s j span l q) page
     (subst (λ w. HasNoticeOf s j span x.page w) writer (y.apart, (x.interval, y.stored, y.least, y.below)))
 
 -- nor anything where it has none of the page and the writer
-pub notices_row_none : (s : Sizes) (j : List Event) (span : Span) (n q : ℕ) (notices : List WriteNotice) → q < 16
+pub notices_row_none : {s : Sizes} {j : List Event} {span : Span} {notices : List WriteNotice} (n q : ℕ) → q < 16
     → ¬ HasNoticeOf s j span n q → NoticesBelow s j span (gap_tally_row_index n q) 0 notices
     → NoticesBelow s j span (gap_tally_row_index n q + 1) 0 notices
-notices_row_none s j span n q notices low none =
-    notices_moved s j span (gap_tally_row_index n q) 0 (gap_tally_row_index n q + 1) 0 notices (λ x y. (
+notices_row_none {s} {j} {span} {notices} n q low none are =
+    notices_moved (gap_tally_row_index n q + 1) 0 are (λ x y. (
       λ h. elim h [ inl lt ↦ inl (omega arith) | inr here ↦ absurd (let less = here.1 in omega arith) ],
       λ h. elim h [
         | inl lt ↦ elim (cases_lt (gap_tally_row_index x.page x.writer) (gap_tally_row_index n q)) [
@@ -141,18 +140,18 @@ notices_row_none s j span n q notices low none =
               (let under = y.low in
               let page : x.page ≡ n = omega arith in
               let writer : x.writer ≡ q = omega arith in
-              absurd (none (notice_has s j span n q x page writer y)))
+              absurd (none (notice_has n q page writer y)))
         ]
         | inr here ↦ absurd (let less = here.1 in omega arith)
       ],
     ))
 
 -- an interval in which the writer doesn't store in the page
-pub notices_quiet : (s : Sizes) (j : List Event) (span : Span) (n q m : ℕ) (notices : List WriteNotice) → q < 16
+pub notices_quiet : {s : Sizes} {j : List Event} {span : Span} {m : ℕ} {notices : List WriteNotice} (n q : ℕ) → q < 16
     → ¬ GapStoresInPage s j n q m → NoticesBelow s j span (gap_tally_row_index n q) m notices
     → NoticesBelow s j span (gap_tally_row_index n q) (m + 1) notices
-notices_quiet s j span n q m notices low none =
-    notices_moved s j span (gap_tally_row_index n q) m (gap_tally_row_index n q) (m + 1) notices (λ x y. (
+notices_quiet {s} {j} {span} {m} {notices} n q low none are =
+    notices_moved (gap_tally_row_index n q) (m + 1) are (λ x y. (
       λ h. elim h [ inl lt ↦ inl lt | inr here ↦ (let row = here.0 in let less = here.1 in inr (omega arith, omega arith)) ],
       λ h. elim h [
         | inl lt ↦ inl lt
@@ -180,50 +179,42 @@ notice_same x y page writer interval =
     ∙ ap (λ (m : ℕ). notice_with y.page y.writer m) interval
 
 -- one in which it does
-pub notices_next : (s : Sizes) (j : List Event) (span : Span) (n q m : ℕ) (x : WriteNotice) (notices : List WriteNotice)
-    → q < 16 → x.page ≡ n → x.writer ≡ q → x.interval ≡ m → IsNoticeInSpan s j span x
-    → NoticesBelow s j span (gap_tally_row_index n q) m notices
-    → NoticesBelow s j span (gap_tally_row_index n q) (m + 1) (notices ++ x ∷ [])
-notices_next s j span n q m x notices low page writer interval in_span are =
-    record { has = λ y. (there y, back y); order = order }
+pub notices_next : {s : Sizes} {j : List Event} {span : Span} {notices : List WriteNotice} (x : WriteNotice)
+    → IsNoticeInSpan s j span x → NoticesBelow s j span (gap_tally_row_index x.page x.writer) x.interval notices
+    → NoticesBelow s j span (gap_tally_row_index x.page x.writer) (x.interval + 1) (notices ++ x ∷ [])
+notices_next {s} {j} {span} {notices} x in_span are = record { has = λ y. (there y, back y); order = order }
   where
-    row : gap_tally_row_index x.page x.writer ≡ gap_tally_row_index n q
-    row = omega arith
+    row : ℕ
+    row = gap_tally_row_index x.page x.writer
 
-    there : (y : WriteNotice) → Has (notices ++ x ∷ []) y
-        → IsNoticeInSpan s j span y × IsNoticeBelow (gap_tally_row_index n q) (m + 1) y
+    m : ℕ
+    m = x.interval
+
+    there : (y : WriteNotice) → Has (notices ++ x ∷ []) y → IsNoticeInSpan s j span y × IsNoticeBelow row (m + 1) y
     there y at = elim (slice_push_cases notices x at.0 y at.1) [
       | inl old ↦
           (let z = (are.has y).0 (at.0, old.1) in
           (z.0, elim z.1 [ inl lt ↦ inl lt | inr here ↦ (let less = here.1 in inr (here.0, omega arith)) ]))
       | inr now ↦
-          subst (λ z. IsNoticeInSpan s j span z × IsNoticeBelow (gap_tally_row_index n q) (m + 1) z) now.1
-          (in_span, inr (row, omega arith))
+          subst (λ z. IsNoticeInSpan s j span z × IsNoticeBelow row (m + 1) z) now.1 (in_span, inr (refl, omega arith))
     ]
 
     old : (y : WriteNotice) → Has notices y → Has (notices ++ x ∷ []) y
     old y at = (at.0, slice_get-append_left notices (x ∷ []) at.0 (slice_get_within notices at.0 y at.1) ∙ at.1)
 
-    back : (y : WriteNotice) → IsNoticeInSpan s j span y × IsNoticeBelow (gap_tally_row_index n q) (m + 1) y
-        → Has (notices ++ x ∷ []) y
+    back : (y : WriteNotice) → IsNoticeInSpan s j span y × IsNoticeBelow row (m + 1) y → Has (notices ++ x ∷ []) y
     back y z = elim z.1 [
       | inl lt ↦ old y ((are.has y).1 (z.0, inl lt))
       | inr here ↦ elim (cases_eq y.interval m) [
         | inl is ↦
             (let under = z.0.low in
-            let same = here.0 in
+            let low = in_span.low in
+            let same : gap_tally_row_index y.page y.writer ≡ gap_tally_row_index x.page x.writer = here.0 in
             let pages : x.page ≡ y.page = omega arith in
             let writers : x.writer ≡ y.writer = omega arith in
-            (length notices, slice_get-last notices x ∙ ap (λ w. Some w) (notice_same x y pages writers (interval ∙ sym is))))
+            (length notices, slice_get-last notices x ∙ ap (λ w. Some w) (notice_same x y pages writers (sym is))))
         | inr isnt ↦ (let less = here.1 in old y ((are.has y).1 (z.0, inr (here.0, omega arith))))
       ]
-    ]
-
-    under_last : (y : WriteNotice) → IsNoticeBelow (gap_tally_row_index n q) m y
-        → IsNoticeBelow (gap_tally_row_index x.page x.writer) x.interval y
-    under_last y h = let same = row in elim h [
-      | inl lt ↦ inl (omega arith)
-      | inr here ↦ (let first = here.0 in let less = here.1 in inr (omega arith, omega arith))
     ]
 
     order : InOrder (λ (y z : WriteNotice). IsNoticeBelow (gap_tally_row_index z.page z.writer) z.interval y) (notices ++ x ∷ [])
@@ -234,7 +225,7 @@ notices_next s j span n q m x notices low page writer interval in_span are =
       | inr now ↦
           (let last = now.0 in
           let under = ((are.has y).0 (k, sym (slice_get-append_left notices (x ∷ []) k (omega arith)) ∙ at)).1 in
-          subst (λ w. IsNoticeBelow (gap_tally_row_index w.page w.writer) w.interval y) now.1 (under_last y under))
+          subst (λ w. IsNoticeBelow (gap_tally_row_index w.page w.writer) w.interval y) now.1 under)
     ]
 
 -- what there is below the span's end is all of it
@@ -263,12 +254,10 @@ all_notices_below s j h k e span notices is are = record { has = λ x. (there x,
         ]
 
 -- what a fetch's span has is what the fetch tells of
-pub notices_in_fetch : (s : Sizes) (j : List Event) (k : ℕ) (e : Event) (w n r d : ℕ) (span : Span) → e.kind ≡ Fetch w n r d
-    → span.reader ≡ e.processor → span.first ≡ n → span.end ≡ n + 1 → ProcessorsInRange 16 (take k j)
-    → GapFetchedUpTo s (take k j) e.processor n (slice_index span.from)
-    → IsTimeOf (take k j) e.processor (slice_index span.to) → (x : WriteNotice)
+pub notices_in_fetch : {s : Sizes} {w n r d : ℕ} {span : Span} (j : List Event) (k : ℕ) (e : Event) → e.kind ≡ Fetch w n r d
+    → IsFetchSpan s (take k j) e.processor n span → ProcessorsInRange 16 (take k j) → (x : WriteNotice)
     → IsNoticeInSpan s (take k j) span x ↔ IsDueToldBy s j k e.processor e.kind x.page x.writer x.interval
-notices_in_fetch s j k e w n r d span kind reader first end low fetched time x =
+notices_in_fetch {s} {w} {n} {r} {d} {span} j k e kind is_span low x =
     subst (λ c. IsNoticeInSpan s h span x ↔ IsDueToldBy s j k p c x.page x.writer x.interval) (sym kind) (there, back)
   where
     p : ℕ
@@ -281,15 +270,15 @@ notices_in_fetch s j k e w n r d span kind reader first end low fetched time x =
         → DueLacks s h p x.page x.writer x.interval
         ↔ DueBetween s h x.page x.writer (slice_index span.from) (slice_index span.to) x.interval
     lacks page apart =
-        due_lacks_is s h p x.page x.writer x.interval (slice_index span.from) (slice_index span.to) apart
-        (subst (λ l. GapFetchedUpTo s h p l (slice_index span.from)) page fetched) time
+        due_lacks_is x.writer x.interval apart
+        (subst (λ l. GapFetchedUpTo s h p l (slice_index span.from)) page is_span.from) is_span.to
 
     there : IsNoticeInSpan s h span x → (n ≡ x.page) × DueLacks s h p x.page x.writer x.interval
     there y =
         let from = y.from in
         let to = y.to in
         let page : n ≡ x.page = omega arith in
-        (page, (lacks page (λ same. y.apart (same ∙ sym reader))).1 (y.stored, y.least, y.below))
+        (page, (lacks page (λ same. y.apart (same ∙ sym is_span.reader))).1 (y.stored, y.least, y.below))
 
     back : (n ≡ x.page) × DueLacks s h p x.page x.writer x.interval → IsNoticeInSpan s h span x
     back told =
@@ -298,7 +287,7 @@ notices_in_fetch s j k e w n r d span kind reader first end low fetched time x =
         let between = (lacks page apart).0 told.1 in
         record {
           low = due_lacks_low s h p x.page x.writer x.interval low told.1;
-          apart = λ same. apart (same ∙ reader);
+          apart = λ same. apart (same ∙ is_span.reader);
           from = omega arith;
           to = omega arith;
           stored = between.0;
@@ -307,13 +296,10 @@ notices_in_fetch s j k e w n r d span kind reader first end low fetched time x =
         }
 
 -- what the span round an event that takes has is what that tells of
-pub notices_in_taken : (s : Sizes) (j : List Event) (k : ℕ) (e : Event) (span : Span) → At j k e → is_taking e.kind ≡ true
-    → span.reader ≡ e.processor → span.first ≡ 0 → span.end ≡ s.pages → ProcessorsInRange 16 (take (k + 1) j)
-    → ((n q m : ℕ) → GapStoresInPage s (take (k + 1) j) n q m → n < s.pages)
-    → IsTimeOf (take k j) e.processor (slice_index span.from)
-    → IsTimeOf (take (k + 1) j) e.processor (slice_index span.to) → (x : WriteNotice)
+pub notices_in_taken : {s : Sizes} {j : List Event} {k : ℕ} {e : Event} {span : Span} → IsTakingSpan s j k e span
+    → (x : WriteNotice)
     → IsNoticeInSpan s (take (k + 1) j) span x ↔ IsDueToldBy s j k e.processor e.kind x.page x.writer x.interval
-notices_in_taken s j k e span at takes reader first end low pages before after x = (there, back)
+notices_in_taken {s} {j} {k} {e} {span} round x = (there, back)
   where
     p : ℕ
     p = e.processor
@@ -326,20 +312,20 @@ notices_in_taken s j k e span at takes reader first end low pages before after x
 
     is : x.writer ≢ p
         → DueBetween s h x.page x.writer (slice_index span.from) (slice_index span.to) x.interval ↔ Told
-    is apart = due_taken_is s j k e x.page x.writer x.interval span at takes apart before after
+    is apart = due_taken_is s x.page x.writer x.interval round.takes apart
 
     there : IsNoticeInSpan s h span x → Told
-    there y = (is (λ same. y.apart (same ∙ sym reader))).0 (y.stored, y.least, y.below)
+    there y = (is (λ same. y.apart (same ∙ sym round.reader))).0 (y.stored, y.least, y.below)
 
     back : Told → IsNoticeInSpan s h span x
     back told =
-        let lacks = (due_told_is s j k p e.kind x.page x.writer x.interval (due_not_fetch e.kind takes)).0 told in
+        let lacks = (due_told_is s j k p e.kind x.page x.writer x.interval (due_not_fetch e.kind round.takes.takes)).0 told in
         let apart = due_lacks_own s h p x.page x.writer x.interval lacks.0 in
         let between = (is apart).1 told in
-        let page = pages x.page x.writer x.interval between.0 in
+        let page = round.pages x.page x.writer x.interval between.0 in
         record {
-          low = due_lacks_low s h p x.page x.writer x.interval low lacks.0;
-          apart = λ same. apart (same ∙ reader);
+          low = due_lacks_low s h p x.page x.writer x.interval round.low lacks.0;
+          apart = λ same. apart (same ∙ round.reader);
           from = omega arith;
           to = omega arith;
           stored = between.0;

@@ -1,25 +1,25 @@
 -- The origins of words as the history goes on. An event that writes no word of the copy keeps the word's origin; one that
 -- does is the new one's. A fetch writes the words of its page one after the other: those below an address are done.
-use Rattle.std.proofs.Common.{◌≡◌, ◌≢◌, ℕ, ◌+◌, ◌*◌, ◌-◌, ◌/◌, ◌<◌, ◌≤◌, inl, inr, List, [], ◌∷◌, ◌++◌, Option, Some, length, slice_get, slice_set, subst, sym, refl, ap, ◌∙◌, arith}
+use Rattle.std.proofs.Common.{◌≡◌, ◌≢◌, ℕ, ◌+◌, ◌*◌, ◌-◌, ◌/◌, ◌<◌, ◌≤◌, inl, inr, List, Option, Some, length, slice_get, slice_set, subst, sym, refl, ap, ◌∙◌, arith}
 use Rattle.std.specs.Prelude.{None}
 use Rattle.std.proofs.lemmas.Bool.{cases_eq, cases_lt}
 use Rattle.std.proofs.lemmas.List.{length-set}
 use Rattle.std.proofs.lemmas.Nat.{div-mul-add}
 use Rattle.std.proofs.lemmas.Option.{slice_get_within}
-use Rattle.base.proofs.SlicesAndCounts.{slice_push_cases}
 use Rattle.base.proofs.SliceSets.{slice_get-set_found, slice_get-set_other}
 use Rattle.journal.specs.declared.event.Event.{Event}
-use Rattle.journal.specs.declared.event.Kind.TheVariants.{Fetch, Load, Store}
+use Rattle.journal.specs.declared.event.Kind.TheVariants.{Fetch, Store}
 use Rattle.journal.specs.DidEvent.{event}
 use Rattle.journal.specs.Events.{At}
+use Rattle.journal.specs.PageImages.{FetchesPage}
 use Rattle.journal.specs.Sizes.{Sizes}
 use Rattle.journal.specs.WellFormed.{Does}
-use Rattle.journal.proofs.Order.CountedAndNumbered.{numbered_at_same, numbered_does_same}
+use Rattle.journal.proofs.Order.CountedAndNumbered.{numbered_at_same}
 use Rattle.judge.specs.GapTally.{gap_tally_row_index}
-use Rattle.causes.specs.declared.originating.Applied.{Applied}
-use Rattle.causes.specs.declared.originating.WordOrigin.{WordOrigin}
-use Rattle.causes.specs.declared.originating.PageFetch.{PageFetch}
-use Rattle.causes.specs.Origins.{AreOrigins, IsOriginBrought, IsOrigin, IsOriginAt, IsWordOriginOf, OriginWritesWord}
+use Rattle.causes.specs.declared.brought.Applied.{Applied}
+use Rattle.causes.specs.declared.origin.WordOrigin.{WordOrigin}
+use Rattle.causes.specs.declared.brought.PageFetch.{PageFetch}
+use Rattle.causes.specs.Origins.{IsOriginBrought, IsOrigin, IsWordOriginOf, OriginWritesWord}
 use Rattle.causes.specs.OriginSteps.{AreOriginsBefore, AreOriginsPartFetched, IsOriginAfter, OriginLastApplied}
 use Rattle.causes.proofs.StoreRows.{row_same}
 
@@ -58,12 +58,12 @@ origins_start s j words long none = record {
 }
 
 -- an event writes no word but of its own processor's copy: the one that it stores, or those of the page that it fetches
-pub origin_writes_only : (s : Sizes) (j : List Event) (p a k i : ℕ) (e : Event) → At j k e
+pub origin_writes_only : {e : Event} (s : Sizes) (j : List Event) (p a k i : ℕ) → At j k e
     → ((v : ℕ) → e ≢ event p (Store a v)) → ((w r d : ℕ) → e ≢ event p (Fetch w (a / s.words) r d))
     → ¬ OriginWritesWord s j p a k i
-origin_writes_only s j p a k i e at stores fetches (inl own) =
+origin_writes_only {e} s j p a k i at stores fetches (inl own) =
     stores own.1.0 (numbered_at_same j k e (event p (Store a own.1.0)) at own.1.1)
-origin_writes_only s j p a k i e at stores fetches (inr last) =
+origin_writes_only {e} s j p a k i at stores fetches (inr last) =
     let f = last.brought.fetches in
     fetches f.0 f.1 f.2 (numbered_at_same j k e (event p (Fetch f.0 (a / s.words) f.1 f.2)) at f.3)
 
@@ -75,7 +75,7 @@ origins_quiet s j k e words at stores fetches old = record {
   long = old.long;
   each = λ a q o lt there.
       origin_kept s j q a k o
-      (λ i. origin_writes_only s j q a k i e at (λ v is. stores a v (ap (λ (f : Event). f.kind) is))
+      (λ i. origin_writes_only s j q a k i at (λ v is. stores a v (ap (λ (f : Event). f.kind) is))
       (λ w r d is. fetches w (a / s.words) r d (ap (λ (f : Event). f.kind) is)))
       (old.each a q o lt there);
 }
@@ -90,10 +90,10 @@ origin_fetch_page : (w n r d x m y z : ℕ) → Fetch w n r d ≡ Fetch x m y z 
 origin_fetch_page w n r d x m y z is = cc
 
 -- a store writes the word of its address
-pub origins_stored : (s : Sizes) (j : List Event) (k p a v : ℕ) (words : List (Option WordOrigin)) → Does j k p (Store a v)
+pub origins_stored : {s : Sizes} {j : List Event} {k : ℕ} {words : List (Option WordOrigin)} (p a v : ℕ) → Does j k p (Store a v)
     → p < 16 → AreOriginsBefore s j k words
     → AreOriginsBefore s j (k + 1) (slice_set words (gap_tally_row_index a p) (Some (record { store = k; write = k })))
-origins_stored s j k p a v words does low old = record {
+origins_stored {s} {j} {k} {words} p a v does low old = record {
   long = length-set words (gap_tally_row_index a p) (Some own) ∙ old.long;
   each = each;
 }
@@ -117,7 +117,7 @@ origins_stored s j k p a v words does low old = record {
           ))))
       | inr isnt ↦
           origin_kept s j q b k o
-          (λ i. origin_writes_only s j q b k i (event p (Store a v)) does
+          (λ i. origin_writes_only s j q b k i does
           (λ w is. isnt
           (let by = ap (λ (f : Event). f.processor) is in
           let to = origin_store_address a v b w (ap (λ (f : Event). f.kind) is) in
@@ -135,31 +135,36 @@ origins_fetched_start s j k p from words old = record {
   others = λ a q o lt away at. old.each a q o lt at;
 }
 
+-- p's event at place k, a fetch, brings a's word from processors below sixteen, and of these stores b is applied last
+pub record FetchesWord (s : Sizes) (j : List Event) (k p a : ℕ) (b : Option Applied) : Type 0 where
+  pub no_store : (v : ℕ) → ¬ Does j k p (Store a v)
+  pub low : (q i c : ℕ) → IsOriginBrought s j p a k q i c → q < 16
+  pub last : OriginLastApplied s j p a k (λ q. q < 16) b
+
 -- what the fetch makes of a word
-pub origins_fetched_word : (s : Sizes) (j : List Event) (k p a : ℕ) (o r : Option WordOrigin) (b : Option Applied) → p < 16
-    → ((v : ℕ) → ¬ Does j k p (Store a v))
-    → ((q i c : ℕ) → IsOriginBrought s j p a k q i c → q < 16) → OriginLastApplied s j p a k (λ q. q < 16) b
+pub origins_fetched_word : {s : Sizes} {j : List Event} {k p a : ℕ} (o : Option WordOrigin) (b : Option Applied) (r : Option WordOrigin) → FetchesWord s j k p a b
     → IsOriginAfter o k b r → IsWordOriginOf s j p a k o → IsWordOriginOf s j p a (k + 1) r
-origins_fetched_word s j k p a o r None lt no_store range none is old =
+origins_fetched_word {s} {j} {k} {p} {a} o None r x is old =
     subst (IsWordOriginOf s j p a (k + 1)) (sym is) (origin_kept s j p a k o away old)
   where
     away : (i : ℕ) → ¬ OriginWritesWord s j p a k i
-    away i (inl own) = no_store own.1.0 own.1.1
-    away i (inr last) = none last.by i last.closed (range last.by i last.closed last.brought) last.brought
-origins_fetched_word s j k p a o r (Some x) lt no_store range last is old =
+    away i (inl own) = x.no_store own.1.0 own.1.1
+    away i (inr last) = x.last last.by i last.closed (x.low last.by i last.closed last.brought) last.brought
+origins_fetched_word {s} {j} {k} {p} {a} o (Some b) r x is old =
     subst (IsWordOriginOf s j p a (k + 1)) (sym is)
-    (origin_written s j p a k x.store (inr (record {
-      by = last.by;
-      closed = x.closed;
-      brought = last.brought;
-      last = λ q i c b. last.last q i c (range q i c b) b;
+    (origin_written s j p a k b.store (inr (record {
+      by = x.last.by;
+      closed = b.closed;
+      brought = x.last.brought;
+      last = λ q i c brought. x.last.last q i c (x.low q i c brought) brought;
     })))
 
 -- a word more
-pub origins_fetched_next : (s : Sizes) (j : List Event) (k p from a : ℕ) (words : List (Option WordOrigin)) (r : Option WordOrigin)
-    → p < 16 → from ≤ a → IsWordOriginOf s j p a (k + 1) r → AreOriginsPartFetched s j k p from a words
+pub origins_fetched_next : {s : Sizes} {j : List Event} {k p from a : ℕ} {words : List (Option WordOrigin)}
+    → (r : Option WordOrigin) → p < 16 → from ≤ a → IsWordOriginOf s j p a (k + 1) r
+    → AreOriginsPartFetched s j k p from a words
     → AreOriginsPartFetched s j k p from (a + 1) (slice_set words (gap_tally_row_index a p) r)
-origins_fetched_next s j k p from a words r low le now old = record {
+origins_fetched_next {s} {j} {k} {p} {from} {a} {words} r low le now old = record {
   long = length-set words (gap_tally_row_index a p) r ∙ old.long;
   fetched = fetched;
   others = λ b q o lt away at.
@@ -189,10 +194,10 @@ pub origin_in_page : (a w n : ℕ) → 0 < w → a / w ≡ n → (n * w ≤ a) �
 origin_in_page a w n some is = subst (λ m. (m * w ≤ a) × (a < m * w + w)) is (omega arith, omega arith)
 
 -- all words of the page
-pub origins_fetched_all : (s : Sizes) (j : List Event) (k p n w r d : ℕ) (words : List (Option WordOrigin))
-    → Does j k p (Fetch w n r d) → AreOriginsPartFetched s j k p (n * s.words) (n * s.words + s.words) words
+pub origins_fetched_all : {s : Sizes} {j : List Event} {k p : ℕ} {words : List (Option WordOrigin)} (n : ℕ)
+    → FetchesPage j k p n → AreOriginsPartFetched s j k p (n * s.words) (n * s.words + s.words) words
     → AreOriginsBefore s j (k + 1) words
-origins_fetched_all s j k p n w r d words does old = record { long = old.long; each = each }
+origins_fetched_all {s} {j} {k} {p} {words} n fetches old = record { long = old.long; each = each }
   where
     each : (a q : ℕ) (o : Option WordOrigin) → q < 16 → slice_get words (gap_tally_row_index a q) ≡ Some o
         → IsWordOriginOf s j q a (k + 1) o
@@ -230,47 +235,18 @@ origins_fetched_all s j k p n w r d words does old = record { long = old.long; e
 
         quiet : (i : ℕ) → (p ≡ q → n ≡ a / s.words → ⊥) → ¬ OriginWritesWord s j q a k i
         quiet i away =
-            origin_writes_only s j q a k i (event p (Fetch w n r d)) does
-            (λ v is. origin_store_no_fetch a v w n r d (sym (ap (λ (f : Event). f.kind) is)))
+            origin_writes_only s j q a k i fetches.3
+            (λ v is. origin_store_no_fetch a v fetches.0 n fetches.1 fetches.2 (sym (ap (λ (f : Event). f.kind) is)))
             (λ x y z is.
             away (ap (λ (f : Event). f.processor) is)
-            (origin_fetch_page w n r d x (a / s.words) y z (ap (λ (f : Event). f.kind) is)))
+            (origin_fetch_page fetches.0 n fetches.1 fetches.2 x (a / s.words) y z (ap (λ (f : Event). f.kind) is)))
 
--- so after a fetch that was taken note of
-pub origins_fetched_done : (s : Sizes) (j : List Event) (k p n w r d : ℕ) (f : PageFetch) (size : ℕ) (words : List (Option WordOrigin))
-    → f.place ≡ k → f.reader ≡ p → f.page ≡ n → size ≡ s.words → Does j k p (Fetch w n r d)
+-- so after a fetch at place k that was taken note of
+pub origins_fetched_done : {s : Sizes} {j : List Event} {words : List (Option WordOrigin)} (f : PageFetch) (k size : ℕ)
+    → f.place ≡ k → size ≡ s.words → FetchesPage j f.place f.reader f.page
     → AreOriginsPartFetched s j f.place f.reader (f.page * size) (f.page * size + size) words
     → AreOriginsBefore s j (k + 1) words
-origins_fetched_done s j k p n w r d f size words place reader page is does old =
-    origins_fetched_all s j k p n w r d words does
-    (subst (λ z. AreOriginsPartFetched s j z p (n * s.words) (n * s.words + s.words) words) place
-    (subst (λ z. AreOriginsPartFetched s j f.place z (n * s.words) (n * s.words + s.words) words) reader
-    (subst (λ z. AreOriginsPartFetched s j f.place f.reader (z * s.words) (z * s.words + s.words) words) page
-    (subst (λ z. AreOriginsPartFetched s j f.place f.reader (f.page * z) (f.page * z + z) words) is old))))
-
--- a row more
-pub origin_rows_next : (s : Sizes) (j : List Event) (rows : List (Option WordOrigin)) (k : ℕ) (o : Option WordOrigin)
-    → length rows ≡ k → AreOrigins s j rows → IsOriginAt s j k o → AreOrigins s j (rows ++ o ∷ [])
-origin_rows_next s j rows k o long are now n other at = elim (slice_push_cases rows o n other at) [
-  | inl old ↦ are n other old.1
-  | inr new ↦
-      (let is : k ≡ n = omega (arith, new.0) in
-      subst (IsOriginAt s j n) new.1 (subst (λ m. IsOriginAt s j m o) is now))
-]
-
-origin_load_address : (a v b w : ℕ) → Load a v ≡ Load b w → a ≡ b
-origin_load_address a v b w is = cc
-
--- what is said of a load
-pub origin_read : (s : Sizes) (j : List Event) (k a v : ℕ) (e : Event) (words : List (Option WordOrigin))
-    → (o : Option WordOrigin) → At j k e → e.kind ≡ Load a v → e.processor < 16
-    → slice_get words (gap_tally_row_index a e.processor) ≡ Some o → AreOriginsBefore s j k words → IsOriginAt s j k o
-origin_read s j k a v e words o at kind low there are = record {
-  loads = λ p b w does.
-      (let here : Does j k e.processor (Load a v) = subst (λ x. At j k (event e.processor x)) kind at in
-      let same = numbered_does_same j k e.processor p (Load a v) (Load b w) here does in
-      subst (λ x. IsWordOriginOf s j x b k o) same.0
-      (subst (λ c. IsWordOriginOf s j e.processor c k o) (origin_load_address a v b w same.1)
-      (are.each a e.processor o low there)));
-  others = λ none. absurd (none e.processor a v (subst (λ x. At j k (event e.processor x)) kind at));
-}
+origins_fetched_done {s} {j} {words} f k size place is fetches old =
+    subst (λ n. AreOriginsBefore s j (n + 1) words) place
+    (origins_fetched_all f.page fetches
+    (subst (λ z. AreOriginsPartFetched s j f.place f.reader (f.page * z) (f.page * z + z) words) is old))

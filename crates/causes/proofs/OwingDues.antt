@@ -32,18 +32,49 @@ use Rattle.judge.specs.Miscounted.{IsEventInSizes}
 use Rattle.judge.specs.GapTally.{gap_tally_row_index}
 use Rattle.judge.proofs.Counts.{count_some, count_unique}
 use Rattle.judge.proofs.InGaps.{own_none_in_gap, stored_is_in_gap}
-use Rattle.causes.specs.declared.missing.Due.{Due}
-use Rattle.causes.specs.declared.missing.Span.{Span}
+use Rattle.causes.specs.declared.event_dues.Due.{Due}
+use Rattle.causes.specs.declared.span.Span.{Span}
+use Rattle.causes.proofs.Rows.{rows_next}
 use Rattle.causes.specs.Dues.{AreAllDues, DuesBelow, AreDues, DueComesToLack, DuesByPageAndWriter, IsDueRecord, IsDueInSpan, IsOneOfDues, IsDueToldBy, DueLacks}
 
 -- the intervals of q that the span of these timestamps has, where they store in the page
 abbrev pub DueBetween : Sizes → List Event → ℕ → ℕ → (ℕ → ℕ) → (ℕ → ℕ) → ℕ → Type 0
 DueBetween s j n q f t m = GapStoresInPage s j n q m × (f q ≤ m) × (m < t q)
 
+-- the span of a fetch of page n by p that comes next: that page alone, from p's last fetch of it to now
+pub record IsFetchSpan (s : Sizes) (j : List Event) (p n : ℕ) (span : Span) : Type 0 where
+  pub reader : span.reader ≡ p
+  pub first : span.first ≡ n
+  pub end : span.end ≡ n + 1
+  pub from : GapFetchedUpTo s j p n (slice_index span.from)
+  pub to : IsTimeOf j p (slice_index span.to)
+
+-- the event e at place k takes, and these are its processor's timestamps before and after it
+pub record TakesBetween (j : List Event) (k : ℕ) (e : Event) (f t : ℕ → ℕ) : Type 0 where
+  pub at : At j k e
+  pub takes : is_taking e.kind ≡ true
+  pub before : IsTimeOf (take k j) e.processor f
+  pub after : IsTimeOf (take (k + 1) j) e.processor t
+
+-- the span round an event that takes: all pages, and of each processor the intervals that the event gets word of
+pub record IsTakingSpan (s : Sizes) (j : List Event) (k : ℕ) (e : Event) (span : Span) : Type 0 where
+  pub takes : TakesBetween j k e (slice_index span.from) (slice_index span.to)
+  pub reader : span.reader ≡ e.processor
+  pub first : span.first ≡ 0
+  pub end : span.end ≡ s.pages
+  pub low : ProcessorsInRange 16 (take (k + 1) j)
+  pub pages : (n q m : ℕ) → GapStoresInPage s (take (k + 1) j) n q m → n < s.pages
+
+-- the event e at place k neither takes nor fetches
+pub record IsQuietAt (j : List Event) (k : ℕ) (e : Event) : Type 0 where
+  pub at : At j k e
+  pub takes : is_taking e.kind ≡ false
+  pub fetches : (w l r d : ℕ) → e.kind ≢ Fetch w l r d
+
 -- what another's copy lacks of q lies between its last fetch and now
-pub due_lacks_is : (s : Sizes) (j : List Event) (p n q m : ℕ) (f t : ℕ → ℕ) → q ≢ p → GapFetchedUpTo s j p n f → IsTimeOf j p t
-    → DueLacks s j p n q m ↔ DueBetween s j n q f t m
-due_lacks_is s j p n q m f t apart fetched time = (
+pub due_lacks_is : {s : Sizes} {j : List Event} {p n : ℕ} {f t : ℕ → ℕ} (q m : ℕ) → q ≢ p → GapFetchedUpTo s j p n f
+    → IsTimeOf j p t → DueLacks s j p n q m ↔ DueBetween s j n q f t m
+due_lacks_is {s} {j} {p} {n} {f} {t} q m apart fetched time = (
   λ g. (let h = (stored_is_in_gap s j p n q m g.0 f t fetched time apart).0 g.1 in ((g.0, h.0), h.1, h.2)),
   λ h. (h.0.0, (stored_is_in_gap s j p n q m h.0.0 f t fetched time apart).1 (h.0.1, h.1, h.2)),
 )
@@ -57,11 +88,16 @@ due_lacks_own s j p n q m g is =
 pub due_lacks_low : (s : Sizes) (j : List Event) (p n q m : ℕ) → ProcessorsInRange 16 j → DueLacks s j p n q m → q < 16
 due_lacks_low s j p n q m low g = low g.1.0 (event q (Store g.0 g.1.1)) g.1.2
 
+-- p's event of kind k behind j takes, and these are p's timestamps before and after it
+record TakesBehind (j : List Event) (p : ℕ) (k : Kind) (f t : ℕ → ℕ) : Type 0 where
+  takes : is_taking k ≡ true
+  before : IsTimeOf j p f
+  after : IsTimeOf (j ++ event p k ∷ []) p t
+
 -- what p comes to lack of q by an event that takes lies between its timestamps before and after it
-due_comes_is : (s : Sizes) (j : List Event) (p n q m : ℕ) (k : Kind) (f t : ℕ → ℕ) → is_taking k ≡ true → IsTimeOf j p f
-    → IsTimeOf (j ++ event p k ∷ []) p t → q ≢ p
+due_comes_is : {j : List Event} {p : ℕ} {k : Kind} {f t : ℕ → ℕ} (s : Sizes) (n q m : ℕ) → TakesBehind j p k f t → q ≢ p
     → (DueLacks s (j ++ event p k ∷ []) p n q m × (¬ DueLacks s j p n q m)) ↔ DueBetween s (j ++ event p k ∷ []) n q f t m
-due_comes_is s j p n q m k f t takes before after apart = (there, back)
+due_comes_is {j} {p} {k} {f} {t} s n q m x apart = (there, back)
   where
     e : Event
     e = event p k
@@ -86,10 +122,10 @@ due_comes_is s j p n q m k f t takes before after apart = (there, back)
         let is = h.0.1.4 in
         let was = old i a v does in
         let same = number i a v was in
-        let x = gap.store in
-        let address = (store_same (j ++ e ∷ []) i q x.by a x.address v x.value does x.does).1 in
-        let page : a / s.words ≡ n = ap (λ (b : ℕ). b / s.words) address ∙ x.in_page in
-        elim ((gap_taken s j p n q i a v k f t takes before after was page apart).0 gap) [
+        let y = gap.store in
+        let address = (store_same (j ++ e ∷ []) i q y.by a y.address v y.value does y.does).1 in
+        let page : a / s.words ≡ n = ap (λ (b : ℕ). b / s.words) address ∙ y.in_page in
+        elim ((gap_taken s j p n q i a v k f t x.takes x.before x.after was page apart).0 gap) [
           | inl known ↦ absurd (h.1 (a, (i, v, was, known, sym same ∙ is)))
           | inr range ↦ (let le = range.0 in let lt = range.1 in ((a, ((i, v, does, is), page)), omega arith, omega arith))
         ]
@@ -97,21 +133,21 @@ due_comes_is s j p n q m k f t takes before after apart = (there, back)
     back : DueBetween s (j ++ e ∷ []) n q f t m → DueLacks s (j ++ e ∷ []) p n q m × (¬ DueLacks s j p n q m)
     back h =
         let a = h.0.0 in
-        let x = h.0.1.0 in
+        let y = h.0.1.0 in
         let page = h.0.1.1 in
-        let i = x.0 in
-        let v = x.1 in
-        let does = x.2 in
-        let is = x.3 in
+        let i = y.0 in
+        let v = y.1 in
+        let does = y.2 in
+        let is = y.3 in
         let le = h.1 in
         let lt = h.2 in
         let was = old i a v does in
         let same = number i a v was in
         let gap =
-        (gap_taken s j p n q i a v k f t takes before after was page apart).1 (inr (omega arith, omega arith)) in (
+        (gap_taken s j p n q i a v k f t x.takes x.before x.after was page apart).1 (inr (omega arith, omega arith)) in (
           (a, (i, v, does, gap, is)),
           λ g.
-              (let less = (covered j p q g.1.0 (Store g.0 g.1.1) f before g.1.2 apart).0 g.1.3.past in
+              (let less = (covered j p q g.1.0 (Store g.0 g.1.1) f x.before g.1.2 apart).0 g.1.3.past in
               let at = g.1.4 in
               omega arith),
         )
@@ -129,12 +165,10 @@ due_positive : (n : ℕ) → n ≢ 0 → 0 < n
 due_positive n some = elim (cases_lt 0 n) [ inl lt ↦ lt | inr le ↦ absurd (some (omega arith)) ]
 
 -- what there is in the span of a fetch's timestamps is what the fetch tells of
-pub due_in_fetch : (s : Sizes) (j : List Event) (k : ℕ) (e : Event) (w n r d : ℕ) (span : Span) → e.kind ≡ Fetch w n r d
-    → span.reader ≡ e.processor → span.first ≡ n → span.end ≡ n + 1 → ProcessorsInRange 16 (take k j)
-    → GapFetchedUpTo s (take k j) e.processor n (slice_index span.from)
-    → IsTimeOf (take k j) e.processor (slice_index span.to) → (x : Due)
+pub due_in_fetch : {s : Sizes} {w n r d : ℕ} {span : Span} (j : List Event) (k : ℕ) (e : Event) → e.kind ≡ Fetch w n r d
+    → IsFetchSpan s (take k j) e.processor n span → ProcessorsInRange 16 (take k j) → (x : Due)
     → IsDueInSpan s (take k j) span x ↔ IsDueRecord s j k e x
-due_in_fetch s j k e w n r d span kind reader first end low fetched time x = (there, back)
+due_in_fetch {s} {w} {n} {r} {d} {span} j k e kind is_span low x = (there, back)
   where
     p : ℕ
     p = e.processor
@@ -151,8 +185,8 @@ due_in_fetch s j k e w n r d span kind reader first end low fetched time x = (th
     is : n ≡ x.page → x.writer ≢ p → (m : ℕ) → In m ↔ Told m
     is page apart m =
         let here : GapFetchedUpTo s h p x.page (slice_index span.from) =
-        subst (λ l. GapFetchedUpTo s h p l (slice_index span.from)) page fetched in
-        let same = due_lacks_is s h p x.page x.writer m (slice_index span.from) (slice_index span.to) apart here time in
+        subst (λ l. GapFetchedUpTo s h p l (slice_index span.from)) page is_span.from in
+        let same = due_lacks_is x.writer m apart here is_span.to in
         ((λ g. (page, same.1 g)), λ g. same.0 g.1)
 
     there : IsDueInSpan s h span x → IsDueRecord s j k e x
@@ -164,7 +198,7 @@ due_in_fetch s j k e w n r d span kind reader first end low fetched time x = (th
           some = y.some;
           count =
               subst (λ c. HasImageCount (IsDueToldBy s j k p c x.page x.writer) x.records) (sym kind)
-              (count_of_same In Told x.records (is page (λ same. y.apart (same ∙ sym reader))) y.count);
+              (count_of_same In Told x.records (is page (λ same. y.apart (same ∙ sym is_span.reader))) y.count);
         }
 
     back : IsDueRecord s j k e x → IsDueInSpan s h span x
@@ -176,7 +210,7 @@ due_in_fetch s j k e w n r d span kind reader first end low fetched time x = (th
         let apart = due_lacks_own s h p x.page x.writer one.0 one.1.1 in
         record {
           low = due_lacks_low s h p x.page x.writer one.0 low one.1.1;
-          apart = λ same. apart (same ∙ reader);
+          apart = λ same. apart (same ∙ is_span.reader);
           from = omega arith;
           to = omega arith;
           some = y.some;
@@ -184,13 +218,10 @@ due_in_fetch s j k e w n r d span kind reader first end low fetched time x = (th
         }
 
 -- of another's intervals, those between the timestamps round an event that takes are those that it tells of
-pub due_taken_is : (s : Sizes) (j : List Event) (k : ℕ) (e : Event) (n q m : ℕ) (span : Span) → At j k e
-    → is_taking e.kind ≡ true → q ≢ e.processor → IsTimeOf (take k j) e.processor (slice_index span.from)
-    → IsTimeOf (take (k + 1) j) e.processor (slice_index span.to)
-    → DueBetween s (take (k + 1) j) n q (slice_index span.from) (slice_index span.to) m
-    ↔ IsDueToldBy s j k e.processor e.kind n q m
-due_taken_is s j k e n q m span at takes apart before after =
-    let told = due_told_is s j k p e.kind n q m (due_not_fetch e.kind takes) in
+pub due_taken_is : {j : List Event} {k : ℕ} {e : Event} {f t : ℕ → ℕ} (s : Sizes) (n q m : ℕ) → TakesBetween j k e f t
+    → q ≢ e.processor → DueBetween s (take (k + 1) j) n q f t m ↔ IsDueToldBy s j k e.processor e.kind n q m
+due_taken_is {j} {k} {e} {f} {t} s n q m x apart =
+    let told = due_told_is s j k p e.kind n q m (due_not_fetch e.kind x.takes) in
     let both = comes in
     ((λ h. told.1 (both.1 h)), λ h. both.0 (told.0 h))
   where
@@ -199,25 +230,19 @@ due_taken_is s j k e n q m span at takes apart before after =
 
     Range : List Event → Type 0
     Range h =
-        (DueLacks s h p n q m × (¬ DueLacks s (take k j) p n q m))
-        ↔ DueBetween s h n q (slice_index span.from) (slice_index span.to) m
+        (DueLacks s h p n q m × (¬ DueLacks s (take k j) p n q m)) ↔ DueBetween s h n q f t m
 
     comes : Range (take (k + 1) j)
     comes =
-        let next : take (k + 1) j ≡ take k j ++ e ∷ [] = front_next j k e at in
-        let later : IsTimeOf (take k j ++ e ∷ []) p (slice_index span.to) =
-        subst (λ h. IsTimeOf h p (slice_index span.to)) next after in
-        subst Range (sym next)
-        (due_comes_is s (take k j) p n q m e.kind (slice_index span.from) (slice_index span.to) takes before later apart)
+        let next : take (k + 1) j ≡ take k j ++ e ∷ [] = front_next j k e x.at in
+        let behind : TakesBehind (take k j) p e.kind f t =
+        record { takes = x.takes; before = x.before; after = subst (λ h. IsTimeOf h p t) next x.after } in
+        subst Range (sym next) (due_comes_is s n q m behind apart)
 
 -- what there is in the span of the timestamps round an event that takes is what it tells of
-pub due_in_taken : (s : Sizes) (j : List Event) (k : ℕ) (e : Event) (span : Span) → At j k e → is_taking e.kind ≡ true
-    → span.reader ≡ e.processor → span.first ≡ 0 → span.end ≡ s.pages → ProcessorsInRange 16 (take (k + 1) j)
-    → ((n q m : ℕ) → GapStoresInPage s (take (k + 1) j) n q m → n < s.pages)
-    → IsTimeOf (take k j) e.processor (slice_index span.from)
-    → IsTimeOf (take (k + 1) j) e.processor (slice_index span.to) → (x : Due)
+pub due_in_taken : {s : Sizes} {j : List Event} {k : ℕ} {e : Event} {span : Span} → IsTakingSpan s j k e span → (x : Due)
     → IsDueInSpan s (take (k + 1) j) span x ↔ IsDueRecord s j k e x
-due_in_taken s j k e span at takes reader first end low pages before after x = (there, back)
+due_in_taken {s} {j} {k} {e} {span} round x = (there, back)
   where
     p : ℕ
     p = e.processor
@@ -229,25 +254,25 @@ due_in_taken s j k e span at takes reader first end low pages before after x = (
     In m = DueBetween s (take (k + 1) j) x.page x.writer (slice_index span.from) (slice_index span.to) m
 
     is : x.writer ≢ p → (m : ℕ) → In m ↔ Told m
-    is apart m = due_taken_is s j k e x.page x.writer m span at takes apart before after
+    is apart m = due_taken_is s x.page x.writer m round.takes apart
 
     there : IsDueInSpan s (take (k + 1) j) span x → IsDueRecord s j k e x
     there y =
         record {
           some = y.some;
-          count = count_of_same In Told x.records (is (λ same. y.apart (same ∙ sym reader))) y.count;
+          count = count_of_same In Told x.records (is (λ same. y.apart (same ∙ sym round.reader))) y.count;
         }
 
     back : IsDueRecord s j k e x → IsDueInSpan s (take (k + 1) j) span x
     back y =
         let one = count_some Told x.records y.count (due_positive x.records y.some) in
-        let told = (due_told_is s j k p e.kind x.page x.writer one.0 (due_not_fetch e.kind takes)).0 one.1 in
+        let told = (due_told_is s j k p e.kind x.page x.writer one.0 (due_not_fetch e.kind round.takes.takes)).0 one.1 in
         let apart = due_lacks_own s (take (k + 1) j) p x.page x.writer one.0 told.0 in
         let in_page = (is apart one.0).1 one.1 in
-        let page = pages x.page x.writer one.0 in_page.0 in
+        let page = round.pages x.page x.writer one.0 in_page.0 in
         record {
-          low = due_lacks_low s (take (k + 1) j) p x.page x.writer one.0 low told.0;
-          apart = λ same. apart (same ∙ reader);
+          low = due_lacks_low s (take (k + 1) j) p x.page x.writer one.0 round.low told.0;
+          apart = λ same. apart (same ∙ round.reader);
           from = omega arith;
           to = omega arith;
           some = y.some;
@@ -255,28 +280,28 @@ due_in_taken s j k e span at takes reader first end low pages before after x = (
         }
 
 -- an event that neither takes nor fetches tells of no interval
-pub due_none_told : (s : Sizes) (j : List Event) (k : ℕ) (e : Event) → At j k e → is_taking e.kind ≡ false
-    → ((w l r d : ℕ) → e.kind ≢ Fetch w l r d) → (n q m : ℕ) → IsDueToldBy s j k e.processor e.kind n q m → ⊥
-due_none_told s j k e at quiet none n q m one =
-    let told = (due_told_is s j k p e.kind n q m none).0 one in
+pub due_none_told : {j : List Event} {k : ℕ} {e : Event} (s : Sizes) → IsQuietAt j k e → (n q m : ℕ)
+    → IsDueToldBy s j k e.processor e.kind n q m → ⊥
+due_none_told {j} {k} {e} s quiet n q m one =
+    let told = (due_told_is s j k p e.kind n q m quiet.fetches).0 one in
     told.1 (same (subst (λ h. DueLacks s h p n q m) next told.0))
   where
     p : ℕ
     p = e.processor
 
     next : take (k + 1) j ≡ take k j ++ e ∷ []
-    next = front_next j k e at
+    next = front_next j k e quiet.at
 
     block : IsBlock p (e ∷ [])
     block i f here = elim (slice_push_cases [] e i f here) [
       | inl old ↦ absurd (let lt = old.0 in omega arith)
-      | inr new ↦ (sym (ap (λ (x : Event). x.processor) new.1), sym (ap (λ (x : Event). is_taking x.kind) new.1) ∙ quiet)
+      | inr new ↦ (sym (ap (λ (x : Event). x.processor) new.1), sym (ap (λ (x : Event). is_taking x.kind) new.1) ∙ quiet.takes)
     ]
 
     away : (i w r d : ℕ) → ¬ Does (e ∷ []) i p (Fetch w n r d)
     away i w r d here = elim (slice_push_cases [] e i (event p (Fetch w n r d)) here) [
       | inl old ↦ (let lt = old.0 in omega arith)
-      | inr new ↦ none w n r d (ap (λ (x : Event). x.kind) new.1)
+      | inr new ↦ quiet.fetches w n r d (ap (λ (x : Event). x.kind) new.1)
     ]
 
     same : DueLacks s (take k j ++ e ∷ []) p n q m → DueLacks s (take k j) p n q m
@@ -287,9 +312,8 @@ due_none_told s j k e at quiet none n q m one =
     )
 
 -- and so of nothing
-pub dues_quiet : (s : Sizes) (j : List Event) (k : ℕ) (e : Event) → At j k e → is_taking e.kind ≡ false
-    → ((w l r d : ℕ) → e.kind ≢ Fetch w l r d) → AreDues s j k e []
-dues_quiet s j k e at quiet none = record {
+pub dues_quiet : {j : List Event} {k : ℕ} {e : Event} (s : Sizes) → IsQuietAt j k e → AreDues s j k e []
+dues_quiet {j} {k} {e} s quiet = record {
   has = λ x. ((λ h. absurd (none-some x h.1)), λ y. absurd (nothing x y));
   order = λ m n x y lt to. absurd (none-some x to);
 }
@@ -298,7 +322,7 @@ dues_quiet s j k e at quiet none = record {
     nothing x y =
         let one =
         count_some (IsDueToldBy s j k e.processor e.kind x.page x.writer) x.records y.count (due_positive x.records y.some) in
-        due_none_told s j k e at quiet none x.page x.writer one.0 one.1
+        due_none_told s quiet x.page x.writer one.0 one.1
 
 -- what there is below the span's end is all of it
 pub all_dues_below : (s : Sizes) (j h : List Event) (k : ℕ) (e : Event) (span : Span) (dues : List Due)
@@ -342,9 +366,9 @@ due_same s j span x y page writer one two =
         ∙ ap (λ (r : ℕ). due_with_records b.page b.writer r) third
 
 -- the span has nothing of a writer of which it has no interval
-pub due_none_between : (s : Sizes) (j : List Event) (span : Span) (x : Due) (q : ℕ) → IsDueInSpan s j span x → x.writer ≡ q
+pub due_none_between : {s : Sizes} {j : List Event} {span : Span} {x : Due} (q : ℕ) → IsDueInSpan s j span x → x.writer ≡ q
     → slice_index span.to q ≤ slice_index span.from q → ⊥
-due_none_between s j span x q y is le =
+due_none_between {s} {j} {span} {x} q y is le =
     let one =
     count_some (DueBetween s j x.page x.writer (slice_index span.from) (slice_index span.to)) x.records y.count
     (due_positive x.records y.some) in
@@ -355,9 +379,9 @@ due_none_between s j span x q y is le =
     omega arith
 
 -- and nothing where nothing is counted
-pub due_none_counted : (s : Sizes) (j : List Event) (span : Span) (x : Due) (n q r : ℕ) → IsDueInSpan s j span x → x.page ≡ n
+pub due_none_counted : {s : Sizes} {j : List Event} {span : Span} {x : Due} (n q r : ℕ) → IsDueInSpan s j span x → x.page ≡ n
     → x.writer ≡ q → HasImageCount (DueBetween s j n q (slice_index span.from) (slice_index span.to)) r → r ≡ 0 → ⊥
-due_none_counted s j span x n q r y page writer count none =
+due_none_counted {s} {j} {span} {x} n q r y page writer count none =
     y.some
     (count_unique (DueBetween s j x.page x.writer (slice_index span.from) (slice_index span.to)) x.records r y.count
     (subst (λ l. HasImageCount (DueBetween s j l x.writer (slice_index span.from) (slice_index span.to)) r) (sym page)
@@ -393,10 +417,10 @@ dues_below_none s j span row dues is none = subst (DuesBelow s j span row) (sym 
 })
 
 -- a row more, of which there is this
-pub dues_below_next : (s : Sizes) (j : List Event) (span : Span) (n q : ℕ) (o : Option Due) (dues new : List Due)
-    → q < 16 → IsOneOfDues s j span n q o → MatchOption o (new ≡ dues) (λ x. new ≡ dues ++ x ∷ [])
-    → DuesBelow s j span (gap_tally_row_index n q) dues → DuesBelow s j span (gap_tally_row_index n q + 1) new
-dues_below_next s j span n q None dues new lt none same are = subst (DuesBelow s j span (gap_tally_row_index n q + 1)) (sym same) (record {
+pub dues_below_next : {s : Sizes} {j : List Event} {span : Span} {dues : List Due} (n q : ℕ) (o : Option Due) (new : List Due)
+    → q < 16 → DuesBelow s j span (gap_tally_row_index n q) dues → IsOneOfDues s j span n q o
+    → MatchOption o (new ≡ dues) (λ x. new ≡ dues ++ x ∷ []) → DuesBelow s j span (gap_tally_row_index n q + 1) new
+dues_below_next {s} {j} {span} {dues} n q None new lt are none same = subst (DuesBelow s j span (gap_tally_row_index n q + 1)) (sym same) (record {
   has = λ x. (
     λ h. (let y = (are.has x).0 h in let less = y.1 in (y.0, omega arith)),
     λ y. elim (cases_eq (gap_tally_row_index x.page x.writer) (gap_tally_row_index n q)) [
@@ -410,7 +434,7 @@ dues_below_next s j span n q None dues new lt none same are = subst (DuesBelow s
   );
   order = are.order;
 })
-dues_below_next s j span n q (Some d) dues new lt one more are =
+dues_below_next {s} {j} {span} {dues} n q (Some d) new lt are one more =
     subst (DuesBelow s j span (gap_tally_row_index n q + 1)) (sym more) (record { has = λ x. (there x, back x); order = order })
   where
     row : gap_tally_row_index d.page d.writer ≡ gap_tally_row_index n q
@@ -454,13 +478,9 @@ dues_below_next s j span n q (Some d) dues new lt one more are =
 -- a row of dues more
 pub dues_rows_next : (s : Sizes) (j : List Event) (rows : List (Vec Due)) (n : ℕ) (row : Vec Due) → length rows ≡ n
     → AreAllDues s j rows → ((e : Event) → At j n e → AreDues s j n e row.items) → AreAllDues s j (rows ++ row ∷ [])
-dues_rows_next s j rows n row long are now k e new here at = elim (slice_push_cases rows row k new at) [
-  | inl old ↦ are k e new here old.1
-  | inr last ↦
-      (let is : n ≡ k = omega (arith, last.0) in
-      subst (λ (v : Vec Due). AreDues s j k e v.items) last.1
-      (subst (λ m. AreDues s j m e row.items) is (now e (subst (λ m. At j m e) (sym is) here))))
-]
+dues_rows_next s j rows n row long are now k e new here at =
+    rows_next (λ (m : ℕ) (xs : Vec Due). (f : Event) → At j m f → AreDues s j m f xs.items) rows n row long
+    (λ m old to f there. are m f old there to) now k new at e here
 
 -- what of a result follows from what is known of it
 pub due_if_ok : {A E : Type 0} (r : Result A E) (P Q : A → Type 0) → ((x : A) → P x → Q x) → IfOk r P → IfOk r Q

@@ -38,19 +38,42 @@ pub reached_up_to_longer : (j : List Event) (i m k : ℕ) → UpTo j m i → UpT
 reached_up_to_longer j i m k (inl is) up = subst (λ n. UpTo j k n) (sym is) up
 reached_up_to_longer j i m k (inr h) up = past_up_to_back j i m k h up
 
+-- at place i p does something, and at place k another processor, q
+pub record DoneByTwo (j : List Event) (p i q k : ℕ) : Type 0 where
+  pub first : Kind
+  pub does : Does j i p first
+  pub second : Kind
+  pub did : Does j k q second
+  pub apart : p ≢ q
+
 -- what is up to an event of q is up to each later one of q
-pub reached_up_to_own : (j : List Event) (q i k m : ℕ) (a b : Kind) → Does j k q a → Does j m q b → k ≤ m → UpTo j k i
+pub reached_up_to_own : {a b : Kind} (j : List Event) (q i k m : ℕ) → Does j k q a → Does j m q b → k ≤ m → UpTo j k i
     → UpTo j m i
-reached_up_to_own j q i k m a b one two le up = elim (cases_eq k m) [
+reached_up_to_own {a} {b} j q i k m one two le up = elim (cases_eq k m) [
   | inl is ↦ subst (λ n. UpTo j n i) is up
   | inr isnt ↦ reached_up_to_longer j i k m up (inr (leaving_own_order j q k m a b one two (omega arith)))
 ]
 
 -- after its event at place m, q's timestamp counts p's event at place i exactly where that is up to place m
-pub reached_path_taken_tells : (j : List Event) (p q i m : ℕ) (a b : Kind) (t : ℕ → ℕ) → Does j i p a → Does j m q b → p ≢ q
+pub reached_path_taken_tells : {j : List Event} {p i q m : ℕ} {t : ℕ → ℕ} → DoneByTwo j p i q m
     → IsTimeOf (take (m + 1) j) q t → UpTo j m i ↔ (interval_at j p i < t p)
-reached_path_taken_tells j p q i m a b t does at apart time = (there, back)
+reached_path_taken_tells {j} {p} {i} {q} {m} {t} two time = (there, back)
   where
+    a : Kind
+    a = two.first
+
+    b : Kind
+    b = two.second
+
+    does : Does j i p a
+    does = two.does
+
+    at : Does j m q b
+    at = two.did
+
+    apart : p ≢ q
+    apart = two.apart
+
     within : m < length j
     within = numbered_at_within j m (event q b) at
 
@@ -80,7 +103,7 @@ reached_path_taken_tells j p q i m a b t does at apart time = (there, back)
     from_past x =
         let lt = slice_get-take_within j (m + 1) x.own x.event x.at in
         let there = slice_get-from_take j (m + 1) x.own x.event x.at in
-        reached_up_to_own j q i x.own m x.event.kind b (numbered_does_at j x.own q x.event there x.mine) at (omega arith)
+        reached_up_to_own j q i x.own m (numbered_does_at j x.own q x.event there x.mine) at (omega arith)
         (up_front x.own x.reaches)
 
     back : interval_at j p i < t p → UpTo j m i
@@ -117,28 +140,33 @@ pub record TakingReachedBefore (j : List Event) (q i k : ℕ) : Type 0 where
   pub reached : UpTo j place i
 
 -- what is up to another's event happens before it
-reached_before : (j : List Event) (p q i k : ℕ) (a b : Kind) → Does j i p a → Does j k q b → p ≢ q → UpTo j k i
-    → HappensBefore j i k
-reached_before j p q i k a b does at apart (inl is) =
-    absurd (apart (numbered_does_same j k p q a b (subst (λ n. Does j n p a) is does) at).0)
-reached_before j p q i k a b does at apart (inr h) = h
+reached_before : {j : List Event} {p i q k : ℕ} → DoneByTwo j p i q k → UpTo j k i → HappensBefore j i k
+reached_before {j} {p} {i} {q} {k} two (inl is) =
+    absurd (two.apart (numbered_does_same j k p q two.first two.second
+    (subst (λ n. Does j n p two.first) is two.does) two.did).0)
+reached_before {j} {p} {i} {q} {k} two (inr h) = h
 
-reached_path_taking_within : (j : List Event) (n p q i k : ℕ) (a b : Kind) → k < n → Does j i p a → Does j k q b → p ≢ q
-    → HappensBefore j i k → TakingReachedBefore j q i k
-reached_path_taking_within j zero p q i k a b lt does at apart h = absurd (omega arith)
-reached_path_taking_within j (suc n) p q i k a b lt does at apart h =
+reached_path_taking_within : (j : List Event) (n p i q k : ℕ) → k < n → DoneByTwo j p i q k → HappensBefore j i k
+    → TakingReachedBefore j q i k
+reached_path_taking_within j zero p i q k lt two h = absurd (omega arith)
+reached_path_taking_within j (suc n) p i q k lt two h =
     let s = past_last_step j i k h in
     let l = s.0 in
     let d = s.2 in
     let before = d.before in
-    let into : d.to ≡ event q b = numbered_at_same j k d.to (event q b) d.to_at at in
+    let into : d.to ≡ event q two.second = numbered_at_same j k d.to (event q two.second) d.to_at two.did in
     let to_mine : d.to.processor ≡ q = ap (λ (e : Event). e.processor) into in
-    let to_kind : d.to.kind ≡ b = ap (λ (e : Event). e.kind) into in
+    let to_kind : d.to.kind ≡ two.second = ap (λ (e : Event). e.kind) into in
     elim (cases_eq d.from.processor q) [
       | inl is ↦
-          (let one : Does j l q d.from.kind = numbered_does_at j l q d.from d.from_at is in
-          let further : HappensBefore j i l = reached_before j p q i l a d.from.kind does one apart s.1 in
-          let t = reached_path_taking_within j n p q i l a d.from.kind (omega arith) does one apart further in
+          (let one : DoneByTwo j p i q l = record {
+            first = two.first;
+            does = two.does;
+            second = d.from.kind;
+            did = numbered_does_at j l q d.from d.from_at is;
+            apart = two.apart;
+          } in
+          let t = reached_path_taking_within j n p i q l (omega arith) one (reached_before one s.1) in
           let le = t.within in
           record {
             place = t.place;
@@ -152,8 +180,8 @@ reached_path_taking_within j (suc n) p q i k a b lt does at apart h =
           record {
             place = k;
             within = omega arith;
-            kind = b;
-            does = at;
+            kind = two.second;
+            does = two.did;
             takes = subst (λ c. IsTrue (is_taking c)) to_kind
                 (reached_path_link_takes j l k d.from d.to d.link (λ s. isnt (s ∙ to_mine)));
             reached = inr h;
@@ -161,10 +189,9 @@ reached_path_taking_within j (suc n) p q i k a b lt does at apart h =
     ]
 
 -- where another's event is up to one of q, there is such an event
-pub reached_path_taking_before : (j : List Event) (p q i k : ℕ) (a b : Kind) → Does j i p a → Does j k q b → p ≢ q → UpTo j k i
-    → TakingReachedBefore j q i k
-reached_path_taking_before j p q i k a b does at apart up =
-    reached_path_taking_within j (suc k) p q i k a b (omega arith) does at apart (reached_before j p q i k a b does at apart up)
+pub reached_path_taking_before : {j : List Event} {p i q k : ℕ} → DoneByTwo j p i q k → UpTo j k i → TakingReachedBefore j q i k
+reached_path_taking_before {j} {p} {i} {q} {k} two up =
+    reached_path_taking_within j (suc k) p i q k (omega arith) two (reached_before two up)
 
 -- of its own processor's events, an event reaches itself first
 pub first_reached_own : (j : List Event) (p i : ℕ) (a : Kind) → Does j i p a → IsFirstReachedByPath j i p i
@@ -175,48 +202,70 @@ first_reached_own j p i a does = record {
   first = λ k b lt at up. (let le = reached_up_to_le j k i up in absurd (omega arith));
 }
 
+-- p's event at place i lies in its interval of this number, and these are the events below place n that take of another one, q
+pub record TakesBesides (j : List Event) (p i q n number : ℕ) (takings : List Taking) : Type 0 where
+  pub kind : Kind
+  pub does : Does j i p kind
+  pub apart : p ≢ q
+  pub number_is : number ≡ interval_at j p i
+  pub are : AreTakings j q n takings
+
+-- p's event, and one of q
+reached_path_beside : {j : List Event} {p i q n number : ℕ} {takings : List Taking} (k : ℕ) (b : Kind)
+    → TakesBesides j p i q n number takings → Does j k q b → DoneByTwo j p i q k
+reached_path_beside {j} {p} {i} {q} {n} {number} {takings} k b x at =
+    record { first = x.kind; does = x.does; second = b; did = at; apart = x.apart }
+
+-- the timestamp after an event of q that takes counts the interval exactly where that event reaches p's
+reached_path_taking_tells : {j : List Event} {p i q n number : ℕ} {takings : List Taking} (y : Taking)
+    → TakesBesides j p i q n number takings → IsTaking j q n y → UpTo j y.place i ↔ (number < slice_index y.after p)
+reached_path_taking_tells {j} {p} {i} {q} {n} {number} {takings} y x is =
+    let both = reached_path_taken_tells (reached_path_beside y.place is.kind x is.does) is.after in
+    let same = x.number_is in (
+      (λ up. (let lt = both.0 up in omega arith)),
+      λ lt. both.1 (omega arith),
+    )
+
 -- the timestamps of takings that do not count an interval stand in front
-pub reached_path_parted : (j : List Event) (p q i n number : ℕ) (a : Kind) (takings : List Taking) → Does j i p a → p ≢ q
-    → number ≡ interval_at j p i → AreTakings j q n takings
+pub reached_path_parted : {j : List Event} {p i q n number : ℕ} {takings : List Taking} → TakesBesides j p i q n number takings
     → InOrder (λ (x y : Taking). slice_index y.after p ≤ number → slice_index x.after p ≤ number) takings
-reached_path_parted j p q i n number a takings does apart is are k m x y lt at to le =
+reached_path_parted {j} {p} {i} {q} {n} {number} {takings} besides k m x y lt at to le =
     elim (cases_lt number (slice_index x.after p)) [
       | inl above ↦
-          (let one = are.each k x at in
-          let two = are.each m y to in
-          let rises = are.rising k m x y lt at to in
-          let up =
-          (reached_path_taken_tells j p q i x.place a one.kind (slice_index x.after) does one.does apart one.after).1 (omega arith) in
+          (let one = besides.are.each k x at in
+          let two = besides.are.each m y to in
+          let rises = besides.are.rising k m x y lt at to in
+          let up = (reached_path_taking_tells x besides one).1 above in
           let more =
-          (reached_path_taken_tells j p q i y.place a two.kind (slice_index y.after) does two.does apart two.after).0
-          (reached_up_to_own j q i x.place y.place one.kind two.kind one.does two.does (omega arith) up) in
+          (reached_path_taking_tells y besides two).0
+          (reached_up_to_own j q i x.place y.place one.does two.does (omega arith) up) in
           absurd (omega arith))
       | inr within ↦ within
     ]
 
 -- where no timestamp counts it, it reaches none of q's events
-pub none_reached : (j : List Event) (p q i number : ℕ) (a : Kind) (takings : List Taking) → Does j i p a → p ≢ q
-    → number ≡ interval_at j p i → AreTakings j q (length j) takings → NoTakingAbove takings p number
+pub none_reached : {j : List Event} {p i q number : ℕ} {takings : List Taking}
+    → TakesBesides j p i q (length j) number takings → NoTakingAbove takings p number
     → (k : ℕ) (b : Kind) → Does j k q b → ¬ UpTo j k i
-none_reached j p q i number a takings does apart is are none k b at up =
-    let t = reached_path_taking_before j p q i k a b does at apart up in
-    let w = are.all t.place t.kind (numbered_at_within j t.place (event q t.kind) t.does) t.does t.takes in
-    let x = w.1 in
-    let here = are.each w.0 x w.2 in
-    let le = none w.0 x w.2 in
+none_reached {j} {p} {i} {q} {number} {takings} besides none k b at up =
+    let t = reached_path_taking_before (reached_path_beside k b besides at) up in
+    let w = besides.are.all t.place t.kind (numbered_at_within j t.place (event q t.kind) t.does) t.does t.takes in
+    let le = none w.0 w.1 w.2 in
     let more =
-    (reached_path_taken_tells j p q i x.place a here.kind (slice_index x.after) does here.does apart here.after).0
+    (reached_path_taking_tells w.1 besides (besides.are.each w.0 w.1 w.2)).0
     (subst (λ n. UpTo j n i) (sym w.3) t.reached) in
     omega arith
 
 -- the first one that counts it is that after the first event that it reaches
-pub first_reached : (j : List Event) (p q i m number : ℕ) (a : Kind) (takings : List Taking) → Does j i p a → p ≢ q
-    → number ≡ interval_at j p i → AreTakings j q (length j) takings → IsFirstTakingAbove takings p number m
-    → IsFirstReachedByPath j i q m
-first_reached j p q i m number a takings does apart is are found =
+pub first_reached : {j : List Event} {p i q m number : ℕ} {takings : List Taking}
+    → TakesBesides j p i q (length j) number takings → IsFirstTakingAbove takings p number m → IsFirstReachedByPath j i q m
+first_reached {j} {p} {i} {q} {m} {number} {takings} besides found =
     subst (IsFirstReachedByPath j i q) found.place_is
     (record { kind = here.kind; does = here.does; reached = reached; first = first })
   where
+    are : AreTakings j q (length j) takings
+    are = besides.are
+
     x : Taking
     x = found.taking
 
@@ -224,23 +273,17 @@ first_reached j p q i m number a takings does apart is are found =
     here = are.each found.index x found.at
 
     reached : UpTo j x.place i
-    reached =
-        let above = found.above in
-        let same = is in
-        (reached_path_taken_tells j p q i x.place a here.kind (slice_index x.after) does here.does apart here.after).1 (omega arith)
+    reached = (reached_path_taking_tells x besides here).1 found.above
 
     first : (k : ℕ) (b : Kind) → k < x.place → Does j k q b → ¬ UpTo j k i
     first k b lt at up =
-        let t = reached_path_taking_before j p q i k a b does at apart up in
+        let t = reached_path_taking_before (reached_path_beside k b besides at) up in
         let w = are.all t.place t.kind (numbered_at_within j t.place (event q t.kind) t.does) t.does t.takes in
         let y = w.1 in
-        let there = are.each w.0 y w.2 in
         let place : y.place ≡ t.place = w.3 in
         let le = t.within in
         let more =
-        (reached_path_taken_tells j p q i y.place a there.kind (slice_index y.after) does there.does apart there.after).0
-        (subst (λ n. UpTo j n i) (sym w.3) t.reached) in
-        let same = is in
+        (reached_path_taking_tells y besides (are.each w.0 y w.2)).0 (subst (λ n. UpTo j n i) (sym w.3) t.reached) in
         elim (cases_lt w.0 found.index) [
           | inl before ↦ (let under = found.below w.0 y before w.2 in omega arith)
           | inr behind ↦ elim (cases_eq w.0 found.index) [
@@ -256,7 +299,7 @@ first_reached j p q i m number a takings does apart is are found =
 pub reached_from : (j : List Event) (q i m k : ℕ) (b : Kind) → IsFirstReachedByPath j i q m → Does j k q b
     → (m ≤ k) ↔ UpTo j k i
 reached_from j q i m k b first at = (
-  λ le. reached_up_to_own j q i m k first.kind b first.does at le first.reached,
+  λ le. reached_up_to_own j q i m k first.does at le first.reached,
   λ up. elim (cases_lt k m) [ inl lt ↦ absurd (first.first k b lt at up) | inr le ↦ le ],
 )
 
@@ -284,14 +327,6 @@ reached_path_none_enters j q i k first none = go first.reached
     go : UpTo j k i → k ≡ i
     go (inl is) = sym is
     go (inr h) = let s = past_last_step j i k h in absurd (into s.0 s.1 s.2)
-
--- a way of one place
-pub path_way_one : (j : List Event) (i k : ℕ) → k ≡ i → IsWay j i k (k ∷ [])
-path_way_one j i k is = record {
-  first = ap (λ n. Some n) is;
-  last = refl;
-  steps = λ n a b at to. absurd (let lt = slice_get_within (k ∷ []) (n + 1) b to in omega arith);
-}
 
 -- a way goes on by an edge
 pub path_way_longer : (j : List Event) (i m k : ℕ) (places : List ℕ) → IsWay j i m places → Edge j m k

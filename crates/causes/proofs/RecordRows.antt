@@ -1,11 +1,11 @@
 -- Records of a closed interval. Of each address the last store of the interval is looked up; the words of a page, by rising
 -- offsets, are what the interval comes to there, for the places of its stores are those of the open interval before the event
 -- that closes it.
-use Rattle.std.proofs.Common.{◌≡◌, ℕ, ◌+◌, ◌*◌, ◌/◌, ◌%◌, ◌<◌, ◌≤◌, ◌↔◌, inl, inr, Bool, true, false, List, [], ◌∷◌, ◌++◌, Option, Some, length, replicate, slice_get, slice_index_or, take, drop, subst, sym, refl, ap, ap₂, ◌∙◌, mod-lt, arith}
+use Rattle.std.proofs.Common.{◌≡◌, ℕ, ◌+◌, ◌*◌, ◌/◌, ◌%◌, ◌<◌, ◌≤◌, ◌↔◌, inl, inr, Bool, false, List, [], ◌∷◌, ◌++◌, Option, Some, length, replicate, slice_get, slice_index_or, take, drop, subst, sym, refl, ap, ap₂, ◌∙◌, mod-lt, arith}
 use Rattle.std.proofs.lemmas.Bool.{cases_eq, cases_lt}
 use Rattle.std.proofs.lemmas.List.{length-replicate, length-take-le, take-append-drop}
 use Rattle.std.proofs.lemmas.Nat.{div-add-mod', div-mul-add, div_below, mod-mul-add}
-use Rattle.std.proofs.lemmas.Option.{get_or_from_slice_get, none-some, same_Some, slice_get-get_or, slice_get_read, slice_get_within, some_pair_parts}
+use Rattle.std.proofs.lemmas.Option.{get_or_from_slice_get, same_Some, slice_get-get_or, slice_get_read, slice_get_within, some_pair_parts}
 use Rattle.base.specs.InOrderOnce.{Has, InOrder}
 use Rattle.base.specs.LastWritten.{LastWrite, written}
 use Rattle.base.specs.MarkedRecords.{harvest, marked}
@@ -23,12 +23,13 @@ use Rattle.journal.specs.WellFormed.{Does}
 use Rattle.journal.proofs.CopyOfPage.Stores.{store_same, store_writes}
 use Rattle.journal.proofs.Intervals.Dirty.{dirty_content}
 use Rattle.journal.proofs.Intervals.StoreContents.{content_closed, content_closing, stores_in_longer, stores_in_shorter}
-use Rattle.journal.proofs.Order.CountedAndNumbered.{count_of-mono, count_of-past, numbered_at_within, numbered_does_at}
+use Rattle.journal.proofs.Order.CountedAndNumbered.{count_of-mono, count_of-past, numbered_at_within}
 use Rattle.journal.proofs.Passes.NextClocks.{front_next}
 use Rattle.judge.specs.Gaps.{GapStoresInPage}
 use Rattle.judge.specs.Miscounted.{IsEventInSizes}
 use Rattle.causes.specs.declared.records.PageRecord.{PageRecord}
 use Rattle.causes.specs.declared.stores.NumberedStore.{NumberedStore}
+use Rattle.causes.specs.Index.{IsIndexedClosing}
 use Rattle.causes.specs.Records.{AreClosedRecords, AreClosedRecordsBelow, AreRecordWordsBelow, IsLastOfInterval, IsNoneOfInterval}
 use Rattle.causes.specs.Stores.{AreStoresBelow, IsLastStoredUnder, NoneStoredUnder}
 use Rattle.causes.specs.Takings.{AreTakingNumbers}
@@ -43,9 +44,9 @@ record RecordStoreInRow (row : List NumberedStore) (m i : ℕ) : Type 0 where
   place : store.place ≡ i
   number : store.interval ≡ m
 
-record_in_row : (j : List Event) (a q m i w : ℕ) (row : List NumberedStore) → AreStoresBelow j a q (length j) row
+record_in_row : {j : List Event} {a q : ℕ} {row : List NumberedStore} (m i w : ℕ) → AreStoresBelow j a q (length j) row
     → Does j i q (Store a w) → interval_at j q i ≡ m → RecordStoreInRow row m i
-record_in_row j a q m i w row are does number =
+record_in_row {j} {a} {q} {row} m i w are does number =
     let x = are.all i w (numbered_at_within j i (event q (Store a w)) does) does in
     record {
       index = x.0;
@@ -56,20 +57,20 @@ record_in_row j a q m i w row are does number =
     }
 
 -- no store of the row is of an interval up to this one
-pub record_none : (j : List Event) (a q m : ℕ) (row : List NumberedStore) → AreStoresBelow j a q (length j) row
+pub record_none : {j : List Event} {a q : ℕ} {row : List NumberedStore} (m : ℕ) → AreStoresBelow j a q (length j) row
     → NoneStoredUnder row (m + 1) → IsNoneOfInterval j q m a
-record_none j a q m row are none i w does number =
-    let x = record_in_row j a q m i w row are does number in
+record_none {j} {a} {q} {row} m are none i w does number =
+    let x = record_in_row m i w are does number in
     let le = none x.index x.store x.at in
     let is = x.number in
     omega arith
 
 -- the last one that is, is of an earlier one
-pub record_early : (j : List Event) (a q m : ℕ) (row : List NumberedStore) (last : NumberedStore)
+pub record_early : {j : List Event} {a q : ℕ} {row : List NumberedStore} {last : NumberedStore} (m : ℕ)
     → AreStoresBelow j a q (length j) row → IsLastStoredUnder row (m + 1) last → last.interval < m
     → IsNoneOfInterval j q m a
-record_early j a q m row last are is early i w does number =
-    let x = record_in_row j a q m i w row are does number in
+record_early {j} {a} {q} {row} {last} m are is early i w does number =
+    let x = record_in_row m i w are does number in
     let of = x.number in
     elim (cases_lt is.index x.index) [
       | inl later ↦ (let le = is.later x.index x.store later x.at in omega arith)
@@ -85,20 +86,19 @@ record_early j a q m row last are is early i w does number =
     ]
 
 -- and where it is of this one it is the interval's last store there
-pub record_last : (j : List Event) (a q m b v : ℕ) (row : List NumberedStore) (last : NumberedStore) (e : Event)
-    → AreStoresBelow j a q (length j) row → IsLastStoredUnder row (m + 1) last → m ≤ last.interval → At j last.place e
-    → e.kind ≡ Store b v → IsLastOfInterval j q m a v
-record_last j a q m b v row last e are is late at kind =
+pub record_last : {j : List Event} {a q : ℕ} {row : List NumberedStore} {last : NumberedStore} (m b p v : ℕ)
+    → AreStoresBelow j a q (length j) row → IsLastStoredUnder row (m + 1) last → m ≤ last.interval
+    → Does j last.place p (Store b v) → IsLastOfInterval j q m a v
+record_last {j} {a} {q} {row} {last} m b p v are is late stored =
     let own = are.each is.index last is.at in
     let under = is.under in
-    let stored : Does j last.place e.processor (Store b v) = subst (λ k. At j last.place (event e.processor k)) kind at in
-    let same = store_same j last.place e.processor q b a v own.value stored own.does in
+    let same = store_same j last.place p q b a v own.value stored own.does in
     record {
       place = last.place;
       does = subst (λ u. Does j last.place q (Store a u)) (sym same.2) own.does;
       number = sym own.interval ∙ (let exact : last.interval ≡ m = omega arith in exact);
       last = λ i w does number.
-          let x = record_in_row j a q m i w row are does number in
+          let x = record_in_row m i w are does number in
           let of = x.number in
           let here = x.place in
           elim (cases_lt is.index x.index) [
@@ -120,13 +120,6 @@ record_last_same j q m a v w x y =
     let ge = x.last y.place w y.does y.number in
     let is : x.place ≡ y.place = omega arith in
     (store_same j y.place q q a a v w (subst (λ i. Does j i q (Store a v)) is x.does) y.does).2
-
--- no words of no address
-pub record_words_none : (j : List Event) (q m a : ℕ) (words : List (ℕ × ℕ)) → words ≡ [] → AreRecordWordsBelow j q m a 0 words
-record_words_none j q m a words none = subst (AreRecordWordsBelow j q m a 0) (sym none) (record {
-  has = λ o v. (λ h. absurd (none-some (o, v) h.1), λ x. absurd (let lt = x.0 in omega arith));
-  rising = λ k l x y lt at. absurd (none-some x at);
-})
 
 -- an address that the interval doesn't store to
 pub record_words_quiet : (j : List Event) (q m a n : ℕ) (words : List (ℕ × ℕ)) → IsNoneOfInterval j q m (a + n)
@@ -201,40 +194,44 @@ record_open s j p n some = (harvest 0 page marks, dirty_content s j p n page mar
     dirty : IsDirty s j p n page marks
     dirty = record { clean = clean; long = length-replicate s.words 0; page_is = refl; marks_are = refl }
 
--- so does a closed one
-record_closed : (s : Sizes) (j : List Event) (k q n : ℕ) (e : Event) → 0 < s.words → At j k e → e.processor ≡ q
-    → is_closing e.kind ≡ true → (words : List (ℕ × ℕ)) × IsContent s j q (interval_at j q k) n words
-record_closed s j k q n e some at mine closes = (known.0, whole)
+-- so does one that is closed at place k
+record_closed : {j : List Event} {q m k : ℕ} (s : Sizes) (n : ℕ) → IsIndexedClosing j q m k → 0 < s.words
+    → (words : List (ℕ × ℕ)) × IsContent s j q m n words
+record_closed {j} {q} {m} {k} s n closing some = (known.0, subst (λ i. IsContent s j q i n known.0) closing.number whole)
   where
-    m : ℕ
-    m = interval_at j q k
+    e : Event
+    e = event q closing.closes.kind
 
-    known : (words : List (ℕ × ℕ)) × IsContent s (take k j) q m n words
+    open_one : ℕ
+    open_one = interval_at j q k
+
+    known : (words : List (ℕ × ℕ)) × IsContent s (take k j) q open_one n words
     known = record_open s (take k j) q n some
 
     next : take (k + 1) j ≡ take k j ++ e ∷ []
-    next = front_next j k e at
+    next = front_next j k e closing.closes.does
 
-    behind : IsContent s (take (k + 1) j) q m n known.0
+    behind : IsContent s (take (k + 1) j) q open_one n known.0
     behind =
-        subst (λ h. IsContent s h q m n known.0) (sym next) (content_closing s (take k j) e q m n known.0 closes known.1)
+        subst (λ h. IsContent s h q open_one n known.0) (sym next)
+        (content_closing s (take k j) e q open_one n known.0 closing.closes.closes known.1)
 
-    counted : m < count_of is_closing (take (k + 1) j) q
-    counted = count_of-past is_closing j k (k + 1) q e.kind (numbered_does_at j k q e at mine) closes (omega arith)
+    counted : open_one < count_of is_closing (take (k + 1) j) q
+    counted = count_of-past is_closing j k (k + 1) q e.kind closing.closes.does closing.closes.closes (omega arith)
 
-    whole : IsContent s j q m n known.0
+    whole : IsContent s j q open_one n known.0
     whole =
-        subst (λ h. IsContent s h q m n known.0) (take-append-drop (k + 1) j)
-        (content_closed s (take (k + 1) j) (drop (k + 1) j) q m n known.0 counted behind)
+        subst (λ h. IsContent s h q open_one n known.0) (take-append-drop (k + 1) j)
+        (content_closed s (take (k + 1) j) (drop (k + 1) j) q open_one n known.0 counted behind)
 
 -- an address by its page and its offset
 record_address : (w n o a : ℕ) → a / w ≡ n → a % w ≡ o → a ≡ n * w + o
 record_address w n o a page offset = sym (div-add-mod' a w) ∙ ap₂ (λ (x y : ℕ). x * w + y) page offset
 
 -- the words of a page that are looked up are what the interval comes to there, by what it comes to in any way
-record_content_by : (s : Sizes) (j : List Event) (q m n : ℕ) (known words : List (ℕ × ℕ)) → 0 < s.words
+record_content_by : {s : Sizes} {j : List Event} {q m n : ℕ} {known words : List (ℕ × ℕ)} → 0 < s.words
     → IsContent s j q m n known → AreRecordWordsBelow j q m (n * s.words) s.words words → IsContent s j q m n words
-record_content_by s j q m n known words some content are = record {
+record_content_by {s} {j} {q} {m} {n} {known} {words} some content are = record {
   places = content.places;
   each = content.each;
   rising = content.rising;
@@ -314,20 +311,20 @@ record_content_by s j q m n known words some content are = record {
           },
         )
 
--- of the interval that an event closes
-pub record_content : (s : Sizes) (j : List Event) (k q m n : ℕ) (e : Event) (words : List (ℕ × ℕ)) → 0 < s.words → At j k e
-    → e.processor ≡ q → is_closing e.kind ≡ true → m ≡ interval_at j q k
-    → AreRecordWordsBelow j q m (n * s.words) s.words words → IsContent s j q m n words
-record_content s j k q m n e words some at mine closes is are =
-    let closed = record_closed s j k q n e some at mine closes in
-    record_content_by s j q m n closed.0 words some (subst (λ i. IsContent s j q i n closed.0) (sym is) closed.1) are
+-- of the interval that is closed at place k
+pub record_content : {j : List Event} {q m k : ℕ} {words : List (ℕ × ℕ)} (s : Sizes) (n : ℕ) → IsIndexedClosing j q m k
+    → 0 < s.words → AreRecordWordsBelow j q m (n * s.words) s.words words → IsContent s j q m n words
+record_content {j} {q} {m} {k} {words} s n closing some are =
+    record_content_by some (record_closed s n closing some).1 are
 
 -- the stores of a closed interval stand up to the event that closes it
-pub record_stores : (s : Sizes) (j : List Event) (k q m n : ℕ) (e : Event) → At j k e → e.processor ≡ q
-    → is_closing e.kind ≡ true → m ≡ interval_at j q k
+pub record_stores : {j : List Event} {q m k : ℕ} (s : Sizes) (n : ℕ) → IsIndexedClosing j q m k
     → GapStoresInPage s (take (k + 1) j) n q m ↔ ((i : ℕ) × StoresInInterval s j q m n i)
-record_stores s j k q m n e at mine closes is = (there, back)
+record_stores {j} {q} {m} {k} s n closing = (there, back)
   where
+    e : Event
+    e = event q closing.closes.kind
+
     front : List Event
     front = take (k + 1) j
 
@@ -343,28 +340,20 @@ record_stores s j k q m n e at mine closes is = (there, back)
     back y =
         let z = y.1 in
         let number = z.4 in
-        let under = count_of-past is_closing j k (k + 1) q e.kind (numbered_does_at j k q e at mine) closes (omega arith) in
+        let is = closing.number in
+        let under =
+        count_of-past is_closing j k (k + 1) q e.kind closing.closes.does closing.closes.closes (omega arith) in
         let low : y.0 < k + 1 = elim (cases_lt y.0 (k + 1)) [
           | inl lt ↦ lt
           | inr late ↦ (let up = count_of-mono is_closing j (k + 1) y.0 q late in absurd (omega arith))
         ] in
-        let inside = numbered_at_within j k e at in
+        let inside = numbered_at_within j k e closing.closes.does in
         let long = length-take-le (k + 1) j (omega arith) in
         (interval_stores s front n q m).1 (
           y.0,
           stores_in_shorter s front (drop (k + 1) j) q m n y.0 (omega arith)
               (subst (λ h. StoresInInterval s h q m n y.0) (sym whole) z),
         )
-
--- no records of no page
-pub records_none : (s : Sizes) (j : List Event) (q m : ℕ) (records : List PageRecord) → records ≡ []
-    → AreClosedRecordsBelow s j q m 0 records
-records_none s j q m records none = subst (AreClosedRecordsBelow s j q m 0) (sym none) (record {
-  content = λ x h. absurd (none-some x h.1);
-  some = λ x h. absurd (none-some x h.1);
-  all = λ l i lt. absurd (omega arith);
-  order = λ k l x y lt at. absurd (none-some x at);
-})
 
 -- a page in which the interval doesn't store
 pub records_quiet : (s : Sizes) (j : List Event) (q m n : ℕ) (records : List PageRecord)
@@ -381,10 +370,10 @@ records_quiet s j q m n records none are = record {
 }
 
 -- one in which it does
-pub records_next : (s : Sizes) (j : List Event) (q m n : ℕ) (x : PageRecord) (records : List PageRecord) → x.page ≡ n
+pub records_next : {s : Sizes} {j : List Event} {q m n : ℕ} {records : List PageRecord} (x : PageRecord) → x.page ≡ n
     → IsContent s j q m n x.words.items → ((i : ℕ) × StoresInInterval s j q m n i)
     → AreClosedRecordsBelow s j q m n records → AreClosedRecordsBelow s j q m (n + 1) (records ++ x ∷ [])
-records_next s j q m n x records page content some are = record { content = each; some = some_of; all = all; order = order }
+records_next {s} {j} {q} {m} {n} {records} x page content some are = record { content = each; some = some_of; all = all; order = order }
   where
     each : (y : PageRecord) → Has (records ++ x ∷ []) y → IsContent s j q m y.page y.words.items
     each y h = elim (slice_push_cases records x h.0 y h.1) [

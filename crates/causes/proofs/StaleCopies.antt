@@ -1,45 +1,40 @@
 -- Which copies are stale, and which are dirty: those of pages of which a fetch would bring something, and those of pages in which
 -- the open interval stores.
-use Rattle.std.proofs.Common.{◌≡◌, ◌≢◌, ℕ, ◌<◌, ◌↔◌, List, slice_index, subst, sym, refl, ◌∙◌}
+use Rattle.std.proofs.Common.{◌≡◌, ◌≢◌, ℕ, ◌<◌, ◌↔◌, List, subst, sym, refl, ◌∙◌}
 use Rattle.journal.specs.declared.event.Event.{Event}
 use Rattle.journal.specs.ContentsSince.{StoresInInterval}
 use Rattle.journal.specs.Events.{count_of, interval_at, is_closing}
 use Rattle.journal.specs.InRange.{ProcessorsInRange}
 use Rattle.journal.specs.Sizes.{Sizes}
-use Rattle.journal.specs.Times.{IsTimeOf}
-use Rattle.judge.specs.Gaps.{GapFetchedUpTo, GapStoresInPage}
-use Rattle.causes.specs.declared.missing.Span.{Span}
+use Rattle.judge.specs.Gaps.{GapStoresInPage}
+use Rattle.causes.specs.declared.span.Span.{Span}
 use Rattle.causes.specs.Dues.{DueLacks}
 use Rattle.causes.specs.Notices.{HasNoticeOf}
 use Rattle.causes.specs.States.{IsDirtyPage, IsStalePage}
-use Rattle.causes.proofs.OwingDues.{due_lacks_is, due_lacks_low, due_lacks_own}
+use Rattle.causes.proofs.OwingDues.{IsFetchSpan, due_lacks_is, due_lacks_low, due_lacks_own}
 
 -- what a fetch would bring makes the copy stale
-pub stale_by : (s : Sizes) (j : List Event) (p n q : ℕ) (span : Span) → span.reader ≡ p
-    → GapFetchedUpTo s j p n (slice_index span.from) → IsTimeOf j p (slice_index span.to) → HasNoticeOf s j span n q
-    → IsStalePage s j p n
-stale_by s j p n q span reader fetched time h =
-    let apart : q ≢ p = λ same. h.0 (same ∙ sym reader) in
-    let lacks : DueLacks s j p n q h.1.0 =
-    (due_lacks_is s j p n q h.1.0 (slice_index span.from) (slice_index span.to) apart fetched time).1
-    (h.1.1, h.1.2, h.1.3) in
+pub stale_by : {s : Sizes} {j : List Event} {p n : ℕ} {span : Span} (q : ℕ) → IsFetchSpan s j p n span
+    → HasNoticeOf s j span n q → IsStalePage s j p n
+stale_by {s} {j} {p} {n} {span} q is h =
+    let apart : q ≢ p = λ same. h.0 (same ∙ sym is.reader) in
+    let lacks : DueLacks s j p n q h.1.0 = (due_lacks_is q h.1.0 apart is.from is.to).1 (h.1.1, h.1.2, h.1.3) in
     (lacks.1.0, lacks.1.3)
 
 -- and nothing else does
-pub stale_has : (s : Sizes) (j : List Event) (p n : ℕ) (span : Span) → span.reader ≡ p
-    → GapFetchedUpTo s j p n (slice_index span.from) → IsTimeOf j p (slice_index span.to) → ProcessorsInRange 16 j
+pub stale_has : {s : Sizes} {j : List Event} {p n : ℕ} {span : Span} → IsFetchSpan s j p n span → ProcessorsInRange 16 j
     → IsStalePage s j p n → (q : ℕ) × (q < 16) × HasNoticeOf s j span n q
-stale_has s j p n span reader fetched time low stale =
+stale_has {s} {j} {p} {n} {span} is low stale =
     let i = stale.0 in
     let x = stale.1.store in
     let q = x.by in
     let m = interval_at j q i in
     let lacks : DueLacks s j p n q m = (x.address, (i, x.value, x.does, stale.1, refl)) in
     let apart = due_lacks_own s j p n q m lacks in
-    let between = (due_lacks_is s j p n q m (slice_index span.from) (slice_index span.to) apart fetched time).0 lacks in (
+    let between = (due_lacks_is q m apart is.from is.to).0 lacks in (
       q,
       due_lacks_low s j p n q m low lacks,
-      (λ same. apart (same ∙ reader), (m, between.0, between.1, between.2)),
+      (λ same. apart (same ∙ is.reader), (m, between.0, between.1, between.2)),
     )
 
 -- an interval stores in a page by some store

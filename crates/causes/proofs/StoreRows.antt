@@ -49,18 +49,25 @@ stores_other j a q n e stores at away old = record {
   ];
 }
 
+-- q stores to a at place n, and this is noted of it
+pub record IsStoreNoted (j : List Event) (a q n : ℕ) (x : NumberedStore) : Type 0 where
+  pub value : ℕ
+  pub does : Does j n q (Store a value)
+  pub low : q < 16
+  pub place : x.place ≡ n
+  pub number : x.interval ≡ interval_at j q n
+
 -- a store of q to a, with the number of its interval
-stores_now : (j : List Event) (a q v n : ℕ) (x : NumberedStore) (stores : List NumberedStore) → Does j n q (Store a v)
-    → x.place ≡ n → x.interval ≡ interval_at j q n → AreStoresBelow j a q n stores
-    → AreStoresBelow j a q (n + 1) (stores ++ x ∷ [])
-stores_now j a q v n x stores does place number old = record { each = each; rising = rising; all = all }
+stores_now : {j : List Event} {a q n : ℕ} {x : NumberedStore} {stores : List NumberedStore} → IsStoreNoted j a q n x
+    → AreStoresBelow j a q n stores → AreStoresBelow j a q (n + 1) (stores ++ x ∷ [])
+stores_now {j} {a} {q} {n} {x} {stores} noted old = record { each = each; rising = rising; all = all }
   where
     now : IsNumberedStore j a q (n + 1) x
     now = record {
-      below = omega arith;
-      value = v;
-      does = subst (λ m. Does j m q (Store a v)) (sym place) does;
-      interval = number ∙ ap (interval_at j q) (sym place);
+      below = (let place = noted.place in omega arith);
+      value = noted.value;
+      does = subst (λ m. Does j m q (Store a noted.value)) (sym noted.place) noted.does;
+      interval = noted.number ∙ ap (interval_at j q) (sym noted.place);
     }
 
     each : (m : ℕ) (y : NumberedStore) → slice_get (stores ++ x ∷ []) m ≡ Some y → IsNumberedStore j a q (n + 1) y
@@ -78,13 +85,14 @@ stores_now j a q v n x stores does place number old = record { each = each; risi
           (let last = new.0 in
           let under = (old.each k y (sym (slice_get-append_left stores (x ∷ []) k (omega arith)) ∙ to)).below in
           let same = ap (λ (w : NumberedStore). w.place) new.1 in
+          let place = noted.place in
           omega arith)
     ]
 
     all : (i w : ℕ) → i < n + 1 → Does j i q (Store a w)
         → (m : ℕ) × (y : NumberedStore) × (slice_get (stores ++ x ∷ []) m ≡ Some y) × (y.place ≡ i)
     all i w lt to = elim (cases_eq i n) [
-      | inl is ↦ (length stores, x, slice_get-last stores x, omega arith)
+      | inl is ↦ (let place = noted.place in (length stores, x, slice_get-last stores x, omega arith))
       | inr isnt ↦
           (let z = old.all i w (omega arith) to in
           (z.0, z.1, slice_get-append_left stores (x ∷ []) z.0 (slice_get_within stores z.0 z.1 z.2) ∙ z.2, z.3))
@@ -104,44 +112,49 @@ store_rows_quiet j n e x at quiet old = record {
 pub row_same : (a q b p : ℕ) → q < 16 → p < 16 → gap_tally_row_index a q ≡ gap_tally_row_index b p → (a ≡ b) × (q ≡ p)
 row_same a q b p lt to is = (omega arith, omega arith)
 
+-- the new rows have y behind the row of this index
+pub record AreRowsWith (rows new : List (Vec NumberedStore)) (index : ℕ) (y : NumberedStore) : Type 0 where
+  pub row : Vec NumberedStore
+  pub there : slice_get rows index ≡ Some row
+  pub longer : Vec NumberedStore
+  pub items : longer.items ≡ row.items ++ y ∷ []
+  pub rows_are : new ≡ slice_set rows index longer
+
 -- and with a store
-pub store_rows_stored : (j : List Event) (n a v : ℕ) (e : Event) (y : NumberedStore) (x : StoreRows)
-    → (row new : Vec NumberedStore) → (rows : List (Vec NumberedStore)) → At j n e → e.kind ≡ Store a v
-    → e.processor < 16 → y.place ≡ n → y.interval ≡ interval_at j e.processor n
-    → slice_get x.rows.items (gap_tally_row_index a e.processor) ≡ Some row → new.items ≡ row.items ++ y ∷ []
-    → rows ≡ slice_set x.rows.items (gap_tally_row_index a e.processor) new → AreStoreRows j n x
-    → ((b q : ℕ) (other : Vec NumberedStore) → q < 16 → slice_get rows (gap_tally_row_index b q) ≡ Some other
-    → AreStoresBelow j b q (n + 1) other.items)
-store_rows_stored j n a v e y x row new rows at kind low place number there is set old b q other lt to =
-    elim (cases_eq (gap_tally_row_index b q) (gap_tally_row_index a e.processor)) [
+pub store_rows_stored : {j : List Event} {a p n : ℕ} {y : NumberedStore} {x : StoreRows} {rows : List (Vec NumberedStore)}
+    → IsStoreNoted j a p n y → AreRowsWith x.rows.items rows (gap_tally_row_index a p) y → AreStoreRows j n x
+    → (b q : ℕ) (other : Vec NumberedStore) → q < 16 → slice_get rows (gap_tally_row_index b q) ≡ Some other
+    → AreStoresBelow j b q (n + 1) other.items
+store_rows_stored {j} {a} {p} {n} {y} {x} {rows} noted push old b q other lt to =
+    elim (cases_eq (gap_tally_row_index b q) (gap_tally_row_index a p)) [
       | inl same ↦
-          (let both = row_same b q a e.processor lt low same in
-          let one : new ≡ other =
-          slice_get-set_found x.rows.items (gap_tally_row_index a e.processor) new other
-          (subst (λ m. slice_get (slice_set x.rows.items (gap_tally_row_index a e.processor) new) m ≡ Some other) same moved) in
-          let now : AreStoresBelow j a e.processor (n + 1) new.items =
-          subst (AreStoresBelow j a e.processor (n + 1)) (sym is)
-          (stores_now j a e.processor v n y row.items (subst (λ k. At j n (event e.processor k)) kind at) place number
-          (old.each a e.processor row low there)) in
+          (let both = row_same b q a p lt noted.low same in
+          let one : push.longer ≡ other =
+          slice_get-set_found x.rows.items (gap_tally_row_index a p) push.longer other
+          (subst (λ m. slice_get (slice_set x.rows.items (gap_tally_row_index a p) push.longer) m ≡ Some other) same moved) in
+          let now : AreStoresBelow j a p (n + 1) push.longer.items =
+          subst (AreStoresBelow j a p (n + 1)) (sym push.items)
+          (stores_now noted (old.each a p push.row noted.low push.there)) in
           subst (λ (w : Vec NumberedStore). AreStoresBelow j b q (n + 1) w.items) one
-          (subst (λ p. AreStoresBelow j b p (n + 1) new.items) (sym both.1)
-          (subst (λ c. AreStoresBelow j c e.processor (n + 1) new.items) (sym both.0) now)))
+          (subst (λ r. AreStoresBelow j b r (n + 1) push.longer.items) (sym both.1)
+          (subst (λ c. AreStoresBelow j c p (n + 1) push.longer.items) (sym both.0) now)))
       | inr isnt ↦
-          stores_other j b q n e other.items at (λ w same. isnt (apart w same))
+          stores_other j b q n (event p (Store a noted.value)) other.items noted.does (λ w same. isnt (apart w same))
           (old.each b q other lt
-          (sym (slice_get-set_other x.rows.items (gap_tally_row_index a e.processor) (gap_tally_row_index b q) new isnt) ∙ moved))
+          (sym (slice_get-set_other x.rows.items (gap_tally_row_index a p) (gap_tally_row_index b q) push.longer isnt) ∙ moved))
     ]
   where
-    moved : slice_get (slice_set x.rows.items (gap_tally_row_index a e.processor) new) (gap_tally_row_index b q) ≡ Some other
-    moved = subst (λ xs. slice_get xs (gap_tally_row_index b q) ≡ Some other) set to
+    moved : slice_get (slice_set x.rows.items (gap_tally_row_index a p) push.longer) (gap_tally_row_index b q) ≡ Some other
+    moved = subst (λ xs. slice_get xs (gap_tally_row_index b q) ≡ Some other) push.rows_are to
 
     address : (c w d z : ℕ) → Store c w ≡ Store d z → c ≡ d
     address c w d z same = cc
 
-    apart : (w : ℕ) → e ≡ event q (Store b w) → gap_tally_row_index b q ≡ gap_tally_row_index a e.processor
+    apart : (w : ℕ) → event p (Store a noted.value) ≡ event q (Store b w)
+        → gap_tally_row_index b q ≡ gap_tally_row_index a p
     apart w same =
-        let by = ap (λ (f : Event). f.processor) same in
-        let to_a = address a v b w (sym kind ∙ ap (λ (f : Event). f.kind) same) in
+        let by : p ≡ q = ap (λ (f : Event). f.processor) same in
+        let to_a = address a noted.value b w (ap (λ (f : Event). f.kind) same) in
         omega arith
 
 -- of rising stores the intervals do not fall

@@ -1,7 +1,7 @@
 -- Events that take, row by row, as the history goes on: the rows below place n, with the event at place n, are those below
 -- n + 1. An event that takes stands last in its processor's row, for all before it stand at lower places; any other
 -- event, and every other row, changes nothing. The numbers of intervals are counts that go on the same way.
-use Rattle.std.proofs.Common.{◌≡◌, ℕ, ◌+◌, ◌<◌, inl, inr, IsTrue, false, List, [], ◌∷◌, ◌++◌, Some, length, slice_get, slice_index, slice_set, take, subst, sym, refl, ap, ◌∙◌, true≢false, arith}
+use Rattle.std.proofs.Common.{◌≡◌, ℕ, ◌+◌, ◌<◌, inl, inr, IsTrue, false, List, [], ◌∷◌, ◌++◌, Some, length, slice_get, slice_index, slice_set, take, subst, sym, ap, ◌∙◌, true≢false, arith}
 use Rattle.std.specs.Global.{Vec}
 use Rattle.std.proofs.lemmas.Bool.{cases_eq}
 use Rattle.std.proofs.lemmas.List.{get_or_append_left, length-set}
@@ -16,7 +16,7 @@ use Rattle.journal.specs.DidEvent.{event}
 use Rattle.journal.specs.Events.{At, interval_at, is_taking}
 use Rattle.journal.specs.Times.{IsTimeOf}
 use Rattle.journal.specs.WellFormed.{Does}
-use Rattle.journal.proofs.Order.CountedAndNumbered.{numbered_at_same, numbered_does_at}
+use Rattle.journal.proofs.Order.CountedAndNumbered.{numbered_at_same}
 use Rattle.causes.specs.declared.takings.Taking.{Taking}
 use Rattle.causes.specs.Takings.{AreAllTakings, AreTakings, IsTaking}
 
@@ -52,18 +52,27 @@ takings_other j q n e takings at quiet old = record {
   ];
 }
 
+-- q takes at place n, and this is noted of it
+pub record IsTakingNoted (j : List Event) (q n : ℕ) (x : Taking) : Type 0 where
+  pub kind : Kind
+  pub does : Does j n q kind
+  pub place : x.place ≡ n
+  pub time : IsTimeOf (take (n + 1) j) q (slice_index x.after)
+
 -- an event of q that takes, with its timestamp
-takings_now : (j : List Event) (q n : ℕ) (e : Event) (x : Taking) (takings : List Taking) → At j n e
-    → e.processor ≡ q → x.place ≡ n → IsTimeOf (take (n + 1) j) q (slice_index x.after) → AreTakings j q n takings
+takings_now : {j : List Event} {q n : ℕ} {x : Taking} {takings : List Taking} → IsTakingNoted j q n x → AreTakings j q n takings
     → AreTakings j q (n + 1) (takings ++ x ∷ [])
-takings_now j q n e x takings at mine place time old = record { each = each; rising = rising; all = all }
+takings_now {j} {q} {n} {x} {takings} noted old = record { each = each; rising = rising; all = all }
   where
+    place : x.place ≡ n
+    place = noted.place
+
     now : IsTaking j q (n + 1) x
     now = record {
       below = omega arith;
-      kind = e.kind;
-      does = subst (λ m. Does j m q e.kind) (sym place) (numbered_does_at j n q e at mine);
-      after = subst (λ m. IsTimeOf (take (m + 1) j) q (slice_index x.after)) (sym place) time;
+      kind = noted.kind;
+      does = subst (λ m. Does j m q noted.kind) (sym place) noted.does;
+      after = subst (λ m. IsTimeOf (take (m + 1) j) q (slice_index x.after)) (sym place) noted.time;
     }
 
     each : (m : ℕ) (y : Taking) → slice_get (takings ++ x ∷ []) m ≡ Some y → IsTaking j q (n + 1) y
@@ -101,41 +110,39 @@ taking_rows_quiet j n e rows at quiet old =
     record { long = old.long; each = λ q row to. takings_other j q n e row.items at (λ _. quiet) (old.each q row to) }
 
 -- and with one that takes
-pub taking_rows_taken : (j : List Event) (n : ℕ) (e : Event) (x : Taking) (rows : List (Vec Taking)) (row new : Vec Taking)
-    → At j n e → x.place ≡ n → IsTimeOf (take (n + 1) j) e.processor (slice_index x.after)
-    → slice_get rows e.processor ≡ Some row → new.items ≡ row.items ++ x ∷ [] → AreAllTakings j n rows
-    → AreAllTakings j (n + 1) (slice_set rows e.processor new)
-taking_rows_taken j n e x rows row new at place time there is old =
-    record { long = length-set rows e.processor new ∙ old.long; each = each }
+pub taking_rows_taken : {j : List Event} {p n : ℕ} {x : Taking} {rows : List (Vec Taking)} (row new : Vec Taking)
+    → IsTakingNoted j p n x → slice_get rows p ≡ Some row → new.items ≡ row.items ++ x ∷ [] → AreAllTakings j n rows
+    → AreAllTakings j (n + 1) (slice_set rows p new)
+taking_rows_taken {j} {p} {n} {x} {rows} row new noted there is old =
+    record { long = length-set rows p new ∙ old.long; each = each }
   where
-    each : (q : ℕ) (other : Vec Taking) → slice_get (slice_set rows e.processor new) q ≡ Some other
-        → AreTakings j q (n + 1) other.items
-    each q other to = elim (cases_eq q e.processor) [
+    each : (q : ℕ) (other : Vec Taking) → slice_get (slice_set rows p new) q ≡ Some other → AreTakings j q (n + 1) other.items
+    each q other to = elim (cases_eq q p) [
       | inl mine ↦
           (let same : new ≡ other =
-          slice_get-set_found rows e.processor new other
-          (subst (λ m. slice_get (slice_set rows e.processor new) m ≡ Some other) mine to) in
-          let now : AreTakings j e.processor (n + 1) new.items =
-          subst (AreTakings j e.processor (n + 1)) (sym is)
-          (takings_now j e.processor n e x row.items at refl place time (old.each e.processor row there)) in
+          slice_get-set_found rows p new other (subst (λ m. slice_get (slice_set rows p new) m ≡ Some other) mine to) in
+          let now : AreTakings j p (n + 1) new.items =
+          subst (AreTakings j p (n + 1)) (sym is) (takings_now noted (old.each p row there)) in
           subst (λ (v : Vec Taking). AreTakings j q (n + 1) v.items) same
           (subst (λ m. AreTakings j m (n + 1) new.items) (sym mine) now))
       | inr isnt ↦
-          takings_other j q n e other.items at (λ mine. absurd (isnt (sym mine)))
-          (old.each q other (sym (slice_get-set_other rows e.processor q new isnt) ∙ to))
+          takings_other j q n (event p noted.kind) other.items noted.does (λ mine. absurd (isnt (sym mine)))
+          (old.each q other (sym (slice_get-set_other rows p q new isnt) ∙ to))
     ]
 
--- the number of one more event's interval
-pub taking_numbers_next : (j : List Event) (n number : ℕ) (e : Event) (numbers new : List ℕ) → length numbers ≡ n → At j n e
-    → number ≡ interval_at j e.processor n → new ≡ numbers ++ number ∷ []
-    → ((k : ℕ) (f : Event) → k < n → At j k f → slice_index numbers k ≡ interval_at j f.processor k) → (k : ℕ)
-    → (f : Event) → k < n + 1 → At j k f → slice_index new k ≡ interval_at j f.processor k
-taking_numbers_next j n number e numbers new long at now is old k f lt to =
-    ap (λ (xs : List ℕ). slice_index xs k) is ∙ elim (cases_eq k n) [
-      | inl same ↦
-          (let one = numbered_at_same j n e f at (subst (λ m. At j m f) same to) in
-          let end : k ≡ length numbers = omega arith in
-          ap (slice_index (numbers ++ number ∷ [])) end ∙ get_or-append_seam numbers number [] 0 ∙ now
-          ∙ ap (λ (g : Event). interval_at j g.processor n) one ∙ ap (interval_at j f.processor) (sym same))
-      | inr isnt ↦ get_or_append_left numbers (number ∷ []) 0 k (omega arith) ∙ old k f (omega arith) to
-    ]
+-- these are the numbers of the intervals of the first n events
+abbrev pub AreNumbersBelow : List Event → ℕ → List ℕ → Type 0
+AreNumbersBelow j n numbers =
+    (k : ℕ) (e : Event) → k < n → At j k e → slice_index numbers k ≡ interval_at j e.processor k
+
+-- and of one more
+pub taking_numbers_next : (j : List Event) (n number : ℕ) (e : Event) (numbers : List ℕ) → length numbers ≡ n → At j n e
+    → number ≡ interval_at j e.processor n → AreNumbersBelow j n numbers → AreNumbersBelow j (n + 1) (numbers ++ number ∷ [])
+taking_numbers_next j n number e numbers long at now old k f lt to = elim (cases_eq k n) [
+  | inl same ↦
+      (let one = numbered_at_same j n e f at (subst (λ m. At j m f) same to) in
+      let end : k ≡ length numbers = omega arith in
+      ap (slice_index (numbers ++ number ∷ [])) end ∙ get_or-append_seam numbers number [] 0 ∙ now
+      ∙ ap (λ (g : Event). interval_at j g.processor n) one ∙ ap (interval_at j f.processor) (sym same))
+  | inr isnt ↦ get_or_append_left numbers (number ∷ []) 0 k (omega arith) ∙ old k f (omega arith) to
+]

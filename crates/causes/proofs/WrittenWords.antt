@@ -1,8 +1,7 @@
 -- The words that events write, one address after the other.
 use Rattle.std.proofs.Common.{◌≡◌, ◌≢◌, ℕ, ◌+◌, ◌*◌, ◌/◌, ◌<◌, ◌≤◌, inl, inr, List, [], ◌∷◌, ◌++◌, Option, Some, None, length, subst, sym, refl, ap, ◌∙◌, arith}
-use Rattle.std.specs.Global.{Vec}
 use Rattle.std.proofs.lemmas.Bool.{cases_eq, cases_lt}
-use Rattle.std.proofs.lemmas.Option.{none-some, slice_get_within}
+use Rattle.std.proofs.lemmas.Option.{slice_get_within}
 use Rattle.base.specs.InOrderOnce.{Has, InOrder}
 use Rattle.base.proofs.SlicesAndCounts.{slice_push_cases, slice_get-append_left, slice_get-last}
 use Rattle.journal.specs.declared.event.Event.{Event}
@@ -12,12 +11,12 @@ use Rattle.journal.specs.Events.{At}
 use Rattle.journal.specs.Sizes.{Sizes}
 use Rattle.journal.proofs.Order.CountedAndNumbered.{numbered_at_same}
 use Rattle.judge.specs.Prelude.{IsEventInSizes}
-use Rattle.causes.specs.declared.originating.WordOrigin.{WordOrigin}
-use Rattle.causes.specs.declared.writing.WrittenRange.{WrittenRange}
-use Rattle.causes.specs.declared.writing.WrittenWord.{WrittenWord}
+use Rattle.causes.specs.declared.origin.WordOrigin.{WordOrigin}
+use Rattle.causes.specs.declared.written.WrittenRange.{WrittenRange}
+use Rattle.causes.specs.declared.written.WrittenWord.{WrittenWord}
 use Rattle.causes.specs.Origins.{IsOrigin, IsWordOriginOf, OriginWritesWord}
 use Rattle.causes.proofs.OriginSteps.{origin_in_page}
-use Rattle.causes.specs.Writing.{AreAllWritten, AreWritten, AreWrittenAmong, IsStoreWrittenAt, IsWrittenRange}
+use Rattle.causes.specs.Writing.{AreWritten, AreWrittenAmong, IsStoreWrittenAt, IsWrittenRange}
 
 -- a word that has its origin at place k is written there
 pub written_now : (s : Sizes) (j : List Event) (p a k i : ℕ) → IsOrigin s j p a (k + 1) (record { store = i; write = k })
@@ -44,17 +43,6 @@ pub record AreWrittenBelow (s : Sizes) (j : List Event) (k p from to : ℕ) (wri
   pub among : AreWrittenAmong s j k p (record { first = from; end = to }) written
   pub below : (x : WrittenWord) → Has written x → x.address < to
 
--- at first there are none
-pub written_start : (s : Sizes) (j : List Event) (k p from : ℕ) → AreWrittenBelow s j k p from from []
-written_start s j k p from = record {
-  among = record {
-    each = λ x has. absurd (none-some x has.1);
-    all = λ a i low high writes. absurd (omega arith);
-    rising = λ m n x y lt at to. absurd (none-some x at);
-  };
-  below = λ x has. absurd (none-some x has.1);
-}
-
 -- what is written in all of the range
 pub written_end : (s : Sizes) (j : List Event) (k p : ℕ) (r : WrittenRange) (to : ℕ) (written : List WrittenWord) → r.end ≤ to
     → AreWrittenBelow s j k p r.first to written → AreWrittenAmong s j k p r written
@@ -65,10 +53,10 @@ written_end s j k p r to written le are = record {
 }
 
 -- an address more that is written
-pub written_next : (s : Sizes) (j : List Event) (k p from a i : ℕ) (written : List WrittenWord) → OriginWritesWord s j p a k i
-    → AreWrittenBelow s j k p from a written
+pub written_next : {s : Sizes} {j : List Event} {k p from a : ℕ} {written : List WrittenWord} (i : ℕ)
+    → OriginWritesWord s j p a k i → AreWrittenBelow s j k p from a written
     → AreWrittenBelow s j k p from (a + 1) (written ++ record { address = a; store = i } ∷ [])
-written_next s j k p from a i written writes old = record {
+written_next {s} {j} {k} {p} {from} {a} {written} i writes old = record {
   among = record { each = each; all = all; rising = rising };
   below = λ x has. elim (slice_push_cases written new has.0 x has.1) [
     | inl was ↦ (let lt = old.below x (has.0, was.1) in omega arith)
@@ -114,10 +102,10 @@ written_next s j k p from a i written writes old = record {
     ]
 
 -- one that isn't
-pub written_others : (s : Sizes) (j : List Event) (k p from a : ℕ) (written : List WrittenWord)
+pub written_others : {s : Sizes} {j : List Event} {k p from a : ℕ} {written : List WrittenWord}
     → ((i : ℕ) → ¬ OriginWritesWord s j p a k i) → AreWrittenBelow s j k p from a written
     → AreWrittenBelow s j k p from (a + 1) written
-written_others s j k p from a written away old = record {
+written_others {s} {j} {k} {p} {from} {a} {written} away old = record {
   among = record { each = old.among.each; all = all; rising = old.among.rising };
   below = λ x has. (let lt = old.below x has in omega arith);
 }
@@ -142,16 +130,6 @@ written_all s j k e r written at range among = record {
   rising = among.rising;
 }
 
--- a row more
-pub written_rows_next : (s : Sizes) (j : List Event) (rows : List (Vec WrittenWord)) (k : ℕ) (row : Vec WrittenWord)
-    → length rows ≡ k → AreAllWritten s j rows → AreWritten s j k row.items → AreAllWritten s j (rows ++ row ∷ [])
-written_rows_next s j rows k row long are now n other at = elim (slice_push_cases rows row n other at) [
-  | inl old ↦ are n other old.1
-  | inr new ↦
-      (let is : k ≡ n = omega (arith, new.0) in
-      subst (λ (v : Vec WrittenWord). AreWritten s j n v.items) new.1 (subst (λ m. AreWritten s j m row.items) is now))
-]
-
 written_store_no_fetch : (a v w n r d : ℕ) → Store a v ≢ Fetch w n r d
 written_store_no_fetch a v w n r d is = cc
 
@@ -159,13 +137,13 @@ written_fetch_page : (w n r d x m y z : ℕ) → Fetch w n r d ≡ Fetch x m y z
 written_fetch_page w n r d x m y z is = cc
 
 -- what a fetch writes lies in its page
-pub written_by_fetch : (s : Sizes) (j : List Event) (k : ℕ) (e : Event) (w n r d : ℕ)
+pub written_by_fetch : {w n r d : ℕ} (s : Sizes) (j : List Event) (k : ℕ) (e : Event)
     → ((m : ℕ) (f : Event) → At j m f → IsEventInSizes s f) → At j k e → e.kind ≡ Fetch w n r d
     → IsWrittenRange s j k e.processor (record { first = n * s.words; end = n * s.words + s.words })
-written_by_fetch s j k e w n r d within at kind q a i (inl own) =
+written_by_fetch {w} {n} {r} {d} s j k e within at kind q a i (inl own) =
     let same = numbered_at_same j k e (event q (Store a own.1.0)) at own.1.1 in
     absurd (written_store_no_fetch a own.1.0 w n r d (sym (ap (λ (f : Event). f.kind) same) ∙ kind))
-written_by_fetch s j k e w n r d within at kind q a i (inr last) = (
+written_by_fetch {w} {n} {r} {d} s j k e within at kind q a i (inr last) = (
   sym (ap (λ (f : Event). f.processor) same),
   range.0,
   range.1,

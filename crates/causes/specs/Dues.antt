@@ -1,6 +1,7 @@
 -- What copies of pages lack, and which events tell of it.
 use Rattle.std.specs.Prelude.{ℕ, ◌≡◌, ◌≢◌, ◌⊎◌, ◌+◌, ◌<◌, ◌≤◌, ◌↔◌, List, Option, Some, MatchOption, slice_get, slice_index, take}
 use Rattle.std.specs.Global.{Vec}
+use Rattle.base.specs.Limits.{most_processors}
 use Rattle.base.specs.InOrderOnce.{Has, InOrder}
 use Rattle.journal.specs.declared.event.Event.{Event}
 use Rattle.journal.specs.declared.event.Kind.{Kind}
@@ -10,8 +11,8 @@ use Rattle.journal.specs.Events.{At}
 use Rattle.journal.specs.Sizes.{Sizes}
 use Rattle.judge.specs.Gaps.{GapStoresInPage}
 use Rattle.judge.specs.GapTally.{gap_tally_row_index}
-use Rattle.causes.specs.declared.missing.Due.{Due}
-use Rattle.causes.specs.declared.missing.Span.{Span}
+use Rattle.causes.specs.declared.event_dues.Due.{Due}
+use Rattle.causes.specs.declared.span.Span.{Span}
 
 -- p's copy of page n lacks what q stored there in its interval m
 abbrev pub DueLacks : Sizes → List Event → ℕ → ℕ → ℕ → ℕ → Type 0
@@ -49,7 +50,7 @@ AreAllDues s j rows = (k : ℕ) (e : Event) (row : Vec Due) → At j k e → sli
 -- the writer, another one than the span's reader, stores in the page, which is one of the span's, in that many of the
 -- intervals that the span has of it, and in some
 pub record IsDueInSpan (s : Sizes) (j : List Event) (span : Span) (x : Due) : Type 0 where
-  pub low : x.writer < 16
+  pub low : x.writer < most_processors
   pub apart : x.writer ≢ span.reader
   pub from : span.first ≤ x.page
   pub to : x.page < span.end

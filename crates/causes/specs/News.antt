@@ -6,7 +6,7 @@ use Rattle.journal.specs.declared.event.Event.{Event}
 use Rattle.journal.specs.Events.{At, interval_at}
 use Rattle.journal.specs.HappensBeforeEdges.{HappensBefore}
 use Rattle.journal.specs.Times.{ClosesAt, IsTimeOf}
-use Rattle.causes.specs.declared.news.Step.{Step}
+use Rattle.causes.specs.declared.step.Step.{Step}
 use Rattle.causes.specs.Edges.{EdgeFromOther}
 
 -- an edge leads from place i to another processor's event at place k, none of whose earlier events place i happens before

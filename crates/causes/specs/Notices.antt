@@ -1,12 +1,13 @@
 -- Write notices: which stores an event tells its processor of.
 use Rattle.std.specs.Prelude.{ℕ, ◌≡◌, ◌≢◌, ◌⊎◌, ◌<◌, ◌≤◌, ◌↔◌, List, slice_index}
+use Rattle.base.specs.Limits.{most_processors}
 use Rattle.base.specs.InOrderOnce.{Has, InOrder}
 use Rattle.journal.specs.declared.event.Event.{Event}
 use Rattle.journal.specs.Sizes.{Sizes}
 use Rattle.judge.specs.Gaps.{GapStoresInPage}
 use Rattle.judge.specs.GapTally.{gap_tally_row_index}
 use Rattle.causes.specs.Dues.{IsDueToldBy}
-use Rattle.causes.specs.declared.missing.Span.{Span}
+use Rattle.causes.specs.declared.span.Span.{Span}
 use Rattle.causes.specs.declared.notices.WriteNotice.{WriteNotice}
 
 -- by rising pages, for each page by rising writers, and for each of these by rising intervals
@@ -26,7 +27,7 @@ HasNoticeOf s j span n q =
 
 -- the notice is of one of the span's pages and intervals, and of another processor than its reader
 pub record IsNoticeInSpan (s : Sizes) (j : List Event) (span : Span) (x : WriteNotice) : Type 0 where
-  pub low : x.writer < 16
+  pub low : x.writer < most_processors
   pub apart : x.writer ≢ span.reader
   pub from : span.first ≤ x.page
   pub to : x.page < span.end

@@ -1,5 +1,6 @@
 -- What is found on the way to the origins of words.
 use Rattle.std.specs.Prelude.{ℕ, ◌≡◌, ◌⊎◌, ◌+◌, ◌*◌, ◌^◌, ◌<◌, ◌≤◌, List, Option, Some, None, MatchOption, length, slice_get, slice_index, take}
+use Rattle.base.specs.Limits.{most_processors}
 use Rattle.journal.specs.declared.event.Event.{Event}
 use Rattle.journal.specs.PageImages.{FetchesPage}
 use Rattle.journal.specs.InRange.{ProcessorsInRange}
@@ -7,10 +8,10 @@ use Rattle.journal.specs.Sizes.{Sizes}
 use Rattle.journal.specs.Times.{IsTimeOf}
 use Rattle.judge.specs.Gaps.{GapFetchedUpTo}
 use Rattle.judge.specs.GapTally.{gap_tally_row_index}
-use Rattle.causes.specs.declared.originating.Applied.{Applied}
-use Rattle.causes.specs.declared.originating.LookedUp.{LookedUp}
-use Rattle.causes.specs.declared.originating.WordOrigin.{WordOrigin}
-use Rattle.causes.specs.declared.originating.PageFetch.{PageFetch}
+use Rattle.causes.specs.declared.brought.Applied.{Applied}
+use Rattle.causes.specs.declared.brought.LookedUp.{LookedUp}
+use Rattle.causes.specs.declared.origin.WordOrigin.{WordOrigin}
+use Rattle.causes.specs.declared.brought.PageFetch.{PageFetch}
 use Rattle.causes.specs.Index.{IsIndex}
 use Rattle.causes.specs.Origins.{IsOriginAppliedBefore, IsOriginBrought, IsWordOriginOf}
 use Rattle.causes.specs.Stores.{AreStoreRows}
@@ -19,7 +20,7 @@ use Rattle.causes.specs.Stores.{AreStoreRows}
 pub record IsOriginLookedUp (j : List Event) (x : LookedUp) : Type 0 where
   pub index : IsIndex j x.index
   pub stores : AreStoreRows j (length j) x.stores
-  pub processors : ProcessorsInRange 16 j
+  pub processors : ProcessorsInRange most_processors j
   pub few : x.stores.addresses ≤ 2 ^ 12
 
 -- the fetch stands at its place, and what it brings lies between its timestamps
@@ -56,14 +57,14 @@ IsOriginAfter o m (Some x) r = r ≡ Some (record { store = x.store; write = m }
 
 -- these are the origins of each address in each of sixteen processors' copies before place k
 pub record AreOriginsBefore (s : Sizes) (j : List Event) (k : ℕ) (words : List (Option WordOrigin)) : Type 0 where
-  pub long : length words ≡ (s.pages * s.words) * 16
-  pub each : (a q : ℕ) (o : Option WordOrigin) → q < 16 → slice_get words (gap_tally_row_index a q) ≡ Some o
+  pub long : length words ≡ (s.pages * s.words) * most_processors
+  pub each : (a q : ℕ) (o : Option WordOrigin) → q < most_processors → slice_get words (gap_tally_row_index a q) ≡ Some o
       → IsWordOriginOf s j q a k o
 
 -- p's words of the addresses from `from` on and below `to` are those after place k, all others those before it
 pub record AreOriginsPartFetched (s : Sizes) (j : List Event) (k p from to : ℕ) (words : List (Option WordOrigin)) : Type 0 where
-  pub long : length words ≡ (s.pages * s.words) * 16
+  pub long : length words ≡ (s.pages * s.words) * most_processors
   pub fetched : (a : ℕ) (o : Option WordOrigin) → from ≤ a → a < to → slice_get words (gap_tally_row_index a p) ≡ Some o
       → IsWordOriginOf s j p a (k + 1) o
-  pub others : (a q : ℕ) (o : Option WordOrigin) → q < 16 → (q ≡ p → from ≤ a → a < to → ⊥)
+  pub others : (a q : ℕ) (o : Option WordOrigin) → q < most_processors → (q ≡ p → from ≤ a → a < to → ⊥)
       → slice_get words (gap_tally_row_index a q) ≡ Some o → IsWordOriginOf s j q a k o

@@ -10,7 +10,7 @@ use Rattle.journal.specs.ExplainedAnswers.{LatestStore}
 use Rattle.journal.specs.Sizes.{Sizes}
 use Rattle.journal.specs.Times.{ClosesAt}
 use Rattle.journal.specs.WellFormed.{Does}
-use Rattle.causes.specs.declared.originating.WordOrigin.{WordOrigin}
+use Rattle.causes.specs.declared.origin.WordOrigin.{WordOrigin}
 use Rattle.causes.specs.declared.source.Source.{Source}
 use Rattle.causes.specs.declared.source.Source.TheVariants.{StoreAt}
 

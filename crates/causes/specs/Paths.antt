@@ -1,12 +1,13 @@
 -- Ways along edges from one place to another.
 use Rattle.std.specs.Prelude.{ℕ, ◌≡◌, ◌+◌, ◌-◌, ◌<◌, List, Option, Some, MatchOption, length, slice_get}
+use Rattle.base.specs.Limits.{most_processors}
 use Rattle.journal.specs.declared.event.Event.{Event}
 use Rattle.journal.specs.declared.event.Kind.{Kind}
 use Rattle.journal.specs.InRange.{ProcessorsInRange}
 use Rattle.journal.specs.HappensBeforeEdges.{Edge}
 use Rattle.journal.specs.Pasts.{UpTo}
 use Rattle.journal.specs.WellFormed.{Does}
-use Rattle.causes.specs.declared.paths.Ways.{Ways}
+use Rattle.causes.specs.declared.ways.Ways.{Ways}
 use Rattle.causes.specs.declared.reaching.Reach.{Reach}
 use Rattle.causes.specs.HandOvers.{AreAllHandOvers}
 use Rattle.causes.specs.Takings.{AreAllTakings, AreTakingNumbers}
@@ -30,7 +31,7 @@ PathFirstReached j i q o = MatchOption o ((k : ℕ) (a : Kind) → Does j k q a 
 
 -- what is looked up is the history's
 pub record IsPathReach (j : List Event) (x : Reach) : Type 0 where
-  pub processors : ProcessorsInRange 16 j
+  pub processors : ProcessorsInRange most_processors j
   pub numbers : AreTakingNumbers j x.numbers.items
   pub takings : AreAllTakings j (length j) x.takings.items
 

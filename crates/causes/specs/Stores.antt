@@ -1,6 +1,7 @@
 -- Of each address and processor the stores, in order, with the numbers of their intervals.
 use Rattle.std.specs.Prelude.{ℕ, ◌≡◌, ◌*◌, ◌<◌, ◌≤◌, List, Some, slice_get, vec_len}
 use Rattle.std.specs.Global.{Vec}
+use Rattle.base.specs.Limits.{most_processors}
 use Rattle.base.specs.InOrderOnce.{InOrder}
 use Rattle.journal.specs.declared.event.Event.{Event}
 use Rattle.journal.specs.declared.event.Kind.TheVariants.{Store}
@@ -26,8 +27,8 @@ pub record AreStoresBelow (j : List Event) (a q n : ℕ) (stores : List Numbered
 
 -- and these are those of each address and each of sixteen processors
 pub record AreStoreRows (j : List Event) (n : ℕ) (x : StoreRows) : Type 0 where
-  pub long : vec_len x.rows ≡ x.addresses * 16
-  pub each : (a q : ℕ) (row : Vec NumberedStore) → q < 16 → slice_get x.rows.items (gap_tally_row_index a q) ≡ Some row
+  pub long : vec_len x.rows ≡ x.addresses * most_processors
+  pub each : (a q : ℕ) (row : Vec NumberedStore) → q < most_processors → slice_get x.rows.items (gap_tally_row_index a q) ≡ Some row
       → AreStoresBelow j a q n row.items
 
 -- none of these stores is of an interval below the limit

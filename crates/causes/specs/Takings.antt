@@ -1,6 +1,7 @@
 -- Of each processor, the events that take, with its timestamps after them; of each event, the number of its interval.
 use Rattle.std.specs.Prelude.{ℕ, ◌≡◌, ◌+◌, ◌<◌, ◌≤◌, IsTrue, List, Some, length, slice_get, slice_index, take}
 use Rattle.std.specs.Global.{Vec}
+use Rattle.base.specs.Limits.{most_processors}
 use Rattle.base.specs.InOrderOnce.{InOrder}
 use Rattle.journal.specs.declared.event.Event.{Event}
 use Rattle.journal.specs.declared.event.Kind.{Kind}
@@ -25,7 +26,7 @@ pub record AreTakings (j : List Event) (q n : ℕ) (takings : List Taking) : Typ
 
 -- and these are those of each of sixteen processors
 pub record AreAllTakings (j : List Event) (n : ℕ) (rows : List (Vec Taking)) : Type 0 where
-  pub long : length rows ≡ 16
+  pub long : length rows ≡ most_processors
   pub each : (q : ℕ) (row : Vec Taking) → slice_get rows q ≡ Some row → AreTakings j q n row.items
 
 -- none of these timestamps counts more than this many of p's intervals

@@ -5,9 +5,9 @@ use Rattle.base.specs.InOrderOnce.{Has, InOrder}
 use Rattle.journal.specs.declared.event.Event.{Event}
 use Rattle.journal.specs.Events.{At}
 use Rattle.journal.specs.Sizes.{Sizes}
-use Rattle.causes.specs.declared.originating.WordOrigin.{WordOrigin}
-use Rattle.causes.specs.declared.writing.WrittenRange.{WrittenRange}
-use Rattle.causes.specs.declared.writing.WrittenWord.{WrittenWord}
+use Rattle.causes.specs.declared.origin.WordOrigin.{WordOrigin}
+use Rattle.causes.specs.declared.written.WrittenRange.{WrittenRange}
+use Rattle.causes.specs.declared.written.WrittenWord.{WrittenWord}
 use Rattle.causes.specs.Origins.{OriginWritesWord}
 
 -- what the event at place k writes is in p's copies, in this range

@@ -1,13 +1,12 @@
 //! What keeps the two accesses of a race apart: what the one's processor had heard of the other's, and which locks they held.
-ghost use Rattle.std.specs.Prelude.{◌<◌, ◌≤◌, IfOk, length, take};
+ghost use Rattle.std.specs.Prelude.{◌<◌, ◌≤◌, IfOk, length};
 ghost use Rattle.base.specs.Prelude.{most_held, most_processors};
 ghost use Rattle.journal.specs.declared.event.Event.{Event};
-ghost use Rattle.journal.specs.Events.{At};
-ghost use Rattle.journal.specs.Prelude.{Holds, ProcessorsInRange, Race};
-ghost use Rattle.causes.specs.Prelude.{AreThose, IsRaceApart};
+ghost use Rattle.journal.specs.Prelude.{ProcessorsInRange, Race};
+ghost use Rattle.causes.specs.Prelude.{IsRaceApart};
 
-use crate::racing::heard;
-use crate::waiting::locks_held;
+use crate::heard::heard;
+use crate::locks::locks_at;
 use journal::Event;
 use std::alloc::{AllocError, Global};
 
@@ -25,21 +24,6 @@ pub struct RaceApart {
     pub first_locks: Vec<usize>,
     /// The locks that the second one's processor holds at it, rising.
     pub second_locks: Vec<usize>,
-}
-
-/// Which of the first locks, so many of them, the processor of the event at this place holds there, rising. The only error
-/// is running out of memory.
-fn locks_at(
-    alloc: Global,
-    events: &[Event],
-    place: usize,
-    locks: usize,
-) -> Result<Vec<usize>, AllocError>
-    requires { place < length events.now }
-    ensures { IfOk result (λ v. (e : Event) → At events.now place e
-        → AreThose (Holds (take place events.now) e.processor) locks v.items) }
-{
-    locks_held(alloc, &events[..place], events[place].processor, locks)
 }
 
 /// What keeps the two accesses of this race apart, in a history of so many processors, at most `MOST_PROCESSORS`. Of its

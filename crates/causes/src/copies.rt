@@ -1,26 +1,27 @@
 //! Which of a processor's copies of pages are stale or dirty. Each other one is valid and clean.
 ghost use Rattle.std.specs.Prelude.{ℕ, ◌<◌, ◌^◌, ◌↔◌, IfOk, IsTrue, List, length};
+ghost use Rattle.base.specs.Prelude.{most_processors};
 ghost use Rattle.journal.specs.declared.event.Event.{Event};
 ghost use Rattle.judge.specs.Prelude.{TellsGaps, sizes_of};
 ghost use Rattle.causes.specs.Prelude.{AreThose, IsDirtyPage, IsStalePage};
 
-use crate::missing::fetch_span;
-use crate::notices::{has_of, stores_in};
+use crate::notices::{has_notice_of, stores_in};
+use crate::span::fetch_span;
 use base::MOST_PROCESSORS;
 use judge::Gaps;
 use std::alloc::{AllocError, Global};
 
 /// Whether the processor's copy of the page is stale.
-fn is_stale(gaps: &Gaps, reader: usize, page: usize) -> bool
+fn is_stale_copy(gaps: &Gaps, reader: usize, page: usize) -> bool
     requires tells { (j : List Event) × TellsGaps j gaps.now }
-    requires reader { reader < 16 }
+    requires reader { reader < most_processors }
     requires page { page < gaps.now.sizes.pages }
     ensures { (j : List Event) → TellsGaps j gaps.now
         → IsTrue result ↔ IsStalePage (sizes_of gaps.now.sizes) j reader page }
 {
     let span = fetch_span(gaps, reader, page);
     for writer in 0..MOST_PROCESSORS {
-        if has_of(gaps, &span, page, writer) {
+        if has_notice_of(gaps, &span, page, writer) {
             return true;
         }
     }
@@ -28,19 +29,19 @@ fn is_stale(gaps: &Gaps, reader: usize, page: usize) -> bool
 }
 
 /// The pages of which the processor's copy is stale, rising. The only error is running out of memory.
-pub(crate) fn stale_pages(
+pub(crate) fn stale_copies(
     alloc: Global,
     gaps: &Gaps,
     reader: usize,
 ) -> Result<Vec<usize>, AllocError>
     requires tells { (j : List Event) × TellsGaps j gaps.now }
-    requires reader { reader < 16 }
+    requires reader { reader < most_processors }
     ensures { IfOk result (λ v. (j : List Event) → TellsGaps j gaps.now
         → AreThose (IsStalePage (sizes_of gaps.now.sizes) j reader) gaps.now.sizes.pages v.items) }
 {
     let mut pages = Vec::new(alloc);
     for page in 0..gaps.pages() {
-        if is_stale(gaps, reader, page) {
+        if is_stale_copy(gaps, reader, page) {
             pages.push(page)?;
         }
     }
@@ -48,9 +49,9 @@ pub(crate) fn stale_pages(
 }
 
 /// The pages of which the processor's copy is dirty, rising. The only error is running out of memory.
-pub(crate) fn dirty_pages(alloc: Global, gaps: &Gaps, by: usize) -> Result<Vec<usize>, AllocError>
+pub(crate) fn dirty_copies(alloc: Global, gaps: &Gaps, by: usize) -> Result<Vec<usize>, AllocError>
     requires tells { (j : List Event) × TellsGaps j gaps.now × (length j < 2 ^ 22) }
-    requires by { by < 16 }
+    requires by { by < most_processors }
     ensures { IfOk result (λ v. (j : List Event) → TellsGaps j gaps.now
         → AreThose (IsDirtyPage (sizes_of gaps.now.sizes) j by) gaps.now.sizes.pages v.items) }
 {

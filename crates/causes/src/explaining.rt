@@ -6,11 +6,10 @@ ghost use Rattle.journal.specs.declared.event.Event.{Event};
 ghost use Rattle.judge.specs.Prelude.{AreSizesSmall, IsEventInSizes, sizes_of};
 ghost use Rattle.causes.specs.Prelude.{IsExplanation};
 
-use crate::answers::loads;
 use crate::news::incoming;
-use crate::originating::{WordOrigin, origins};
+use crate::origin::{WordOrigin, origins};
 use crate::racing::{FirstRace, race};
-use crate::source::Source;
+use crate::source::{Source, loads};
 use crate::waiting::{Wait, waits};
 use journal::Event;
 use judge::Sizes;

@@ -1,5 +1,5 @@
 //! By which events each event's processor gets its news: of those that it had not heard of, the last ones.
-ghost use Rattle.std.specs.Prelude.{◌≡◌, ◌↔◌, ℕ, ◌<◌, ◌≤◌, IsTrue, IfOk, List, length, vec_len};
+ghost use Rattle.std.specs.Prelude.{◌≡◌, ◌↔◌, ℕ, ◌<◌, ◌≤◌, IsTrue, IfOk, length};
 ghost use Rattle.base.specs.InOrderOnce.{Has, InOrder};
 ghost use Rattle.base.specs.Prelude.{most_held, most_processors};
 ghost use Rattle.journal.specs.Pasts.{UpTo};
@@ -27,7 +27,7 @@ fn reaches_some(reach: &Reach, events: &[Event], from: usize, places: &[usize]) 
 }
 
 /// Of these news of an event, whose places rise, the last ones: those that happen before none of the others, falling.
-fn last_ones(
+fn last_hand_overs(
     alloc: Global,
     reach: &Reach,
     events: &[Event],
@@ -49,7 +49,7 @@ fn last_ones(
 }
 
 /// Of the news of each event the last ones.
-fn all_last(
+fn all_hand_overs(
     alloc: Global,
     reach: &Reach,
     events: &[Event],
@@ -62,7 +62,7 @@ fn all_last(
 {
     let mut last = Vec::with_capacity(alloc, events.len())?;
     for place in 0..events.len() {
-        last.push(last_ones(alloc, reach, events, &rows[place])?)?;
+        last.push(last_hand_overs(alloc, reach, events, &rows[place])?)?;
     }
     Ok(last)
 }
@@ -81,7 +81,7 @@ pub(crate) fn hand_overs_by(
     ensures { IfOk result (λ v. AreAllHandOvers events.now v.items) }
 {
     let rows = incoming(alloc, processors, events)?;
-    all_last(alloc, reach, events, &rows)
+    all_hand_overs(alloc, reach, events, &rows)
 }
 
 /// Of each event of a history of `processors` processors, at most `MOST_PROCESSORS`: of its news, as `incoming` finds them, the

@@ -1,10 +1,11 @@
 //! What is looked up of a history again and again: how often each event's processor had arrived and departed, and where
 //! each processor closed its intervals.
 ghost use Rattle.std.specs.Prelude.{◌≡◌, ◌==◌, ◌&&◌, ◌+◌, ◌<◌, ◌≤◌, ◌^◌, IfOk, cond, length};
-ghost use Rattle.base.specs.Prelude.{most_held};
+ghost use Rattle.base.specs.Prelude.{most_held, most_processors};
 ghost use Rattle.journal.specs.Prelude.{ProcessorsInRange, is_arrive, is_closing, is_depart};
 ghost use Rattle.causes.specs.Prelude.{AreIndexedClosings, AreIndexedClosingsOf, AreIndexedTurns, IsIndex};
 
+use base::MOST_PROCESSORS;
 use journal::{Event, Kind};
 use std::alloc::{AllocError, Global};
 
@@ -57,15 +58,15 @@ fn turn_after(turn: Turn, kind: Kind) -> Turn
 }
 
 /// The turn of each event.
-fn turns(alloc: Global, events: &[Event]) -> Result<Vec<Turn>, AllocError>
+fn index_turns(alloc: Global, events: &[Event]) -> Result<Vec<Turn>, AllocError>
     requires few { length events.now ≤ most_held }
-    requires processors { ProcessorsInRange 16 events.now }
+    requires processors { ProcessorsInRange most_processors events.now }
     ensures { IfOk result (λ v. AreIndexedTurns events.now v.items) }
 {
     let mut next = [Turn {
         arrived: 0,
         departed: 0,
-    }; 16];
+    }; MOST_PROCESSORS];
     let mut turns = Vec::with_capacity(alloc, events.len())?;
     for place in 0..events.len() {
         let event = events[place];
@@ -77,7 +78,7 @@ fn turns(alloc: Global, events: &[Event]) -> Result<Vec<Turn>, AllocError>
 }
 
 /// The places of the events that close the processor's intervals.
-fn closings_of(alloc: Global, events: &[Event], by: usize) -> Result<Vec<usize>, AllocError>
+fn index_closings_of(alloc: Global, events: &[Event], by: usize) -> Result<Vec<usize>, AllocError>
     ensures { IfOk result (λ v. AreIndexedClosingsOf events.now by v.items) }
 {
     let mut places = Vec::new(alloc);
@@ -90,12 +91,12 @@ fn closings_of(alloc: Global, events: &[Event], by: usize) -> Result<Vec<usize>,
 }
 
 /// Those of each of sixteen processors.
-fn closings(alloc: Global, events: &[Event]) -> Result<Vec<Vec<usize>>, AllocError>
+fn index_closings(alloc: Global, events: &[Event]) -> Result<Vec<Vec<usize>>, AllocError>
     ensures { IfOk result (λ v. AreIndexedClosings events.now v.items) }
 {
-    let mut closings = Vec::with_capacity(alloc, 16)?;
+    let mut closings = Vec::with_capacity(alloc, MOST_PROCESSORS)?;
     for by in 0..16 {
-        closings.push(closings_of(alloc, events, by)?)?;
+        closings.push(index_closings_of(alloc, events, by)?)?;
     }
     Ok(closings)
 }
@@ -103,10 +104,10 @@ fn closings(alloc: Global, events: &[Event]) -> Result<Vec<Vec<usize>>, AllocErr
 /// What is looked up of this history. The only error is running out of memory.
 pub(crate) fn index_of(alloc: Global, events: &[Event]) -> Result<Index, AllocError>
     requires few { length events.now ≤ most_held }
-    requires processors { ProcessorsInRange 16 events.now }
+    requires processors { ProcessorsInRange most_processors events.now }
     ensures { IfOk result (IsIndex events.now) }
 {
-    let turns = turns(alloc, events)?;
-    let closings = closings(alloc, events)?;
+    let turns = index_turns(alloc, events)?;
+    let closings = index_closings(alloc, events)?;
     Ok(Index { turns, closings })
 }

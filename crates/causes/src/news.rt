@@ -1,23 +1,16 @@
 //! What each event brings its processor news of: the events that let it through and that its processor had not heard of.
-ghost use Rattle.std.specs.Prelude.{◌≡◌, ◌↔◌, ◌⊎◌, ℕ, ◌+◌, ◌<◌, ◌≤◌, [], IsTrue, IfOk, OnOk, length, take, vec_len};
+ghost use Rattle.std.specs.Prelude.{◌≡◌, ◌↔◌, ◌⊎◌, ℕ, ◌<◌, ◌≤◌, [], IsTrue, IfOk, OnOk, length, vec_len};
 ghost use Rattle.base.specs.Prelude.{Has, most_held, most_processors};
 ghost use Rattle.base.specs.InOrderOnce.{IsOnce};
 ghost use Rattle.journal.specs.Times.{ClosesAt};
 ghost use Rattle.journal.specs.Prelude.{AreClocks, ProcessorsInRange};
 ghost use Rattle.causes.specs.Prelude.{AreIncoming, AreNewsInOrder, AreIndexedTurns, EdgeFromOther, IsIndex, IsNewsOfStep, TimesAroundNews};
 
+use crate::edge::edge_leads_on;
 use crate::index::{Index, Turn, index_of};
-use crate::leading::lets_on;
-use journal::{Clock, Clocks, Event};
+use crate::step::{Step, take_step};
+use journal::{Clocks, Event};
 use std::alloc::{AllocError, Global};
-
-/// An event's place, and its processor's timestamps before and after it.
-#[derive(Clone, Copy)]
-pub(crate) struct Step {
-    pub(crate) place: usize,
-    pub(crate) before: Clock,
-    pub(crate) after: Clock,
-}
 
 /// Whether an edge leads from the event at the first place to another processor's at the second one.
 pub(crate) fn leads(events: &[Event], turns: &[Turn], from: usize, to: usize) -> bool
@@ -32,7 +25,7 @@ pub(crate) fn leads(events: &[Event], turns: &[Turn], from: usize, to: usize) ->
         return false;
     }
     from < to
-        && lets_on(
+        && edge_leads_on(
             start.kind,
             turns[from].arrived,
             end.kind,
@@ -48,7 +41,7 @@ fn add_news(
     step: &Step,
     by: usize,
 ) -> Result<(), AllocError>
-    requires by { by < 16 }
+    requires by { by < most_processors }
     requires index { IsIndex events.now index.now }
     requires step { TimesAroundNews events.now step.now }
     ensures has { OnOk result ((i : ℕ)
@@ -72,7 +65,7 @@ fn news(
     index: &Index,
     step: &Step,
 ) -> Result<Vec<usize>, AllocError>
-    requires processors { ProcessorsInRange 16 events.now }
+    requires processors { ProcessorsInRange most_processors events.now }
     requires index { IsIndex events.now index.now }
     requires step { TimesAroundNews events.now step.now }
     ensures { IfOk result (λ v. AreNewsInOrder events.now step.now.place v.items) }
@@ -83,32 +76,6 @@ fn news(
     }
     places.sort_unstable();
     Ok(places)
-}
-
-/// Takes note of the event at this place, the next one.
-pub(crate) fn take_step(
-    clocks: &mut Clocks,
-    events: &[Event],
-    place: usize,
-) -> Result<Step, AllocError>
-    requires place { place < length events.now }
-    requires few { length events.now ≤ most_held }
-    requires processors { ProcessorsInRange clocks.old.present events.now }
-    requires so_far { AreClocks (take place events.now) clocks.old }
-    ensures clocks { OnOk result (AreClocks (take (place + 1) events.now) clocks.new) }
-    ensures present { OnOk result (clocks.new.present ≡ clocks.old.present) }
-    ensures step { IfOk result (TimesAroundNews events.now) }
-    ensures place { IfOk result (λ s. s.place ≡ place) }
-{
-    let by = events[place].processor;
-    let before = *clocks.of(by);
-    clocks.note(events, place)?;
-    let after = *clocks.of(by);
-    Ok(Step {
-        place,
-        before,
-        after,
-    })
 }
 
 /// Of each event its news, where the clocks tell nothing so far.

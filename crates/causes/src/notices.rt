@@ -1,12 +1,12 @@
 //! Write notices: which intervals of other processors an event tells its processor of, page by page.
 ghost use Rattle.std.specs.Prelude.{◌≡◌, ℕ, ◌+◌, ◌*◌, ◌<◌, ◌≤◌, ◌^◌, ◌↔◌, IfOk, IsTrue, List, OnOk, length, take};
-ghost use Rattle.base.specs.Prelude.{most_held};
+ghost use Rattle.base.specs.Prelude.{most_held, most_processors};
 ghost use Rattle.journal.specs.declared.event.Event.{Event};
 ghost use Rattle.journal.specs.Events.{At};
 ghost use Rattle.judge.specs.Prelude.{GapStoresInPage, IsEventInSizes, TellsGaps, gap_tally_row_index, sizes_of};
 ghost use Rattle.causes.specs.Prelude.{AreWriteNotices, HasNoticeOf, NoticesBelow};
 
-use crate::missing::{Span, fetch_span, taking_span};
+use crate::span::{Span, fetch_span, taking_span};
 use crate::takings::takes;
 use base::MOST_PROCESSORS;
 use journal::{Event, Kind};
@@ -28,7 +28,7 @@ pub struct WriteNotice {
 pub(crate) fn stores_in(gaps: &Gaps, page: usize, by: usize, interval: u32) -> bool
     requires tells { (j : List Event) × TellsGaps j gaps.now }
     requires page { page < gaps.now.sizes.pages }
-    requires by { by < 16 }
+    requires by { by < most_processors }
     requires interval { interval + 1 < 2 ^ 32 }
     ensures { (j : List Event) → TellsGaps j gaps.now
         → IsTrue result ↔ GapStoresInPage (sizes_of gaps.now.sizes) j page by interval }
@@ -37,10 +37,10 @@ pub(crate) fn stores_in(gaps: &Gaps, page: usize, by: usize, interval: u32) -> b
 }
 
 /// Whether the span has something of the page and the writer.
-pub(crate) fn has_of(gaps: &Gaps, span: &Span, page: usize, writer: usize) -> bool
+pub(crate) fn has_notice_of(gaps: &Gaps, span: &Span, page: usize, writer: usize) -> bool
     requires tells { (j : List Event) × TellsGaps j gaps.now }
     requires page { page < gaps.now.sizes.pages }
-    requires writer { writer < 16 }
+    requires writer { writer < most_processors }
     ensures { (j : List Event) → TellsGaps j gaps.now
         → IsTrue result ↔ HasNoticeOf (sizes_of gaps.now.sizes) j span.now page writer }
 {
@@ -48,7 +48,7 @@ pub(crate) fn has_of(gaps: &Gaps, span: &Span, page: usize, writer: usize) -> bo
 }
 
 /// Adds what the span has of the page and the writer.
-fn add_of_writer(
+fn add_notices_of_writer(
     notices: &mut Vec<WriteNotice>,
     gaps: &Gaps,
     span: &Span,
@@ -59,12 +59,12 @@ fn add_of_writer(
     requires from { span.now.first ≤ page }
     requires to { page < span.now.end }
     requires page { page < gaps.now.sizes.pages }
-    requires writer { writer < 16 }
+    requires writer { writer < most_processors }
     ensures { OnOk result ((j : List Event) → TellsGaps j gaps.now
         → NoticesBelow (sizes_of gaps.now.sizes) j span.now (gap_tally_row_index page writer) 0 notices.old.items
         → NoticesBelow (sizes_of gaps.now.sizes) j span.now (gap_tally_row_index page writer + 1) 0 notices.new.items) }
 {
-    if !has_of(gaps, span, page, writer) {
+    if !has_notice_of(gaps, span, page, writer) {
         return Ok(());
     }
     for interval in span.from[writer]..span.to[writer] {
@@ -80,7 +80,7 @@ fn add_of_writer(
 }
 
 /// Adds what the span has of the page.
-fn add_of_page(
+fn add_notices_of_page(
     notices: &mut Vec<WriteNotice>,
     gaps: &Gaps,
     span: &Span,
@@ -91,11 +91,11 @@ fn add_of_page(
     requires to { page < span.now.end }
     requires page { page < gaps.now.sizes.pages }
     ensures { OnOk result ((j : List Event) → TellsGaps j gaps.now
-        → NoticesBelow (sizes_of gaps.now.sizes) j span.now (page * 16) 0 notices.old.items
-        → NoticesBelow (sizes_of gaps.now.sizes) j span.now (page * 16 + 16) 0 notices.new.items) }
+        → NoticesBelow (sizes_of gaps.now.sizes) j span.now (page * most_processors) 0 notices.old.items
+        → NoticesBelow (sizes_of gaps.now.sizes) j span.now (page * most_processors + most_processors) 0 notices.new.items) }
 {
     for writer in 0..MOST_PROCESSORS {
-        add_of_writer(notices, gaps, span, page, writer)?;
+        add_notices_of_writer(notices, gaps, span, page, writer)?;
     }
     Ok(())
 }
@@ -106,11 +106,11 @@ fn notices_in(alloc: Global, gaps: &Gaps, span: &Span) -> Result<Vec<WriteNotice
     requires order { span.now.first ≤ span.now.end }
     requires pages { span.now.end ≤ gaps.now.sizes.pages }
     ensures { IfOk result (λ v. (j : List Event) → TellsGaps j gaps.now
-        → NoticesBelow (sizes_of gaps.now.sizes) j span.now (span.now.end * 16) 0 v.items) }
+        → NoticesBelow (sizes_of gaps.now.sizes) j span.now (span.now.end * most_processors) 0 v.items) }
 {
     let mut notices = Vec::new(alloc);
     for page in span.first..span.end {
-        add_of_page(&mut notices, gaps, span, page)?;
+        add_notices_of_page(&mut notices, gaps, span, page)?;
     }
     Ok(notices)
 }

@@ -5,7 +5,7 @@ ghost use Rattle.journal.specs.Pasts.{UpTo};
 ghost use Rattle.journal.specs.Prelude.{ProcessorsInRange};
 ghost use Rattle.causes.specs.Prelude.{PathFirstReached, IsPathReach};
 
-use crate::takings::{Taking, first_above, numbers_of, takings_of};
+use crate::takings::{Taking, first_taking_above, numbers_of, takings_of};
 use journal::Event;
 use std::alloc::{AllocError, Global};
 
@@ -42,14 +42,14 @@ impl Reach {
     pub(crate) fn first(&self, events: &[Event], from: usize, processor: usize) -> Option<usize>
         requires tells { IsPathReach events.now self.now }
         requires from { from < length events.now }
-        requires processor { processor < 16 }
+        requires processor { processor < most_processors }
         ensures { PathFirstReached events.now from processor result }
     {
         let by = events[from].processor;
         if by == processor {
             return Some(from);
         }
-        first_above(&self.takings[processor], by, self.numbers[from])
+        first_taking_above(&self.takings[processor], by, self.numbers[from])
     }
 
     /// Whether the event at `from` is the one at this place, or happens before it.

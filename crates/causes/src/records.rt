@@ -1,6 +1,6 @@
 //! The records of a closed interval: what its stores come to, page by page.
 ghost use Rattle.std.specs.Prelude.{◌≡◌, ℕ, ◌+◌, ◌<◌, ◌≤◌, ◌^◌, IfOk, MatchOption, length, take, true};
-ghost use Rattle.base.specs.Prelude.{most_held};
+ghost use Rattle.base.specs.Prelude.{most_held, most_processors};
 ghost use Rattle.journal.specs.declared.event.Event.{Event};
 ghost use Rattle.journal.specs.Events.{At, interval_at};
 ghost use Rattle.journal.specs.Prelude.{is_closing};
@@ -44,7 +44,7 @@ fn last_value(
     requires rows { AreStoreRows events.now (length events.now) stores.now }
     requires few { stores.now.addresses ≤ 2 ^ 12 }
     requires address { address < stores.now.addresses }
-    requires by { by < 16 }
+    requires by { by < most_processors }
     requires interval { interval + 1 < 2 ^ 32 }
     ensures { MatchOption result (IsNoneOfInterval events.now by interval address)
         (IsLastOfInterval events.now by interval address) }
@@ -60,7 +60,7 @@ fn last_value(
 }
 
 /// The words that the processor stores in its interval of this number, of so many from this address on.
-fn words_from(
+fn record_words(
     alloc: Global,
     stores: &StoreRows,
     events: &[Event],
@@ -72,7 +72,7 @@ fn words_from(
     requires rows { AreStoreRows events.now (length events.now) stores.now }
     requires few { stores.now.addresses ≤ 2 ^ 12 }
     requires addresses { first + size ≤ stores.now.addresses }
-    requires by { by < 16 }
+    requires by { by < most_processors }
     requires interval { interval + 1 < 2 ^ 32 }
     ensures { IfOk result (λ v. AreRecordWordsBelow events.now by interval first size v.items) }
 {
@@ -129,7 +129,7 @@ impl RecordIndex {
         for page in 0..gaps.pages() {
             if stores_in(gaps, page, by, interval) {
                 let first = page * self.size;
-                let words = words_from(
+                let words = record_words(
                     alloc,
                     &self.stores,
                     events,

@@ -8,7 +8,7 @@ ghost use Rattle.journal.specs.Prelude.{is_closing};
 ghost use Rattle.judge.specs.Prelude.{AreSizesSmall, IsEventInSizes, TellsGaps, sizes_of};
 ghost use Rattle.causes.specs.Prelude.{AreClosedRecords, AreEventStates, AreWriteNotices, IsEventState, IsRecordIndex, IsStateIfAsked};
 
-use crate::copies::{dirty_pages, stale_pages};
+use crate::copies::{dirty_copies, stale_copies};
 use crate::index::closes;
 use crate::notices::{WriteNotice, notices_at};
 use crate::records::{PageRecord, RecordIndex};
@@ -84,8 +84,8 @@ fn state_of(
 {
     let by = events[place].processor;
     let records = records_at(alloc, index, gaps, events, place)?;
-    let stale = stale_pages(alloc, gaps, by)?;
-    let dirty = dirty_pages(alloc, gaps, by)?;
+    let stale = stale_copies(alloc, gaps, by)?;
+    let dirty = dirty_copies(alloc, gaps, by)?;
     Ok(EventState {
         time: *gaps.time(by),
         interval: index.numbers[place],

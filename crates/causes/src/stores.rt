@@ -2,13 +2,14 @@
 ghost use Rattle.std.specs.Prelude.{◌≡◌, ◌+◌, ◌*◌, ◌^◌, ◌<◌, ◌≤◌, IfOk, List, MatchOption, OnOk, length, slice_get, Some, ℕ, vec_len, []};
 ghost use Rattle.std.specs.Global.{Vec};
 ghost use Rattle.base.specs.InOrderOnce.{InOrder};
-ghost use Rattle.base.specs.Prelude.{most_held};
+ghost use Rattle.base.specs.Prelude.{most_held, most_processors};
 ghost use Rattle.journal.specs.declared.event.Event.{Event};
 ghost use Rattle.journal.specs.Prelude.{AddressesInRange, ProcessorsInRange};
 ghost use Rattle.judge.specs.Prelude.{gap_tally_row_index};
 ghost use Rattle.causes.specs.Prelude.{AreTakingNumbers, AreStoreRows, IsLastStoredUnder, NoneStoredUnder};
 
 use crate::takings::numbers_of;
+use base::MOST_PROCESSORS;
 use journal::{Event, Kind};
 use std::alloc::{AllocError, Global};
 
@@ -29,7 +30,7 @@ pub(crate) struct StoreRows {
 }
 
 /// So many rows with nothing in them.
-fn empty_rows(alloc: Global, count: usize) -> Result<Vec<Vec<NumberedStore>>, AllocError>
+fn no_stores(alloc: Global, count: usize) -> Result<Vec<Vec<NumberedStore>>, AllocError>
     ensures long { IfOk result (λ v. vec_len v ≡ count) }
     ensures empty { IfOk result (λ v. (n : ℕ) (row : Vec NumberedStore) → slice_get v.items n ≡ Some row
         → row.items ≡ []) }
@@ -42,7 +43,7 @@ fn empty_rows(alloc: Global, count: usize) -> Result<Vec<Vec<NumberedStore>>, Al
 }
 
 /// The last of these stores that is of an interval below the limit. It is found by halving.
-fn last_under(stores: &[NumberedStore], limit: u32) -> Option<NumberedStore>
+fn last_store_under(stores: &[NumberedStore], limit: u32) -> Option<NumberedStore>
     requires { InOrder (λ x y. x.interval ≤ y.interval) stores.now }
     ensures { MatchOption result (NoneStoredUnder stores.now limit) (IsLastStoredUnder stores.now limit) }
 {
@@ -61,7 +62,7 @@ impl StoreRows {
         ensures rows { IfOk result (λ x. (j : List Event) → AreStoreRows j 0 x) }
         ensures addresses { IfOk result (λ x. x.addresses ≡ addresses) }
     {
-        let rows = empty_rows(alloc, addresses * 16)?;
+        let rows = no_stores(alloc, addresses * MOST_PROCESSORS)?;
         Ok(StoreRows { addresses, rows })
     }
 
@@ -70,7 +71,7 @@ impl StoreRows {
         requires place { place < length events.now }
         requires numbers { AreTakingNumbers events.now numbers.now }
         requires few { self.old.addresses ≤ 2 ^ 12 }
-        requires processors { ProcessorsInRange 16 events.now }
+        requires processors { ProcessorsInRange most_processors events.now }
         requires addresses { AddressesInRange self.old.addresses events.now }
         requires so_far { AreStoreRows events.now place self.old }
         ensures rows { OnOk result (AreStoreRows events.now (place + 1) self.new) }
@@ -84,7 +85,7 @@ impl StoreRows {
             place,
             interval: numbers[place],
         };
-        self.rows[address * 16 + event.processor].push(store)?;
+        self.rows[address * MOST_PROCESSORS + event.processor].push(store)?;
         Ok(())
     }
 
@@ -96,7 +97,7 @@ impl StoreRows {
     ) -> Result<StoreRows, AllocError>
         requires few { length events.now ≤ most_held }
         requires few_addresses { addresses ≤ 2 ^ 12 }
-        requires processors { ProcessorsInRange 16 events.now }
+        requires processors { ProcessorsInRange most_processors events.now }
         requires addresses { AddressesInRange addresses events.now }
         ensures rows { IfOk result (AreStoreRows events.now (length events.now)) }
         ensures addresses { IfOk result (λ x. x.addresses ≡ addresses) }
@@ -114,10 +115,10 @@ impl StoreRows {
         requires rows { (j : List Event) × AreStoreRows j (length j) self.now }
         requires few { self.now.addresses ≤ 2 ^ 12 }
         requires address { address < self.now.addresses }
-        requires processor { processor < 16 }
+        requires processor { processor < most_processors }
         ensures { (row : Vec NumberedStore) × (slice_get self.now.rows.items (gap_tally_row_index address processor) ≡ Some row)
             × MatchOption result (NoneStoredUnder row.items limit) (IsLastStoredUnder row.items limit) }
     {
-        last_under(&self.rows[address * 16 + processor], limit)
+        last_store_under(&self.rows[address * MOST_PROCESSORS + processor], limit)
     }
 }

@@ -7,7 +7,8 @@ ghost use Rattle.journal.specs.Prelude.{ProcessorsInRange, is_closing, is_taking
 ghost use Rattle.causes.specs.Prelude.{AreAllTakings, AreTakingNumbers, IsFirstTakingAbove, TimesAroundNews, NoTakingAbove};
 
 use crate::index::closes;
-use crate::news::{Step, take_step};
+use crate::step::{Step, take_step};
+use base::MOST_PROCESSORS;
 use journal::{Clock, Clocks, Event, Kind};
 use std::alloc::{AllocError, Global};
 
@@ -38,10 +39,10 @@ fn closing_of(event: Event) -> u32
 /// Of each event, how many intervals its processor had closed before it. The only error is running out of memory.
 pub(crate) fn numbers_of(alloc: Global, events: &[Event]) -> Result<Vec<u32>, AllocError>
     requires few { length events.now ≤ most_held }
-    requires processors { ProcessorsInRange 16 events.now }
+    requires processors { ProcessorsInRange most_processors events.now }
     ensures { IfOk result (λ v. AreTakingNumbers events.now v.items) }
 {
-    let mut closed = [0; 16];
+    let mut closed = [0; MOST_PROCESSORS];
     let mut numbers = Vec::with_capacity(alloc, events.len())?;
     for place in 0..events.len() {
         let event = events[place];
@@ -56,7 +57,7 @@ pub(crate) fn numbers_of(alloc: Global, events: &[Event]) -> Result<Vec<u32>, Al
 fn no_takings(alloc: Global) -> Result<Vec<Vec<Taking>>, AllocError>
     ensures { IfOk result (λ v. (j : List Event) → AreAllTakings j 0 v.items) }
 {
-    let mut takings = Vec::with_capacity(alloc, 16)?;
+    let mut takings = Vec::with_capacity(alloc, MOST_PROCESSORS)?;
     for _ in 0..16_usize {
         takings.push(Vec::new(alloc))?;
     }
@@ -70,7 +71,7 @@ fn add_taking(
     step: &Step,
 ) -> Result<(), AllocError>
     requires step { TimesAroundNews events.now step.now }
-    requires processors { ProcessorsInRange 16 events.now }
+    requires processors { ProcessorsInRange most_processors events.now }
     requires so_far { AreAllTakings events.now step.now.place takings.old.items }
     ensures { OnOk result (AreAllTakings events.now (step.now.place + 1) takings.new.items) }
 {
@@ -108,8 +109,8 @@ pub(crate) fn takings_of(
 
 /// The place of the first of these events after which the timestamp counts more than this many intervals of the
 /// processor. It is found by halving.
-pub(crate) fn first_above(takings: &[Taking], processor: usize, number: u32) -> Option<usize>
-    requires processor { processor < 16 }
+pub(crate) fn first_taking_above(takings: &[Taking], processor: usize, number: u32) -> Option<usize>
+    requires processor { processor < most_processors }
     requires parted { InOrder
         (λ x y. slice_index y.after processor ≤ number → slice_index x.after processor ≤ number) takings.now }
     ensures { MatchOption result (NoTakingAbove takings.now processor number) (IsFirstTakingAbove takings.now processor number) }

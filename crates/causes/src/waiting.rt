@@ -1,11 +1,12 @@
 //! What each processor waits for at the end of a history.
-ghost use Rattle.std.specs.Prelude.{◌≡◌, ◌≢◌, ◌↔◌, ◌==◌, ◌&&◌, ℕ, ◌<◌, IsTrue, IfOk, MatchOption, cond, vec_len};
-ghost use Rattle.journal.specs.declared.event.Kind.TheVariants.{Acquire, Release, Set};
+ghost use Rattle.std.specs.Prelude.{◌≡◌, ◌↔◌, ◌==◌, ◌&&◌, ℕ, ◌<◌, IsTrue, IfOk, MatchOption, cond, vec_len};
+ghost use Rattle.journal.specs.declared.event.Kind.TheVariants.{Set};
 ghost use Rattle.journal.specs.WellFormed.{Does, LastIs};
-ghost use Rattle.journal.specs.Prelude.{Holds, count_of, event as an_event, is_arrive};
+ghost use Rattle.journal.specs.Prelude.{count_of, is_arrive};
 ghost use Rattle.causes.specs.Prelude.{AreThose, AreWaits, WaitAsksBefore, WaitsWithoutEvents, WaitsForAbsent, IsWait};
 
-use crate::leading::{arrives, departures_before, sets};
+use crate::edge::{arrives, departures_before, sets};
+use crate::locks::lock_holder;
 use journal::{Event, Kind};
 use std::alloc::{AllocError, Global};
 
@@ -56,67 +57,6 @@ fn last_of(events: &[Event], by: usize) -> Option<Last>
         }
     }
     last
-}
-
-/// Whether the processor holds the lock after this event, which it held or not before.
-fn holds_after(held: bool, event: Event, by: usize, lock: usize) -> bool
-    ensures acquired { event ≡ an_event by (Acquire lock) → IsTrue result }
-    ensures released { event ≡ an_event by (Release lock) → ¬ IsTrue result }
-    ensures kept { event ≢ an_event by (Acquire lock) → event ≢ an_event by (Release lock) → result ≡ held }
-{
-    if event.processor != by {
-        return held;
-    }
-    match event.kind {
-        Kind::Acquire(acquired) => held || acquired == lock,
-        Kind::Release(released) => held && released != lock,
-        _ => held,
-    }
-}
-
-/// Whether the processor holds the lock.
-fn holds(events: &[Event], by: usize, lock: usize) -> bool
-    ensures { IsTrue result ↔ Holds events.now by lock }
-{
-    let mut held = false;
-    for place in 0..events.len() {
-        held = holds_after(held, events[place], by, lock);
-    }
-    held
-}
-
-/// Which of the first locks, so many of them, the processor holds at the end of these events, rising. The only error is
-/// running out of memory.
-///
-/// It takes time in the order of the events times the locks.
-pub fn locks_held(
-    alloc: Global,
-    events: &[Event],
-    by: usize,
-    locks: usize,
-) -> Result<Vec<usize>, AllocError>
-    ensures { IfOk result (λ v. AreThose (Holds events.now by) locks v.items) }
-{
-    let mut held = Vec::new(alloc);
-    for lock in 0..locks {
-        if holds(events, by, lock) {
-            held.push(lock)?;
-        }
-    }
-    Ok(held)
-}
-
-/// Who of the processors holds the lock.
-fn holder(processors: usize, events: &[Event], lock: usize) -> Option<usize>
-    ensures { MatchOption result ((q : ℕ) → q < processors → ¬ Holds events.now q lock)
-        (λ q. Holds events.now q lock) }
-{
-    for processor in 0..processors {
-        if holds(events, processor, lock) {
-            return Some(processor);
-        }
-    }
-    None
 }
 
 /// Whether the processor's ask of the lock is open and stands before this place.
@@ -214,7 +154,7 @@ fn wait_of(
             let earlier = earlier(alloc, processors, events, lock, last.place)?;
             Ok(Wait::Lock {
                 lock,
-                holder: holder(processors, events, lock),
+                holder: lock_holder(processors, events, lock),
                 earlier,
             })
         }

@@ -123,9 +123,3 @@ module _ {m : Local} (old after : ChairToken State View) (sound : IsSound m) (se
           },
         );
       }
-
--- a processor whose chair is as it was
-pub caught_up_other : (old after : ChairToken State View) (m : Local) → IsSameChair old after → entries after ≡ entries old
-    → chair_view after ≡ chair_view old → visiting_processor_on after m ≡ visiting_processor_on old m
-caught_up_other old after m same times view =
-    caught_up_told m (lock after) (lock old) (entries after) (entries old) (chair_view after) (chair_view old) same.0 times view

@@ -5,7 +5,7 @@ ghost use Rattle.lrc_check.specs.Prelude.{label_mark, told_line};
 use crate::checked::{Checked, Lie, Rules, TraceVerdict, Unexplained};
 use crate::traces::labels::Labels;
 use causes::RaceApart;
-use journal::{Event, Kind, Traffic};
+use journal::{Event, Kind, MOST_PROCESSORS, Traffic};
 use judge::{IllFormed, MemoryModel, Miscounted, Permitted, Why};
 use lrc_prose::numbers::EventNumbers;
 use lrc_prose::racing::RaceStory;
@@ -112,7 +112,10 @@ fn put_ill_formed_text(
 }
 
 /// The places that there are, by processor.
-fn places_of(alloc: Global, latest: &[Option<usize>; 16]) -> Result<Vec<usize>, AllocError> {
+fn places_of(
+    alloc: Global,
+    latest: &[Option<usize>; MOST_PROCESSORS],
+) -> Result<Vec<usize>, AllocError> {
     let mut places = Vec::new(alloc);
     for place in latest {
         if let Some(place) = *place {

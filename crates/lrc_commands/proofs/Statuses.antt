@@ -74,9 +74,6 @@ pub told_status_small : (fault : StudyFault) (status : ℕ) → IsStudyStatusOf 
 told_status_small fault status (inl its) = subst (λ n. n ≤ 5) (sym its) (study_status_small fault)
 told_status_small fault status (inr none) = omega (arith, none)
 
-pub told_status_not_6 : (fault : StudyFault) (status : ℕ) → IsStudyStatusOf fault status → status ≢ 6
-told_status_not_6 fault status told is = absurd (omega (arith, told_status_small fault status told, is))
-
 pub told_status_not_7 : (fault : StudyFault) (status : ℕ) → IsStudyStatusOf fault status → status ≢ 7
 told_status_not_7 fault status told is = absurd (omega (arith, told_status_small fault status told, is))
 

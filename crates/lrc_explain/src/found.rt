@@ -10,9 +10,10 @@ ghost use Rattle.causes.specs.Prelude.{IsRaceApart};
 use crate::earlier::{Earlier, stores_before};
 use crate::fault::ExplainFault;
 use crate::journey::ways_to_loads;
-use crate::lacks::{MOST_LOCKS, are_within, sizes_for};
+use crate::lacks::{are_within, sizes_for};
 use crate::rivals::{Rival, rivals_of};
 use crate::shape::RunShape;
+use base::MOST_LOCKS;
 use causes::{
     Due, EventState, RaceApart, Source, Ways, WordOrigin, dues, incoming, loads, origins,
     race_apart, states,

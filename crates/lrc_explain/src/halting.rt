@@ -2,21 +2,21 @@
 
 use crate::held::HeldNow;
 use crate::marked::Marked;
-use journal::{Event, Journal, Kind};
+use journal::{Event, Journal, Kind, MOST_PROCESSORS};
 use lrc_prose::text::Text;
 
 /// A run that can't go on: what is held at its end, and the last event of each processor.
 #[derive(Clone, Copy)]
 pub struct Halted<'a> {
     pub held: &'a HeldNow,
-    pub last: &'a [Option<Kind>; 16],
+    pub last: &'a [Option<Kind>; MOST_PROCESSORS],
     /// Whether something was cut off.
     pub is_cut: bool,
 }
 
 /// The last event of each processor.
-pub fn last_of(events: &[Event]) -> [Option<Kind>; 16] {
-    let mut last = [None; 16];
+pub fn last_of(events: &[Event]) -> [Option<Kind>; MOST_PROCESSORS] {
+    let mut last = [None; MOST_PROCESSORS];
     for event in events {
         if let Some(kind) = last.get_mut(event.processor) {
             *kind = Some(event.kind);

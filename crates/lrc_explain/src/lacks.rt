@@ -7,16 +7,11 @@ ghost use Rattle.judge.specs.Prelude.{AreSizesSmall, IsEventInSizes, sizes_of};
 
 use crate::fault::ExplainFault;
 use crate::shape::RunShape;
+use base::{MOST_FLAGS, MOST_LOCKS, MOST_PAGES, MOST_PROCESSORS};
 use causes::Due;
 use journal::{Event, Kind, MOST_HELD};
 use judge::Sizes;
 use lrc_prose::text::Text;
-
-/// How many pages a memory has at most.
-const MOST_PAGES: usize = 64;
-
-/// How many locks a memory has at most, and how many flags.
-pub const MOST_LOCKS: usize = 32;
 
 /// How many pages of an event are told at most.
 const MOST_TOLD: usize = 3;
@@ -52,7 +47,7 @@ pub fn sizes_for(shape: RunShape) -> Result<Option<Sizes>, ExplainFault> {
         pages: shape.addresses / words,
         words,
         locks: MOST_LOCKS,
-        flags: MOST_LOCKS,
+        flags: MOST_FLAGS,
     }))
 }
 
@@ -60,25 +55,25 @@ pub fn sizes_for(shape: RunShape) -> Result<Option<Sizes>, ExplainFault> {
 #[derive(Clone, Copy)]
 pub struct Stale {
     /// Of each page, whether each processor's copy is.
-    marks: [[bool; 16]; MOST_PAGES],
+    marks: [[bool; MOST_PROCESSORS]; MOST_PAGES],
 }
 
 impl Stale {
     /// None.
     pub fn new() -> Stale {
         Stale {
-            marks: [[false; 16]; MOST_PAGES],
+            marks: [[false; MOST_PROCESSORS]; MOST_PAGES],
         }
     }
 
     /// Whether the processor's copy of the page is.
     fn is(&self, page: usize, processor: usize) -> bool {
-        page < MOST_PAGES && processor < 16 && self.marks[page][processor]
+        page < MOST_PAGES && processor < MOST_PROCESSORS && self.marks[page][processor]
     }
 
     /// Marks the processor's copy of the page, or not.
     fn put(&mut self, page: usize, processor: usize, is_stale: bool) {
-        if page < MOST_PAGES && processor < 16 {
+        if page < MOST_PAGES && processor < MOST_PROCESSORS {
             self.marks[page][processor] = is_stale;
         }
     }

@@ -11,7 +11,7 @@ use crate::rivals::Rival;
 use crate::shape::RunShape;
 use crate::state::ToldState;
 use causes::{Due, Source, WordOrigin};
-use journal::{Event, Kind};
+use journal::{Event, Kind, MOST_PROCESSORS};
 use lrc_prose::text::Text;
 
 /// What is known of a history.
@@ -208,7 +208,7 @@ impl Known<'_> {
 
     /// Puts what is said of the departure at this place: whose arrivals it follows.
     fn put_depart(&self, text: &mut Text, place: usize) {
-        let mut marks = [false; 16];
+        let mut marks = [false; MOST_PROCESSORS];
         for arrival in self.incoming(place) {
             if let Some(mark) = marks.get_mut(self.deed(*arrival).processor) {
                 *mark = true;
@@ -217,7 +217,7 @@ impl Known<'_> {
         let arrived = Marked {
             marks: &marks,
             mark: true,
-            but: 16,
+            but: MOST_PROCESSORS,
         };
         match arrived.count() {
             0 => return,

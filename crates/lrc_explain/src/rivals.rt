@@ -2,12 +2,10 @@
 ghost use Rattle.std.specs.Prelude.{◌≡◌, length};
 ghost use Rattle.causes.specs.Prelude.{ArePathWays};
 
+use base::{MOST_PAGES, MOST_PROCESSORS};
 use causes::{Source, Ways};
 use journal::{Event, Kind};
 use std::alloc::{AllocError, Global};
-
-/// How many pages a memory has at most.
-const MOST_PAGES: usize = 64;
 
 /// A latest store of a load that isn't the one that it answers.
 #[derive(Clone, Copy)]
@@ -31,16 +29,16 @@ struct Rivalry<'a> {
 
 /// Of each page and processor, the places of its fetches of the page. The only error is running out of memory.
 fn fetches_of(alloc: Global, events: &[Event]) -> Result<Vec<Vec<usize>>, AllocError> {
-    let mut rows = Vec::with_capacity(alloc, MOST_PAGES * 16)?;
-    for _ in 0..MOST_PAGES * 16 {
+    let mut rows = Vec::with_capacity(alloc, MOST_PAGES * MOST_PROCESSORS)?;
+    for _ in 0..MOST_PAGES * MOST_PROCESSORS {
         rows.push(Vec::new(alloc))?;
     }
     for (place, event) in events.iter().enumerate() {
         if let Kind::Fetch { page, .. } = event.kind
             && page < MOST_PAGES
-            && event.processor < 16
+            && event.processor < MOST_PROCESSORS
         {
-            if let Some(row) = rows.get_mut(page * 16 + event.processor) {
+            if let Some(row) = rows.get_mut(page * MOST_PROCESSORS + event.processor) {
                 row.push(place)?;
             }
         }
@@ -60,13 +58,13 @@ impl Rivalry<'_> {
         requires { ArePathWays self.now.events.now self.now.ways.now }
     {
         let words = self.words?;
-        if words == 0 || store >= self.events.len() || processor >= 16 {
+        if words == 0 || store >= self.events.len() || processor >= MOST_PROCESSORS {
             return None;
         }
         let first = self.ways.first(self.events, store, processor)?;
         let row = self.fetches.get(
             (address / words)
-                .saturating_mul(16)
+                .saturating_mul(MOST_PROCESSORS)
                 .saturating_add(processor),
         )?;
         first_from(row, first)

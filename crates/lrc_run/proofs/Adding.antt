@@ -147,12 +147,6 @@ pub tries_adds : {A : Type 0} (m n : Local) (r : Result A Refused) (k : A → Ki
 tries_adds m n (Ok x) k plain adds = makes_one m n (k x) (plain x) adds.same adds.sees adds.calls_are adds.uncut
 tries_adds m n (Err e) k plain adds = none_adds m n adds
 
--- a fetch that was refused
-pub none_adds_fetch : {A : Type 0} (l m n : Local) (r : Result A Refused) (page : ℕ) (e : Refused) → AddsCalls l m []
-    → r ≡ Err e → MakesFetchBy m n r page → MakesNone l n
-none_adds_fetch {A} l m n r page e first is fetches =
-    none_adds l n (adds_then l m n [] [] first (subst (λ (x : Result A Refused). MakesFetchBy m n x page) is fetches))
-
 -- a fetch, and the access that wants it
 pub tries_adds_fetch : {A B : Type 0} (l m n : Local) (page : ℕ) (f : Result B Refused) {b : B} (r : Result A Refused)
     (k : A → Kind) → f ≡ Ok b → MakesFetchBy l m f page → ((x : A) → is_fetch (k x) ≡ false)

@@ -85,9 +85,3 @@ waiting_seen_at ms m n at on = record { on = record { all = length-set ms 0 n; e
           subst₂ SeesOnlyMore (same_Some m x (sym at ∙ subst M is here)) (slice_get-set_found ms 0 n y (subst N is there)) on)
       | inr isnt ↦ (turning_same_on ms).each p x y here (sym (slice_get-set_other ms 0 p n isnt) ∙ there)
     ]
-
--- it sees a deadlock where it says so
-pub waiting_sees_deadlock : (ms : List Local) (m n : Local) (r : Result Waited Refused) → slice_get ms 0 ≡ Some m
-    → IsWaitingCall m n r → r ≡ Ok Stuck → SeesDeadlockAtTurns (slice_set ms 0 n)
-waiting_sees_deadlock ms m n r at call is =
-    (n, slice_get-set_same ms 0 n (slice_get_within ms 0 m at), call.stuck is)

@@ -1,6 +1,6 @@
 //! One line of a trace.
 ghost use Rattle.std.specs.Prelude.{◌≡◌, IsTrue, ◌↔◌, [], ◌∷◌, IfOk, IfErr, IfSome, OnOk, MatchOption};
-ghost use Rattle.lrc_script.specs.Prelude.{AreLawfulSizes, parts_left_of_line};
+ghost use Rattle.lrc_script.specs.Prelude.{AreLawfulSizes, parts_left_of_line, space};
 ghost use Rattle.lrc_check.specs.Traces.Prelude.{TraceLineGivesKind, HasNoTraceLineShape, TraceLineRead, IsCutLine, IsEventLine, IsNoTraceEvent, IsTraceLineShaped};
 ghost use Rattle.lrc_check.specs.Traces.Prelude.{TraceRefuses, trace_sizes_head, trace_sizes_of};
 
@@ -25,8 +25,8 @@ struct Words<'a> {
 
 /// The next of these words, and those behind it.
 fn next_word(words: Option<&[u8]>) -> Option<(&[u8], Option<&[u8]>)>
-    ensures { MatchOption result (parts_left_of_line 32 words.entry ≡ [])
-        (λ x. parts_left_of_line 32 words.entry ≡ x.0.now ∷ parts_left_of_line 32 x.1) }
+    ensures { MatchOption result (parts_left_of_line space words.entry ≡ [])
+        (λ x. parts_left_of_line space words.entry ≡ x.0.now ∷ parts_left_of_line space x.1) }
 {
     match words {
         Some(words) => Some(split_at_byte(words, b' ')),
@@ -37,7 +37,7 @@ fn next_word(words: Option<&[u8]>) -> Option<(&[u8], Option<&[u8]>)>
 /// The words of a line that has the shape of an event's.
 fn words_of(line: &[u8]) -> Option<Words<'_>>
     ensures { MatchOption result (HasNoTraceLineShape line.now)
-        (λ w. IsTraceLineShaped line.now w.place.now w.processor.now w.name (parts_left_of_line 32 w.numbers)) }
+        (λ w. IsTraceLineShaped line.now w.place.now w.processor.now w.name (parts_left_of_line space w.numbers)) }
 {
     if !is_separated(line) {
         return None;
@@ -65,7 +65,7 @@ fn words_of(line: &[u8]) -> Option<Words<'_>>
 // Within the loop over lines its answer doesn't go through memory, which is some 20 instructions a line.
 #[inline(always)]
 fn kind_of(alloc: Global, name: EventName, words: Option<&[u8]>) -> Option<Kind>
-    ensures { IfSome result (TraceLineGivesKind name (parts_left_of_line 32 words.entry)) }
+    ensures { IfSome result (TraceLineGivesKind name (parts_left_of_line space words.entry)) }
 {
     if let Some(few) = few_numbers(words) {
         return name.kind(few.as_slice());

@@ -2,6 +2,7 @@
 use Rattle.std.specs.Prelude.{ℕ, ◌≡◌, ◌≤◌, ◌+◌, ◌-◌, ◌&&◌, nat_le, nat_lt, if◌then◌else◌, List, [], ◌∷◌, ◌++◌, codes, drop, length, map, replicate, slice_index_or, take}
 use Rattle.std.specs.Fmt.{decimal}
 use Rattle.lrc_script.specs.LineReading.{parts_of_line}
+use Rattle.lrc_script.specs.Text.{space}
 
 -- the line of this number, counted from 1
 abbrev pub line_at : List ℕ → ℕ → List ℕ
@@ -21,7 +22,7 @@ shown_text line at = if nat_lt at 60 then codes "  " ++ rest_text line else code
 
 -- the caret below
 abbrev pub caret_text : ℕ → List ℕ
-caret_text at = (if nat_lt at 60 then replicate (at + 2) 32 else replicate 44 32) ++ codes "^\n"
+caret_text at = (if nat_lt at 60 then replicate (at + 2) space else replicate 44 space) ++ codes "^\n"
 
 -- both, but nothing of an empty line
 abbrev pub excerpt_text : List ℕ → ℕ → List ℕ

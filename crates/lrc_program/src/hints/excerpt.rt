@@ -1,5 +1,6 @@
 //! A line of a script, with a caret under a word.
 ghost use Rattle.std.specs.Prelude.{◌≡◌, ◌≤◌, ◌++◌, OnOk, length, map, replicate, string_bytes};
+ghost use Rattle.lrc_script.specs.Prelude.{space};
 ghost use Rattle.lrc_program.specs.Hints.Prelude.{caret_text, excerpt_text, line_at, rest_text, shown_text, sign_of};
 
 use lrc_script::line::split_at_byte;
@@ -52,7 +53,7 @@ fn put_signs(text: &mut String, bytes: &[u8]) -> Result<(), AllocError>
 
 /// Adds so many spaces.
 fn put_spaces(text: &mut String, count: usize) -> Result<(), AllocError>
-    ensures { OnOk result (string_bytes text.new ≡ string_bytes text.old ++ replicate count 32) }
+    ensures { OnOk result (string_bytes text.new ≡ string_bytes text.old ++ replicate count space) }
 {
     for _ in 0..count {
         text.push(' ')?;

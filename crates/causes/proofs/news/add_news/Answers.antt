@@ -4,7 +4,8 @@ use Rattle.std.proofs.lemmas.Bool.{false≢true}
 use Rattle.std.proofs.lemmas.Option.{slice_get_read, slice_get_within}
 use Rattle.journal.specs.DidEvent.{event}
 use Rattle.journal.proofs.Order.CountedAndNumbered.{numbered_at_within}
-use Rattle.causes.proofs.FreshNews.{HasNewsBelow, IsNewsOnceIf, fresh_news_below_all, fresh_news_below_next, fresh_news_below_others, fresh_news_closing_read, fresh_news_number_within, fresh_news_once_push}
+use Rattle.causes.proofs.FreshNews.{HasNewsBelow, IsClosingInStep, IsNewsOnceIf, fresh_news_below_all, fresh_news_below_next, fresh_news_below_others, fresh_news_number_closed, fresh_news_once_push}
+use Rattle.causes.proofs.LookedUpIndex.{IsReadClosing, index_closing_read}
 use Rattle.causes.proofs.news.add_news.Goals as goal
 use Rattle.causes.proofs.news.add_news.Goals.{then-leads+in_ok-push, else-leads}
 
@@ -21,7 +22,8 @@ index-place-requires c =
     let mine = are.each c.args.by row at in
     let lt = c.loop-number-test.true in
     let top = c.loop-number.auto.number-end in
-    let within = fresh_news_number_within events x c.args.by c.loop-number.number row.items c.requires.step mine (omega arith) in
+    let closed = fresh_news_number_closed events x c.args.by c.loop-number.number c.requires.step (omega arith) in
+    let all = mine.long in
     omega (arith, row.ok.0)
 
 pub leads-requires-clause-to : goal.leads-requires-clause-to
@@ -33,10 +35,11 @@ leads-requires-clause-from c =
     let events = c.args.events.now in
     let lt = c.loop-number-test.true in
     let top = c.loop-number.auto.number-end in
-    let here =
-    fresh_news_closing_read events c.args.step.now c.args.by c.loop-number.number c.index-place.result.now
-    c.args.index.now.closings.items c.index.result.now c.requires.by c.requires.step c.requires.index.closings
-    c.index.ensures (omega arith) c.index-place.ensures in
+    let read : IsReadClosing c.args.index.now.closings.items c.args.by c.loop-number.number c.index-place.result.now =
+    record { row = c.index.result.now; row_is = c.index.ensures; place_is = c.index-place.ensures } in
+    let closes =
+    fresh_news_number_closed events c.args.step.now c.args.by c.loop-number.number c.requires.step (omega arith) in
+    let here = index_closing_read c.requires.index.closings c.requires.by closes read in
     numbered_at_within events c.index-place.result.now (event c.args.by here.closes.kind) here.closes.does
 
 pub loop-number-preserved : goal.loop-number-preserved
@@ -51,26 +54,31 @@ loop-number-preserved c =
     let was = c.loop-number.invariant in
     let lt = c.loop-number-test.true in
     let top = c.loop-number.auto.number-end in
-    let here =
-    fresh_news_closing_read events x q n p c.args.index.now.closings.items c.index.result.now c.requires.by c.requires.step
-    c.requires.index.closings c.index.ensures (omega arith) c.index-place.ensures in
+    let read : IsReadClosing c.args.index.now.closings.items q n p =
+    record { row = c.index.result.now; row_is = c.index.ensures; place_is = c.index-place.ensures } in
+    let closes = fresh_news_number_closed events x q n c.requires.step (omega arith) in
     let late = was.late in
+    let here : IsClosingInStep events x q n p = record {
+      closing = index_closing_read c.requires.index.closings c.requires.by closes read;
+      late = late;
+      counted = omega arith;
+    } in
     record {
       late = omega arith;
       has = elim c.if-leads.branch [
         | then-leads+in_ok-push w ↦
             subst (λ (v : Vec ℕ). HasNewsBelow events x q (n + 1) first v.items) (sym w.places-is)
             (subst (HasNewsBelow events x q (n + 1) first) (sym w.in_ok-push.ensures.items)
-            (fresh_news_below_next events x q n p first places here late (omega arith) (w.if-leads.ensures.0 refl) was.has))
+            (fresh_news_below_next first places here (w.if-leads.ensures.0 refl) was.has))
         | else-leads w ↦
             subst (λ (v : Vec ℕ). HasNewsBelow events x q (n + 1) first v.items) (sym w.places-is)
-            (fresh_news_below_others events x q n p first places here (λ leads. false≢true (w.if-leads.ensures.1 leads)) was.has)
+            (fresh_news_below_others first places here (λ leads. false≢true (w.if-leads.ensures.1 leads)) was.has)
       ];
       once = elim c.if-leads.branch [
         | then-leads+in_ok-push w ↦
             subst (λ (v : Vec ℕ). IsNewsOnceIf events q first v.items) (sym w.places-is)
             (subst (IsNewsOnceIf events q first) (sym w.in_ok-push.ensures.items)
-            (fresh_news_once_push events x q n p first places here was.has was.once))
+            (fresh_news_once_push first places here was.has was.once))
         | else-leads w ↦ subst (λ (v : Vec ℕ). IsNewsOnceIf events q first v.items) (sym w.places-is) was.once
       ];
     }

@@ -3,7 +3,7 @@ use Rattle.std.specs.Global.{Vec}
 use Rattle.std.proofs.lemmas.Option.{none-some}
 use Rattle.journal.specs.InRange.{ProcessorsInRange}
 use Rattle.causes.specs.News.{AreIncoming, AreNewsInOrder}
-use Rattle.causes.proofs.FreshNews.{fresh_news_incoming_next}
+use Rattle.causes.proofs.Rows.{rows_next}
 use Rattle.causes.proofs.news.all_news.Goals as goal
 
 pub loop-place-init : goal.loop-place-init
@@ -51,7 +51,7 @@ loop-place-preserved c =
       rows =
           subst (AreIncoming events)
           (sym c.in_ok-push.ensures.items)
-          (fresh_news_incoming_next events rows.items place row long old.rows
+          (rows_next (λ (k : ℕ) (xs : Vec ℕ). AreNewsInOrder events k xs.items) rows.items place row long old.rows
           (subst (λ n. AreNewsInOrder events n row.items) c.in_ok-step.ensures.place c.in_ok-news.ensures));
     }
 

@@ -5,6 +5,7 @@ use Rattle.journal.specs.declared.event.Kind.TheVariants.{Load}
 use Rattle.journal.specs.DidEvent.{event}
 use Rattle.causes.specs.declared.index.Turn.{Turn}
 use Rattle.causes.proofs.FreshNews.{news_leads_by_turns}
+use Rattle.causes.proofs.LookedUpIndex.{HasTurn}
 use Rattle.causes.proofs.news.leads.Goals as goal
 
 abbrev zero : Turn
@@ -26,7 +27,12 @@ returns-then-from-to c =
     let to = slice_get-get_or events k (event 0 (Load 0 0)) last in
     let s = slice_index_or turns i zero in
     let t = slice_index_or turns k zero in
-    let one = c.requires.turns.each i (here events i) s at (slice_get-get_or turns i zero (omega arith)) in
-    let two = c.requires.turns.each k (here events k) t to (slice_get-get_or turns k zero (omega arith)) in
-    news_leads_by_turns events i k (here events i) (here events k) s t c.lets_on.result at to one two c.if-from-to.true
-    c.if-start-end.false c.lets_on.ensures
+    let one : HasTurn events i (here events i) s = record {
+      at = at;
+      turn = c.requires.turns.each i (here events i) s at (slice_get-get_or turns i zero (omega arith));
+    } in
+    let two : HasTurn events k (here events k) t = record {
+      at = to;
+      turn = c.requires.turns.each k (here events k) t to (slice_get-get_or turns k zero (omega arith));
+    } in
+    news_leads_by_turns c.edge_leads_on.result one two c.if-from-to.true c.if-start-end.false c.edge_leads_on.ensures

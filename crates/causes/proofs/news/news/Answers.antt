@@ -10,6 +10,5 @@ loop-by-preserved c =
 
 pub returns : goal.returns
 returns c =
-    fresh_news_sorted_all c.args.events.now c.args.step.now c.loop-by.by c.loop-by.places.items c.sort_unstable.new.self.items
-    c.loop-by-test.false c.requires.processors c.requires.step c.loop-by.invariant c.sort_unstable.ensures.permutation
+    fresh_news_sorted_all c.sort_unstable.new.self.items c.loop-by-test.false c.requires.processors c.requires.step c.loop-by.invariant c.sort_unstable.ensures.permutation
     (IsNonDecreasingBy-from_sort (λ (x : ℕ). x) c.sort_unstable.new.self.items c.sort_unstable.ensures.sorted)

@@ -18,7 +18,7 @@ use Rattle.judge.specs.Sizes.{sizes_of}
 use Rattle.causes.specs.declared.notices.WriteNotice.{WriteNotice}
 use Rattle.causes.specs.Notices.{AreWriteNotices, NoticesBelow}
 use Rattle.causes.proofs.NoticeRows.{all_notices_below, notices_in_fetch, notices_in_taken, notices_quiet_event}
-use Rattle.causes.proofs.OwingDues.{due_if_ok, due_none_told, due_pages_within}
+use Rattle.causes.proofs.OwingDues.{IsFetchSpan, IsQuietAt, IsTakingSpan, due_if_ok, due_none_told, due_pages_within}
 use Rattle.causes.proofs.notices.notices_at.Goals as goal
 
 -- the event at this place
@@ -64,9 +64,14 @@ returns-in-Fetch-clause-notices c = λ e at.
     let is = c.fetch_span.ensures in
     let notices = c.in_ok-notices.notices.items in
     let tells = c.requires.so_far in
-    let same =
-    notices_in_fetch s events k own fetch.writers fetch.page fetch.records fetch.words span fetch.is is.reader is.first
-    is.end (low (take k events) g tells) (is.from (take k events) tells) (is.to (take k events) tells) in
+    let is_span : IsFetchSpan s (take k events) own.processor fetch.page span = record {
+      reader = is.reader;
+      first = is.first;
+      end = is.end;
+      from = is.from (take k events) tells;
+      to = is.to (take k events) tells;
+    } in
+    let same = notices_in_fetch events k own fetch.is is_span (low (take k events) g tells) in
     subst (λ (f : Event). AreWriteNotices s events k f notices) (numbered_at_same events k own e there at)
     (all_notices_below s events (take k events) k own span notices same (c.in_ok-notices.ensures (take k events) tells))
 
@@ -105,9 +110,20 @@ returns-then-takes c =
     (c.time.ensures (take k events) c.requires.so_far) in
     let within = λ (n : ℕ) (f : Event) (at : At events n f).
     subst (λ (x : Given). IsEventInSizes (sizes_of x) f) (sym c.note-2.ensures.sizes) (c.requires.within n f at) in
-    let same =
-    notices_in_taken s events k own span there (sym c.takes.ensures ∙ c.if-takes.true) is.reader is.first is.end
-    (low h g tells) (due_pages_within s events (k + 1) within) before (is.to h tells) in
+    let round : IsTakingSpan s events k own span = record {
+      takes = record {
+        at = there;
+        takes = sym c.takes.ensures ∙ c.if-takes.true;
+        before = before;
+        after = is.to h tells;
+      };
+      reader = is.reader;
+      first = is.first;
+      end = is.end;
+      low = low h g tells;
+      pages = due_pages_within s events (k + 1) within;
+    } in
+    let same = notices_in_taken round in
     record {
       sizes = c.note-2.ensures.sizes;
       tells = on_ok c.notices_in-then-takes.result tells;
@@ -131,12 +147,13 @@ returns-else-takes c =
     let s = sizes_of c.args.gaps.now.sizes in
     let own = here events k in
     let there = slice_get-get_or events k (event 0 (Load 0 0)) c.requires.place in
+    let quiet : IsQuietAt events k own =
+    record { at = there; takes = sym c.takes.ensures ∙ c.if-takes.false; fetches = c.in_default.not-Fetch } in
     record {
       sizes = c.note-2.ensures.sizes;
       tells = c.in_ok-note-2.ensures.tells;
       notices = λ e at.
           subst (AreWriteNotices s events k e) (sym c.new.ensures.items)
           (subst (λ (f : Event). AreWriteNotices s events k f []) (numbered_at_same events k own e there at)
-          (notices_quiet_event s events k own
-          (due_none_told s events k own there (sym c.takes.ensures ∙ c.if-takes.false) c.in_default.not-Fetch)));
+          (notices_quiet_event s events k own (due_none_told s quiet)));
     }

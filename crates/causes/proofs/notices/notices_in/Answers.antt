@@ -21,8 +21,8 @@ loop-page-preserved c =
       first = omega arith;
       notices = λ j tells.
           subst
-          (λ m. NoticesBelow (sizes_of c.args.gaps.now.sizes) j c.args.span.now m 0 c.add_of_page.new.notices.items) next
-          (c.in_ok-add_of_page.ensures j tells (was.notices j tells));
+          (λ m. NoticesBelow (sizes_of c.args.gaps.now.sizes) j c.args.span.now m 0 c.add_notices_of_page.new.notices.items) next
+          (c.in_ok-add_notices_of_page.ensures j tells (was.notices j tells));
     }
 
 pub returns : goal.returns

@@ -7,7 +7,7 @@ use Rattle.journal.specs.Events.{At}
 use Rattle.journal.specs.Races.{IsFirstRace}
 use Rattle.journal.proofs.Order.CountedAndNumbered.{numbered_at_same}
 use Rattle.causes.specs.Heard.{IsHeard}
-use Rattle.causes.proofs.Heard.{heard_are_apart}
+use Rattle.causes.proofs.LastHeard.{heard_are_apart}
 use Rattle.causes.proofs.racing.race.Goals as goal
 
 -- the event at this place

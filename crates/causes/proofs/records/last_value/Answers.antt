@@ -3,6 +3,8 @@ use Rattle.std.proofs.lemmas.Option.{slice_get-get_or}
 use Rattle.journal.specs.declared.event.Event.{Event}
 use Rattle.journal.specs.declared.event.Kind.TheVariants.{Load, Store}
 use Rattle.journal.specs.DidEvent.{event}
+use Rattle.journal.specs.Events.{At}
+use Rattle.journal.specs.WellFormed.{Does}
 use Rattle.journal.proofs.Order.CountedAndNumbered.{numbered_at_same}
 use Rattle.causes.specs.declared.stores.NumberedStore.{NumberedStore}
 use Rattle.causes.specs.Stores.{AreStoresBelow, IsLastStoredUnder, NoneStoredUnder}
@@ -15,15 +17,14 @@ returns-in_err-store c =
     let are = c.requires.rows.each c.args.address c.args.by x.0 c.requires.by x.1 in
     let none : NoneStoredUnder x.0.items (c.args.interval + 1) = rw c.in_err-store.was at x.2 in
     rw c.from_residual.ensures
-    (record_none c.args.events.now c.args.address c.args.by c.args.interval x.0.items are none)
+    (record_none c.args.interval are none)
 
 pub returns-then-store-interval : goal.returns-then-store-interval
 returns-then-store-interval c =
     let x = c.last.ensures in
     let are = c.requires.rows.each c.args.address c.args.by x.0 c.requires.by x.1 in
     let last : IsLastStoredUnder x.0.items (c.args.interval + 1) c.in_ok-store.store = rw c.in_ok-store.was at x.2 in
-    record_early c.args.events.now c.args.address c.args.by c.args.interval x.0.items c.in_ok-store.store are last
-    c.if-store-interval.true
+    record_early c.args.interval are last c.if-store-interval.true
 
 -- the place of a store of a row
 below : (j : List Event) (a q limit : ℕ) (row : List NumberedStore) (x : NumberedStore)
@@ -54,9 +55,11 @@ returns-in-Store c =
     let are = c.requires.rows.each c.args.address c.args.by x.0 c.requires.by x.1 in
     let last : IsLastStoredUnder x.0.items (c.args.interval + 1) store = rw c.in_ok-store.was at x.2 in
     let lt = below events c.args.address c.args.by (c.args.interval + 1) x.0.items store are last in
-    record_last events c.args.address c.args.by c.args.interval c.in-Store.field-0 c.in-Store.value x.0.items store
-    (slice_index_or events store.place (event 0 (Load 0 0))) are last c.if-store-interval.false
-    (slice_get-get_or events store.place (event 0 (Load 0 0)) lt) c.in-Store.is
+    let e : Event = slice_index_or events store.place (event 0 (Load 0 0)) in
+    let stored : Does events store.place e.processor (Store c.in-Store.field-0 c.in-Store.value) =
+    subst (λ k. At events store.place (event e.processor k)) c.in-Store.is
+    (slice_get-get_or events store.place (event 0 (Load 0 0)) lt) in
+    record_last c.args.interval c.in-Store.field-0 e.processor c.in-Store.value are last c.if-store-interval.false stored
 
 pub returns-in_default : goal.returns-in_default
 returns-in_default c =

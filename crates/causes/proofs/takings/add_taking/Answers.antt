@@ -6,10 +6,10 @@ use Rattle.journal.specs.DidEvent.{event}
 use Rattle.journal.specs.Events.{At}
 use Rattle.journal.specs.Times.{IsTimeOf}
 use Rattle.journal.proofs.Order.CountedAndNumbered.{numbered_at_same}
-use Rattle.causes.specs.declared.news.Step.{Step}
+use Rattle.causes.specs.declared.step.Step.{Step}
 use Rattle.causes.specs.declared.takings.Taking.{Taking}
 use Rattle.causes.specs.News.{TimesAroundNews}
-use Rattle.causes.proofs.TakingRows.{taking_rows_quiet, taking_rows_taken}
+use Rattle.causes.proofs.TakingRows.{IsTakingNoted, taking_rows_quiet, taking_rows_taken}
 use Rattle.causes.proofs.takings.add_taking.Goals as goal
 
 -- the step's event
@@ -51,5 +51,6 @@ returns c =
     let taking : Taking = record { place = x.place; after = x.after } in
     let row = slice_get_read rows (length rows) e.processor c.index_mut.result.now refl (omega arith)
     c.index_mut.ensures.value in
-    taking_rows_taken events x.place e taking rows c.index_mut.result.now c.push.new.self at refl time row
-    c.in_ok-push.ensures.items c.requires.so_far
+    let noted : IsTakingNoted events e.processor x.place taking =
+    record { kind = e.kind; does = at; place = refl; time = time } in
+    taking_rows_taken c.index_mut.result.now c.push.new.self noted row c.in_ok-push.ensures.items c.requires.so_far

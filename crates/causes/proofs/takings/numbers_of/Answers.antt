@@ -1,5 +1,4 @@
-use Rattle.std.proofs.Common.{◌≡◌, ◌<◌, ℕ, List, length, slice_index_or, refl, ◌∙◌, arith}
-use Rattle.std.proofs.lemmas.List.{length-set}
+use Rattle.std.proofs.Common.{◌≡◌, ◌+◌, ◌<◌, ℕ, List, length, slice_index_or, subst, sym, refl, arith}
 use Rattle.std.proofs.lemmas.Option.{slice_get-get_or, slice_get_within}
 use Rattle.journal.specs.declared.event.Event.{Event}
 use Rattle.journal.specs.declared.event.Kind.TheVariants.{Load}
@@ -8,7 +7,7 @@ use Rattle.journal.specs.Events.{is_closing}
 use Rattle.journal.specs.InRange.{ProcessorsInRange}
 use Rattle.journal.proofs.Passes.ClockEntry.{entry_zeros_at}
 use Rattle.causes.proofs.EdgeLeadsOn.{edge_leads_count_within, edge_leads_counts_next, edge_one_or_none}
-use Rattle.causes.proofs.TakingRows.{taking_numbers_next}
+use Rattle.causes.proofs.TakingRows.{AreNumbersBelow, taking_numbers_next}
 use Rattle.causes.proofs.takings.numbers_of.Goals as goal
 
 -- the event at this place
@@ -22,8 +21,7 @@ low events place lt range = range place (here events place) (slice_get-get_or ev
 
 pub loop-place-init : goal.loop-place-init
 loop-place-init c = record {
-  closed_long = refl;
-  closed = λ q lt. entry_zeros_at 16 q;
+  closed = record { long = refl; each = λ q lt. entry_zeros_at 16 q };
   long = c.in_ok-numbers.ensures.len;
   numbers = λ k e lt at. absurd (omega arith);
 }
@@ -44,7 +42,7 @@ overflow_add-closed c =
     let lt = c.loop-place-test.true in
     let few = c.requires.few in
     let is = low events place lt c.requires.processors in
-    let count = c.loop-place.invariant.closed p is in
+    let count = c.loop-place.invariant.closed.each p is in
     let most = edge_leads_count_within is_closing events place p (omega arith) in
     let one = c.closing_of.ensures in
     let bit = edge_one_or_none (is_closing (here events place).kind) in
@@ -71,12 +69,11 @@ loop-place-preserved c =
     let numbers = c.loop-place.numbers in
     let long : length numbers.items ≡ place = omega (arith, numbers.ok.0, old.long) in
     record {
-      closed_long = length-set c.loop-place.closed e.processor _ ∙ old.closed_long;
-      closed = edge_leads_counts_next is_closing events place e c.loop-place.closed _ at old.closed_long old.closed (omega arith);
+      closed = edge_leads_counts_next e _ at old.closed (omega arith);
       long = (let len = c.in_ok-push.ensures.len in let was = old.long in omega arith);
       numbers =
-          taking_numbers_next events place _ e numbers.items c.push.new.self.items long at (old.closed e.processor low)
-          c.in_ok-push.ensures.items old.numbers;
+          subst (AreNumbersBelow events (place + 1)) (sym c.in_ok-push.ensures.items)
+          (taking_numbers_next events place _ e numbers.items long at (old.closed.each e.processor low) old.numbers);
     }
 
 pub returns : goal.returns

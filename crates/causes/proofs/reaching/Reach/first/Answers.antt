@@ -1,19 +1,17 @@
-use Rattle.std.proofs.Common.{◌≡◌, ◌≢◌, ℕ, ◌<◌, List, Option, Some, MatchOption, length, slice_index_or, subst, sym, refl, ◌∙◌, arith}
+use Rattle.std.proofs.Common.{◌≡◌, ℕ, ◌<◌, List, Option, Some, MatchOption, length, slice_index_or, subst, sym, refl, ◌∙◌, arith}
 use Rattle.std.specs.Prelude.{None}
 use Rattle.std.specs.Global.{Vec}
 use Rattle.std.proofs.lemmas.Option.{get_or_from_slice_get, slice_get-get_or, slice_get_read}
 use Rattle.journal.specs.declared.event.Event.{Event}
-use Rattle.journal.specs.declared.event.Kind.{Kind}
 use Rattle.journal.specs.declared.event.Kind.TheVariants.{Load}
 use Rattle.journal.specs.DidEvent.{event}
 use Rattle.journal.specs.Events.{At, interval_at}
-use Rattle.journal.specs.WellFormed.{Does}
 use Rattle.journal.proofs.Order.CountedAndNumbered.{numbered_at_within, numbered_does_at}
 use Rattle.causes.specs.declared.takings.Taking.{Taking}
 use Rattle.causes.specs.declared.reaching.Reach.{Reach}
 use Rattle.causes.specs.Takings.{AreTakings, IsFirstTakingAbove, NoTakingAbove}
 use Rattle.causes.specs.Paths.{PathFirstReached, IsPathReach}
-use Rattle.causes.proofs.ReachedPaths.{first_reached_own, first_reached, none_reached, reached_path_parted}
+use Rattle.causes.proofs.ReachedPaths.{TakesBesides, first_reached_own, first_reached, none_reached, reached_path_parted}
 use Rattle.causes.proofs.reaching.Reach.first.Goals as goal
 
 -- the row that is read has the processor's events that take
@@ -36,19 +34,18 @@ number_read j x i n e tells at read =
     ∙ tells.numbers.each i e at
 
 -- the first of these timestamps that counts it is that after the first event that it reaches
-found : (j : List Event) (p q i number : ℕ) (a : Kind) (takings : List Taking) (o : Option ℕ) → Does j i p a → p ≢ q
-    → number ≡ interval_at j p i → AreTakings j q (length j) takings
+first_found : {j : List Event} {p i q number : ℕ} {takings : List Taking} (o : Option ℕ)
+    → TakesBesides j p i q (length j) number takings
     → MatchOption o (NoTakingAbove takings p number) (IsFirstTakingAbove takings p number) → PathFirstReached j i q o
-found j p q i number a takings None does apart is are none = none_reached j p q i number a takings does apart is are none
-found j p q i number a takings (Some m) does apart is are first =
-    first_reached j p q i m number a takings does apart is are first
+first_found {j} {p} {i} {q} {number} {takings} None besides none = none_reached besides none
+first_found {j} {p} {i} {q} {number} {takings} (Some m) besides first = first_reached besides first
 
 -- the event at this place
 abbrev here : List Event → ℕ → Event
 here events place = slice_index_or events place (event 0 (Load 0 0))
 
-pub first_above-requires-clause-parted : goal.first_above-requires-clause-parted
-first_above-requires-clause-parted c =
+pub first_taking_above-requires-clause-parted : goal.first_taking_above-requires-clause-parted
+first_taking_above-requires-clause-parted c =
     let events = c.args.events.now in
     let x = c.args.self.now in
     let i = c.args.from in
@@ -56,11 +53,16 @@ first_above-requires-clause-parted c =
     let e = here events i in
     let tells = c.requires.tells in
     let at = slice_get-get_or events i (event 0 (Load 0 0)) c.requires.from in
-    reached_path_parted events e.processor q i (length events) c.index-2.result.now e.kind c.deref.result.now
-    (numbered_does_at events i e.processor e at refl) c.if-by-processor.false
-    (number_read events x i c.index-2.result.now e tells at c.index-2.ensures)
-    (row_read events x q c.index.result.now c.deref.result.now tells c.requires.processor c.index.ensures
-    c.deref.ensures.value)
+    let besides : TakesBesides events e.processor i q (length events) c.index-2.result.now c.deref.result.now = record {
+      kind = e.kind;
+      does = numbered_does_at events i e.processor e at refl;
+      apart = c.if-by-processor.false;
+      number_is = number_read events x i c.index-2.result.now e tells at c.index-2.ensures;
+      are =
+          row_read events x q c.index.result.now c.deref.result.now tells c.requires.processor c.index.ensures
+          c.deref.ensures.value;
+    } in
+    reached_path_parted besides
 
 pub returns-then-by-processor : goal.returns-then-by-processor
 returns-then-by-processor c =
@@ -80,8 +82,13 @@ returns c =
     let e = here events i in
     let tells = c.requires.tells in
     let at = slice_get-get_or events i (event 0 (Load 0 0)) c.requires.from in
-    found events e.processor q i c.index-2.result.now e.kind c.deref.result.now c.first_above.result
-    (numbered_does_at events i e.processor e at refl) c.if-by-processor.false
-    (number_read events x i c.index-2.result.now e tells at c.index-2.ensures)
-    (row_read events x q c.index.result.now c.deref.result.now tells c.requires.processor c.index.ensures
-    c.deref.ensures.value) c.first_above.ensures
+    let besides : TakesBesides events e.processor i q (length events) c.index-2.result.now c.deref.result.now = record {
+      kind = e.kind;
+      does = numbered_does_at events i e.processor e at refl;
+      apart = c.if-by-processor.false;
+      number_is = number_read events x i c.index-2.result.now e tells at c.index-2.ensures;
+      are =
+          row_read events x q c.index.result.now c.deref.result.now tells c.requires.processor c.index.ensures
+          c.deref.ensures.value;
+    } in
+    first_found c.first_taking_above.result besides c.first_taking_above.ensures

@@ -9,6 +9,7 @@ use Rattle.journal.specs.Events.{interval_at, is_closing}
 use Rattle.journal.proofs.Order.CountedAndNumbered.{numbered_at_same}
 use Rattle.judge.specs.Sizes.{sizes_of}
 use Rattle.causes.specs.declared.records.PageRecord.{PageRecord}
+use Rattle.causes.specs.Index.{IsIndexedClosing}
 use Rattle.causes.specs.Records.{AreClosedRecords, AreClosedRecordsBelow, AreRecordWordsBelow}
 use Rattle.causes.proofs.EdgeLeadsOn.{edge_leads_count_within}
 use Rattle.causes.proofs.RecordRows.{record_content, record_number_is, record_some_words, record_stores, records_all, records_next, records_quiet}
@@ -31,8 +32,8 @@ stores_in-requires-clause-interval c =
     let most = edge_leads_count_within is_closing events k (here events k).processor (omega arith) in
     omega arith
 
-pub words_from-requires-clause-by : goal.words_from-requires-clause-by
-words_from-requires-clause-by c =
+pub record_words-requires-clause-by : goal.record_words-requires-clause-by
+record_words-requires-clause-by c =
     let events = c.args.events.now in
     let k = c.args.place in
     let there = slice_get-get_or events k (event 0 (Load 0 0)) c.requires.place in
@@ -56,20 +57,20 @@ loop-page-preserved c =
     let closes = c.requires.closes e at in
     let is =
     record_number_is j c.args.self.now.numbers.items k m c.requires.place c.requires.index.numbers c.index-interval.ensures in
-    let stores = record_stores s j k q m n e at refl closes is in
+    let closing : IsIndexedClosing j q m k =
+    record { closes = record { kind = e.kind; does = at; closes = closes }; number = sym is } in
+    let stores = record_stores s n closing in
     elim c.if-stores_in.branch [
       | then-stores_in+in_ok-words+in_ok-push w ↦
           (let some = stores.0 ((w.if-stores_in.ensures h c.requires.tells).0 refl) in
           let words = w.in_ok-words.words in
           let below : AreRecordWordsBelow j q m (n * s.words) s.words words.items =
           subst (λ size. AreRecordWordsBelow j q m (n * size) size words.items) c.requires.index.size w.in_ok-words.ensures in
-          let content =
-          record_content s j k q m n e words.items (record_some_words s j q m n c.requires.within some) at refl closes is
-          below in
+          let content = record_content s n closing (record_some_words s j q m n c.requires.within some) below in
           let x : PageRecord = record { page = n; words = words } in
           subst (λ (v : Vec PageRecord). AreClosedRecordsBelow s j q m (n + 1) v.items) (sym w.records-is)
           (subst (AreClosedRecordsBelow s j q m (n + 1)) (sym w.in_ok-push.ensures.items)
-          (records_next s j q m n x old refl content some are)))
+          (records_next x refl content some are)))
       | else-stores_in w ↦
           subst (λ (v : Vec PageRecord). AreClosedRecordsBelow s j q m (n + 1) v.items) (sym w.records-is)
           (records_quiet s j q m n old

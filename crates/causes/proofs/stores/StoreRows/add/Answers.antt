@@ -7,7 +7,7 @@ use Rattle.journal.specs.Events.{At, interval_at}
 use Rattle.journal.specs.InRange.{AddressInRange, AddressesInRange}
 use Rattle.judge.specs.GapTally.{gap_tally_row_index}
 use Rattle.causes.specs.declared.stores.NumberedStore.{NumberedStore}
-use Rattle.causes.proofs.StoreRows.{store_rows_quiet, store_rows_stored}
+use Rattle.causes.proofs.StoreRows.{AreRowsWith, IsStoreNoted, store_rows_quiet, store_rows_stored}
 use Rattle.causes.proofs.stores.StoreRows.add.Goals as goal
 
 -- the event at this place
@@ -77,10 +77,19 @@ returns-clause-rows c =
     (omega (arith, x.rows.ok.0)) c.index_mut.ensures.value in
     let number : slice_index c.args.numbers.now k ≡ interval_at events e.processor k = c.requires.numbers.each k e at in
     let store : NumberedStore = record { place = k; interval = slice_index c.args.numbers.now k } in
-    record {
-      long = long;
-      each =
-          store_rows_stored events k a c.in-Store.field-1 e store x c.index_mut.result.now c.push.new.self
-          (slice_set x.rows.items (gap_tally_row_index a e.processor) c.push.new.self) at c.in-Store.is by refl number row
-          c.in_ok-push.ensures.items refl c.requires.so_far;
-    }
+    let noted : IsStoreNoted events a e.processor k store = record {
+      value = c.in-Store.field-1;
+      does = subst (λ kind. At events k (event e.processor kind)) c.in-Store.is at;
+      low = by;
+      place = refl;
+      number = number;
+    } in
+    let rows = slice_set x.rows.items (gap_tally_row_index a e.processor) c.push.new.self in
+    let longer : AreRowsWith x.rows.items rows (gap_tally_row_index a e.processor) store = record {
+      row = c.index_mut.result.now;
+      there = row;
+      longer = c.push.new.self;
+      items = c.in_ok-push.ensures.items;
+      rows_are = refl;
+    } in
+    record { long = long; each = store_rows_stored noted longer c.requires.so_far }

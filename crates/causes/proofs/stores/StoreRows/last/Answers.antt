@@ -7,8 +7,8 @@ use Rattle.causes.specs.Stores.{IsLastStoredUnder, NoneStoredUnder}
 use Rattle.causes.proofs.StoreRows.{store_intervals_rise}
 use Rattle.causes.proofs.stores.StoreRows.last.Goals as goal
 
-pub last_under-requires : goal.last_under-requires
-last_under-requires c =
+pub last_store_under-requires : goal.last_store_under-requires
+last_store_under-requires c =
     let a = c.args.address in
     let q = c.args.processor in
     let rows = c.args.self.now.rows.items in
@@ -35,6 +35,6 @@ returns c =
       row,
       slice_get_read rows (length rows) (gap_tally_row_index a q) row refl (omega (arith, c.args.self.now.rows.ok.0)) c.index.ensures,
       subst
-          (λ xs. MatchOption c.last_under.result (NoneStoredUnder xs c.args.limit) (IsLastStoredUnder xs c.args.limit))
-          c.deref.ensures.value c.last_under.ensures,
+          (λ xs. MatchOption c.last_store_under.result (NoneStoredUnder xs c.args.limit) (IsLastStoredUnder xs c.args.limit))
+          c.deref.ensures.value c.last_store_under.ensures,
     )

@@ -1,5 +1,0 @@
-use Rattle.causes.proofs.CauseSources.{NoSourceStores}
-use Rattle.causes.proofs.answers.first_source.Given as goal
-
-abbrev pub invariant-loop-place : goal.invariant-loop-place
-invariant-loop-place l = NoSourceStores l.events l.places l.place-index l.value

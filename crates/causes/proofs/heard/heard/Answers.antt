@@ -1,0 +1,77 @@
+use Rattle.std.proofs.Common.{◌≡◌, slice_index_or, take, subst, ap, arith, sym}
+use Rattle.std.proofs.lemmas.Option.{slice_get-get_or, slice_get_within}
+use Rattle.journal.specs.declared.event.Event.{Event}
+use Rattle.journal.specs.declared.event.Kind.TheVariants.{Load}
+use Rattle.journal.specs.DidEvent.{event}
+use Rattle.journal.specs.Times.{IsTimeOf}
+use Rattle.journal.specs.ClockEntry.{entry}
+use Rattle.journal.proofs.Order.CountedAndNumbered.{numbered_at_same}
+use Rattle.journal.proofs.Times.Uses.{time_uses_ordered}
+use Rattle.journal.specs.InRange.{ProcessorsInRange}
+use Rattle.causes.proofs.heard.heard.Goals as goal
+
+pub note-requires-clause-processors : goal.note-requires-clause-processors
+note-requires-clause-processors c =
+    subst (λ n. ProcessorsInRange n c.args.events.now) (sym c.loop-place.invariant.present) c.requires.processors
+
+pub note-requires-clause-place : goal.note-requires-clause-place
+note-requires-clause-place c =
+    let within = slice_get_within c.args.events.now c.args.second c.requires.second.0 c.requires.second.1 in
+    let lt = c.loop-place-test.true in
+    omega arith
+
+pub offset_bounds-events-second : goal.offset_bounds-events-second
+offset_bounds-events-second c =
+    let within = slice_get_within c.args.events.now c.args.second c.requires.second.0 c.requires.second.1 in
+    omega arith
+
+pub bounds-events-second : goal.bounds-events-second
+bounds-events-second c = slice_get_within c.args.events.now c.args.second c.requires.second.0 c.requires.second.1
+
+pub of-time-requires : goal.of-time-requires
+of-time-requires c =
+    let events = c.args.events.now in
+    let second = c.args.second in
+    let e = c.requires.second.0 in
+    let at = c.requires.second.1 in
+    let within = slice_get_within events second e at in
+    let same =
+    numbered_at_same events second (slice_index_or events second (event 0 (Load 0 0))) e
+    (slice_get-get_or events second (event 0 (Load 0 0)) within) at in
+    let one = ap (λ (y : Event). y.processor) same in
+    let few = c.requires.few_processors in
+    let low = c.requires.processors second e at in
+    let long = c.loop-place.invariant.clocks.long in
+    omega arith
+
+pub last_heard-requires-clause-place : goal.last_heard-requires-clause-place
+last_heard-requires-clause-place c =
+    slice_get_within c.args.events.now c.args.second c.requires.second.0 c.requires.second.1
+
+pub last_heard-requires-clause-tells : goal.last_heard-requires-clause-tells
+last_heard-requires-clause-tells c = λ i a does lt.
+    let events = c.args.events.now in
+    let second = c.args.second in
+    let by = c.args.by in
+    let e = c.requires.second.0 in
+    let at = c.requires.second.1 in
+    let p = e.processor in
+    let within = slice_get_within events second e at in
+    let same =
+    numbered_at_same events second (slice_index_or events second (event 0 (Load 0 0))) e
+    (slice_get-get_or events second (event 0 (Load 0 0)) within) at in
+    let items = c.loop-place.clocks.processors.items in
+    let few = c.requires.few_processors in
+    let low = c.requires.processors second e at in
+    let top = c.loop-place.auto.place-end in
+    let end = c.loop-place-test.false in
+    let is : c.loop-place.place ≡ second = omega arith in
+    let time : IsTimeOf (take second events) p (entry items p) =
+    subst (λ n. IsTimeOf (take n events) p (entry items p)) is
+    (c.loop-place.invariant.clocks.times p (omega arith)) in
+    let tells =
+    time_uses_ordered events second p by i a e.kind (entry items p) time does at c.requires.second.2 c.requires.second.3
+    lt in
+    let of = c.of-time.ensures by in
+    let one = ap (λ (y : Event). entry items y.processor by) same in
+    ((λ h. (let below = tells.0 h in omega arith)), (λ below. tells.1 (omega arith)))

@@ -1,0 +1,29 @@
+use Rattle.std.proofs.Common.{◌≡◌, ℕ, ◌+◌, Option, length, subst, sym, ◌∙◌, arith}
+use Rattle.judge.specs.declared.sizes.Sizes.{Sizes as Given}
+use Rattle.judge.specs.Sizes.{AreSizesSmall, sizes_of}
+use Rattle.causes.specs.declared.origin.WordOrigin.{WordOrigin}
+use Rattle.causes.specs.Origins.{AreOrigins, IsOriginAt}
+use Rattle.causes.specs.OriginSteps.{AreOriginsBefore}
+use Rattle.causes.proofs.Rows.{rows_next}
+use Rattle.causes.proofs.origin.all_origins.Goals as goal
+
+pub loop-place-preserved : goal.loop-place-preserved
+loop-place-preserved c =
+    let events = c.args.events.now in
+    let s = sizes_of c.args.sizes in
+    let place = c.loop-place.place in
+    let old = c.loop-place.invariant in
+    let rows = c.loop-place.rows in
+    let long : length rows.items ≡ place = omega (arith, rows.ok.0, old.long) in
+    let small : AreSizesSmall s = subst (λ (x : Given). AreSizesSmall (sizes_of x)) old.sizes old.tells.long.sizes in
+    record {
+      tells = c.in_ok-note.ensures.tells;
+      sizes = c.note.ensures.sizes ∙ old.sizes;
+      words = subst (λ (x : Given). AreOriginsBefore (sizes_of x) events (place + 1) c.note_origins.new.words) old.sizes
+          c.note_origins.ensures;
+      long = (let len = c.in_ok-push.ensures.len in let was = old.long in omega arith);
+      rows =
+          subst (AreOrigins s events) (sym c.in_ok-push.ensures.items)
+          (rows_next (λ (k : ℕ) (o : Option WordOrigin). IsOriginAt s events k o) rows.items place c.origin_at.result long old.rows
+          (c.origin_at.ensures s old.words c.requires.within small.processors));
+    }

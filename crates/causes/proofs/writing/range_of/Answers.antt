@@ -1,8 +1,0 @@
-use Rattle.judge.specs.Sizes.{sizes_of}
-use Rattle.causes.proofs.WrittenWords.{written_by_fetch}
-use Rattle.causes.proofs.writing.range_of.Goals as goal
-
-pub returns-in-Fetch-clause-all : goal.returns-in-Fetch-clause-all
-returns-in-Fetch-clause-all c = λ j k within at.
-    (let f = c.in-Fetch in
-    written_by_fetch (sizes_of c.args.sizes) j k c.args.event f.writers f.page f.records f.words within at f.is)

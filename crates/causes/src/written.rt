@@ -1,0 +1,167 @@
+//! Which words of its processor's copies each event writes, and from which stores they are.
+ghost use Rattle.std.specs.Prelude.{◌≡◌, ℕ, ◌+◌, ◌*◌, ◌<◌, ◌≤◌, [], IfOk, List, length, vec_len};
+ghost use Rattle.base.specs.Prelude.{most_held, most_processors};
+ghost use Rattle.journal.specs.declared.event.Event.{Event};
+ghost use Rattle.journal.specs.Events.{At};
+ghost use Rattle.journal.specs.Sizes.{Sizes as SizesOf};
+ghost use Rattle.judge.specs.Prelude.{AreSizesSmall, IsEventInSizes, TellsGaps, sizes_of};
+ghost use Rattle.causes.specs.Prelude.{AreAllWritten, AreOriginsBefore, AreWritten, AreWrittenAmong, IsOriginLookedUp, IsStoreWrittenAt, IsWrittenRange};
+
+use crate::brought::LookedUp;
+use crate::index::index_of;
+use crate::origin::{WordOrigin, no_origins, note_origins};
+use crate::stores::StoreRows;
+use base::MOST_PROCESSORS;
+use journal::{Event, Kind};
+use judge::{Gaps, Sizes};
+use std::alloc::{AllocError, Global};
+
+/// A word that an event writes in its processor's copy.
+#[derive(Clone, Copy, PartialEq, Eq)]
+pub struct WrittenWord {
+    /// Its address.
+    pub address: usize,
+    /// The place of the store from which the copy has it.
+    pub store: usize,
+}
+
+/// The addresses at which an event may write.
+#[derive(Clone, Copy)]
+pub(crate) struct WrittenRange {
+    pub(crate) first: usize,
+    /// The address behind the last one.
+    pub(crate) end: usize,
+}
+
+/// The addresses at which this event may write: that which it stores to, those of the page that it fetches, or none.
+fn written_range(event: Event, sizes: Sizes) -> WrittenRange
+    requires small { AreSizesSmall (sizes_of sizes) }
+    requires within { IsEventInSizes (sizes_of sizes) event }
+    ensures within { result.end ≤ sizes.pages * sizes.words }
+    ensures all { (j : List Event) (k : ℕ) → ((m : ℕ) (e : Event) → At j m e → IsEventInSizes (sizes_of sizes) e)
+        → At j k event → IsWrittenRange (sizes_of sizes) j k event.processor result }
+{
+    match event.kind {
+        Kind::Store(address, _) => WrittenRange {
+            first: address,
+            end: address + 1,
+        },
+        Kind::Fetch { page, .. } => WrittenRange {
+            first: page * sizes.words,
+            end: page * sizes.words + sizes.words,
+        },
+        _ => WrittenRange { first: 0, end: 0 },
+    }
+}
+
+/// The store of a word with this origin, where it was written at this place.
+fn written_store(origin: Option<WordOrigin>, place: usize) -> Option<usize>
+    ensures { IsStoreWrittenAt origin place result }
+{
+    match origin {
+        Some(origin) if origin.write == place => Some(origin.store),
+        _ => None,
+    }
+}
+
+/// The words of these addresses that the event at this place has written in this processor's copy, where these are the origins
+/// after it. The only error is running out of memory.
+fn written_among(
+    alloc: Global,
+    words: &[Option<WordOrigin>],
+    place: usize,
+    reader: usize,
+    range: WrittenRange,
+) -> Result<Vec<WrittenWord>, AllocError>
+    requires reader { reader < most_processors }
+    requires few { range.end ≤ 4096 }
+    requires long { range.end * most_processors ≤ length words.now }
+    ensures { IfOk result (λ v. (s : SizesOf) (j : List Event) → AreOriginsBefore s j (place + 1) words.now
+        → AreWrittenAmong s j place reader range v.items) }
+{
+    let mut written = Vec::new(alloc);
+    for address in range.first..range.end {
+        if let Some(store) = written_store(words[address * MOST_PROCESSORS + reader], place) {
+            written.push(WrittenWord { address, store })?;
+        }
+    }
+    Ok(written)
+}
+
+/// The words that the event at this place has written, where these are the origins after it. The only error is running out of
+/// memory.
+fn written_at(
+    alloc: Global,
+    words: &[Option<WordOrigin>],
+    events: &[Event],
+    place: usize,
+    sizes: Sizes,
+) -> Result<Vec<WrittenWord>, AllocError>
+    requires place { place < length events.now }
+    requires sizes { AreSizesSmall (sizes_of sizes) }
+    requires within { (k : ℕ) (e : Event) → At events.now k e → IsEventInSizes (sizes_of sizes) e }
+    requires words { AreOriginsBefore (sizes_of sizes) events.now (place + 1) words.now }
+    ensures { IfOk result (λ v. AreWritten (sizes_of sizes) events.now place v.items) }
+{
+    let event = events[place];
+    let range = written_range(event, sizes);
+    let written = written_among(alloc, words, place, event.processor, range)?;
+    Ok(written)
+}
+
+/// Of each event the words that it writes, where the gaps tell nothing so far and no word has an origin.
+fn all_written(
+    alloc: Global,
+    words: &mut [Option<WordOrigin>],
+    looked: &LookedUp,
+    gaps: &mut Gaps,
+    events: &[Event],
+    sizes: Sizes,
+) -> Result<Vec<Vec<WrittenWord>>, AllocError>
+    requires few { length events.now ≤ most_held }
+    requires within { (k : ℕ) (e : Event) → At events.now k e → IsEventInSizes (sizes_of sizes) e }
+    requires sizes { gaps.old.sizes ≡ sizes }
+    requires start { TellsGaps [] gaps.old }
+    requires looked { IsOriginLookedUp events.now looked.now }
+    requires addresses { looked.now.stores.addresses ≡ sizes.pages * sizes.words }
+    requires words { AreOriginsBefore (sizes_of sizes) events.now 0 words.old }
+    ensures long { IfOk result (λ v. vec_len v ≡ length events.now) }
+    ensures written { IfOk result (λ v. AreAllWritten (sizes_of sizes) events.now v.items) }
+{
+    let mut rows = Vec::with_capacity(alloc, events.len())?;
+    for place in 0..events.len() {
+        note_origins(words, looked, gaps, events, place, sizes.words);
+        rows.push(written_at(alloc, words, events, place, sizes)?)?;
+        gaps.note(events, place)?;
+    }
+    Ok(rows)
+}
+
+/// Of each event of a history of a cluster of these sizes: the words that it writes in its processor's copies, by rising
+/// addresses, each with the store from which the copy has it then. A store writes its own word. A fetch writes the words that
+/// the records of its gap have; of several stores to one it takes the one whose interval was closed last, the last of them
+/// in it. Other events write nothing.
+///
+/// So a copy's word after the first N events is that of the last of them which writes it, or 0 where none does.
+///
+/// The only error is running out of memory. It takes time as `origins` does.
+pub fn written_words(
+    alloc: Global,
+    sizes: Sizes,
+    events: &[Event],
+) -> Result<Vec<Vec<WrittenWord>>, AllocError>
+    requires sizes { AreSizesSmall (sizes_of sizes) }
+    requires few { length events.now ≤ most_held }
+    requires within { (k : ℕ) (e : Event) → At events.now k e → IsEventInSizes (sizes_of sizes) e }
+    ensures long { IfOk result (λ v. vec_len v ≡ length events.now) }
+    ensures written { IfOk result (λ v. AreAllWritten (sizes_of sizes) events.now v.items) }
+{
+    let addresses = sizes.pages * sizes.words;
+    let looked = LookedUp {
+        index: index_of(alloc, events)?,
+        stores: StoreRows::of(alloc, addresses, events)?,
+    };
+    let mut words = no_origins(alloc, addresses * MOST_PROCESSORS)?;
+    let mut gaps = Gaps::new(alloc, sizes)?;
+    all_written(alloc, &mut words, &looked, &mut gaps, events, sizes)
+}
