@@ -1,10 +1,8 @@
 -- Phases and locks of a processor, by what it did and by the history.
-use Rattle.std.proofs.Common.{ℕ, ◌≡◌, ◌≢◌, ◌+◌, ◌⊎◌, inl, inr, Bool, true, false, List, [], ◌∷◌, ◌++◌, take, refl, sym, ap, subst, ◌∙◌, arith}
+use Rattle.std.proofs.Common.{ℕ, ◌≡◌, ◌≢◌, ◌+◌, ◌⊎◌, inl, inr, Bool, true, false, List, [], ◌∷◌, ◌++◌, refl, sym, ap, subst, ◌∙◌}
 use Rattle.std.specs.Prelude.{◌==◌}
 use Rattle.std.proofs.lemmas.Bool.{cases_eq, eqb-true, eq-eqb, ne_eqb}
-use Rattle.std.proofs.lemmas.List.{take-append-le}
-use Rattle.std.proofs.Math.Seq.{take-append_seam}
-use Rattle.base.proofs.SlicesAndCounts.{count_by-append, slice_push_induction, slice_push_cases}
+use Rattle.base.proofs.SlicesAndCounts.{count_by-append, slice_push_induction}
 use Rattle.journal.proofs.Order.CountedAndNumbered.{count_of-append}
 use Rattle.journal.specs.declared.event.Event.{Event}
 use Rattle.journal.specs.declared.event.Kind.{Kind}
@@ -14,7 +12,7 @@ use Rattle.journal.specs.Events.{count_of, is_depart, events_of}
 use Rattle.journal.specs.WellFormed.{Holds}
 use Rattle.journal.proofs.Journals.WellFormedLast.{well_formed_holds_longer, well_formed_holds_now}
 use Rattle.seats.specs.Deeds.{deeds, is_deed}
-use Rattle.seats.specs.Guards.{Guards, KeepsTo, held_on, held_then, holds_after, may_do, phase_after}
+use Rattle.seats.specs.Guards.{held_on, held_then, holds_after, phase_after}
 use Rattle.seats.proofs.Deeds.{no_deed, others_deed, own_deed, own_deeds-append}
 
 pub held_on-append : (ks ls : List Kind) (l : ℕ) (b : Bool) → held_on (ks ++ ls) l b ≡ held_on ls l (held_on ks l b)

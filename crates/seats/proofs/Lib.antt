@@ -3,3 +3,6 @@ mod Guards
 mod Phases
 mod Guarded
 mod Layouts
+mod SeatCalls
+mod SeatClosings
+mod Seats

@@ -1,0 +1,7 @@
+use Rattle.journal.specs.declared.event.Kind.TheVariants.{Arrive}
+use Rattle.seats.proofs.Seats.{sits_after_pass}
+use Rattle.seats.proofs.seat.Seat.barrier.Goals as goal
+
+pub invariant_of-self : goal.invariant_of-self
+invariant_of-self g c = sits_after_pass _ c.pass.new.processor _ Arrive c.pass.result c.self.invariant
+    c.pass.ensures.ok c.pass.ensures.err

@@ -1,0 +1,5 @@
+use Rattle.seats.proofs.Seats.{sits_at}
+use Rattle.seats.proofs.seat.Seat.into_processor.Goals as goal
+
+pub returns-clause-sits : goal.returns-clause-sits
+returns-clause-sits g c = sits_at c.self.invariant

@@ -1,0 +1,51 @@
+-- Which processor of which cluster sits on a seat.
+use Rattle.std.specs.Prelude.{ℕ, ◌≡◌, List, []}
+use Rattle.turn.specs.Chairs.{ChairLockId}
+use Rattle.journal.specs.declared.event.Kind.{Kind}
+use Rattle.cluster.specs.Copies.Local.{Local, calls, new_local}
+use Rattle.cluster.specs.Clusters.{SharedCluster}
+use Rattle.cluster.specs.Covers.{HasCoverage, IsAllowed}
+use Rattle.seats.specs.Deeds.{deeds}
+
+-- the cluster, and the processor's number there
+pub record SeatId : Type 0 where
+  pub cluster : SharedCluster
+  pub number : ℕ
+
+-- what a processor did, as its program sees it
+abbrev pub seat_deeds : Local → List Kind
+seat_deeds m = deeds (calls m)
+
+-- a lock of no cluster
+abbrev pub no_lock : ChairLockId
+no_lock = record {
+  table = record { words = 0; slots = 0; views_name = 0; atom = 0; block = 0; offset = 0; slot_names = [] };
+  limit = 0;
+}
+
+-- a seat of no cluster
+abbrev pub no_seat : SeatId
+no_seat = record {
+  cluster = record { lock = no_lock; sizes = record { processors = 0; pages = 0; words = 0; locks = 0; flags = 0 } };
+  number = 0;
+}
+
+-- this processor sits there, beside its own cluster: whatever book the lock has covers it, there is one, and it cut
+-- nothing off
+pub record IsSitting (id : SeatId) (c : SharedCluster) (m : Local) : Type 0 where
+  pub cluster : c ≡ id.cluster
+  pub own : m.lock ≡ c.lock
+  pub sizes : m.sizes ≡ c.sizes
+  pub number : m.number ≡ id.number
+  pub uncut : m.own_cut ≡ 0
+  pub covers : HasCoverage m
+  pub allowed : IsAllowed m
+
+-- the processor of a seat before its first call
+abbrev pub new_seat : SeatId → Local
+new_seat id = new_local id.cluster.lock id.number id.cluster.sizes
+
+-- whoever sits there has done what a program says of its processor's number, what it did, and the answer
+pub record HasWorked {X : Type 0} (did : ℕ → List Kind → X → Type 0) (id : SeatId) (m : Local) (x : X) : Type 0 where
+  pub sits : IsSitting id id.cluster m
+  pub done : did id.number (seat_deeds m) x

@@ -1,0 +1,79 @@
+//! What a thread does on its seat.
+ghost use Rattle.std.specs.Prelude.{◌≡◌, ℕ, List, IfOk};
+ghost use Rattle.journal.specs.declared.event.Kind.{Kind};
+ghost use Rattle.cluster.specs.Prelude.{HasCoverage};
+ghost use Rattle.seats.specs.Prelude.{HasWorked, IsAllowed, IsSitting, new_seat, seat_deeds};
+
+use crate::fault::SeatFault;
+use crate::seat::Seat;
+use crate::sitting::{Placed, Placing, Sitting};
+use cluster::{BookLock, Cluster, Processor};
+use std::marker::Brand;
+use std::sync::Wait;
+
+/// What each processor's thread does. Its work is generic over the seat, so it gives back the seat that it was lent.
+pub trait Program: Sync {
+    /// What a thread answers.
+    type Answer: Send + Drop;
+
+    /// What the number of a processor, what it did, and its answer are to one another.
+    ghost did: { ℕ → List Kind → Self.Answer → Type 0 };
+
+    /// Does a processor's part, from its first call on.
+    fn work<S: Sitting>(&self, seat: &mut Seat<'_, S>) -> Result<Self::Answer, SeatFault>
+        requires { seat.old ≡ new_seat S.at }
+        ensures { IfOk result (λ x. did S.at.number (seat_deeds seat.new) x) };
+}
+
+/// Lets the program work on the seat of this processor, which has made no call yet, and gives the processor back with the
+/// answer. Whoever waits for a processor whose work has ended is told.
+pub fn sit<P: Program, R: Wait>(
+    rt: &R,
+    cluster: &Cluster<BookLock>,
+    processor: Processor<BookLock>,
+    program: &P,
+) -> Result<(Processor<BookLock>, P::Answer), SeatFault>
+    requires new { processor ≡ new_seat (record { cluster = cluster.now; number = processor.number }) }
+    requires covers { HasCoverage processor }
+    requires allowed { IsAllowed processor }
+    ensures { IfOk result (λ r. HasWorked P.did
+        (record { cluster = cluster.now; number = processor.number }) r.0 r.1) }
+{
+    let number = processor.number();
+    let worked = sit_at::<Brand, P, R>(rt, cluster, processor, program);
+    cluster.end(number);
+    worked
+}
+
+/// The same on the seat that `J` names.
+fn sit_at<J: Placing, P: Program, R: Wait>(
+    rt: &R,
+    cluster: &Cluster<BookLock>,
+    processor: Processor<BookLock>,
+    program: &P,
+) -> Result<(Processor<BookLock>, P::Answer), SeatFault>
+    requires at { J.at ≡ record { cluster = cluster.now; number = processor.number } }
+    requires new { processor ≡ new_seat J.at }
+    requires covers { HasCoverage processor }
+    requires allowed { IsAllowed processor }
+    ensures { IfOk result (λ r. HasWorked P.did J.at r.0 r.1) }
+{
+    let handle = Placed::<J, R>::by(rt);
+    work(&handle, cluster, processor, program)
+}
+
+/// The same with the seat's own handle.
+fn work<S: Sitting, P: Program>(
+    rt: &S,
+    cluster: &Cluster<BookLock>,
+    processor: Processor<BookLock>,
+    program: &P,
+) -> Result<(Processor<BookLock>, P::Answer), SeatFault>
+    requires sits { IsSitting S.at cluster.now processor }
+    requires new { processor ≡ new_seat S.at }
+    ensures { IfOk result (λ r. HasWorked P.did S.at r.0 r.1) }
+{
+    let mut seat = Seat::new(rt, cluster, processor);
+    let answer = program.work(&mut seat)?;
+    Ok((seat.into_processor(), answer))
+}

@@ -1,0 +1,207 @@
+//! Seats.
+ghost use Rattle.std.specs.Prelude.{◌≡◌, ◌/◌, ◌∷◌, [], Err, IfOk, OnErr, OnOk, Some, false, slice_index_or};
+ghost use Rattle.book.specs.declared.refused.Refused.{Refused as ARefusal};
+ghost use Rattle.journal.specs.declared.event.Kind.TheVariants as kind;
+ghost use Rattle.cluster.specs.Prelude.{arrive_refusal, ask_refusal, flag_refusal, release_refusal};
+ghost use Rattle.seats.specs.Prelude.{AccessesPage, HasDone, IsLeftUndone, IsSitting, seat_access_refusal};
+ghost use Rattle.seats.specs.declared.fault.SeatFault.TheVariants as fault;
+
+use crate::accesses::{WordAccess, access_word};
+use crate::closings::pass;
+use crate::fault::SeatFault;
+use crate::sitting::Sitting;
+use cluster::{BookLock, Cluster, Processor};
+use journal::Closing;
+use std::marker::Model;
+
+/// A processor on its thread. Its calls do what a program over shared words means by them: they fetch a stale copy, hand in
+/// a full block, and wait for what they ask for.
+///
+/// After a fault nothing was done, unless a call says otherwise; only stale copies may have been fetched, and the block
+/// handed in.
+#[derive(Drop)]
+pub struct Seat<'a, S: Sitting> {
+    rt: &'a S,
+    cluster: &'a Cluster<BookLock>,
+    processor: Processor<BookLock>,
+}
+
+impl<'a, S: Sitting> Model for Seat<'a, S> {
+    ghost use Rattle.cluster.specs.Copies.Local.{Local};
+    ghost use Rattle.seats.specs.Sitting.{IsSitting};
+
+    ghost Value = { Local };
+
+    ghost view = { λ s. s.processor };
+
+    ghost invariant = { λ s. IsSitting S.at s.cluster.now s.processor };
+}
+
+impl<'a, S: Sitting> Seat<'a, S> {
+    /// The seat of this processor, beside its cluster.
+    pub(crate) fn new(
+        rt: &'a S,
+        cluster: &'a Cluster<BookLock>,
+        processor: Processor<BookLock>,
+    ) -> Seat<'a, S>
+        requires { IsSitting S.at cluster.now processor }
+        ensures { result ≡ processor }
+    {
+        Seat {
+            rt,
+            cluster,
+            processor,
+        }
+    }
+
+    /// Its processor, at the end.
+    pub(crate) fn into_processor(self) -> Processor<BookLock>
+        ensures is { result ≡ self.entry }
+        ensures sits { IsSitting S.at S.at.cluster result }
+    {
+        let Seat {
+            rt: _,
+            cluster: _,
+            processor,
+        } = self;
+        processor
+    }
+
+    /// The processor's number, from 0.
+    pub fn number(&self) -> usize
+        ensures number { result ≡ self.now.number }
+        ensures at { result ≡ S.at.number }
+    {
+        self.processor.number()
+    }
+
+    /// Whether it holds the lock. False past the last lock.
+    pub fn holds(&self, lock: usize) -> bool
+        ensures { result ≡ slice_index_or self.now.held lock false }
+    {
+        self.processor.holds(lock)
+    }
+
+    /// The word at the address.
+    ///
+    /// Refused as [`Waiting`](cluster::Refused::Waiting) if an earlier call left it waiting,
+    /// [`OutOfRange`](cluster::Refused::OutOfRange) past the last address; else only if the full block can't be handed in.
+    pub fn load(&mut self, address: usize) -> Result<u32, SeatFault>
+        ensures ok { IfOk result (λ v. AccessesPage self.old self.new (address / self.old.sizes.words)
+            (kind.Load address v ∷ [])) }
+        ensures err { OnErr result (AccessesPage self.old self.new (address / self.old.sizes.words) []) }
+        ensures outside { (e : ARefusal) → seat_access_refusal self.old address ≡ Some e
+            → (result ≡ Err (fault.Refused e)) × (self.new ≡ self.old) }
+    {
+        match access_word(
+            self.rt,
+            self.cluster,
+            &mut self.processor,
+            address,
+            WordAccess::Load,
+        ) {
+            Ok(word) => Ok(word),
+            Err(refused) => Err(SeatFault::Refused(refused)),
+        }
+    }
+
+    /// Stores the word at the address. Refused as [`load`](Seat::load) is.
+    pub fn store(&mut self, address: usize, word: u32) -> Result<(), SeatFault>
+        ensures ok { OnOk result (AccessesPage self.old self.new (address / self.old.sizes.words)
+            (kind.Store address word ∷ [])) }
+        ensures err { OnErr result (AccessesPage self.old self.new (address / self.old.sizes.words) []) }
+        ensures outside { (e : ARefusal) → seat_access_refusal self.old address ≡ Some e
+            → (result ≡ Err (fault.Refused e)) × (self.new ≡ self.old) }
+    {
+        match access_word(
+            self.rt,
+            self.cluster,
+            &mut self.processor,
+            address,
+            WordAccess::Store(word),
+        ) {
+            Ok(_) => Ok(()),
+            Err(refused) => Err(SeatFault::Refused(refused)),
+        }
+    }
+
+    /// Acquires the lock, for which it waits.
+    ///
+    /// The first of these that applies, with nothing done: refused as [`BadLock`](cluster::Refused::BadLock) past the last
+    /// lock, [`Waiting`](cluster::Refused::Waiting), [`AlreadyHeld`](cluster::Refused::AlreadyHeld). Else it may be refused
+    /// if there is no more of what it needs, or fail as [`Stuck`](SeatFault::Stuck) or [`Deserted`](SeatFault::Deserted);
+    /// then it may have asked, and waits still.
+    pub fn lock(&mut self, lock: usize) -> Result<(), SeatFault>
+        ensures ok { OnOk result (HasDone self.old self.new (kind.Ask lock ∷ kind.Acquire lock ∷ [])) }
+        ensures err { OnErr result (IsLeftUndone self.old self.new (kind.Ask lock)) }
+        ensures outside { (e : ARefusal) → ask_refusal self.old lock ≡ Some e
+            → (result ≡ Err (fault.Refused e)) × (self.new ≡ self.old) }
+    {
+        pass(
+            self.rt,
+            self.cluster,
+            &mut self.processor,
+            Closing::Ask(lock),
+        )
+    }
+
+    /// Releases the lock. Refused as [`lock`](Seat::lock) is, with [`NotHeld`](cluster::Refused::NotHeld) in the place of
+    /// `AlreadyHeld`; it waits for nothing.
+    pub fn unlock(&mut self, lock: usize) -> Result<(), SeatFault>
+        ensures ok { OnOk result (HasDone self.old self.new (kind.Release lock ∷ [])) }
+        ensures err { OnErr result (IsLeftUndone self.old self.new (kind.Release lock)) }
+        ensures outside { (e : ARefusal) → release_refusal self.old lock ≡ Some e
+            → (result ≡ Err (fault.Refused e)) × (self.new ≡ self.old) }
+    {
+        pass(
+            self.rt,
+            self.cluster,
+            &mut self.processor,
+            Closing::Release(lock),
+        )
+    }
+
+    /// Passes the barrier, where it waits until all have come. What any of them stored before, all know of after it.
+    /// Fails as [`lock`](Seat::lock) does, with none of the reasons that name the lock.
+    pub fn barrier(&mut self) -> Result<(), SeatFault>
+        ensures ok { OnOk result (HasDone self.old self.new (kind.Arrive ∷ kind.Depart ∷ [])) }
+        ensures err { OnErr result (IsLeftUndone self.old self.new kind.Arrive) }
+        ensures outside { (e : ARefusal) → arrive_refusal self.old ≡ Some e
+            → (result ≡ Err (fault.Refused e)) × (self.new ≡ self.old) }
+    {
+        pass(self.rt, self.cluster, &mut self.processor, Closing::Arrive)
+    }
+
+    /// Sets the flag, which stays set. The first of these that applies, with nothing done: refused as
+    /// [`BadFlag`](cluster::Refused::BadFlag) past the last flag, [`Waiting`](cluster::Refused::Waiting); else if there is
+    /// no more of what it needs.
+    pub fn set(&mut self, flag: usize) -> Result<(), SeatFault>
+        ensures ok { OnOk result (HasDone self.old self.new (kind.Set flag ∷ [])) }
+        ensures err { OnErr result (IsLeftUndone self.old self.new (kind.Set flag)) }
+        ensures outside { (e : ARefusal) → flag_refusal self.old flag ≡ Some e
+            → (result ≡ Err (fault.Refused e)) × (self.new ≡ self.old) }
+    {
+        pass(
+            self.rt,
+            self.cluster,
+            &mut self.processor,
+            Closing::Set(flag),
+        )
+    }
+
+    /// Waits until the flag is set. What was stored before it was set is known after this. Refused as [`set`](Seat::set) is,
+    /// and may fail as [`lock`](Seat::lock) does while it waits.
+    pub fn await_flag(&mut self, flag: usize) -> Result<(), SeatFault>
+        ensures ok { OnOk result (HasDone self.old self.new (kind.Watch flag ∷ kind.Await flag ∷ [])) }
+        ensures err { OnErr result (IsLeftUndone self.old self.new (kind.Watch flag)) }
+        ensures outside { (e : ARefusal) → flag_refusal self.old flag ≡ Some e
+            → (result ≡ Err (fault.Refused e)) × (self.new ≡ self.old) }
+    {
+        pass(
+            self.rt,
+            self.cluster,
+            &mut self.processor,
+            Closing::Watch(flag),
+        )
+    }
+}
