@@ -30,11 +30,11 @@ use Rattle.lrc_run.proofs.MakingHistory.{AllGoOn, AreInHand, AreOfThese, in_hand
 use Rattle.lrc_run.proofs.Turning.{turning_seen_same, turns_taken_way}
 
 -- the turns from the start on make the history that goes on from what each has seen at their end
-made_by_turns_start : (s : Plan) (c : SharedCluster) (turns : List ℕ) (seed : Option ℕ) (h : List Event) (ms ns : List Local)
-    (all : List TurnProgress) → c.sizes ≡ plan_sizes s → IsNewCluster c ms → (by : AreTurnedBy c s turns seed ms ns all)
-    → AllGoOn ns h → AreOfThese s.processors h → AreScriptTurns s (turns ++ turns_of (turn_orders s seed) by.gone.count) []
-    (replicate s.processors (turn_stage (Next 0) [] [])) h (turn_stages ns all)
-made_by_turns_start s c turns seed h ms ns all sizes new by goes these =
+made_by_turns_start : {s : Plan} {c : SharedCluster} {turns : List ℕ} {seed : Option ℕ} (h : List Event)
+    {ms ns : List Local} {all : List TurnProgress} → c.sizes ≡ plan_sizes s → IsNewCluster c ms
+    → (by : AreTurnedBy c s turns seed ms ns all) → AllGoOn ns h → AreOfThese s.processors h
+    → AreScriptTurns s (turns ++ turns_of (turn_orders s seed) by.gone.count) [] (replicate s.processors (turn_stage (Next 0) [] [])) h (turn_stages ns all)
+made_by_turns_start {s = s} {c = c} {turns = turns} {seed = seed} h {ms = ms} {ns = ns} {all = all} sizes new by goes these =
     let n = s.processors in
     let orders = turn_orders s seed in
     let k = by.gone.count in
@@ -45,11 +45,10 @@ made_by_turns_start s c turns seed h ms ns all sizes new by goes these =
     let hand : AreInHand n ms = subst (λ i. AreInHand i ms) same (in_hand_new c ms new) in
     let between = turns_taken_way c s.sections turns ms by.between start by.half way by.first in
     let held = in_hand_taken n s.sections turns ms by.between start by.half hand by.first in
-    let last = rounds_made s c n orders k by.between ns by.half all h sizes between held by.gone.rounds goes these in
-    let first = taken_made s c n turns ms by.between start by.half last.front sizes way hand by.first last.goes_on
+    let last = rounds_made orders k ns all sizes between held by.gone.rounds goes these in
+    let first = taken_made by.between by.half sizes way hand by.first last.goes_on
     (making_these_front n h last.front last.rest last.is these) in
-    let whole = turns_made_then s turns (turns_of orders k) ms by.between (turn_stages ms start) (turn_stages by.between by.half)
-    (turn_stages ns all) h last first in
+    let whole = turns_made_then (turns_of orders k) by.between last first in
     let few = making_these_front n h whole.front whole.rest whole.is these in
     let none = making_start c ms whole.front new whole.goes_on (subst (λ i. AreOfThese i whole.front) (sym same) few) in
     let P : List Event → List TurnStage → Type 0 =
@@ -62,7 +61,7 @@ in_hand_by_turns : (s : Plan) (c : SharedCluster) (turns : List ℕ) (seed : Opt
 in_hand_by_turns s c turns seed ms ns all new by =
     let n = c.sizes.processors in
     let held = in_hand_taken n s.sections turns ms by.between (replicate s.processors (Next 0)) by.half (in_hand_new c ms new) by.first in
-    in_hand_rounds n s (turn_orders s seed) by.gone.count by.between ns by.half all held by.gone.rounds
+    in_hand_rounds s (turn_orders s seed) by.gone.count by.half all held by.gone.rounds
 
 -- so many are the script's processors
 many_by_turns : (s : Plan) (c : SharedCluster) (ms : List Local) (n : ℕ) → c.sizes ≡ plan_sizes s → IsNewCluster c ms → n ≡ length ms
@@ -70,11 +69,11 @@ many_by_turns : (s : Plan) (c : SharedCluster) (ms : List Local) (n : ℕ) → c
 many_by_turns s c ms n sizes new many = many ∙ new.all ∙ ap (λ (x : Sizes). x.processors) sizes
 
 -- new processors took these turns, and went round then
-pub by_turns_taken : (s : Plan) (c : SharedCluster) (turns : List ℕ) (seed : Option ℕ) (ms between ns : List Local)
-    (start half all : List TurnProgress) (n : ℕ) → c.sizes ≡ plan_sizes s → IsNewCluster c ms → n ≡ length ms
-    → start ≡ replicate n (Next 0) → AreTaken s.sections turns ms between start half
+pub by_turns_taken : {s : Plan} {c : SharedCluster} {turns : List ℕ} {seed : Option ℕ} {ms between ns : List Local}
+    (start : List TurnProgress) {half all : List TurnProgress} (n : ℕ) → c.sizes ≡ plan_sizes s → IsNewCluster c ms
+    → n ≡ length ms → start ≡ replicate n (Next 0) → AreTaken s.sections turns ms between start half
     → HaveTakenTurnsRound c s seed between ns half all → AreTurnedBy c s turns seed ms ns all
-by_turns_taken s c turns seed ms between ns start half all n sizes new many is taken gone =
+by_turns_taken {s = s} {c = c} {turns = turns} {ms = ms} {between = between} start {half = half} n sizes new many is taken gone =
     let P : List TurnProgress → Type 0 = λ xs. AreTaken s.sections turns ms between xs half in
     record {
       between = between;
@@ -84,11 +83,11 @@ by_turns_taken s c turns seed ms between ns start half all n sizes new many is t
     }
 
 -- or went round at once
-pub by_turns_in_rounds : (s : Plan) (c : SharedCluster) (seed : Option ℕ) (ms ns : List Local) (start all : List TurnProgress) (n : ℕ)
-    → c.sizes ≡ plan_sizes s → IsNewCluster c ms → n ≡ length ms → start ≡ replicate n (Next 0)
-    → HaveTakenTurnsRound c s seed ms ns start all → AreTurnedBy c s [] seed ms ns all
-by_turns_in_rounds s c seed ms ns start all n sizes new many is gone =
-    by_turns_taken s c [] seed ms ms ns start start all n sizes new many is (turning_seen_same ms, refl) gone
+pub by_turns_in_rounds : {s : Plan} {c : SharedCluster} {seed : Option ℕ} {ms ns : List Local}
+    {start all : List TurnProgress} (n : ℕ) → c.sizes ≡ plan_sizes s → IsNewCluster c ms → n ≡ length ms
+    → start ≡ replicate n (Next 0) → HaveTakenTurnsRound c s seed ms ns start all → AreTurnedBy c s [] seed ms ns all
+by_turns_in_rounds {ms = ms} {start = start} n sizes new many is gone =
+    by_turns_taken start n sizes new many is (turning_seen_same ms, refl) gone
 
 -- all have come so far by turns in these orders, in each history that ends with their blocks; and processor 0 has seen all
 pub record AreToldByTurns (s : Plan) (orders : ℕ → List ℕ) (ns : List Local) (all : List TurnProgress) : Type 0 where
@@ -97,11 +96,11 @@ pub record AreToldByTurns (s : Plan) (orders : ℕ → List ℕ) (ns : List Loca
       → AreReachedByTurns s orders h (turn_stages ns all)
 
 -- by turns that come to these
-told_by_turns : (s : Plan) (c : SharedCluster) (turns : List ℕ) (seed : Option ℕ) (orders : ℕ → List ℕ) (rounds : ℕ)
-    (ms ns : List Local) (all : List TurnProgress) → c.sizes ≡ plan_sizes s → IsNewCluster c ms
-    → (by : AreTurnedBy c s turns seed ms ns all)
+told_by_turns : {s : Plan} {c : SharedCluster} {turns : List ℕ} {seed : Option ℕ}
+    {orders : ℕ → List ℕ} (rounds : ℕ) {ms ns : List Local} {all : List TurnProgress} → c.sizes ≡ plan_sizes s
+    → IsNewCluster c ms → (by : AreTurnedBy c s turns seed ms ns all)
     → turns_of orders rounds ≡ turns ++ turns_of (turn_orders s seed) by.gone.count → AreToldByTurns s orders ns all
-told_by_turns s c turns seed orders rounds ms ns all sizes new by are = record {
+told_by_turns {s = s} {c = c} {turns = turns} {seed = seed} rounds {ms = ms} {ns = ns} {all = all} sizes new by are = record {
   ahead = (in_hand_by_turns s c turns seed ms ns all new by).ahead;
   told = λ h ends well_formed.
       let these = making_these_front s.processors h ends.front ends.blocks ends.is (λ k e at. (well_formed k e at).processor) in
@@ -112,7 +111,7 @@ told_by_turns s c turns seed orders rounds ms ns all sizes new by are = record {
         front = ends.front;
         rest = ends.blocks;
         is = ends.is;
-        turns = subst P (sym are) (made_by_turns_start s c turns seed ends.front ms ns all sizes new by ends.goes_on these);
+        turns = subst P (sym are) (made_by_turns_start ends.front sizes new by ends.goes_on these);
         calls_are = λ p x here.
             let is = turn_stage_from ns all p x here in
             let number = (in_hand_by_turns s c turns seed ms ns all new by).number p is.processor is.processor_is in
@@ -127,7 +126,7 @@ told_by_turns s c turns seed orders rounds ms ns all sizes new by are = record {
 pub by_turns_of_seed : (s : Plan) (c : SharedCluster) (seed : Option ℕ) (ms ns : List Local) (all : List TurnProgress)
     → c.sizes ≡ plan_sizes s → IsNewCluster c ms → AreTurnedBy c s [] seed ms ns all → AreToldByTurns s (turn_orders s seed) ns all
 by_turns_of_seed s c seed ms ns all sizes new by =
-    told_by_turns s c [] seed (turn_orders s seed) by.gone.count ms ns all sizes new by refl
+    told_by_turns by.gone.count sizes new by refl
 
 -- the turns of a schedule, and of rounds behind them
 scheduled_turns : (s : Plan) (turns : List ℕ) (k : ℕ)
@@ -140,7 +139,7 @@ scheduled_turns s turns (suc k) = ap (λ ps. ps ++ turn_orders s None k) (schedu
 pub by_turns_of_schedule : (s : Plan) (c : SharedCluster) (turns : List ℕ) (ms ns : List Local) (all : List TurnProgress)
     → c.sizes ≡ plan_sizes s → IsNewCluster c ms → AreTurnedBy c s turns None ms ns all → AreToldByTurns s (scheduled s turns) ns all
 by_turns_of_schedule s c turns ms ns all sizes new by =
-    told_by_turns s c turns None (scheduled s turns) (suc by.gone.count) ms ns all sizes new by
+    told_by_turns (suc by.gone.count) sizes new by
     (scheduled_turns s turns by.gone.count)
 
 -- the report of a run by turns: all have passed the closing barrier
@@ -161,10 +160,11 @@ report_by_turns s orders ns all r told passed after = record {
 }
 
 -- the journal of one that is stuck
-halt_by_turns : (s : Plan) (c : SharedCluster) (orders : ℕ → List ℕ) (ns : List Local) (all : List TurnProgress) (halt : Halt)
-    → IsLawful s → c.sizes ≡ plan_sizes s → AreAtSteps c s.sections ns all → AreToldByTurns s orders ns all
-    → IsHaltFollowedWith s halt.journal ns → halt.processor ≡ 0 → IsHaltByTurns s orders halt
-halt_by_turns s c orders ns all halt lawful sizes way told with_calls first = record {
+halt_by_turns : {s : Plan} {c : SharedCluster}
+    {orders : ℕ → List ℕ} {ns : List Local} {all : List TurnProgress} {halt : Halt} → IsLawful s → c.sizes ≡ plan_sizes s
+    → AreAtSteps c s.sections ns all → AreToldByTurns s orders ns all → IsHaltFollowedWith s halt.journal ns
+    → halt.processor ≡ 0 → IsHaltByTurns s orders halt
+halt_by_turns {s = s} {c = c} {ns = ns} {all = all} lawful sizes way told with_calls first = record {
   journal = with_calls.is;
   least = first;
   stages = turn_stages ns all;
@@ -179,13 +179,14 @@ halt_by_turns s c orders ns all halt lawful sizes way told with_calls first = re
 }
 
 -- how it ended
-pub end_by_turns : (s : Plan) (c : SharedCluster) (orders : ℕ → List ℕ) (ns : List Local) (all : List TurnProgress) (e : Ended)
-    → IsLawful s → c.sizes ≡ plan_sizes s → AreAtSteps c s.sections ns all → AreToldByTurns s orders ns all
-    → IsEndFollowedAfter s ns all e → IsEndByTurns s orders e
-end_by_turns s c orders ns all (Whole report) lawful sizes way told after =
+pub end_by_turns : {s : Plan} {c : SharedCluster}
+    {orders : ℕ → List ℕ} {ns : List Local} {all : List TurnProgress} (e : Ended) → IsLawful s → c.sizes ≡ plan_sizes s
+    → AreAtSteps c s.sections ns all → AreToldByTurns s orders ns all → IsEndFollowedAfter s ns all e
+    → IsEndByTurns s orders e
+end_by_turns {s = s} {orders = orders} {ns = ns} {all = all} (Whole report) lawful sizes way told after =
     report_by_turns s orders ns all report told after.1 after.0
-end_by_turns s c orders ns all (Halted halt) lawful sizes way told after =
-    halt_by_turns s c orders ns all halt lawful sizes way told after.0 after.1
+end_by_turns (Halted halt) lawful sizes way told after =
+    halt_by_turns lawful sizes way told after.0 after.1
 
 -- what a run by turns came to is an end of the script
 pub end_of_turns : (s : Plan) (orders : ℕ → List ℕ) (e : Ended) → IsEndByTurns s orders e → IsEndOf s e

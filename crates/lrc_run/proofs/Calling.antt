@@ -20,13 +20,13 @@ use Rattle.lrc_run.specs.MakesCalls.{calls_made, MadeCalls, SeesMoreCalls, Tries
 use Rattle.lrc_run.proofs.SeesAndMakes.{makes_beginning_by, makes_closing_call, makes_instruction_by, makes_but, sees_after, sees_refused, sees_same, makes_same_wanted}
 
 -- a call that begins an instruction
-pub begun_call : {A : Type 0} {first : Option Refused} {many : ℕ} {absent : Local → Type 0} (k last : Kind)
-    (i : Instruction) (m n : Local) (r : Result A Refused) → is_fetch k ≡ false → AreEventsOfInstruction i (k ∷ last ∷ [])
-    → awaited k ≡ Some last → IsCall first many absent (IsClosedBy k) (event m.number k ∷ []) m n (result_err r)
-    → OnOk r (BeginsCall m n i)
-begun_call k last i m n (Ok x) plain are next call =
+pub begun_call : {A : Type 0} {first : Option Refused} {many : ℕ}
+    {absent : Local → Type 0} (k last : Kind) (i : Instruction) {m n : Local} (r : Result A Refused) → is_fetch k ≡ false
+    → AreEventsOfInstruction i (k ∷ last ∷ []) → awaited k ≡ Some last
+    → IsCall first many absent (IsClosedBy k) (event m.number k ∷ []) m n (result_err r) → OnOk r (BeginsCall m n i)
+begun_call k last i {m = m} {n = n} (Ok x) plain are next call =
     makes_beginning_by k last i m n are next (makes_closing_call k m n (Ok x) plain refl call)
-begun_call k last i m n (Err e) plain are next call = tt
+begun_call k last i (Err e) plain are next call = tt
 
 -- and one that does it
 pub done_call : {A : Type 0} {first : Option Refused} {many : ℕ} {absent : Local → Type 0} (k : Kind)

@@ -62,11 +62,11 @@ ending_parts_more (suc n) part es some own parts = (
 )
 
 -- so it does where processor 0, which had seen all, made some calls more
-pub ends_before_loads : (s : Plan) (ms : List Local) (m n : Local) (kinds : List Kind) (h : List Event) → 0 < s.processors
+pub ends_before_loads : {s : Plan} {ms : List Local} {m n : Local} {kinds : List Kind} {h : List Event} → 0 < s.processors
     → length ms ≡ s.processors → ((q : ℕ) (x : Local) → slice_get ms q ≡ Some x → x.number ≡ q) → slice_get ms 0 ≡ Some m
     → MadeCalls m n kinds → AreOfThese s.processors h → HasSeenAll ms 0 → EndsWithBlocks s (slice_set ms 0 n) h
     → EndsWithBlocks s ms h
-ends_before_loads s ms m n kinds h some many number at made these latest ends =
+ends_before_loads {s = s} {ms = ms} {m = m} {n = n} {h = h} some many number at made these latest ends =
     let ns = slice_set ms 0 n in
     let front = making_these_front s.processors h ends.front ends.blocks ends.is these in
     let part = making_part s.processors 0 ms ns m n ends.front at refl made.sees made.same.number latest many number ends.goes_on

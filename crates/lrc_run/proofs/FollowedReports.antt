@@ -93,10 +93,10 @@ first_followed_at s c ms m lawful sizes walked is =
     slice_get_read ms (length ms) 0 m refl (omega arith) is
 
 -- all have walked, and processor 0 has loaded what is shown
-pub have_followed : (s : Plan) (c : SharedCluster) (ms : List Local) (m n : Local) (shown : List (ℕ × ℕ)) → IsLawful s
+pub have_followed : {s : Plan} {c : SharedCluster} {ms : List Local} (m n : Local) {shown : List (ℕ × ℕ)} → IsLawful s
     → c.sizes ≡ plan_sizes s → AreWalked c s.sections ms → slice_get ms 0 ≡ Some m → MakesLoads m n shown
     → map (λ (x : ℕ × ℕ). x.0) shown ≡ s.shown → HaveFollowed s c (slice_set ms 0 n) shown
-have_followed s c ms m n shown lawful sizes walked at loads shows = record {
+have_followed {s = s} {c = c} {ms = ms} m n {shown = shown} lawful sizes walked at loads shows = record {
   lawful = lawful;
   sizes = sizes;
   all = record { all = length-set ms 0 n ∙ walked.all; each = own };
@@ -261,16 +261,13 @@ followed_uncut s c ms shown all none = followed_no_sum ms each
         (all.each p section m its here).uncut (none p section its)
 
 -- the report of a finished cluster whose processors followed the script
-pub report_is : (s : Plan) (c : SharedCluster) (ms : List Local) (r : Report) (o : Option (ℕ × ℕ))
+pub report_is : {s : Plan} {c : SharedCluster} {ms : List Local} {r : Report} (o : Option (ℕ × ℕ))
     → HaveFollowed s c ms r.shown.items → IsFinished c.sizes ms r.journal
-    → MatchOption o (RaceFreeFrom r.journal.base r.journal.events)
-    (λ x. IsFirstRaceFrom r.journal.base r.journal.events x.0 x.1)
-    → r.racy ≡ is_some o
-    → r.traffic.messages ≡ r.journal.base.spent.messages + messages r.journal.events
+    → MatchOption o (RaceFreeFrom r.journal.base r.journal.events) (λ x. IsFirstRaceFrom r.journal.base r.journal.events x.0 x.1)
+    → r.racy ≡ is_some o → r.traffic.messages ≡ r.journal.base.spent.messages + messages r.journal.events
     → r.traffic.records ≡ r.journal.base.spent.records + records r.journal.events
-    → r.traffic.words ≡ r.journal.base.spent.words + words r.journal.events
-    → IsReportWith s r ms
-report_is s c ms r o all finished race racy messages_are records_are words_are = record {
+    → r.traffic.words ≡ r.journal.base.spent.words + words r.journal.events → IsReportWith s r ms
+report_is {s = s} {c = c} {ms = ms} {r = r} o all finished race racy messages_are records_are words_are = record {
   is = record {
     processors = finished.journal.processors ∙ ap (λ (x : Sizes). x.processors) all.sizes;
     addresses_are = finished.journal.addresses_are ∙ ap addresses all.sizes;
@@ -335,10 +332,10 @@ report_is s c ms r o all finished race racy messages_are records_are words_are =
     first = first_followed_calls s c ms r.shown.items h all finished.each
 
 -- of the processors as they were before processor 0 loaded what is shown
-pub report_after : (s : Plan) (c : SharedCluster) (ms : List Local) (m n : Local) (r : Report) → IsLawful s
+pub report_after : {s : Plan} {c : SharedCluster} {ms : List Local} (m n : Local) {r : Report} → IsLawful s
     → c.sizes ≡ plan_sizes s → AreWalked c s.sections ms → slice_get ms 0 ≡ Some m → MakesLoads m n r.shown.items
     → IsReportWith s r (slice_set ms 0 n) → IsReportAfter s r ms
-report_after s c ms m n r lawful sizes walked at loads told =
+report_after {s = s} {c = c} {ms = ms} m n {r = r} lawful sizes walked at loads told =
     record { is = told.is; calls_are = calls_are; ends = ends }
   where
     h : List Event
@@ -353,7 +350,7 @@ report_after s c ms m n r lawful sizes walked at loads told =
 
     ends : HasSeenAll ms 0 → EndsWithBlocks s ms h
     ends ahead =
-        ends_before_loads s ms m n (map load_of r.shown.items) h lawful.but_uneven.sizes.some_processors
+        ends_before_loads lawful.but_uneven.sizes.some_processors
         (walked.all ∙ ap (λ (x : Sizes). x.processors) sizes) number at loads
         (λ k e here. (told.is.tells.well_formed k e here).processor) ahead told.ends
 

@@ -96,11 +96,10 @@ halt_begins c p m section shown (Waits n) is =
     begun.begins.are)
 
 -- each of the script's processors has a section, and is somewhere on its way through it
-halt_journal_at : (s : Plan) (c : SharedCluster) (ms : List Local) (all : List TurnProgress) → IsLawful s → c.sizes ≡ plan_sizes s
-    → AreAtSteps c s.sections ms all → (p : ℕ) (m : Local) → slice_get ms p ≡ Some m
-    → (section : List Instruction) × (at : TurnProgress) × (slice_get s.sections p ≡ Some section)
-    × IsAtStep (new_at_call c p) m section at
-halt_journal_at s c ms all lawful sizes way p m here =
+halt_journal_at : {s : Plan} {c : SharedCluster} {ms : List Local} {all : List TurnProgress} → IsLawful s
+    → c.sizes ≡ plan_sizes s → AreAtSteps c s.sections ms all → (p : ℕ) (m : Local) → slice_get ms p ≡ Some m
+    → (section : List Instruction) × (at : TurnProgress) × (slice_get s.sections p ≡ Some section) × IsAtStep (new_at_call c p) m section at
+halt_journal_at {s = s} {ms = ms} {all = all} lawful sizes way p m here =
     let within = slice_get_within ms p m here in
     let one_each = lawful.but_uneven.one_each in
     let same = ap (λ (x : Sizes). x.processors) sizes in
@@ -121,7 +120,7 @@ halted_all s c ms all lawful sizes way = record { all = way.many; each = each }
   where
     each : (p : ℕ) (m : Local) → slice_get ms p ≡ Some m → IsFinishingProcessor c p m
     each p m here =
-        let is = halt_journal_at s c ms all lawful sizes way p m here in
+        let is = halt_journal_at lawful sizes way p m here in
         let same = stepping_same_after (new_at_call c p) m is.0 is.1 is.3 in
         record { lock = same.lock; number = same.number; sizes = same.sizes }
 
@@ -137,9 +136,10 @@ halt_deadlock_last s h front well_formed (e ∷ rest, is) stuck =
     absurd (deadlock_law s front e stuck (subst (λ es. MayFollow s es e) before (well_formed (length front) e at)))
 
 -- the journal of a finished cluster whose processors are on their way
-pub halted_is : (s : Plan) (c : SharedCluster) (ms : List Local) (all : List TurnProgress) (j : Log) → IsLawful s → c.sizes ≡ plan_sizes s
-    → AreAtSteps c s.sections ms all → SeesDeadlockAtTurns ms → IsFinished c.sizes ms j → IsHaltFollowedWith s j ms
-halted_is s c ms all j lawful sizes way stuck finished = record {
+pub halted_is : {s : Plan} {c : SharedCluster} {ms : List Local} {all : List TurnProgress} {j : Log} → IsLawful s
+    → c.sizes ≡ plan_sizes s → AreAtSteps c s.sections ms all → SeesDeadlockAtTurns ms → IsFinished c.sizes ms j
+    → IsHaltFollowedWith s j ms
+halted_is {s = s} {c = c} {ms = ms} {all = all} {j = j} lawful sizes way stuck finished = record {
   is = record {
     processors = finished.journal.processors ∙ ap (λ (x : Sizes). x.processors) sizes;
     addresses_are = finished.journal.addresses_are ∙ ap addresses sizes;
@@ -174,12 +174,12 @@ halted_is s c ms all j lawful sizes way stuck finished = record {
 
     own : HasNoCutInstruction s → (p : ℕ) (m : Local) → slice_get ms p ≡ Some m → m.own_cut ≡ 0
     own none p m here =
-        let is = halt_journal_at s c ms all lawful sizes way p m here in
+        let is = halt_journal_at lawful sizes way p m here in
         halt_uncut c p m is.0 is.1 is.3 (none p is.0 is.2)
 
     wanted : (p : ℕ) (m : Local) → slice_get ms p ≡ Some m → AreCallsWanted m
     wanted p m here =
-        let is = halt_journal_at s c ms all lawful sizes way p m here in
+        let is = halt_journal_at lawful sizes way p m here in
         halt_wanted c p m is.0 is.1 is.3
 
     begins : BeginsScript s h

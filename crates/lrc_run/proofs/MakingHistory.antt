@@ -159,10 +159,10 @@ in_hand_numbers_on ms ns on number p n here =
     (on.each p before.0 n before.1 here).same.number ∙ number p before.0 before.1
 
 -- and of those who had a turn
-in_hand_numbers_turned : (sections : List (List Instruction)) (p : ℕ) (ms ns : List Local) (all to : List TurnProgress)
+in_hand_numbers_turned : {sections : List (List Instruction)} {p : ℕ} {ms ns : List Local} {all to : List TurnProgress}
     → IsOwnTurn sections p ms ns all to → ((q : ℕ) (m : Local) → slice_get ms q ≡ Some m → m.number ≡ q)
     → (q : ℕ) (n : Local) → slice_get ns q ≡ Some n → n.number ≡ q
-in_hand_numbers_turned sections p ms ns all to turn number q n here = elim (cases_eq q p) [
+in_hand_numbers_turned {p = p} {ms = ms} turn number q n here = elim (cases_eq q p) [
   | inl is ↦ (let X : ℕ → Type 0 = λ k. slice_get (slice_set ms p turn.after) k ≡ Some n in
       let P : Local → Type 0 = λ y. y.number ≡ q in
       let found : slice_get (slice_set ms p turn.after) q ≡ Some n = ap (λ xs. slice_get xs q) (sym turn.new_is) ∙ here in
@@ -184,7 +184,7 @@ pub in_hand_turned : (n : ℕ) (sections : List (List Instruction)) (p : ℕ) (m
 in_hand_turned n sections p ms ns all to hand turn = record {
   many = turn.last.all ∙ ap length turn.turn.new_is ∙ length-set turn.seen p turn.turn.after ∙ turn.first.all ∙ hand.many;
   number = in_hand_numbers_on turn.turned ns turn.last
-      (in_hand_numbers_turned sections p turn.seen turn.turned all to turn.turn
+      (in_hand_numbers_turned turn.turn
       (in_hand_numbers_on ms turn.seen turn.first hand.number));
   ahead = turn.ahead hand.ahead;
 }
@@ -203,13 +203,13 @@ in_hand_taken n sections (p ∷ ps) ms ns all to hand taken =
     in_hand_taken n sections ps taken.1 ns taken.2 to
     (in_hand_turned n sections p taken.0 taken.1 all taken.2 (in_hand_seen n ms taken.0 hand taken.3) taken.4) taken.5
 
-pub in_hand_rounds : (n : ℕ) (s : Plan) (orders : ℕ → List ℕ) (k : ℕ) (ms ns : List Local) (start all : List TurnProgress)
+pub in_hand_rounds : {n : ℕ} (s : Plan) (orders : ℕ → List ℕ) (k : ℕ) {ms ns : List Local} (start all : List TurnProgress)
     → AreInHand n ms → AreTurnRounds s orders k ms start ns all → AreInHand n ns
-in_hand_rounds n s orders zero ms ns start all hand rounds = subst (AreInHand n) (sym rounds.0) hand
-in_hand_rounds n s orders (suc k) ms ns start all hand rounds =
+in_hand_rounds {n = n} s orders zero start all hand rounds = subst (AreInHand n) (sym rounds.0) hand
+in_hand_rounds {n = n} s orders (suc k) {ns = ns} start all hand rounds =
     let round = rounds.3 in
     in_hand_seen n round.turned ns (in_hand_all_turned n s.sections (orders k) rounds.0 round.turned rounds.1 all
-    (in_hand_rounds n s orders k ms rounds.0 start rounds.1 hand rounds.2) round.turns) round.seen
+    (in_hand_rounds s orders k start rounds.1 hand rounds.2) round.turns) round.seen
 
 -- the history goes on from what each has seen, without it
 abbrev pub AllGoOn : List Local → List Event → Type 0
@@ -405,11 +405,11 @@ module _ (n p : ℕ) (ms ns : List Local) (x y : Local) (h : List Event) (at : s
       ∙ sym (followed_call_kinds-append (events_of y.seen y.number) y.block)
 
 -- a turn of one's own, by whoever had seen all
-own_turn_made : (s : Plan) (c : SharedCluster) (n p : ℕ) (ms ns : List Local) (all to : List TurnProgress) (h : List Event)
-    → c.sizes ≡ plan_sizes s → AreAtSteps c s.sections ms all → IsOwnTurn s.sections p ms ns all to → HasSeenAll ms p
-    → length ms ≡ n → ((q : ℕ) (m : Local) → slice_get ms q ≡ Some m → m.number ≡ q) → AllGoOn ns h → AreOfThese n h
-    → IsTurnMade s p ms (turn_stages ms all) (turn_stages ns to) h
-own_turn_made s c n p ms ns all to h sizes way turn latest many number goes these =
+own_turn_made : {s : Plan} {c : SharedCluster} (n : ℕ) {p : ℕ} {ms ns : List Local} {all to : List TurnProgress}
+    {h : List Event} → c.sizes ≡ plan_sizes s → AreAtSteps c s.sections ms all → IsOwnTurn s.sections p ms ns all to
+    → HasSeenAll ms p → length ms ≡ n → ((q : ℕ) (m : Local) → slice_get ms q ≡ Some m → m.number ≡ q) → AllGoOn ns h
+    → AreOfThese n h → IsTurnMade s p ms (turn_stages ms all) (turn_stages ns to) h
+own_turn_made {s = s} {c = c} n {p = p} {ms = ms} {ns = ns} {all = all} {h = h} sizes way turn latest many number goes these =
     let m = turn.before in
     let x = turn.after in
     let sees = turn_sees turn.section m x turn.at turn.next turn.takes in
@@ -446,11 +446,11 @@ making_these_front n h front part is these k e at =
     these k e (subst P (sym is) (slice_get-append_left front part k (slice_get_within front k e at) ∙ at))
 
 -- a turn between two looks
-turn_made : (s : Plan) (c : SharedCluster) (n p : ℕ) (ms ns : List Local) (all to : List TurnProgress) (h : List Event)
+turn_made : {s : Plan} {c : SharedCluster} {n p : ℕ} {ms ns : List Local} {all to : List TurnProgress} {h : List Event}
     → c.sizes ≡ plan_sizes s → AreAtSteps c s.sections ms all → AreInHand n ms → IsTurnOfRun s.sections p ms ns all to
     → AllGoOn ns h → AreOfThese n h → IsTurnMade s p ms (turn_stages ms all) (turn_stages ns to) h
-turn_made s c n p ms ns all to h sizes way hand turn goes these =
-    let made = own_turn_made s c n p turn.seen turn.turned all to h sizes (turn_way_seen c s.sections ms turn.seen all way turn.first)
+turn_made {s = s} {c = c} {n = n} {p = p} {ms = ms} {ns = ns} {all = all} {to = to} {h = h} sizes way hand turn goes these =
+    let made = own_turn_made n sizes (turn_way_seen c s.sections ms turn.seen all way turn.first)
     turn.turn (turn.latest hand.ahead) (turn.first.all ∙ hand.many) (in_hand_numbers_on ms turn.seen turn.first hand.number)
     (making_before turn.turned ns h turn.last goes) these in
     let P : List TurnStage → List TurnStage → Type 0 = λ xs ys. IsTurnAt s made.front made.part p xs ys in
@@ -486,9 +486,10 @@ turns_made_none s ms old new h same goes =
     record { front = h; rest = []; is = sym (append-nil h); turns = (refl, same); goes_on = goes }
 
 -- after a first one
-turns_made_first : (s : Plan) (p : ℕ) (ps : List ℕ) (ms between : List Local) (xs ys zs : List TurnStage) (h : List Event)
-    (later : AreTurnsMade s ps between ys zs h) → IsTurnMade s p ms xs ys later.front → AreTurnsMade s (p ∷ ps) ms xs zs h
-turns_made_first s p ps ms between xs ys zs h later one =
+turns_made_first : {s : Plan} {p : ℕ} (ps : List ℕ) {ms : List Local} (between : List Local) {xs ys zs : List TurnStage}
+    {h : List Event} (later : AreTurnsMade s ps between ys zs h) → IsTurnMade s p ms xs ys later.front
+    → AreTurnsMade s (p ∷ ps) ms xs zs h
+turns_made_first {s = s} ps between {ys = ys} {zs = zs} {h = h} later one =
     let P : List Event → Type 0 = λ es. AreScriptTurns s ps es ys h zs in
     record {
       front = one.front;
@@ -499,9 +500,10 @@ turns_made_first s p ps ms between xs ys zs h later one =
     }
 
 -- and then more
-pub turns_made_then : (s : Plan) (ps qs : List ℕ) (ms between : List Local) (xs ys zs : List TurnStage) (h : List Event)
-    (later : AreTurnsMade s qs between ys zs h) → AreTurnsMade s ps ms xs ys later.front → AreTurnsMade s (ps ++ qs) ms xs zs h
-turns_made_then s ps qs ms between xs ys zs h later first = record {
+pub turns_made_then : {s : Plan} {ps : List ℕ} (qs : List ℕ) {ms : List Local} (between : List Local)
+    {xs ys zs : List TurnStage} {h : List Event} (later : AreTurnsMade s qs between ys zs h)
+    → AreTurnsMade s ps ms xs ys later.front → AreTurnsMade s (ps ++ qs) ms xs zs h
+turns_made_then {s = s} {ps = ps} qs between {xs = xs} {ys = ys} {zs = zs} {h = h} later first = record {
   front = first.front;
   rest = first.rest ++ later.rest;
   is = later.is ∙ ap (λ es. es ++ later.rest) first.is ∙ append_assoc first.front first.rest later.rest;
@@ -510,42 +512,43 @@ turns_made_then s ps qs ms between xs ys zs h later first = record {
 }
 
 -- the turns of a round
-turned_made : (s : Plan) (c : SharedCluster) (n : ℕ) (ps : List ℕ) (ms ns : List Local) (all to : List TurnProgress) (h : List Event)
-    → c.sizes ≡ plan_sizes s → AreAtSteps c s.sections ms all → AreInHand n ms → AreTurned s.sections ps ms ns all to
-    → AllGoOn ns h → AreOfThese n h → AreTurnsMade s ps ms (turn_stages ms all) (turn_stages ns to) h
-turned_made s c n [] ms ns all to h sizes way hand turned goes these =
+turned_made : {s : Plan} {c : SharedCluster} {n : ℕ} {ps : List ℕ} {ms : List Local} (ns : List Local)
+    {all : List TurnProgress} (to : List TurnProgress) {h : List Event} → c.sizes ≡ plan_sizes s
+    → AreAtSteps c s.sections ms all → AreInHand n ms → AreTurned s.sections ps ms ns all to → AllGoOn ns h → AreOfThese n h
+    → AreTurnsMade s ps ms (turn_stages ms all) (turn_stages ns to) h
+turned_made {s = s} {ps = []} {ms = ms} ns {all = all} to {h = h} sizes way hand turned goes these =
     let P : List Local → Type 0 = λ xs. AllGoOn xs h in
     turns_made_none s ms (turn_stages ms all) (turn_stages ns to) h (ap₂ turn_stages turned.0 turned.1) (subst P turned.0 goes)
-turned_made s c n (p ∷ ps) ms ns all to h sizes way hand turned goes these =
+turned_made {s = s} {c = c} {n = n} {ps = (p ∷ ps)} {ms = ms} ns {all = all} to {h = h} sizes way hand turned goes these =
     let between = turned.0 in
     let half = turned.1 in
     let turn = turned.2 in
-    let later = turned_made s c n ps between ns half to h sizes (way_turned c s.sections p ms between all half way turn)
+    let later = turned_made ns to sizes (way_turned c s.sections p ms between all half way turn)
     (in_hand_turned n s.sections p ms between all half hand turn) turned.3 goes these in
-    turns_made_first s p ps ms between (turn_stages ms all) (turn_stages between half) (turn_stages ns to) h later
-    (turn_made s c n p ms between all half later.front sizes way hand turn later.goes_on
+    turns_made_first ps between later
+    (turn_made sizes way hand turn later.goes_on
     (making_these_front n h later.front later.rest later.is these))
 
 -- those between looks
-pub taken_made : (s : Plan) (c : SharedCluster) (n : ℕ) (ps : List ℕ) (ms ns : List Local) (all to : List TurnProgress)
-    (h : List Event) → c.sizes ≡ plan_sizes s → AreAtSteps c s.sections ms all → AreInHand n ms
-    → AreTaken s.sections ps ms ns all to → AllGoOn ns h → AreOfThese n h
+pub taken_made : {s : Plan} {c : SharedCluster} {n : ℕ} {ps : List ℕ} {ms : List Local} (ns : List Local)
+    {all : List TurnProgress} (to : List TurnProgress) {h : List Event} → c.sizes ≡ plan_sizes s
+    → AreAtSteps c s.sections ms all → AreInHand n ms → AreTaken s.sections ps ms ns all to → AllGoOn ns h → AreOfThese n h
     → AreTurnsMade s ps ms (turn_stages ms all) (turn_stages ns to) h
-taken_made s c n [] ms ns all to h sizes way hand taken goes these =
+taken_made {s = s} {ps = []} {ms = ms} ns {all = all} to {h = h} sizes way hand taken goes these =
     turns_made_none s ms (turn_stages ms all) (turn_stages ns to) h
     (ap (turn_stages ns) taken.1 ∙ turn_stages_seen ms ns all taken.0.on) (making_before ms ns h taken.0.on goes)
-taken_made s c n (p ∷ ps) ms ns all to h sizes way hand taken goes these =
+taken_made {s = s} {c = c} {n = n} {ps = (p ∷ ps)} {ms = ms} ns {all = all} to {h = h} sizes way hand taken goes these =
     let seen = taken.0 in
     let between = taken.1 in
     let half = taken.2 in
     let on = turn_way_seen c s.sections ms seen all way taken.3.on in
     let held = in_hand_seen n ms seen hand taken.3 in
-    let later = taken_made s c n ps between ns half to h sizes (way_turned c s.sections p seen between all half on taken.4)
+    let later = taken_made ns to sizes (way_turned c s.sections p seen between all half on taken.4)
     (in_hand_turned n s.sections p seen between all half held taken.4) taken.5 goes these in
-    let one = turn_made s c n p seen between all half later.front sizes on held taken.4 later.goes_on
+    let one = turn_made sizes on held taken.4 later.goes_on
     (making_these_front n h later.front later.rest later.is these) in
     let P : List TurnStage → Type 0 = λ xs. IsTurnAt s one.front one.part p xs (turn_stages between half) in
-    turns_made_first s p ps ms between (turn_stages ms all) (turn_stages between half) (turn_stages ns to) h later (record {
+    turns_made_first ps between later (record {
       front = one.front;
       part = one.part;
       is = one.is;
@@ -554,27 +557,26 @@ taken_made s c n (p ∷ ps) ms ns all to h sizes way hand taken goes these =
     })
 
 -- rounds
-pub rounds_made : (s : Plan) (c : SharedCluster) (n : ℕ) (orders : ℕ → List ℕ) (k : ℕ) (ms ns : List Local)
-    (start all : List TurnProgress) (h : List Event) → c.sizes ≡ plan_sizes s → AreAtSteps c s.sections ms start
-    → AreInHand n ms → AreTurnRounds s orders k ms start ns all → AllGoOn ns h → AreOfThese n h
-    → AreTurnsMade s (turns_of orders k) ms (turn_stages ms start) (turn_stages ns all) h
-rounds_made s c n orders zero ms ns start all h sizes way hand rounds goes these =
+pub rounds_made : {s : Plan} {c : SharedCluster} {n : ℕ}
+    (orders : ℕ → List ℕ) (k : ℕ) {ms : List Local} (ns : List Local) {start : List TurnProgress} (all : List TurnProgress) {h : List Event}
+    → c.sizes ≡ plan_sizes s → AreAtSteps c s.sections ms start → AreInHand n ms → AreTurnRounds s orders k ms start ns all
+    → AllGoOn ns h → AreOfThese n h → AreTurnsMade s (turns_of orders k) ms (turn_stages ms start) (turn_stages ns all) h
+rounds_made {s = s} orders zero {ms = ms} ns {start = start} all {h = h} sizes way hand rounds goes these =
     let P : List Local → Type 0 = λ xs. AllGoOn xs h in
     turns_made_none s ms (turn_stages ms start) (turn_stages ns all) h (ap₂ turn_stages rounds.0 rounds.1) (subst P rounds.0 goes)
-rounds_made s c n orders (suc k) ms ns start all h sizes way hand rounds goes these =
+rounds_made {s = s} {n = n} orders (suc k) {ms = ms} ns {start = start} all {h = h} sizes way hand rounds goes these =
     let between = rounds.0 in
     let half = rounds.1 in
     let round = rounds.3 in
-    let on = turn_way_rounds c s orders k ms between start half way rounds.2 in
-    let held = in_hand_rounds n s orders k ms between start half hand rounds.2 in
-    let last = turned_made s c n (orders k) between round.turned half all h sizes on held round.turns
+    let on = turn_way_rounds s orders k way rounds.2 in
+    let held = in_hand_rounds s orders k start half hand rounds.2 in
+    let last = turned_made round.turned all sizes on held round.turns
     (making_before round.turned ns h round.seen.on goes) these in
-    let first = rounds_made s c n orders k ms between start half last.front sizes way hand rounds.2 last.goes_on
+    let first = rounds_made orders k between half sizes way hand rounds.2 last.goes_on
     (making_these_front n h last.front last.rest last.is these) in
     let P : List TurnStage → Type 0 = λ xs. AreTurnsMade s (turns_of orders k ++ orders k) ms (turn_stages ms start) xs h in
     subst P (sym (turn_stages_seen round.turned ns all round.seen.on))
-    (turns_made_then s (turns_of orders k) (orders k) ms between (turn_stages ms start) (turn_stages between half)
-    (turn_stages round.turned all) h last first)
+    (turns_made_then (orders k) between last first)
 
 -- before the first call there is nothing
 pub making_start : (c : SharedCluster) (ms : List Local) (h : List Event) → IsNewCluster c ms → AllGoOn ms h

@@ -80,12 +80,12 @@ stepping_start c sections ms all new long first = record { many = new.all; long 
         subst P (sym (first p at there)) (none, omega arith)
 
 -- after the turn of one processor
-pub stepping_turned : (c : SharedCluster) (sections : List (List Instruction)) (ms : List Local) (all : List TurnProgress) (p : ℕ)
-    (section : List Instruction) (m n : Local) (at to : TurnProgress) → AreAtSteps c sections ms all
+pub stepping_turned : {c : SharedCluster} {sections : List (List Instruction)} {ms : List Local} {all : List TurnProgress}
+    (p : ℕ) (section : List Instruction) (m n : Local) (at to : TurnProgress) → AreAtSteps c sections ms all
     → slice_get sections p ≡ Some section → slice_get ms p ≡ Some m → slice_get all p ≡ Some at
     → ((start : Local) → IsAtStep start m section at → IsAtStep start n section to)
     → AreAtSteps c sections (slice_set ms p n) (slice_set all p to)
-stepping_turned c sections ms all p section m n at to way its here there turned = record {
+stepping_turned {c = c} {sections = sections} {ms = ms} {all = all} p section m n at to way its here there turned = record {
   many = length-set ms p n ∙ way.many;
   long = length-set all p to ∙ way.long;
   each = each;
@@ -139,9 +139,9 @@ stepping_begin c sections ms all n new many are = stepping_start c sections ms a
     (λ p at here. sym (slice_get-replicate_found n (Next 0) at p (ap (λ xs. slice_get xs p) (sym are) ∙ here)))
 
 -- each that is on its way is the cluster's
-pub stepping_own_at : (s : Plan) (c : SharedCluster) (ms : List Local) (all : List TurnProgress) (p : ℕ) (m : Local) → IsLawful s
-    → c.sizes ≡ plan_sizes s → AreAtSteps c s.sections ms all → slice_get ms p ≡ Some m → m.lock ≡ c.lock
-stepping_own_at s c ms all p m lawful sizes way here =
+pub stepping_own_at : {s : Plan} {c : SharedCluster} {ms : List Local} {all : List TurnProgress} (p : ℕ) (m : Local)
+    → IsLawful s → c.sizes ≡ plan_sizes s → AreAtSteps c s.sections ms all → slice_get ms p ≡ Some m → m.lock ≡ c.lock
+stepping_own_at {s = s} {c = c} {ms = ms} {all = all} p m lawful sizes way here =
     let inside = slice_get_within ms p m here in
     let one_each = lawful.but_uneven.one_each in
     let same = ap (λ (x : Sizes). x.processors) sizes in
@@ -155,13 +155,11 @@ stepping_own_at s c ms all p m lawful sizes way here =
     (way.each p section m at (slice_get-get_or s.sections p [] listed) here (slice_get-get_or all p Passed known))).lock
 
 -- the section that is read at this place
-pub stepping_section_read : (s : Plan) (c : SharedCluster) (ms : List Local) (all : List TurnProgress)
-    (sections : List (Vec Instruction)) (p : ℕ)
-    (v : Vec Instruction) (section : List Instruction) → IsLawful s → c.sizes ≡ plan_sizes s
-    → s.sections ≡ plan_sections sections
-    → AreAtSteps c s.sections ms all → p < length ms → v ≡ get_or sections p v → section ≡ v.items
-    → slice_get (plan_sections sections) p ≡ Some section
-stepping_section_read s c ms all sections p v section lawful sizes are way inside read is =
+pub stepping_section_read : {s : Plan} {c : SharedCluster} {ms : List Local} {all : List TurnProgress}
+    (sections : List (Vec Instruction)) (p : ℕ) (v : Vec Instruction) {section : List Instruction} → IsLawful s
+    → c.sizes ≡ plan_sizes s → s.sections ≡ plan_sections sections → AreAtSteps c s.sections ms all → p < length ms
+    → v ≡ get_or sections p v → section ≡ v.items → slice_get (plan_sections sections) p ≡ Some section
+stepping_section_read sections p v lawful sizes are way inside read is =
     let one_each = lawful.but_uneven.one_each in
     let same = ap (λ (x : Sizes). x.processors) sizes in
     let many = way.many in

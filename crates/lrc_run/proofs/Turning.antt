@@ -27,14 +27,14 @@ use Rattle.lrc_run.proofs.SeesAndMakes.{sees_same_processor, sees_same, sees_the
 use Rattle.lrc_run.proofs.Stepping.{stepping_after_instruction, stepping_after_look, stepping_turned}
 
 -- one turn more
-pub turned_more : (sections : List (List Instruction)) (ps : List ℕ) (p : ℕ) (ms ns os : List Local)
-    (all to end : List TurnProgress) → AreTurned sections ps ms ns all to → IsTurnOfRun sections p ns os to end
-    → AreTurned sections (ps ++ p ∷ []) ms os all end
-turned_more sections [] p ms ns os all to end first next =
+pub turned_more : {sections : List (List Instruction)} (ps : List ℕ) {p : ℕ} (ms : List Local) {ns os : List Local}
+    (all : List TurnProgress) {to end : List TurnProgress} → AreTurned sections ps ms ns all to
+    → IsTurnOfRun sections p ns os to end → AreTurned sections (ps ++ p ∷ []) ms os all end
+turned_more {sections = sections} [] {p = p} ms {os = os} all {end = end} first next =
     let P : List Local → List TurnProgress → Type 0 = λ xs ys. IsTurnOfRun sections p xs os ys end in
     (os, end, subst₂ P first.0 first.1 next, (refl, refl))
-turned_more sections (q ∷ ps) p ms ns os all to end first next =
-    (first.0, first.1, first.2, turned_more sections ps p first.0 ns os first.1 to end first.3 next)
+turned_more (q ∷ ps) ms all first next =
+    (first.0, first.1, first.2, turned_more ps first.0 first.1 first.3 next)
 
 -- whoever goes on is the same processor
 turn_way_same : (m x : Local) (i : Instruction) (done : Bool) → IsOnItsWay m x i done → IsSameProcessorOfCall m x
@@ -142,7 +142,7 @@ pub way_own_turned : (c : SharedCluster) (sections : List (List Instruction)) (p
 way_own_turned c sections p ms ns all to way turn =
     let P : List Local → List TurnProgress → Type 0 = λ xs ys. AreAtSteps c sections xs ys in
     subst₂ P (sym turn.new_is) (sym turn.to_is)
-    (stepping_turned c sections ms all p turn.section turn.before turn.after turn.at turn.next way turn.section_is
+    (stepping_turned p turn.section turn.before turn.after turn.at turn.next way turn.section_is
     turn.before_is turn.at_is
     (λ start at. at_turned start turn.before turn.after turn.section turn.at turn.next at turn.takes))
 
@@ -165,15 +165,16 @@ ways_turned c sections (p ∷ ps) ms ns all to way turned =
     turned.3
 
 -- where all are after rounds
-pub turn_way_rounds : (c : SharedCluster) (s : Plan) (orders : ℕ → List ℕ) (k : ℕ) (ms ns : List Local) (start all : List TurnProgress)
-    → AreAtSteps c s.sections ms start → AreTurnRounds s orders k ms start ns all → AreAtSteps c s.sections ns all
-turn_way_rounds c s orders zero ms ns start all way rounds =
+pub turn_way_rounds : {c : SharedCluster} (s : Plan)
+    (orders : ℕ → List ℕ) (k : ℕ) {ms ns : List Local} {start all : List TurnProgress} → AreAtSteps c s.sections ms start
+    → AreTurnRounds s orders k ms start ns all → AreAtSteps c s.sections ns all
+turn_way_rounds {c = c} s orders zero way rounds =
     let P : List Local → List TurnProgress → Type 0 = λ xs ys. AreAtSteps c s.sections xs ys in
     subst₂ P (sym rounds.0) (sym rounds.1) way
-turn_way_rounds c s orders (suc k) ms ns start all way rounds =
+turn_way_rounds {c = c} s orders (suc k) {ns = ns} {all = all} way rounds =
     let round = rounds.3 in
     turn_way_seen c s.sections round.turned ns all (ways_turned c s.sections (orders k) rounds.0 round.turned rounds.1 all
-    (turn_way_rounds c s orders k ms rounds.0 start rounds.1 way rounds.2) round.turns) round.seen.on
+    (turn_way_rounds s orders k way rounds.2) round.turns) round.seen.on
 
 -- who did nothing saw on
 pub turning_sees_more : (m n : Local) → m ≡ n → SeesOnlyMore m n
@@ -236,11 +237,12 @@ before_turn_rounds c s seed ms all generator way is =
     record { gone = record { way = way; count = 0; rounds = (refl, refl) }; drawn_is = is }
 
 -- and after one more
-pub next_turn_round : (c : SharedCluster) (s : Plan) (seed : Option ℕ) (ms ns turned os : List Local) (start all to : List TurnProgress)
-    (old new : Option Lcg) (n : ℕ) (list : List ℕ) → c.sizes ≡ plan_sizes s → n ≡ c.sizes.processors
-    → IsBetweenTurns c s seed ms ns start all old → list ≡ (order_drawn old n).0 → new ≡ (order_drawn old n).1
-    → AreTurned s.sections list ns turned all to → AreSeenAfterTurns turned os → IsBetweenTurns c s seed ms os start to new
-next_turn_round c s seed ms ns turned os start all to old new n list sizes many was order state turns seen =
+pub next_turn_round : {c : SharedCluster} {s : Plan} {seed : Option ℕ} {ms ns turned os : List Local}
+    {start all to : List TurnProgress} {old new : Option Lcg} {n : ℕ} (list : List ℕ) → c.sizes ≡ plan_sizes s
+    → n ≡ c.sizes.processors → IsBetweenTurns c s seed ms ns start all old → list ≡ (order_drawn old n).0
+    → new ≡ (order_drawn old n).1 → AreTurned s.sections list ns turned all to → AreSeenAfterTurns turned os
+    → IsBetweenTurns c s seed ms os start to new
+next_turn_round {c = c} {s = s} {seed = seed} {ns = ns} {turned = turned} {os = os} {all = all} {to = to} {new = new} list sizes many was order state turns seen =
     let count = many ∙ ap (λ (x : Sizes). x.processors) sizes in
     let gone = was.gone in
     let k = gone.count in
@@ -355,10 +357,11 @@ turning_changed ms p x P new others q y here = elim (cases_eq q p) [
 ]
 
 -- those of one lock are of it still, once one of them had its turn
-pub turning_locks : (lock : ChairLockId) (ms : List Local) (p : ℕ) (m x : Local) (section : List Instruction) (at to : TurnProgress)
-    → slice_get ms p ≡ Some m → TakesTurn section m at x to → ((q : ℕ) (y : Local) → slice_get ms q ≡ Some y → y.lock ≡ lock)
-    → (q : ℕ) (y : Local) → slice_get (slice_set ms p x) q ≡ Some y → y.lock ≡ lock
-turning_locks lock ms p m x section at to here takes locks =
+pub turning_locks : {lock : ChairLockId} (ms : List Local) (p : ℕ) (m x : Local) (section : List Instruction)
+    (at to : TurnProgress) → slice_get ms p ≡ Some m → TakesTurn section m at x to
+    → ((q : ℕ) (y : Local) → slice_get ms q ≡ Some y → y.lock ≡ lock) → (q : ℕ) (y : Local)
+    → slice_get (slice_set ms p x) q ≡ Some y → y.lock ≡ lock
+turning_locks {lock = lock} ms p m x section at to here takes locks =
     turning_changed ms p x (λ y. y.lock ≡ lock) ((turn_same section m x at to takes).lock ∙ locks p m here) locks
 
 -- the first of those who are there
@@ -383,9 +386,9 @@ caught_up_latest ms ns p up ahead m at q x here =
     subst Q mine all
 
 -- and then the first has, once it caught up with who had its turn then
-caught_up_ahead : (sections : List (List Instruction)) (ms ns os : List Local) (p : ℕ) (all to : List TurnProgress)
+caught_up_ahead : {sections : List (List Instruction)} {ms ns os : List Local} {p : ℕ} {all to : List TurnProgress}
     → HasSeenAll ms p → IsOwnTurn sections p ms ns all to → IsCaughtUp ns 0 p os → HasSeenAll os 0
-caught_up_ahead sections ms ns os p all to latest turn up m at q x here =
+caught_up_ahead {ms = ms} {ns = ns} {p = p} {all = all} latest turn up m at q x here =
     let within = slice_get_within ms p turn.before turn.before_is in
     let M : List Local → Type 0 = λ xs. slice_get xs 0 ≡ Some m in
     let X : List Local → Type 0 = λ xs. slice_get xs q ≡ Some x in
@@ -406,15 +409,15 @@ caught_up_ahead sections ms ns os p all to latest turn up m at q x here =
     subst R mine all
 
 -- a turn between two looks
-pub turning_in_hand : (sections : List (List Instruction)) (ms seen turned ns : List Local) (p : ℕ) (all to : List TurnProgress)
-    → IsCaughtUp ms p 0 seen → IsOwnTurn sections p seen turned all to → IsCaughtUp turned 0 p ns
-    → IsTurnOfRun sections p ms ns all to
-turning_in_hand sections ms seen turned ns p all to before turn after = record {
+pub turning_in_hand : {sections : List (List Instruction)} {ms seen turned ns : List Local} {p : ℕ}
+    {all to : List TurnProgress} → IsCaughtUp ms p 0 seen → IsOwnTurn sections p seen turned all to
+    → IsCaughtUp turned 0 p ns → IsTurnOfRun sections p ms ns all to
+turning_in_hand {ms = ms} {seen = seen} {turned = turned} {ns = ns} {p = p} before turn after = record {
   seen = seen;
   turned = turned;
   first = caught_up_on ms seen p 0 before;
   turn = turn;
   last = caught_up_on turned ns 0 p after;
   latest = caught_up_latest ms seen p before;
-  ahead = λ ahead. caught_up_ahead sections seen turned ns p all to (caught_up_latest ms seen p before ahead) turn after;
+  ahead = λ ahead. caught_up_ahead (caught_up_latest ms seen p before ahead) turn after;
 }

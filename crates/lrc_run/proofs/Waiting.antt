@@ -1,18 +1,17 @@
 -- What a call that waits leaves as it was.
-use Rattle.std.proofs.Common.{ℕ, ◌≡◌, ◌++◌, Bool, Option, Some, None, Result, Ok, List, slice_get, slice_set, inl, inr, refl, ap, subst, subst₂, sym, ◌∙◌}
+use Rattle.std.proofs.Common.{ℕ, ◌≡◌, ◌++◌, Bool, Option, Some, None, Result, List, slice_get, slice_set, inl, inr, refl, ap, subst, subst₂, sym, ◌∙◌}
 use Rattle.std.proofs.lemmas.Bool.{cases_eq}
 use Rattle.std.proofs.lemmas.List.{length-set}
-use Rattle.std.proofs.lemmas.Option.{same_Some, slice_get_within}
-use Rattle.base.proofs.SliceSets.{slice_get-set_found, slice_get-set_other, slice_get-set_same}
+use Rattle.std.proofs.lemmas.Option.{same_Some}
+use Rattle.base.proofs.SliceSets.{slice_get-set_found, slice_get-set_other}
 use Rattle.journal.specs.declared.event.Kind.{Kind}
 use Rattle.book.specs.declared.refused.Refused.{Refused}
 use Rattle.cluster.specs.Copies.Local.{Local, calls}
 use Rattle.cluster.specs.declared.waited.Waited.{Waited}
-use Rattle.cluster.specs.declared.waited.Waited.TheVariants.{Stuck}
 use Rattle.cluster.specs.Refusals.{flush_refusal}
 use Rattle.cluster.specs.Waiting.{IsWaitingCall}
 use Rattle.cluster.specs.Taking.{taking_awaited_event}
-use Rattle.lrc_run.specs.Turns.{AreSeenAfterTurns, HasSeenAll, SeesDeadlockAtTurns, SeesOnlyMore}
+use Rattle.lrc_run.specs.Turns.{AreSeenAfterTurns, HasSeenAll, SeesOnlyMore}
 use Rattle.lrc_run.specs.MakesCalls.{SeesMoreCalls, TriedTake}
 use Rattle.lrc_run.proofs.SeesAndMakes.{sees_same_processor, sees_same, sees_then}
 use Rattle.lrc_run.proofs.Turning.{turning_same_on}

@@ -22,7 +22,7 @@ report-requires-after_bounds g c κs within =
     let m = c.index_mut.result.now in
     let at = first_followed_at s c.args.cluster ms m c.requires.lawful c.requires.sizes c.requires.walked
     c.index_mut.ensures.value in
-    (have_followed s c.args.cluster ms m c.show.new.processor c.in_ok-shown.shown.items c.requires.lawful
+    (have_followed m c.show.new.processor c.requires.lawful
     c.requires.sizes
     c.requires.walked at c.in_ok-shown.ensures.ok (c.in_ok-shown.ensures.addresses ∙ c.deref.ensures.value)).all
 
@@ -34,9 +34,9 @@ returns g c =
     let n = c.show.new.processor in
     let at = first_followed_at s c.args.cluster ms m c.requires.lawful c.requires.sizes c.requires.walked
     c.index_mut.ensures.value in
-    let told = c.in_ok-report.ensures s (have_followed s c.args.cluster ms m n c.in_ok-shown.shown.items
+    let told = c.in_ok-report.ensures s (have_followed m n
     c.requires.lawful c.requires.sizes c.requires.walked at c.in_ok-shown.ensures.ok
     (c.in_ok-shown.ensures.addresses ∙ c.deref.ensures.value)) in
     let P : Vec (ℕ × ℕ) → Type 0 = λ v. MakesLoads m n v.items in
-    report_after s c.args.cluster ms m n _ c.requires.lawful c.requires.sizes c.requires.walked at
+    report_after m n c.requires.lawful c.requires.sizes c.requires.walked at
     (subst P (sym told.1) c.in_ok-shown.ensures.ok) told.0

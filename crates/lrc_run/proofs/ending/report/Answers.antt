@@ -4,7 +4,7 @@ use Rattle.lrc_run.proofs.ending.report.Goals as goal
 
 pub returns : goal.returns
 returns g c = λ s all. (
-  report_is s c.args.cluster c.args.processors.items _ c.in_ok-first_race.field-0 all c.finish-journal.ensures
+  report_is c.in_ok-first_race.field-0 all c.finish-journal.ensures
       c.in_ok-first_race.ensures.first c.is_some-racy.ensures
       c.traffic-traffic.ensures.messages c.traffic-traffic.ensures.records c.traffic-traffic.ensures.words,
   refl,

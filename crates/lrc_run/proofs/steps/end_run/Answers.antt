@@ -19,7 +19,7 @@ finish-journal-requires-after_bounds g c κs within =
 
 pub returns-clause-end : goal.returns-clause-end
 returns-clause-end g c = (
-  halted_is (plan_of c.args.script.now) c.args.cluster _ c.args.all.now _ c.requires.lawful c.requires.sizes
+  halted_is c.requires.lawful c.requires.sizes
       c.requires.way (c.requires.stuck c.if-passed.false) c.finish-journal.ensures,
   refl,
 )

@@ -32,7 +32,7 @@ is_stuck-requires-clause-own g c κs within = λ m here.
     let way = ways_turned c.args.cluster.now s.sections c.deref.result.now c.loop.processors.items
     c.round.new.processors.items c.loop.all.items c.round.new.all.items c.loop.invariant.between.gone.way
     c.in_ok-moved.ensures.turns in
-    stepping_own_at s c.args.cluster.now c.round.new.processors.items c.round.new.all.items 0 m c.requires.lawful
+    stepping_own_at 0 m c.requires.lawful
     c.requires.sizes way here
 
 pub is_stuck-requires-clause-some : goal.is_stuck-requires-clause-some
@@ -58,8 +58,7 @@ returns-then-branch-clause-gone g c =
     let fits : c.loop.list.len ≡ length order = omega (arith, c.draw.ensures.below.1, c.deref_mut.ensures.len) in
     let drawn_is : list ≡ order =
     c.deref.ensures.value ∙ ap (λ k. take k (order ++ rest)) fits ∙ take-append_seam order rest in
-    let next = next_turn_round c.args.cluster.now s c.args.seed c.args.processors.now.items c.loop.processors.items turned os
-    c.args.all.now.items c.loop.all.items c.round.new.all.items c.loop.generator c.draw.new.generator n list
+    let next = next_turn_round list
     c.requires.sizes many c.loop.invariant.between (drawn_is ∙ c.draw.ensures.list) c.draw.ensures.state
     c.in_ok-moved.ensures.turns c.is_stuck.ensures.seen in
     next.gone
@@ -82,8 +81,7 @@ loop-preserved g c =
     let fits : c.loop.list.len ≡ length order = omega (arith, c.draw.ensures.below.1, c.deref_mut.ensures.len) in
     let drawn_is : list ≡ order =
     c.deref.ensures.value ∙ ap (λ k. take k (order ++ rest)) fits ∙ take-append_seam order rest in
-    let next = next_turn_round c.args.cluster.now s c.args.seed c.args.processors.now.items c.loop.processors.items turned os
-    c.args.all.now.items c.loop.all.items c.round.new.all.items c.loop.generator c.draw.new.generator n list
+    let next = next_turn_round list
     c.requires.sizes many c.loop.invariant.between (drawn_is ∙ c.draw.ensures.list) c.draw.ensures.state
     c.in_ok-moved.ensures.turns c.is_stuck.ensures.seen in
     record { between = next; long = search rules }

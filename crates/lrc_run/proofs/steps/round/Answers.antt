@@ -17,8 +17,7 @@ loop-p-preserved g c =
       way = way_turned c.args.cluster.now sections _ c.loop-p.processors.items c.turn_at.new.processors.items
           c.loop-p.all.items c.turn_at.new.all.items was.way turn;
       turned = rw (add-one, take-suc_at list k _ at)
-          (turned_more sections (take k list) _ c.args.processors.now.items c.loop-p.processors.items
-          c.turn_at.new.processors.items c.args.all.now.items c.loop-p.all.items c.turn_at.new.all.items was.turned
+          (turned_more (take k list) c.args.processors.now.items c.args.all.now.items was.turned
           turn);
       long = c.turn_at.ensures.long ∙ was.long;
     }

@@ -30,8 +30,8 @@ returns-clause-end g c =
     let gone = c.in_ok-passed.ensures.gone in
     let orders = turn_orders s c.args.seed in
     let told = by_turns_of_seed s cluster c.args.seed ms ns all sizes new
-    (by_turns_in_rounds s cluster c.args.seed ms ns start all c.len.result sizes new many c.in_ok-all.ensures.ok gone) in
+    (by_turns_in_rounds c.len.result sizes new many c.in_ok-all.ensures.ok gone) in
     let P : List TurnProgress → Type 0 = λ xs. IfOk c.end_run.result (IsEndFollowedAfter s ns xs) in
     failing_ok_as c.end_run.result (IsEndFollowedAfter s ns all) (IsEndByTurns s orders)
-    (λ e after. end_by_turns s cluster orders ns all e c.requires.lawful sizes gone.way told after)
+    (λ e after. end_by_turns e c.requires.lawful sizes gone.way told after)
     (subst P c.deref.ensures.value c.end_run.ensures.end)

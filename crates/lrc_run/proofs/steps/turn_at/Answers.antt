@@ -21,7 +21,7 @@ way_seen g c =
 
 pub catch_up_with_first-requires-clause-own : goal.catch_up_with_first-requires-clause-own
 catch_up_with_first-requires-clause-own g c κs within = λ q m here.
-    stepping_own_at (plan_of c.args.script.now) c.args.cluster.now c.args.processors.now.items c.args.all.now.items q m
+    stepping_own_at q m
     c.requires.lawful c.requires.sizes c.requires.way here
 
 pub take_turn-requires-clause-own : goal.take_turn-requires-clause-own
@@ -32,7 +32,7 @@ take_turn-requires-clause-own g c κs within =
     let on = caught_up_on c.args.processors.now.items seen p 0 c.catch_up_with_first.ensures in
     let same = on.all in
     let inside : p < length seen = omega (arith, c.requires.within) in
-    stepping_own_at (plan_of c.args.script.now) c.args.cluster.now seen c.args.all.now.items p m c.requires.lawful c.requires.sizes
+    stepping_own_at p m c.requires.lawful c.requires.sizes
     (way_seen g (goal.at.take_turn-requires-clause-own g c).After-catch_up_with_first)
     (slice_get_read seen (length seen) p m refl inside c.index_mut.ensures.value)
 
@@ -45,9 +45,9 @@ catch_first_up-requires-clause-own g c κs within =
     let same = on.all in
     let inside : p < length seen = omega (arith, c.requires.within) in
     let way = way_seen g (goal.at.catch_first_up-requires-clause-own g c).After-catch_up_with_first in
-    turning_locks c.args.cluster.now.lock seen p m c.take_turn.new.processor c.deref.result.now c.index.result.now c.in-Ok.outcome.0
+    turning_locks seen p m c.take_turn.new.processor c.deref.result.now c.index.result.now c.in-Ok.outcome.0
     (slice_get_read seen (length seen) p m refl inside c.index_mut.ensures.value) c.in-Ok.ensures.turn (λ q x here.
-    stepping_own_at (plan_of c.args.script.now) c.args.cluster.now seen c.args.all.now.items q x c.requires.lawful
+    stepping_own_at q x c.requires.lawful
     c.requires.sizes way here)
 
 pub returns-in-Ok-clause-turn : goal.returns-in-Ok-clause-turn
@@ -71,8 +71,8 @@ returns-in-Ok-clause-turn g c =
       after = c.take_turn.new.processor;
       at = at;
       next = c.in-Ok.outcome.0;
-      section_is = stepping_section_read s c.args.cluster.now ms all c.args.script.now.sections.items p
-          c.index-section.result.now section c.requires.lawful c.requires.sizes refl c.requires.way inside
+      section_is = stepping_section_read c.args.script.now.sections.items p
+          c.index-section.result.now c.requires.lawful c.requires.sizes refl c.requires.way inside
           c.index-section.ensures c.deref.ensures.value;
       before_is = slice_get_read seen (length seen) p m refl within c.index_mut.ensures.value;
       at_is = stepping_progress_read c.args.cluster.now s.sections ms all p at c.requires.way inside c.index.ensures;
@@ -80,8 +80,7 @@ returns-in-Ok-clause-turn g c =
       new_is = refl;
       to_is = refl;
     } in
-    turning_in_hand s.sections ms seen (slice_set seen p c.take_turn.new.processor) c.catch_first_up.new.processors.items p all
-    (slice_set all p c.in-Ok.outcome.0) c.catch_up_with_first.ensures turn c.catch_first_up.ensures
+    turning_in_hand c.catch_up_with_first.ensures turn c.catch_first_up.ensures
 
 pub returns-in-Ok-clause-vain : goal.returns-in-Ok-clause-vain
 returns-in-Ok-clause-vain g c = λ no.

@@ -1,6 +1,5 @@
-use Rattle.std.proofs.Common.{◌≡◌, None, List, length, subst, arith}
+use Rattle.std.proofs.Common.{◌≡◌, List, length, subst, arith}
 use Rattle.lrc_script.specs.Plan.{plan_of}
-use Rattle.conformance.specs.Schedules.{scheduled}
 use Rattle.conformance.specs.declared.progress.TurnProgress.{TurnProgress}
 use Rattle.lrc_run.specs.FollowedReports.{IsEndFollowedAfter}
 use Rattle.lrc_run.proofs.ByTurns.{by_turns_of_schedule, by_turns_taken, end_by_turns}
@@ -32,6 +31,6 @@ returns-clause-end g c =
     let Q : List TurnProgress → Type 0 = λ xs. IsEndFollowedAfter s ns xs c.in_ok-ended.ended in
     let after = subst Q c.deref.ensures.value c.in_ok-ended.ensures.end in
     let told = by_turns_of_schedule s cluster turns ms ns all sizes new
-    (by_turns_taken s cluster turns None ms between ns start half all c.len.result sizes new many c.in_ok-all.ensures.ok
+    (by_turns_taken start c.len.result sizes new many c.in_ok-all.ensures.ok
     c.in_ok-turns.ensures.taken gone) in
-    end_by_turns s cluster (scheduled s turns) ns all c.in_ok-ended.ended c.requires.lawful sizes gone.way told after
+    end_by_turns c.in_ok-ended.ended c.requires.lawful sizes gone.way told after

@@ -1,6 +1,5 @@
-use Rattle.std.proofs.Common.{◌≡◌, ℕ, None, List, length, subst, arith}
+use Rattle.std.proofs.Common.{◌≡◌, ℕ, List, length, subst, arith}
 use Rattle.lrc_script.specs.Plan.{plan_of}
-use Rattle.conformance.specs.Schedules.{scheduled}
 use Rattle.conformance.specs.declared.progress.TurnProgress.{TurnProgress}
 use Rattle.lrc_run.specs.FollowedReports.{IsEndFollowedAfter}
 use Rattle.lrc_run.specs.Turns.{AreTaken}
@@ -35,6 +34,6 @@ returns-clause-end g c =
     let Q : List TurnProgress → Type 0 = λ xs. IsEndFollowedAfter s ns xs c.in_ok-end_run.field-0 in
     let after = subst Q c.deref-2.ensures.value c.in_ok-end_run.ensures.end in
     let told = by_turns_of_schedule s cluster turns ms ns all sizes new
-    (by_turns_taken s cluster turns None ms between ns start half all c.len.result sizes new many c.in_ok-all.ensures.ok taken
+    (by_turns_taken start c.len.result sizes new many c.in_ok-all.ensures.ok taken
     gone) in
-    end_by_turns s cluster (scheduled s turns) ns all c.in_ok-end_run.field-0 c.requires.lawful sizes gone.way told after
+    end_by_turns c.in_ok-end_run.field-0 c.requires.lawful sizes gone.way told after

@@ -29,18 +29,15 @@ returns-in-Cut-clause-ok g c = rw c.in-Cut.is c.cut.ensures.ok
 
 pub returns-in-Acquire-clause-ok : goal.returns-in-Acquire-clause-ok
 returns-in-Acquire-clause-ok g c =
-    rw c.in-Acquire.is (begun_call (kind.Ask c.in-Acquire.lock) (kind.Acquire c.in-Acquire.lock) (instruction.Acquire c.in-Acquire.lock) c.args.processor.now
-    c.ask.new.processor c.ask.result refl refl refl c.ask.ensures)
+    rw c.in-Acquire.is (begun_call (kind.Ask c.in-Acquire.lock) (kind.Acquire c.in-Acquire.lock) (instruction.Acquire c.in-Acquire.lock) c.ask.result refl refl refl c.ask.ensures)
 
 pub returns-in-Barrier-clause-ok : goal.returns-in-Barrier-clause-ok
 returns-in-Barrier-clause-ok g c =
-    rw c.in-Barrier.is (begun_call kind.Arrive kind.Depart instruction.Barrier c.args.processor.now
-    c.arrive.new.processor c.arrive.result refl refl refl c.arrive.ensures)
+    rw c.in-Barrier.is (begun_call kind.Arrive kind.Depart instruction.Barrier c.arrive.result refl refl refl c.arrive.ensures)
 
 pub returns-in-Await-clause-ok : goal.returns-in-Await-clause-ok
 returns-in-Await-clause-ok g c =
-    rw c.in-Await.is (begun_call (kind.Watch c.in-Await.flag) (kind.Await c.in-Await.flag) (instruction.Await c.in-Await.flag) c.args.processor.now
-    c.watch.new.processor c.watch.result refl refl refl c.watch.ensures)
+    rw c.in-Await.is (begun_call (kind.Watch c.in-Await.flag) (kind.Await c.in-Await.flag) (instruction.Await c.in-Await.flag) c.watch.result refl refl refl c.watch.ensures)
 
 pub returns-in-Release-clause-ok : goal.returns-in-Release-clause-ok
 returns-in-Release-clause-ok g c =
