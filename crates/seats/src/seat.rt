@@ -17,8 +17,8 @@ use std::marker::Model;
 /// A processor on its thread. Its calls do what a program over shared words means by them: they fetch a stale copy, hand in
 /// a full block, and wait for what they ask for.
 ///
-/// After a fault nothing was done, unless a call says otherwise; only stale copies may have been fetched, and the block
-/// handed in.
+/// What a fault leaves, each call says. It says of some faults that they come at once; of all others none says when they
+/// come, since that is the cluster's to answer.
 #[derive(Drop)]
 pub struct Seat<'a, S: Sitting> {
     rt: &'a S,
@@ -82,10 +82,11 @@ impl<'a, S: Sitting> Seat<'a, S> {
         self.processor.holds(lock)
     }
 
-    /// The word at the address.
+    /// The word at the address. Before the load stands at most a fetch of the address's page.
     ///
-    /// Refused as [`Waiting`](cluster::Refused::Waiting) if an earlier call left it waiting,
-    /// [`OutOfRange`](cluster::Refused::OutOfRange) past the last address; else only if the full block can't be handed in.
+    /// The first of these that applies, with nothing done: refused as [`Waiting`](cluster::Refused::Waiting) if an earlier
+    /// call left it waiting, [`OutOfRange`](cluster::Refused::OutOfRange) past the last address. After any other fault that
+    /// fetch alone was made, if any.
     pub fn load(&mut self, address: usize) -> Result<u32, SeatFault>
         ensures ok { IfOk result (λ v. AccessesPage self.old self.new (address / self.old.sizes.words)
             (kind.Load address v ∷ [])) }
@@ -105,7 +106,8 @@ impl<'a, S: Sitting> Seat<'a, S> {
         }
     }
 
-    /// Stores the word at the address. Refused as [`load`](Seat::load) is.
+    /// Stores the word at the address. Before the store stands at most a fetch of the address's page, and it faults as
+    /// [`load`](Seat::load) does.
     pub fn store(&mut self, address: usize, word: u32) -> Result<(), SeatFault>
         ensures ok { OnOk result (AccessesPage self.old self.new (address / self.old.sizes.words)
             (kind.Store address word ∷ [])) }
@@ -128,9 +130,8 @@ impl<'a, S: Sitting> Seat<'a, S> {
     /// Acquires the lock, for which it waits.
     ///
     /// The first of these that applies, with nothing done: refused as [`BadLock`](cluster::Refused::BadLock) past the last
-    /// lock, [`Waiting`](cluster::Refused::Waiting), [`AlreadyHeld`](cluster::Refused::AlreadyHeld). Else it may be refused
-    /// if there is no more of what it needs, or fail as [`Stuck`](SeatFault::Stuck) or [`Deserted`](SeatFault::Deserted);
-    /// then it may have asked, and waits still.
+    /// lock, [`Waiting`](cluster::Refused::Waiting), [`AlreadyHeld`](cluster::Refused::AlreadyHeld). After any other fault
+    /// nothing was done, or it has asked and waits still.
     pub fn lock(&mut self, lock: usize) -> Result<(), SeatFault>
         ensures ok { OnOk result (HasDone self.old self.new (kind.Ask lock ∷ kind.Acquire lock ∷ [])) }
         ensures err { OnErr result (IsLeftUndone self.old self.new (kind.Ask lock)) }
@@ -146,7 +147,7 @@ impl<'a, S: Sitting> Seat<'a, S> {
     }
 
     /// Releases the lock. Refused as [`lock`](Seat::lock) is, with [`NotHeld`](cluster::Refused::NotHeld) in the place of
-    /// `AlreadyHeld`; it waits for nothing.
+    /// `AlreadyHeld`. After any fault nothing was done.
     pub fn unlock(&mut self, lock: usize) -> Result<(), SeatFault>
         ensures ok { OnOk result (HasDone self.old self.new (kind.Release lock ∷ [])) }
         ensures err { OnErr result (IsLeftUndone self.old self.new (kind.Release lock)) }
@@ -162,7 +163,8 @@ impl<'a, S: Sitting> Seat<'a, S> {
     }
 
     /// Passes the barrier, where it waits until all have come. What any of them stored before, all know of after it.
-    /// Fails as [`lock`](Seat::lock) does, with none of the reasons that name the lock.
+    /// Refused as [`Waiting`](cluster::Refused::Waiting) with nothing done. After any other fault nothing was done, or it
+    /// has arrived and waits still.
     pub fn barrier(&mut self) -> Result<(), SeatFault>
         ensures ok { OnOk result (HasDone self.old self.new (kind.Arrive ∷ kind.Depart ∷ [])) }
         ensures err { OnErr result (IsLeftUndone self.old self.new kind.Arrive) }
@@ -173,8 +175,8 @@ impl<'a, S: Sitting> Seat<'a, S> {
     }
 
     /// Sets the flag, which stays set. The first of these that applies, with nothing done: refused as
-    /// [`BadFlag`](cluster::Refused::BadFlag) past the last flag, [`Waiting`](cluster::Refused::Waiting); else if there is
-    /// no more of what it needs.
+    /// [`BadFlag`](cluster::Refused::BadFlag) past the last flag, [`Waiting`](cluster::Refused::Waiting). After any other
+    /// fault nothing was done, either.
     pub fn set(&mut self, flag: usize) -> Result<(), SeatFault>
         ensures ok { OnOk result (HasDone self.old self.new (kind.Set flag ∷ [])) }
         ensures err { OnErr result (IsLeftUndone self.old self.new (kind.Set flag)) }
@@ -189,8 +191,8 @@ impl<'a, S: Sitting> Seat<'a, S> {
         )
     }
 
-    /// Waits until the flag is set. What was stored before it was set is known after this. Refused as [`set`](Seat::set) is,
-    /// and may fail as [`lock`](Seat::lock) does while it waits.
+    /// Waits until the flag is set. What was stored before it was set is known after this. Refused as [`set`](Seat::set) is.
+    /// After any other fault nothing was done, or it watches and waits still.
     pub fn await_flag(&mut self, flag: usize) -> Result<(), SeatFault>
         ensures ok { OnOk result (HasDone self.old self.new (kind.Watch flag ∷ kind.Await flag ∷ [])) }
         ensures err { OnErr result (IsLeftUndone self.old self.new (kind.Watch flag)) }
