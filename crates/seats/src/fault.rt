@@ -1,4 +1,4 @@
-//! Why a seat's call or a run fails.
+//! Why a seat's call fails.
 ghost use Rattle.std.specs.Prelude.{◌≡◌};
 ghost use Rattle.book.specs.declared.refused.Refused.TheVariants.{NoMemory};
 ghost use Rattle.seats.specs.declared.fault.SeatFault.TheVariants as fault;
@@ -7,7 +7,7 @@ use cluster::Refused;
 use std::alloc::AllocError;
 use thiserror::Error;
 
-/// Why a seat's call fails, or a run of seats.
+/// Why a seat's call fails.
 #[derive(Clone, Copy, Debug, PartialEq, Eq, Error)]
 pub enum SeatFault {
     /// The cluster refused a call, and a seat can't help: a number is out of range, a lock is held or isn't, or there is no
@@ -20,9 +20,6 @@ pub enum SeatFault {
     /// Each other processor has ended, or waits for what hasn't come.
     #[error("nobody is left who could end the wait")]
     Deserted,
-    /// The system refused a thread.
-    #[error("no thread could be started")]
-    NoThread,
 }
 
 impl From<Refused> for SeatFault {
