@@ -3,7 +3,7 @@ import random
 
 import diagram
 import reports
-from flaw import expect, Flaw
+from flaw import expect, Flaw, is_flaw
 from found import Found
 from story import SHAPES, Story, label
 
@@ -142,12 +142,7 @@ class Turned(Story):
 
 def is_refused(story, reading):
     """Whether the picture is refused where arrows should come from other events."""
-    turned = Reading(Turned(story.processors, story.words, story.events), reading.part, reading.picture)
-    try:
-        turned.check()
-    except Flaw:
-        return True
-    return False
+    return is_flaw(Reading(Turned(story.processors, story.words, story.events), reading.part, reading.picture).check)
 
 
 def sweep(program, draw, number, has_parts):

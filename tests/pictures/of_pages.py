@@ -5,7 +5,7 @@ from pathlib import Path
 
 import diagram
 import of_diagrams
-from flaw import expect, Flaw
+from flaw import expect, Flaw, is_flaw
 from found import Found
 from story import CLOSING
 
@@ -98,12 +98,7 @@ def check(program, browser, script, seed, part, story):
 
 def is_refused(story, script, processors, states):
     """Whether states one event late are refused, where an event changes something."""
-    for state in states:
-        try:
-            check_state(story, script, processors, state, late=1)
-        except Flaw:
-            return True
-    return False
+    return any(is_flaw(check_state, story, script, processors, state, 1) for state in states)
 
 
 def sweep(program, browser, draw, number):
