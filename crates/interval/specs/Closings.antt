@@ -43,6 +43,10 @@ is_news_of_closings old new k =
     nat_le (slice_index old k.interval.owner) k.interval.number && nat_lt k.interval.number
     (slice_index new k.interval.owner)
 
+-- the interval left something in some page
+abbrev pub leaves_records : KeptInterval → Bool
+leaves_records k = nat_lt 0 (length k.interval.records)
+
 -- a record of the interval, under its notice
 abbrev pub closings_sent_record : KeptInterval → Changes → SentRecord
 closings_sent_record k r = record {

@@ -4,7 +4,7 @@ ghost use Rattle.std.specs.Prelude.{replicate, [], ◌∷◌, length, find, filt
 ghost use Rattle.std.specs.Prelude.{EachIndex, map};
 ghost use Rattle.std.specs.Option.{option_copied};
 ghost use Rattle.vtime.specs.Times.{tick};
-ghost use Rattle.interval.specs.Prelude.{SentPagesRise, IsSentInClosingOrder, KeepsClosingsBetween, pushed, closings_trimmed_below, is_news_of_closings};
+ghost use Rattle.interval.specs.Prelude.{SentPagesRise, IsSentInClosingOrder, KeepsClosingsBetween, pushed, closings_trimmed_below, leaves_records, is_news_of_closings};
 ghost use Rattle.interval.specs.Prelude.{closings_between, is_closing_of_page, record_of, SameQueuedIntervals};
 
 use crate::kept_interval::{Interval, KeptInterval};
@@ -81,9 +81,24 @@ impl Closed {
         ensures value { IfOk result (λ sent. sent.items ≡ closings_between self.now old.now new.now) }
         ensures in_order { IfOk result (λ sent. IsSentInClosingOrder sent.items) }
     {
+        self.between_and_more(old, new, 0)
+    }
+
+    /// The same, with memory for this many records more.
+    fn between_and_more(
+        &self,
+        old: &VTime,
+        new: &VTime,
+        more: usize,
+    ) -> Result<Vec<Sent>, AllocError>
+        requires { KeepsClosingsBetween self.now old.now new.now }
+        ensures value { IfOk result (λ sent. sent.items ≡ closings_between self.now old.now new.now) }
+        ensures in_order { IfOk result (λ sent. IsSentInClosingOrder sent.items) }
+    {
         let mut news = self.news(old, new)?;
         news.sort_unstable_by_key(|kept| kept.place);
-        let mut sent = Vec::new(*self.queues.allocator());
+        let room = room_for(&news, more);
+        let mut sent = Vec::with_capacity(*self.queues.allocator(), room)?;
         for kept in &news {
             kept.send(&mut sent)?;
         }
@@ -143,7 +158,7 @@ impl Closed {
             ≡ closings_between (pushed self.now interval.now) old.now new.now) }
         ensures in_order { IfOk result (λ sent. IsSentInClosingOrder sent.items) }
     {
-        let mut sent = self.between(old, new)?;
+        let mut sent = self.between_and_more(old, new, interval.records.len())?;
         let (owner, number) = (interval.owner, interval.number);
         if new.covers(owner, number) && !old.covers(owner, number) {
             interval.send(self.pushed, &mut sent)?;
@@ -151,17 +166,30 @@ impl Closed {
         Ok(sent)
     }
 
-    /// The intervals that `new` covers and `old` doesn't, owner by owner.
+    /// The intervals with records that `new` covers and `old` doesn't, owner by owner.
     fn news(&self, old: &VTime, new: &VTime) -> Result<Vec<&KeptInterval>, AllocError>
         requires { KeepsClosingsBetween self.now old.now new.now }
-        ensures { IfOk result (λ news. SameQueuedIntervals (filter (is_news_of_closings old.now new.now) self.now.kept)
+        ensures { IfOk result (λ news. SameQueuedIntervals
+            (filter leaves_records (filter (is_news_of_closings old.now new.now) self.now.kept))
             (map (λ k. k.now) news.items)) }
     {
-        let mut news = Vec::new(*self.queues.allocator());
+        let count = self.count_intervals(old, new);
+        let mut news = Vec::with_capacity(*self.queues.allocator(), count)?;
         for (owner, queue) in self.queues.iter().enumerate() {
             queue.gather(old.entry(owner), new.entry(owner), &mut news)?;
         }
         Ok(news)
+    }
+
+    /// How many intervals these are at most. It says for how many memory is taken at once, and nothing rests on it.
+    fn count_intervals(&self, old: &VTime, new: &VTime) -> usize
+        requires { KeepsClosingsBetween self.now old.now new.now }
+    {
+        let mut count: usize = 0;
+        for (owner, queue) in self.queues.iter().enumerate() {
+            count = count.saturating_add(queue.count(old.entry(owner), new.entry(owner)));
+        }
+        count
     }
 
     /// The record that a notice announces: `None` if its interval was trimmed or never was.
@@ -196,4 +224,14 @@ impl Closed {
     {
         self.queues[owner].trim(to);
     }
+}
+
+/// How many records these intervals have, and so many more. It says for how many memory is taken at once, and nothing
+/// rests on it.
+fn room_for(news: &[&KeptInterval], more: usize) -> usize {
+    let mut room = more;
+    for kept in news {
+        room = room.saturating_add(kept.interval.records.len());
+    }
+    room
 }

@@ -2,7 +2,7 @@
 ghost use Rattle.std.specs.Prelude.{◌≡◌, ◌==◌, ◌++◌, IfOk, OnOk, find, map};
 ghost use Rattle.std.specs.Arc.{arc_value};
 ghost use Rattle.std.specs.Option.{option_copied};
-ghost use Rattle.interval.specs.Prelude.{closings_sent_interval, closings_sent_record, pages_of_records, CountsGrew, CountsHaveRoom};
+ghost use Rattle.interval.specs.Prelude.{closings_sent_interval, closings_sent_record, leaves_records, pages_of_records, CountsGrew, CountsHaveRoom};
 
 use crate::notice::{Notice, Sent};
 use page::Record;
@@ -121,6 +121,13 @@ impl KeptInterval {
         ensures { result ≡ self.now.interval.owner }
     {
         self.interval.owner
+    }
+
+    /// Whether the interval left something in some page.
+    pub(crate) fn leaves_records(&self) -> bool
+        ensures { result ≡ leaves_records self.now }
+    {
+        !self.interval.shared_records().is_empty()
     }
 
     /// Adds each record of the interval, under its notice, to what is sent.

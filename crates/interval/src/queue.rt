@@ -1,7 +1,7 @@
 //! The kept intervals of one owner.
-ghost use Rattle.std.specs.Prelude.{◌≡◌, ◌-◌, ◌≤◌, [], ◌∷◌, ◌++◌, map, slice_get, OnOk, OnErr};
+ghost use Rattle.std.specs.Prelude.{◌≡◌, ◌-◌, ◌≤◌, [], ◌∷◌, ◌++◌, filter, length, map, slice_get, OnOk, OnErr};
 ghost use Rattle.std.specs.Option.{option_copied};
-ghost use Rattle.interval.specs.Prelude.{queue_within, queue_dropped_below, pages_of, CountsGrew, CountsHaveRoom};
+ghost use Rattle.interval.specs.Prelude.{leaves_records, queue_within, queue_dropped_below, pages_of, CountsGrew, CountsHaveRoom};
 
 use crate::kept_interval::KeptInterval;
 use std::alloc::{AllocError, Global};
@@ -60,7 +60,17 @@ impl Queue {
         self.kept.get((number - self.first) as usize)
     }
 
-    /// Adds the intervals with numbers in `from..to` to the list, by rising number.
+    /// How many intervals have numbers in `from..to`.
+    pub(crate) fn count(&self, from: u64, to: u64) -> usize
+        requires { self.now.first ≤ from }
+        ensures { result ≡ length (queue_within self.now from to) }
+    {
+        let start = (from - self.first) as usize;
+        let end = to.saturating_sub(self.first).min(self.kept.len() as u64) as usize;
+        end.saturating_sub(start)
+    }
+
+    /// Adds the intervals with numbers in `from..to` to the list, by rising number, but for those without records.
     pub(crate) fn gather<'q>(
         &'q self,
         from: u64,
@@ -68,13 +78,16 @@ impl Queue {
         news: &mut Vec<&'q KeptInterval>,
     ) -> Result<(), AllocError>
         requires { self.now.first ≤ from }
-        ensures { OnOk result (map (λ k. k.now) news.new.items
-            ≡ map (λ k. k.now) news.old.items ++ queue_within self.now from to) }
+        ensures { OnOk result (map (λ k. k.now) news.new.items ≡ map (λ k. k.now) news.old.items
+            ++ filter leaves_records (queue_within self.now from to)) }
     {
         let start = (from - self.first) as usize;
         let end = to.saturating_sub(self.first).min(self.kept.len() as u64) as usize;
         for index in start..end {
-            news.push(&self.kept[index])?;
+            let kept = &self.kept[index];
+            if kept.leaves_records() {
+                news.push(kept)?;
+            }
         }
         Ok(())
     }

@@ -65,12 +65,12 @@ module _ (B V : Type 0) (fact : B → List V → Type 0) (shows : List ℕ → �
 
   -- the slot of the last table has the book, and the fact holds of it and the chairs' views
   pub gathering_ends : (n id : ℕ) (run : ChairRun (ChairState B V)) (tokens : List (ChairToken B V)) (words : List ℕ)
-      (slots : List (Option B)) (slot : Option B) → run.live ≡ true → run.place ≡ 0
-      → chairs_of run ≡ map chair_state_of tokens → length tokens ≡ n
+      (slots : List (Option B)) (slot : Option B)
+      → (run.live ≡ true) × (run.place ≡ 0) × (chairs_of run ≡ map chair_state_of tokens) → length tokens ≡ n
       → ((k : ℕ) (c : ChairToken B V) → slice_get tokens k ≡ Some c → IsChairOutside c)
       → Final (Seen (DealtChairs n (TicketTurns fact shows limit)) id run) words slots
       → get_elem? slots 0 ≡ some slot → (book : B) × (slot ≡ Some book) × fact book (map chair_view tokens)
-  gathering_ends n id run tokens words slots slot live first all long outside last found =
+  gathering_ends n id run tokens words slots slot (live, first, all) long outside last found =
       let table = last.0 in
       let dealt = last.1.0 in
       let turns = dealt.keeps in

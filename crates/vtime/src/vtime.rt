@@ -7,7 +7,6 @@ ghost use Rattle.base.specs.Prelude.{most_processors};
 ghost use Rattle.vtime.specs.Times.{tick, join, Covers};
 
 use base::MOST_PROCESSORS;
-use smallvec::SmallVec;
 use std::alloc::Global;
 use std::marker::Model;
 
@@ -19,30 +18,32 @@ use std::marker::Model;
 /// Consistency for Software Distributed Shared Memory, ISCA 1992, section 3).
 #[derive(Drop)]
 pub struct VTime {
-    entries: SmallVec<u64, MOST_PROCESSORS>,
+    // Those past the processors' say nothing.
+    entries: [u64; MOST_PROCESSORS],
+    processors: usize,
 }
 
 impl Model for VTime {
-    ghost use Rattle.std.specs.Prelude.{◌≡◌, ℕ, ◌≤◌, List, length};
+    ghost use Rattle.std.specs.Prelude.{ℕ, ◌≤◌, List, take};
     ghost use Rattle.base.specs.Limits.{most_processors};
 
     ghost Value = { List ℕ };
 
-    ghost view = { λ time. time.entries.items };
+    ghost view = { λ time. take time.processors time.entries };
 
-    ghost invariant = { λ time. (time.entries.capacity ≡ most_processors)
-        × (1 ≤ length time.entries.items) × (length time.entries.items ≤ most_processors) };
+    ghost invariant = { λ time. (1 ≤ time.processors) × (time.processors ≤ most_processors) };
 }
 
 impl VTime {
     /// The timestamp of `processors` processors (1 to `MOST_PROCESSORS`) of which no interval has been performed.
-    pub fn zero(alloc: Global, processors: usize) -> VTime
+    pub fn zero(_alloc: Global, processors: usize) -> VTime
         requires some { 1 ≤ processors }
         requires most { processors ≤ most_processors }
         ensures { result ≡ replicate processors 0 }
     {
         VTime {
-            entries: SmallVec::from_elem(alloc, 0, processors).unwrap(),
+            entries: [0; MOST_PROCESSORS],
+            processors,
         }
     }
 
@@ -51,14 +52,14 @@ impl VTime {
         requires { q < length self.now }
         ensures { slice_get self.now q ≡ Some result }
     {
-        self.entries[q]
+        self.entries()[q]
     }
 
     /// The entries, one a processor.
     pub fn entries(&self) -> &[u64]
         ensures { result.now ≡ self.now }
     {
-        self.entries.as_slice()
+        &self.entries[..self.processors]
     }
 
     /// Adds one interval of processor `q`, which it has just closed.
@@ -67,7 +68,7 @@ impl VTime {
         requires fits { slice_index self.old q < 2 ^ 64 - 1 }
         ensures { self.new ≡ tick self.old q }
     {
-        tick_entry(self.entries.as_mut_slice(), q);
+        tick_entry(&mut self.entries[..self.processors], q);
     }
 
     /// Takes over what `other` has performed: each entry becomes the greater of the two.
@@ -77,23 +78,23 @@ impl VTime {
         ensures greater { (q : ℕ) → slice_index self.new q ≡ max (slice_index self.old q) (slice_index other.now q) }
         ensures same_length { length self.new ≡ length self.old }
     {
-        join_entries(self.entries.as_mut_slice(), other.entries.as_slice());
+        join_entries(&mut self.entries[..self.processors], other.entries());
     }
 
     /// Makes it that of the start again, of which no interval has been performed.
     pub fn clear(&mut self)
         ensures { self.new ≡ replicate (length self.old) 0 }
     {
-        self.entries.as_mut_slice().fill(0);
+        self.entries = [0; MOST_PROCESSORS];
     }
 
     /// The same timestamp once more.
     pub fn copy(&self) -> VTime
         ensures { result ≡ self.now }
     {
-        let alloc = *self.entries.allocator();
         VTime {
-            entries: SmallVec::from_slice(alloc, self.entries.as_slice()).unwrap(),
+            entries: self.entries,
+            processors: self.processors,
         }
     }
 
@@ -102,7 +103,7 @@ impl VTime {
         requires { owner < length self.now }
         ensures { IsTrue result ↔ Covers self.now owner number }
     {
-        number < self.entries[owner]
+        number < self.entries()[owner]
     }
 }
 
@@ -115,7 +116,7 @@ impl PartialEq for VTime {
         ensures value { result ≡ pointwise nat_eq self.now other.now }
         ensures same { IsTrue result ↔ (self.now ≡ other.now) }
     {
-        self.entries == other.entries
+        self.entries() == other.entries()
     }
 }
 

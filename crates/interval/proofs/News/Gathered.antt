@@ -1,27 +1,54 @@
 -- The news of all queues, owner by owner.
-use Rattle.std.proofs.Common.{◌≡◌, ◌≢◌, ◌↔◌, ℕ, ◌<◌, ◌≤◌, ◌+◌, ◌-◌, Some, List, [], ◌∷◌, ◌++◌, filter, map, take, get_or, slice_get, length, length-drop, length-take, min, refl, sym, ap, ap₂, subst, arith, ◌∙◌}
+use Rattle.std.proofs.Common.{◌≡◌, ◌≢◌, ◌↔◌, ℕ, ◌<◌, ◌≤◌, ◌+◌, ◌-◌, nat_lt, Bool, true, false, cond, Some, List, [], ◌∷◌, ◌++◌, filter, map, take, get_or, slice_get, length, length-drop, length-take, min, refl, sym, ap, ap₂, subst, arith, ◌∙◌}
 use Rattle.std.specs.List.{flat_map}
+use Rattle.std.proofs.lemmas.Bool.{cond_both, ltb-false}
 use Rattle.std.proofs.lemmas.List.{append-nil, append_assoc, length-map, map-append, take_all}
 use Rattle.std.proofs.lemmas.Grind.{flat_map-append}
 use Rattle.std.proofs.lemmas.Option.{slice_get_read}
 use Rattle.base.specs.InOrderOnce.{Has, InOrder}
 use Rattle.base.proofs.Joined.{has-flat_map, in_order-flat_map, joined_in_weaker_order}
 use Rattle.base.proofs.FilteredInOrder.{has-filter, in_order-filter}
+use Rattle.page.specs.RisingChanges.{Changes}
 use Rattle.interval.specs.declared.kept_interval.KeptInterval.{KeptInterval}
 use Rattle.interval.specs.SentIntervals.{SentRecord}
-use Rattle.interval.specs.Closings.{Closings, is_news_of_closings, closings_sent_interval}
+use Rattle.interval.specs.Closings.{Closings, is_news_of_closings, closings_sent_interval, closings_sent_record, leaves_records}
 use Rattle.interval.specs.Queues.{Queue, merged_queues, queue_within, SameQueuedIntervals, AreQueues}
 use Rattle.interval.proofs.Records.ReadItems.{ReadsItem, taken_item, taken_flat_map}
 use Rattle.interval.proofs.Counts.WalkedNews.{news_read, ReadsQueue}
 use Rattle.interval.proofs.Order.RisingByPlace.{RisesBefore, Rises}
 use Rattle.interval.proofs.Queues.Merged.{QueuesHold, LiesInMerged, merged_lies, lies_merged, rises-merged}
 
--- a list that has grown by the first items of another, and grows by the next
-pub gathered_grown_more : {X : Type 0} {now xs : List X} {k : ℕ} {x : X} → (start : List X) → ReadsItem xs k x
-    → now ≡ start ++ take k xs → now ++ x ∷ [] ≡ start ++ take (k + 1) xs
-gathered_grown_more {X} {now} {xs} {k} {x} start reads so_far =
-    ap (λ (ys : List X). ys ++ x ∷ []) so_far ∙ append_assoc start (take k xs) (x ∷ [])
-    ∙ ap (λ (ys : List X). start ++ ys) (sym (taken_item reads))
+-- what is picked of two lists
+pub gathered_filter-append : {X : Type 0} (pick : X → Bool) (xs ys : List X) → filter pick (xs ++ ys) ≡ filter pick xs ++ filter pick ys
+gathered_filter-append pick [] ys = refl
+gathered_filter-append {X} pick (x ∷ xs) ys =
+    let rest = gathered_filter-append pick xs ys in
+    let Both : Bool → Type 0 = λ b.
+    cond b (x ∷ filter pick (xs ++ ys)) (filter pick (xs ++ ys)) ≡ cond b (x ∷ filter pick xs) (filter pick xs) ++ filter pick ys in
+    let at : (b : Bool) → Both b = λ b. elim b as Both [ true ↦ ap (λ (zs : List X). x ∷ zs) rest | false ↦ rest ] in
+    at (pick x)
+
+-- what is picked of the first items of a list, with the next
+gathered_picked_next : {X : Type 0} {xs : List X} {k : ℕ} {x : X} → (pick : X → Bool) → ReadsItem xs k x
+    → filter pick (take (k + 1) xs) ≡ filter pick (take k xs) ++ cond (pick x) (x ∷ []) []
+gathered_picked_next {X} {xs} {k} {x} pick reads =
+    ap (filter pick) (taken_item reads) ∙ gathered_filter-append pick (take k xs) (x ∷ [])
+
+-- a list that has grown by what is picked of the first items of another, and grows by the next, which is picked
+pub gathered_grown_picked : {X : Type 0} {now xs : List X} {k : ℕ} {x : X} → (pick : X → Bool) (start : List X) → ReadsItem xs k x
+    → pick x ≡ true → now ≡ start ++ filter pick (take k xs) → now ++ x ∷ [] ≡ start ++ filter pick (take (k + 1) xs)
+gathered_grown_picked {X} {now} {xs} {k} {x} pick start reads picked so_far =
+    ap (λ (ys : List X). ys ++ x ∷ []) so_far ∙ append_assoc start (filter pick (take k xs)) (x ∷ [])
+    ∙ ap (λ (b : Bool). start ++ (filter pick (take k xs) ++ cond b (x ∷ []) [])) (sym picked)
+    ∙ ap (λ (ys : List X). start ++ ys) (sym (gathered_picked_next pick reads))
+
+-- and one that doesn't, since the next isn't
+pub gathered_grown_passed : {X : Type 0} {now xs : List X} {k : ℕ} {x : X} → (pick : X → Bool) (start : List X) → ReadsItem xs k x
+    → pick x ≡ false → now ≡ start ++ filter pick (take k xs) → now ≡ start ++ filter pick (take (k + 1) xs)
+gathered_grown_passed {X} {now} {xs} {k} {x} pick start reads passed so_far =
+    so_far ∙ ap (λ (ys : List X). start ++ ys) (sym (append-nil (filter pick (take k xs))))
+    ∙ ap (λ (b : Bool). start ++ (filter pick (take k xs) ++ cond b (x ∷ []) [])) (sym passed)
+    ∙ ap (λ (ys : List X). start ++ ys) (sym (gathered_picked_next pick reads))
 
 -- how many intervals of a queue are numbered within from..to
 pub gathered_within_few : (held queue : Queue) (from to : ℕ) → held ≡ queue
@@ -36,6 +63,48 @@ gathered_within_few held queue from to same =
 -- the news of a queue
 abbrev pub own_news : List ℕ → List ℕ → Queue → List KeptInterval
 own_news old new q = filter (is_news_of_closings old new) q.kept
+
+-- those of them that have records
+abbrev pub own_sent : List ℕ → List ℕ → Queue → List KeptInterval
+own_sent old new q = filter leaves_records (own_news old new q)
+
+-- those of all queues
+gathered_own_sent : (old new : List ℕ) (queues : List Queue)
+    → flat_map (own_sent old new) queues ≡ filter leaves_records (flat_map (own_news old new) queues)
+gathered_own_sent old new [] = refl
+gathered_own_sent old new (q ∷ queues) =
+    ap (λ (ks : List KeptInterval). own_sent old new q ++ ks) (gathered_own_sent old new queues)
+    ∙ sym (gathered_filter-append leaves_records (own_news old new q) (flat_map (own_news old new) queues))
+
+-- the same intervals, of which the same are picked
+gathered_same_picked : (pick : KeptInterval → Bool) (ks list : List KeptInterval) → SameQueuedIntervals ks list
+    → SameQueuedIntervals (filter pick ks) (filter pick list)
+gathered_same_picked pick ks list all = record {
+  same =
+      λ k. (
+        (λ h. let p = (has-filter pick list k).0 h in (has-filter pick ks k).1 ((all.same k).0 p.0, p.1)),
+        λ h. let p = (has-filter pick ks k).0 h in (has-filter pick list k).1 ((all.same k).1 p.0, p.1),
+      );
+  apart = in_order-filter (λ (j k : KeptInterval). j.place ≢ k.place) pick list all.apart;
+}
+
+gathered_none_left : (rs : List Changes) → nat_lt 0 (length rs) ≡ false → rs ≡ []
+gathered_none_left [] e = refl
+gathered_none_left (r ∷ rs) e = let none = ltb-false 0 (length (r ∷ rs)) e in absurd (omega arith)
+
+-- an interval without records sends nothing
+pub gathered_records_sent : (ks : List KeptInterval)
+    → flat_map closings_sent_interval (filter leaves_records ks) ≡ flat_map closings_sent_interval ks
+gathered_records_sent [] = refl
+gathered_records_sent (k ∷ ks) =
+    let rest = gathered_records_sent ks in
+    let Sends : List KeptInterval → Type 0 = λ js. flat_map closings_sent_interval js ≡ flat_map closings_sent_interval (k ∷ ks) in
+    cond_both (leaves_records k) (k ∷ filter leaves_records ks) (filter leaves_records ks) Sends
+    (λ e. ap (λ (xs : List SentRecord). closings_sent_interval k ++ xs) rest)
+    (λ e. rest ∙ ap (λ (xs : List SentRecord). xs ++ flat_map closings_sent_interval ks) (none e))
+  where
+    none : leaves_records k ≡ false → [] ≡ closings_sent_interval k
+    none e = sym (ap (map (closings_sent_record k)) (gathered_none_left k.interval.records e))
 
 -- what stands among the news of all queues
 gathered_same : (queues : List Queue) (count : ℕ) (old new : List ℕ) → AreQueues queues count → (k : KeptInterval)
@@ -87,27 +156,29 @@ gathered_owned_queue {queues} {count} {value} {queue} owner hold in_range read =
 pub gathered_more : {queues : List Queue} {count : ℕ} {old new : List ℕ} {owner from to : ℕ} {queue : Queue}
     {before now : List KeptInterval}
     → AreQueues queues count → ReadsQueue queues old new owner from to queue
-    → before ≡ flat_map (own_news old new) (take owner queues) → now ≡ before ++ queue_within queue from to
-    → now ≡ flat_map (own_news old new) (take (owner + 1) queues)
+    → before ≡ flat_map (own_sent old new) (take owner queues)
+    → now ≡ before ++ filter leaves_records (queue_within queue from to)
+    → now ≡ flat_map (own_sent old new) (take (owner + 1) queues)
 gathered_more {old = old} {new = new} are r so_far is =
-    is ∙ ap₂ (λ (xs ys : List KeptInterval). xs ++ ys) so_far (sym (news_read are r))
-    ∙ sym (taken_flat_map (own_news old new) r.reads)
+    is ∙ ap₂ (λ (xs ys : List KeptInterval). xs ++ filter leaves_records ys) so_far (sym (news_read are r))
+    ∙ sym (taken_flat_map (own_sent old new) r.reads)
 
 -- once all queues were gone through
 pub gathered_all : {queues : List Queue} {count : ℕ} {value : Closings} {news : List KeptInterval}
     → QueuesHold queues count value → (old new : List ℕ) (n : ℕ)
-    → length queues ≤ n → news ≡ flat_map (own_news old new) (take n queues)
-    → SameQueuedIntervals (filter (is_news_of_closings old new) value.kept) news
+    → length queues ≤ n → news ≡ flat_map (own_sent old new) (take n queues)
+    → SameQueuedIntervals (filter leaves_records (filter (is_news_of_closings old new) value.kept)) news
 gathered_all {queues} {count} {value} {news} hold old new n end so_far =
-    let all : news ≡ flat_map (own_news old new) queues =
-    so_far ∙ ap (flat_map (own_news old new)) (take_all n queues end) in
+    let all : news ≡ filter leaves_records (flat_map (own_news old new) queues) =
+    so_far ∙ ap (flat_map (own_sent old new)) (take_all n queues end) ∙ gathered_own_sent old new queues in
     let found : SameQueuedIntervals (filter (is_news_of_closings old new) (merged_queues queues)) (flat_map (own_news old new) queues) = record {
       same = gathered_same queues count old new hold.are;
       apart = gathered_apart queues count old new hold.are;
     } in
-    let P : List KeptInterval → Type 0 = λ ks. SameQueuedIntervals (filter (is_news_of_closings old new) (merged_queues queues)) ks in
-    let Q : Closings → Type 0 = λ c. SameQueuedIntervals (filter (is_news_of_closings old new) c.kept) news in
-    subst Q hold.seen (subst P (sym all) found)
+    let merged = filter (is_news_of_closings old new) (merged_queues queues) in
+    let P : List KeptInterval → Type 0 = λ ks. SameQueuedIntervals (filter leaves_records merged) ks in
+    let Q : Closings → Type 0 = λ c. SameQueuedIntervals (filter leaves_records (filter (is_news_of_closings old new) c.kept)) news in
+    subst Q hold.seen (subst P (sym all) (gathered_same_picked leaves_records merged (flat_map (own_news old new) queues) found))
 
 -- the records of the intervals so far, and those of one more
 pub gathered_sent_more : {X : Type 0} {items : List X} {n : ℕ} {x : X} {before now : List SentRecord} → (kept : X → KeptInterval)
@@ -121,9 +192,10 @@ gathered_sent_more {X} {items} {n} {x} kept reads so_far is =
     ∙ ap (flat_map closings_sent_interval) (sym (map-append kept (take n items) (x ∷ [])))
     ∙ ap (λ (xs : List X). flat_map closings_sent_interval (map kept xs)) (sym (taken_item reads))
 
--- the news that contracts see come in closing order
+-- the news that contracts see come in closing order, also those of them that have records
 pub rises-news : {queues : List Queue} {count : ℕ} {value : Closings} → QueuesHold queues count value → (old new : List ℕ)
-    → Rises (filter (is_news_of_closings old new) value.kept)
+    → Rises (filter leaves_records (filter (is_news_of_closings old new) value.kept))
 rises-news {queues} hold old new =
-    let P : Closings → Type 0 = λ c. Rises (filter (is_news_of_closings old new) c.kept) in
-    subst P hold.seen (in_order-filter RisesBefore (is_news_of_closings old new) (merged_queues queues) (rises-merged queues))
+    let P : Closings → Type 0 = λ c. Rises (filter leaves_records (filter (is_news_of_closings old new) c.kept)) in
+    let rises = in_order-filter RisesBefore (is_news_of_closings old new) (merged_queues queues) (rises-merged queues) in
+    subst P hold.seen (in_order-filter RisesBefore leaves_records (filter (is_news_of_closings old new) (merged_queues queues)) rises)

@@ -1,10 +1,10 @@
--- The news of the owners so far are in the list.
+-- The news of the owners so far that have records are in the list.
 use Rattle.std.proofs.Common.{◌≡◌, map, take, Bor}
 use Rattle.std.specs.List.{flat_map}
 use Rattle.interval.specs.declared.kept_interval.KeptInterval.{KeptInterval}
-use Rattle.interval.proofs.News.Gathered.{own_news}
+use Rattle.interval.proofs.News.Gathered.{own_sent}
 use Rattle.interval.proofs.closed.Closed.news.Given as goal
 
 abbrev pub invariant-loop-owner : goal.invariant-loop-owner
 invariant-loop-owner l =
-    map (λ (k : Bor KeptInterval). k.now) l.news.items ≡ flat_map (own_news l.old l.new) (take l.owner l.queue-items)
+    map (λ (k : Bor KeptInterval). k.now) l.news.items ≡ flat_map (own_sent l.old l.new) (take l.owner l.queue-items)

@@ -1,10 +1,11 @@
--- The intervals from the first to gather up to the index are in the list.
-use Rattle.std.proofs.Common.{◌≡◌, ◌-◌, ◌++◌, map, take, Bor}
+-- The intervals from the first to gather up to the index are in the list, but for those without records.
+use Rattle.std.proofs.Common.{◌≡◌, ◌-◌, ◌++◌, filter, map, take, Bor}
 use Rattle.interval.specs.declared.kept_interval.KeptInterval.{KeptInterval}
+use Rattle.interval.specs.Closings.{leaves_records}
 use Rattle.interval.specs.Queues.{queue_within}
 use Rattle.interval.proofs.queue.Queue.gather.Given as goal
 
 abbrev pub invariant-loop-index : goal.invariant-loop-index
 invariant-loop-index l =
     map (λ (k : Bor KeptInterval). k.now) l.news.items ≡ map (λ (k : Bor KeptInterval). k.now) l.initial.news.items
-    ++ take (l.index - l.start) (queue_within l.self l.from l.to)
+    ++ filter leaves_records (take (l.index - l.start) (queue_within l.self l.from l.to))

@@ -1,21 +1,21 @@
-use Rattle.std.proofs.Common.{rules, List, map, Bor, ap, arith, ◌∙◌}
+use Rattle.std.proofs.Common.{rules, List, filter, map, Bor, ap, arith, ◌∙◌}
 use Rattle.std.specs.List.{flat_map}
 use Rattle.std.proofs.lemmas.List.{take_all}
 use Rattle.std.proofs.lemmas.List.Sorted.{IsNonDecreasingBy-from_sort_by_key}
 use Rattle.interval.specs.declared.kept_interval.KeptInterval.{KeptInterval}
-use Rattle.interval.specs.Closings.{closings_sent_interval}
+use Rattle.interval.specs.Closings.{closings_sent_interval, is_news_of_closings}
 use Rattle.interval.proofs.Records.ReadItems.{ReadsItem}
 use Rattle.interval.proofs.Queues.Merged.{QueuesHold}
-use Rattle.interval.proofs.News.Gathered.{gathered_sent_more, rises-news}
+use Rattle.interval.proofs.News.Gathered.{gathered_records_sent, gathered_sent_more, rises-news}
 use Rattle.interval.proofs.News.InClosingOrder.{between_in_order}
 use Rattle.interval.proofs.Order.SortedPlaces.{sorted_all}
-use Rattle.interval.proofs.closed.Closed.between.Goals as goal
+use Rattle.interval.proofs.closed.Closed.between_and_more.Goals as goal
 
 abbrev kept : Bor KeptInterval → KeptInterval
 kept k = k.now
 
 pub loop-kept-init : goal.loop-kept-init
-loop-kept-init c = c.new-sent.ensures.items
+loop-kept-init c = c.in_ok-sent.ensures.items
 
 pub loop-kept-preserved : goal.loop-kept-preserved
 loop-kept-preserved c =
@@ -36,6 +36,7 @@ returns-clause-value c =
     ∙ ap (λ (ks : List (Bor KeptInterval)). flat_map closings_sent_interval (map kept ks))
     (take_all c.loop-kept.kept-index c.deref-kept-items.result.now (omega arith) ∙ c.deref-kept-items.ensures.value)
     ∙ ap (flat_map closings_sent_interval) all
+    ∙ gathered_records_sent (filter (is_news_of_closings c.args.old.now c.args.new.now) c.args.self.now.kept)
 
 pub returns-clause-in_order : goal.returns-clause-in_order
 returns-clause-in_order c =

@@ -3,7 +3,7 @@ use Rattle.std.proofs.Common.{◌≡◌, map, take, Bor}
 use Rattle.std.specs.List.{flat_map}
 use Rattle.interval.specs.declared.kept_interval.KeptInterval.{KeptInterval}
 use Rattle.interval.specs.Closings.{closings_sent_interval}
-use Rattle.interval.proofs.closed.Closed.between.Given as goal
+use Rattle.interval.proofs.closed.Closed.between_and_more.Given as goal
 
 abbrev pub invariant-loop-kept : goal.invariant-loop-kept
 invariant-loop-kept l =
