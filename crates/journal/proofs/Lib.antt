@@ -5,5 +5,6 @@ pub mod CopyOfPage
 pub mod Missing
 pub mod Intervals
 pub mod Flat
+pub mod Origins
 pub mod Passes
 pub mod FromBase

@@ -25,6 +25,10 @@ pub mod AccessEntry
 pub mod ContentsSince
 pub mod MissingWords
 pub mod Numbered
+pub mod WordOrigins
+pub mod CopyAnswers
+pub mod CopyOrigins
+pub mod NewestAccesses
 pub mod ValidAndStaleCopy
 pub mod Dirty
 pub mod Counted
@@ -42,4 +46,5 @@ pub mod CutFaults
 pub mod Episodes
 pub mod HistoryLaws
 pub mod Deadlocks
+pub mod JournalHistory
 pub mod Prelude

@@ -10,6 +10,7 @@ pub use Rattle.journal.specs.FlatMemory.{AnswersFlatWord, Replays, flat_write, m
 pub use Rattle.journal.specs.Traffic.{messages, messages_of, records, traffic_records_of, words, traffic_words_fetched}
 pub use Rattle.journal.specs.PageImages.{HasImageCount}
 pub use Rattle.journal.specs.Blocks.{block_write}
+pub use Rattle.journal.specs.CopyAnswers.{CopyWordLaw}
 pub use Rattle.journal.specs.Log.{Log, new_log}
 pub use Rattle.journal.specs.InRange.{AddressInRange, AddressesInRange, ProcessorsInRange}
 pub use Rattle.journal.specs.JournalInvariant.{JournalInvariant, log_of}
@@ -33,3 +34,4 @@ pub use Rattle.journal.specs.Episodes.{AreEpisodes, IsRaceOfEpisodes}
 pub use Rattle.journal.specs.CutFaults.{IsCutFault, WasCut}
 pub use Rattle.journal.specs.HistoryLaws.{HistoryLaw, UncutHistoryLaw}
 pub use Rattle.journal.specs.Deadlocks.{DeadlockLaw, IsDeadlock}
+pub use Rattle.journal.specs.JournalHistory.{IsJournalHistory, arrivals_in_front}

@@ -1,11 +1,12 @@
 //! The journal: a list of events with room for more.
 ghost use Rattle.std.specs.Prelude.{drop, vec_len, vec_capacity, ◌+◌, ◌≡◌, ◌-◌, ◌^◌, ◌<◌, ◌≤◌, ◌++◌, ◌∷◌, [], ◌↔◌};
 ghost use Rattle.std.specs.Prelude.{IfOk, IfErr, OnOk, OnErr, IfSome, IsSome, IsTrue, MatchOption, length, replicate};
-ghost use Rattle.std.specs.Prelude.{max, option_copied, slice_get, take};
+ghost use Rattle.std.specs.Prelude.{◌==◌, cond, max, option_copied, slice_get, take};
 ghost use Rattle.base.specs.Prelude.{most_held, most_processors, most_cut};
 ghost use Rattle.journal.specs.Prelude.{AddressInRange, AddressesInRange, new_log, ExplainedFrom, Replays};
 ghost use Rattle.journal.specs.Prelude.{memory_after, RaceFreeFrom, IsFirstRaceFrom, WasCut, IsCutFault, messages};
 ghost use Rattle.journal.specs.Prelude.{records, words, IsOpening, IsEpisodeCut, NoEpisodeCut, IsKeptBaseState, kept_base_of};
+ghost use Rattle.journal.specs.Prelude.{IsJournalHistory, arrivals_in_front};
 
 use crate::base_state::Kept;
 use crate::cut::CutFault;
@@ -125,6 +126,30 @@ impl Journal {
         &events[self.processors..]
     }
 
+    /// Where the history begins: behind the arrivals of all processors if nothing was cut off, since then nobody has
+    /// arrived before.
+    fn first(&self) -> usize
+        ensures value { result ≡ cond (self.now.base.cut == 0) self.now.processors 0 }
+        ensures limit { result ≤ self.now.processors }
+    {
+        if self.kept.cut == 0 {
+            self.processors
+        } else {
+            0
+        }
+    }
+
+    /// The events in order, behind an arrival of each processor if something was cut off: these stand for it, since each
+    /// processor had arrived and none gone on. It takes no memory.
+    pub fn history(&self) -> &[Event]
+        ensures value { IsJournalHistory self.now result.now }
+        ensures few { arrivals_in_front self.now ≤ most_processors }
+    {
+        let first = self.first();
+        let events = &self.events;
+        &events[first..]
+    }
+
     /// The words of the memory after the events that were cut off; zeros if nothing was. It takes no
     /// memory.
     pub fn base(&self) -> &[u32]
@@ -225,12 +250,7 @@ impl Journal {
             (λ r. IsFirstRaceFrom self.now.base (take count self.now.events) r.0 r.1)) }
         ensures in_range { AddressesInRange (length self.now.base.memory) self.now.events }
     {
-        // If nothing was cut off, nobody has arrived before.
-        let first = if self.kept.cut == 0 {
-            self.processors
-        } else {
-            0
-        };
+        let first = self.first();
         let arrived = self.processors - first;
         let events = &self.events[first..self.processors + count];
         match first_race_of(

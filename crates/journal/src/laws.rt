@@ -1,7 +1,7 @@
-//! The laws of what is left after a cut and of deadlocks, as contracts of functions that do nothing: the check proves
-//! each by its name.
+//! The laws of what is left after a cut, of deadlocks and of the words of copies, as contracts of functions that do
+//! nothing: the check proves each by its name.
 ghost use Rattle.journal.specs.Prelude.{SameLaw, WellFormedLaw, FlatLaw, CopyLaw, CutTwiceLaw, UncutLaw, UncutHistoryLaw};
-ghost use Rattle.journal.specs.Prelude.{HistoryLaw, DeadlockLaw};
+ghost use Rattle.journal.specs.Prelude.{HistoryLaw, DeadlockLaw, CopyWordLaw};
 
 /// What was cut off happens before all that is left, of which order, pasts, races and explained loads are
 /// the same, read from the history or from the base.
@@ -46,4 +46,10 @@ pub fn history_law()
 /// No event may follow a history in which each processor waits for what has not come.
 pub fn deadlock_law()
     ensures { DeadlockLaw }
+{}
+
+/// Of a processor's copy a history has at most one word at an address before a place, and each history that
+/// goes on from it has the same.
+pub fn copy_word_law()
+    ensures { CopyWordLaw }
 {}

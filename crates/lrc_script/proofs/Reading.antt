@@ -5,6 +5,7 @@ pub mod Splits
 pub mod Words
 pub mod Digits
 pub mod Numbers
+pub mod FirstNumbers
 pub mod Keywords
 pub mod Steps
 pub mod Lines

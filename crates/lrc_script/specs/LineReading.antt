@@ -86,6 +86,22 @@ numbers_read_after ns [] = Ok ns
 numbers_read_after ns (w ∷ ws) =
     if is_some (number_read w) then numbers_read_after (ns ++ unwrap_or (number_read w) 0 ∷ []) ws else Err BadNumber
 
+-- a number may begin here: there is a word, and no zero at its front
+abbrev pub may_begin_number : List ℕ → Bool
+may_begin_number [] = false
+may_begin_number (b ∷ []) = not (b == space)
+may_begin_number (b ∷ c ∷ bytes) = not (b == space) && not ((b == 48) && not (c == space))
+
+-- the first word of a line is this number, and these words stand behind it
+abbrev pub BeginsWithNumber : List ℕ → ℕ → List (List ℕ) → Type 0
+BeginsWithNumber line n words =
+    (w : List ℕ) × (parts_of_line space line ≡ w ∷ words) × (number_read w ≡ Some n)
+
+-- the first word of a line is no number
+abbrev pub BeginsWithNoNumber : List ℕ → Type 0
+BeginsWithNoNumber line =
+    (w : List ℕ) (words : List (List ℕ)) → parts_of_line space line ≡ w ∷ words → number_read w ≡ None
+
 -- the numbers of a line that has few
 abbrev pub few_items : Few → List ℕ
 few_items few.Zero = []

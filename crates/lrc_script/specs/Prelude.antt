@@ -7,6 +7,7 @@ pub use Rattle.lrc_script.specs.Text.{section_lines, show_line, space, spaced, t
 pub use Rattle.lrc_script.specs.Front.{Headed, IsLawfulFront, IsHeadedFront, Nothing, Whole, Within}
 pub use Rattle.lrc_script.specs.LineFaults.{HasNoLineFeed, IsFault, IsUnevenAtLine, SaysOfLine}
 pub use Rattle.lrc_script.specs.LineReading.{ReadFails, ReadGives, ReadGoes, IsLineCut, IsOther, read_after, read_after_numbers, are_read_sizes, show_read}
+pub use Rattle.lrc_script.specs.LineReading.{BeginsWithNumber, BeginsWithNoNumber, may_begin_number}
 pub use Rattle.lrc_script.specs.LineReading.{few_items, first_section_read, front_read, has_bytes, head_read, instruction_of_line}
 pub use Rattle.lrc_script.specs.LineReading.{is_line_due, is_past, keyword_read, next_section_read, number_read, numbers_read_after}
 pub use Rattle.lrc_script.specs.LineReading.{parts_left_of_line, parts_of_line, line_refusal, read_step, sum_of_digits, is_read_with, with_instruction}

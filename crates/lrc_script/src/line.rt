@@ -3,6 +3,7 @@ ghost use Rattle.std.specs.Prelude.{◌≡◌, ℕ, ◌<◌, List, ◌∷◌, []
 ghost use Rattle.std.specs.List.{list_all};
 ghost use Rattle.lrc_script.specs.Prelude.{HasNoLineFeed, ReadGives, IsLineCut, parts_of_line, parts_left_of_line, has_bytes, keyword_read, space};
 ghost use Rattle.lrc_script.specs.Prelude.{sum_of_digits, number_read, few_items, numbers_read_after};
+ghost use Rattle.lrc_script.specs.Prelude.{BeginsWithNumber, BeginsWithNoNumber, may_begin_number};
 
 use crate::fault::ScriptFault;
 use memchr::memchr;
@@ -126,6 +127,38 @@ pub fn number(word: &[u8]) -> Option<u32>
     }
 }
 
+/// Whether a number may begin here: there is a word, and no zero at its front.
+fn may_begin_number(line: &[u8]) -> bool
+    ensures { result ≡ may_begin_number line.now }
+{
+    match line {
+        [] | [b' ', ..] => false,
+        [b'0', next, ..] => *next == b' ',
+        _ => true,
+    }
+}
+
+/// The number that the first word is, and what stands behind the space after it. Each byte is looked at once.
+fn first_number(line: &[u8]) -> Option<(u32, Option<&[u8]>)>
+    ensures { MatchOption result (BeginsWithNoNumber line.now)
+        (λ x. BeginsWithNumber line.now x.0 (parts_left_of_line space x.1)) }
+{
+    if !may_begin_number(line) {
+        return None;
+    }
+    let mut sum: u32 = 0;
+    for (at, byte) in line.iter().enumerate() {
+        if *byte == b' ' {
+            return Some((sum, Some(&line[at + 1..])));
+        }
+        if !byte.is_ascii_digit() {
+            return None;
+        }
+        sum = sum.checked_mul(10)?.checked_add(u32::from(*byte - b'0'))?;
+    }
+    Some((sum, None))
+}
+
 /// The numbers of a line that has two at most, as all instructions have.
 #[derive(Clone, Copy)]
 pub enum Few {
@@ -156,13 +189,11 @@ pub fn few_numbers(words: Option<&[u8]>) -> Option<Few>
     let Some(line) = words else {
         return Some(Few::Zero);
     };
-    let (word, rest) = split_at_byte(line, b' ');
-    let first = number(word)?;
+    let (first, rest) = first_number(line)?;
     let Some(line) = rest else {
         return Some(Few::One([first]));
     };
-    let (word, rest) = split_at_byte(line, b' ');
-    let second = number(word)?;
+    let (second, rest) = first_number(line)?;
     match rest {
         None => Some(Few::Two([first, second])),
         Some(_) => None,

@@ -19,9 +19,9 @@ pub store_does_kind : (j : List Event) (i : ℕ) (e : Event) (k : Kind) → At j
 store_does_kind j i e k at is = let P : Kind → Type 0 = λ x. At j i (event e.processor x) in subst P is at
 
 -- two stores at one place are one
-pub store_same : (j : List Event) (i p q a b v w : ℕ) → Does j i p (Store a v) → Does j i q (Store b w)
+pub store_same : (j : List Event) (i : ℕ) {p q a b v w : ℕ} → Does j i p (Store a v) → Does j i q (Store b w)
     → (p ≡ q) × (a ≡ b) × (v ≡ w)
-store_same j i p q a b v w h g =
+store_same j i {p = p} {q = q} {a = a} {b = b} {v = v} {w = w} h g =
     let r = numbered_does_same j i p q (Store a v) (Store b w) h g in
     let e : Store a v ≡ Store b w = r.1 in
     let store_same_address : a ≡ b = cc in

@@ -15,7 +15,8 @@ use Rattle.journal.specs.BroughtCopy.{IsCopy, CopyHasNoGap, IsCopyComplete}
 use Rattle.journal.specs.Blocks.{block_write, block_done, IsBlock, BlockAnswers, block_with_page}
 use Rattle.journal.specs.Counted.{BlockCounts}
 use Rattle.journal.specs.MissingWords.{Missing, MissingInOrder, AreMissingNotices}
-use Rattle.journal.specs.ValidAndStaleCopy.{TouchesCopy, IsValidCopy, IsStaleCopy}
+use Rattle.journal.specs.CopyOrigins.{TouchesCopy, AreCopyOrigins}
+use Rattle.journal.specs.ValidAndStaleCopy.{IsValidCopy, IsStaleCopy}
 use Rattle.base.specs.InOrderOnce.{Has}
 use Rattle.base.specs.LastWritten.{wrote}
 use Rattle.base.specs.MarkedRecords.{records_applied}
@@ -31,6 +32,7 @@ use Rattle.journal.proofs.CopyOfPage.CompleteBlocks.{copy_of_lawful, complete_no
 use Rattle.journal.proofs.Missing.GapsTaken.{nothing_taken}
 use Rattle.journal.proofs.Missing.Counted.{block_counts_push}
 use Rattle.journal.proofs.Missing.CountedLabels.{missing_fetched, missing_counts}
+use Rattle.journal.proofs.Origins.BlockOrigins.{origins_zero, origins_block_start, origins_block_others, origins_push, origins_handed, origins_others, origins_untouched, origins_fetched, origins_without_block}
 use Rattle.journal.proofs.Missing.Keeping.{none_missing, missing_some, missing_others, missing_block, missing_taken}
 
 -- at the start each copy is valid and zero
@@ -41,6 +43,7 @@ valid_start s p n = record {
       (λ i g. none-some (event g.store.by (Store g.store.address g.store.value)) g.store.does) (copy_start s p n);
   gives = refl;
   full = inl (λ i x past. absurd (none-some (event x.by (Store x.address x.value)) x.does));
+  origins = origins_zero s p n;
 }
 
 -- a valid copy is lawful after the block
@@ -64,20 +67,21 @@ valid_no_gap s j block p n base page is valid =
     complete_no_gap s (j ++ block) p n (valid_complete s j block p n base page is valid)
 
 -- others' events leave it valid
-pub valid_others : (s : Sizes) (j es block : List Event) (p n : ℕ) (base page : List ℕ)
+pub valid_others : {s : Sizes} {j : List Event} (es : List Event) {block : List Event} {p n : ℕ} {base page : List ℕ}
     → ((k : ℕ) (e : Event) → At es k e → e.processor ≢ p) → IsValidCopy s j block p n base page
     → IsValidCopy s (j ++ es) block p n base page
-valid_others s j es block p n base page away valid = record {
+valid_others {s = s} {j = j} es {p = p} {n = n} {base = base} away valid = record {
   lawful = lawful_others s j es p n base away valid.lawful;
   gives = valid.gives;
   full = elim valid.full [ inl c ↦ inl (complete_others s j es p n away c) | inr f ↦ inr f ];
+  origins = origins_block_others es away valid.origins;
 }
 
--- and so does a further event of the block, with what it stores in the page done to it
+-- and so does a further event of the block that doesn't fetch the page, with what it stores there done to it
 pub valid_push : (s : Sizes) (j block : List Event) (e : Event) (p n : ℕ) (base page : List ℕ)
-    → IsValidCopy s j block p n base page
+    → ((w r d : ℕ) → e ≢ event p (Fetch w n r d)) → IsValidCopy s j block p n base page
     → IsValidCopy s j (block ++ e ∷ []) p n base (wrote page (block_write s n e.kind))
-valid_push s j block e p n base page valid = record {
+valid_push s j block e p n base page away valid = record {
   lawful = valid.lawful;
   gives = ap (λ (ws : List ℕ). wrote ws (block_write s n e.kind)) valid.gives ∙ sym (block_done-push s n base block e);
   full =
@@ -88,6 +92,7 @@ valid_push s j block e p n base page valid = record {
           (f.1.0, f.1.1, f.1.2, numbered_at_longer block (e ∷ []) f.0 (event p (Fetch f.1.0 n f.1.1 f.1.2)) f.1.3),
         )
       ];
+  origins = origins_push e away valid.origins;
 }
 
 -- a block that is handed in leaves it valid
@@ -98,14 +103,15 @@ valid_handed s j block p n base page is valid =
       lawful = valid_lawful s j block p n base page is valid;
       gives = refl;
       full = inl (valid_complete s j block p n base page is valid);
+      origins = origins_block_start (origins_handed is valid.gives valid.origins);
     }
 
 -- a load of a valid copy is one that the block may answer
-pub valid_load : (s : Sizes) (j block : List Event) (p a v : ℕ) (base : ℕ → List ℕ) (over page : List ℕ)
+pub valid_load : {s : Sizes} {j block : List Event} {p : ℕ} (a v : ℕ) {base : ℕ → List ℕ} {over page : List ℕ}
     → base (a / s.words) ≡ over → IsValidCopy s j block p (a / s.words) over page
     → slice_get page (a % s.words) ≡ Some v → BlockAnswers s j block p base
     → BlockAnswers s j (block ++ event p (Load a v) ∷ []) p base
-valid_load s j block p a v base over page is valid at answers =
+valid_load {s = s} {j = j} {block = block} {p = p} a v {base = base} is valid at answers =
     answers_push s j block (event p (Load a v)) p base answers again
   where
     P : ℕ → ℕ → Type 0
@@ -158,21 +164,22 @@ copy_untouched s j es p n page away copy =
         (ih (λ k f at. all k f (numbered_at_longer xs (e ∷ []) k f at))))
 
 -- others' events leave a stale copy as it is
-pub stale_others : (s : Sizes) (j es block : List Event) (p n : ℕ) (page : List ℕ) (missing : List Missing)
+pub stale_others : {s : Sizes} {j : List Event} (es : List Event) {block : List Event} {p n : ℕ} {page : List ℕ} {missing : List Missing}
     → ((k : ℕ) (e : Event) → At es k e → e.processor ≢ p) → IsStaleCopy s j block p n page missing
     → IsStaleCopy s (j ++ es) block p n page missing
-stale_others s j es block p n page missing away stale =
+stale_others {s = s} {j = j} es {p = p} {n = n} {page = page} {missing = missing} away stale =
     record {
       copy = copy_untouched s j es p n page (λ k e at mine. absurd (away k e at mine)) stale.copy;
       lacks = missing_others s j es p n missing away stale.lacks;
       untouched = stale.untouched;
+      origins = origins_others es away stale.origins;
     }
 
 -- and so does a further event of the block that doesn't touch the page
-pub stale_push : (s : Sizes) (j block : List Event) (e : Event) (p n : ℕ) (page : List ℕ) (missing : List Missing)
+pub stale_push : {s : Sizes} {j block : List Event} (e : Event) {p n : ℕ} {page : List ℕ} {missing : List Missing}
     → ¬ TouchesCopy s n e.kind → IsStaleCopy s j block p n page missing
     → IsStaleCopy s j (block ++ e ∷ []) p n page missing
-stale_push s j block e p n page missing away stale =
+stale_push {s = s} {block = block} e {n = n} away stale =
     record {
       copy = stale.copy;
       lacks = stale.lacks;
@@ -180,6 +187,7 @@ stale_push s j block e p n page missing away stale =
         | inl h ↦ stale.untouched k f h.1
         | inr h ↦ (let P : Event → Type 0 = λ g. ¬ TouchesCopy s n g.kind in subst P h.1 away)
       ];
+      origins = stale.origins;
     }
 
 -- a block that is handed in leaves it stale
@@ -191,24 +199,26 @@ stale_handed s j block p n page missing is stale = record {
       missing_block s j block p n missing is (λ k w r d f. stale.untouched k (event p (Fetch w n r d)) f refl)
       stale.lacks;
   untouched = λ k e at. absurd (none-some e at);
+  origins = origins_untouched block (λ k e at _. stale.untouched k e at) stale.origins;
 }
 
 -- and what some interval stored is in its gap
-pub stale_gap : (s : Sizes) (j block : List Event) (p n : ℕ) (page : List ℕ) (x : Missing) (missing : List Missing)
+pub stale_gap : {s : Sizes} {j block : List Event} {p n : ℕ} {page : List ℕ} {x : Missing} {missing : List Missing}
     → IsBlock p block → IsStaleCopy s j block p n page (x ∷ missing) → (i : ℕ) × InGap s (j ++ block) p n i
-stale_gap s j block p n page x missing is stale =
+stale_gap {s = s} {j = j} {block = block} {p = p} {n = n} {page = page} {x = x} {missing = missing} is stale =
     missing_some s (j ++ block) p n x missing (stale_handed s j block p n page (x ∷ missing) is stale).lacks
 
 -- a fetch applies the missing records in closing order, and makes it valid
-pub stale_fetched : (s : Sizes) (j block : List Event) (p n w r d : ℕ) (page : List ℕ) (missing : List Missing)
+pub stale_fetched : {s : Sizes} {j block : List Event} {p n : ℕ} (w r d : ℕ) {page : List ℕ} {missing : List Missing}
     → MissingInOrder missing → IsStaleCopy s j block p n page missing
     → IsValidCopy s j (block ++ event p (Fetch w n r d) ∷ []) p n
     (records_applied page (map (λ (x : Missing). x.words) missing))
     (records_applied page (map (λ (x : Missing). x.words) missing))
-stale_fetched s j block p n w r d page missing order stale = record {
+stale_fetched {s = s} {j = j} {block = block} {p = p} {n = n} w r d {page = page} {missing = missing} order stale = record {
   lawful = missing_fetched s j p n page missing stale.lacks order stale.copy;
   gives = sym (written_nothing (λ (f : Event). block_write s n f.kind) new (block ++ e ∷ []) nothing);
   full = inr (length block, (w, r, d, numbered_at_last block e));
+  origins = origins_fetched block w r d stale.lacks order stale.untouched stale.origins;
 }
   where
     e : Event
@@ -224,13 +234,13 @@ stale_fetched s j block p n w r d page missing order stale = record {
     ]
 
 -- the fetch's counts are how many owners, intervals and words the missing list has
-pub stale_counted : (s : Sizes) (j block : List Event) (p n writers : ℕ) (page : List ℕ) (missing : List Missing)
+pub stale_counted : {s : Sizes} {j block : List Event} {p n : ℕ} (writers : ℕ) {page : List ℕ} {missing : List Missing}
     → MissingInOrder missing → HasImageCount (λ (q : ℕ). (x : Missing) × Has missing x × (x.owner ≡ q)) writers
     → IsStaleCopy s j block p n page missing → BlockCounts s j block p
     → BlockCounts s j
     (block ++ event p (Fetch writers n (length missing) (sum_by (λ (x : Missing). length x.words) missing)) ∷ [])
     p
-stale_counted s j block p n writers page missing order count stale counts =
+stale_counted {s = s} {j = j} {block = block} {p = p} {n = n} writers {missing = missing} order count stale counts =
     block_counts_push s j block
     (event p (Fetch writers n (length missing) (sum_by (λ (x : Missing). length x.words) missing))) p new counts
   where
@@ -256,11 +266,10 @@ stale_counted s j block p n writers page missing order count stale counts =
         )))
 
 -- what the block's loads answer is untouched by a fetch of a page that was stale
-pub stale_answers_fetched : (s : Sizes) (j block : List Event) (p n w r d : ℕ) (page new : List ℕ) (missing : List Missing)
-    (base : ℕ → List ℕ)
+pub stale_answers_fetched : {s : Sizes} {j block : List Event} {p n : ℕ} (w r d : ℕ) {page : List ℕ} (new : List ℕ) {missing : List Missing} {base : ℕ → List ℕ}
     → IsStaleCopy s j block p n page missing → BlockAnswers s j block p base
     → BlockAnswers s j (block ++ event p (Fetch w n r d) ∷ []) p (block_with_page n new base)
-stale_answers_fetched s j block p n w r d page new missing base stale answers =
+stale_answers_fetched {s = s} {j = j} {block = block} {p = p} {n = n} w r d new {base = base} stale answers =
     answers_push s j block (event p (Fetch w n r d)) p (block_with_page n new base)
     (answers_with_page s j block p n new base (λ k a v load. stale.untouched k (event p (Load a v)) load) answers)
     (λ a v e. absurd (cc (ap (λ (f : Event). f.kind) e)))
@@ -271,41 +280,49 @@ pub valid_full : (s : Sizes) (j : List Event) (p n : ℕ) (base page : List ℕ)
 valid_full s j p n base page valid =
     elim valid.full [ inl c ↦ c | inr f ↦ absurd (none-some (event p (Fetch f.1.0 n f.1.1 f.1.2)) f.1.3) ]
 
--- an event by which p gets to know of others' adds to what a stale copy lacks
-pub stale_taken : (s : Sizes) (j : List Event) (p n : ℕ) (page : List ℕ) (k : Kind) (t t' : ℕ → ℕ)
-    (missing new : List Missing)
-    → is_taking k ≡ true → IsTimeOf j p t → IsTimeOf (j ++ event p k ∷ []) p t' → AreMissingNotices s j p n t t' new
-    → IsStaleCopy s j [] p n page missing → IsStaleCopy s (j ++ event p k ∷ []) [] p n page (missing ++ new)
-stale_taken s j p n page k t t' missing new takes time after news stale = record {
-  copy = copy_untouched s j (e ∷ []) p n page taking stale.copy;
-  lacks = missing_taken (record { takes = takes; time = time; after = after }) news stale.lacks;
-  untouched = λ m f at. absurd (none-some f at);
-}
+-- an event by which p gets to know of others' touches no page
+taking_untouched : (s : Sizes) (p n : ℕ) (k : Kind) → is_taking k ≡ true → (m : ℕ) (f : Event) → At (event p k ∷ []) m f
+    → ¬ TouchesCopy s n f.kind
+taking_untouched s p n k takes m f at =
+    elim (slice_push_cases [] (event p k) m f at) [
+      | inl h ↦ absurd (none-some f h.1)
+      | inr h ↦ (let P : Event → Type 0 = λ g. ¬ TouchesCopy s n g.kind in subst P h.1 (takes_nothing k takes))
+    ]
   where
-    e : Event
-    e = event p k
-
-    takes_nothing : (m : Kind) → is_taking m ≡ true → ¬ TouchesCopy s n m
+    takes_nothing : (a : Kind) → is_taking a ≡ true → ¬ TouchesCopy s n a
     takes_nothing (Load a v) h = absurd (true≢false (sym h))
     takes_nothing (Store a v) h = absurd (true≢false (sym h))
     takes_nothing (Fetch w m r d) h = absurd (true≢false (sym h))
     takes_nothing _ h = λ x. x
 
+-- and adds to what a stale copy lacks
+pub stale_taken : {s : Sizes} {j : List Event} {p n : ℕ} {page : List ℕ} (k : Kind) {t t' : ℕ → ℕ} {missing new : List Missing}
+    → is_taking k ≡ true → IsTimeOf j p t → IsTimeOf (j ++ event p k ∷ []) p t' → AreMissingNotices s j p n t t' new
+    → IsStaleCopy s j [] p n page missing → IsStaleCopy s (j ++ event p k ∷ []) [] p n page (missing ++ new)
+stale_taken {s = s} {j = j} {p = p} {n = n} {page = page} k takes time after news stale = record {
+  copy = copy_untouched s j (e ∷ []) p n page taking stale.copy;
+  lacks = missing_taken (record { takes = takes; time = time; after = after }) news stale.lacks;
+  untouched = λ m f at. absurd (none-some f at);
+  origins = origins_untouched (e ∷ []) taking stale.origins;
+}
+  where
+    e : Event
+    e = event p k
+
     taking : (m : ℕ) (f : Event) → At (e ∷ []) m f → f.processor ≡ p → ¬ TouchesCopy s n f.kind
-    taking m f at _ =
-        elim (slice_push_cases [] e m f at) [
-          | inl h ↦ absurd (none-some f h.1)
-          | inr h ↦ (let P : Event → Type 0 = λ g. ¬ TouchesCopy s n g.kind in subst P h.1 (takes_nothing k takes))
-        ]
+    taking m f at _ = taking_untouched s p n k takes m f at
 
 -- an event by which p gets to know of no store to the page leaves its valid copy so
-pub valid_taken : (s : Sizes) (j : List Event) (p n : ℕ) (base page : List ℕ) (k : Kind) (t t' : ℕ → ℕ)
+pub valid_taken : {s : Sizes} {j : List Event} {p n : ℕ} {base page : List ℕ} (k : Kind) {t t' : ℕ → ℕ}
     → is_taking k ≡ true → IsTimeOf j p t → IsTimeOf (j ++ event p k ∷ []) p t' → AreMissingNotices s j p n t t' []
     → IsValidCopy s j [] p n base page → IsValidCopy s (j ++ event p k ∷ []) [] p n page page
-valid_taken s j p n base page k t t' takes time after no_news valid = record {
+valid_taken {s = s} {j = j} {p = p} {n = n} {base = base} {page = page} k takes time after no_news valid = record {
   lawful = lawful_on s j (e ∷ []) p n page nothing (subst (Lawful s j p n) (sym valid.gives) valid.lawful);
   gives = refl;
   full = inl (complete_on s j (e ∷ []) p n nothing (valid_full s j p n base page valid));
+  origins =
+      origins_block_start (origins_untouched (e ∷ []) (λ m f at _. taking_untouched s p n k takes m f at)
+      (subst (AreCopyOrigins s j p n) (sym valid.gives) (origins_without_block valid.origins)));
 }
   where
     e : Event
@@ -318,15 +335,15 @@ valid_taken s j p n base page k t t' takes time after no_news valid = record {
         has-nil x.0 x.1)
 
 -- and else it is stale by the new intervals
-pub valid_staled : (s : Sizes) (j : List Event) (p n : ℕ) (base page : List ℕ) (k : Kind) (t t' : ℕ → ℕ)
-    (new : List Missing)
+pub valid_staled : {s : Sizes} {j : List Event} {p n : ℕ} {base page : List ℕ} (k : Kind) {t t' : ℕ → ℕ} {new : List Missing}
     → is_taking k ≡ true → IsTimeOf j p t → IsTimeOf (j ++ event p k ∷ []) p t' → AreMissingNotices s j p n t t' new
     → IsValidCopy s j [] p n base page → IsStaleCopy s (j ++ event p k ∷ []) [] p n page new
-valid_staled s j p n base page k t t' new takes time after news valid =
+valid_staled {s = s} {j = j} {p = p} {n = n} {base = base} {page = page} k takes time after news valid =
     let complete = valid_full s j p n base page valid in
-    stale_taken s j p n page k t t' [] new takes time after news (record {
+    stale_taken k takes time after news (record {
       copy = copy_of_lawful s j p n page complete
           (subst (Lawful s j p n) (sym valid.gives) valid.lawful);
       lacks = none_missing s j p n (complete_no_gap s j p n complete);
       untouched = λ k e at. absurd (none-some e at);
+      origins = subst (AreCopyOrigins s j p n) (sym valid.gives) (origins_without_block valid.origins);
     })

@@ -53,7 +53,7 @@ flat_answers_last {b} {j} {k} {p} {v} {w} x i a less loads l = go (x.explained i
     latest s (inl e) =
         let P : ℕ
         → Type 0 = λ m. Does j m l.item.processor (Store a w) in
-        (store_same j s.place l.item.processor s.by a a w v (subst P e stores) s.stores).2
+        (store_same j s.place (subst P e stores) s.stores).2
     latest s (inr (inl h)) =
         absurd (l.last s.place (event s.by (Store a v)) v h
         (slice_get-take j i s.place (goes_forward_from b j s.before) ∙ s.stores) refl)

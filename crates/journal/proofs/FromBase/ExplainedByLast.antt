@@ -111,7 +111,7 @@ module _ (s : Sizes) (c j : List Event) (b : Base) (n : ℕ) (well : WellFormed 
 
       is : (m ≡ l.1.place) ⊎ ((m < l.1.place) ⊎ (l.1.place < m)) → l.0 ≡ v
       is (inl same) =
-          sym (store_same c l.1.place p l.1.item.processor a a v l.0 (subst (λ i. Does c i p (Store a v)) same does)
+          sym (store_same c l.1.place (subst (λ i. Does c i p (Store a v)) same does)
           stores).2
       is (inr (inl lt)) =
           absurd (not_unordered lt does stores (record { address = a; first = refl; second = refl; stores = inl refl })

@@ -24,10 +24,10 @@ pub dirty_start : (s : Sizes) (p n : ℕ) (page : List ℕ) → length page ≡ 
 dirty_start s p n page long = record { clean = page; long = long; page_is = refl; marks_are = refl }
 
 -- others' events change no dirty bit, also under an open block
-pub dirty_others : (s : Sizes) (j es block : List Event) (p n : ℕ) (page : List ℕ) (marks : List Bool)
+pub dirty_others : {s : Sizes} (j es block : List Event) {p n : ℕ} {page : List ℕ} {marks : List Bool}
     → ((k : ℕ) (e : Event) → At es k e → e.processor ≢ p) → IsDirty s (j ++ block) p n page marks
     → IsDirty s ((j ++ es) ++ block) p n page marks
-dirty_others s j es block p n page marks away dirty =
+dirty_others j es block {p = p} away dirty =
     let same = since_under j es block p away in
     record {
       clean = dirty.clean;
@@ -37,10 +37,10 @@ dirty_others s j es block p n page marks away dirty =
     }
 
 -- an own event that closes no interval does what it stores, and marks it
-pub dirty_push : (s : Sizes) (j : List Event) (e : Event) (p n : ℕ) (page : List ℕ) (marks : List Bool)
+pub dirty_push : {s : Sizes} {j : List Event} (e : Event) {p n : ℕ} {page : List ℕ} {marks : List Bool}
     → e.processor ≡ p → is_closing e.kind ≡ false → IsDirty s j p n page marks
     → IsDirty s (j ++ e ∷ []) p n (wrote page (block_write s n e.kind)) (mark marks (block_write s n e.kind))
-dirty_push s j e p n page marks mine inner dirty =
+dirty_push {s = s} {j = j} e {p = p} {n = n} mine inner dirty =
     let same = since_inner j e p mine inner in
     record {
       clean = dirty.clean;
@@ -55,10 +55,10 @@ dirty_push s j e p n page marks mine inner dirty =
     }
 
 -- a closing event clears the marks
-pub dirty_closing : (s : Sizes) (j : List Event) (e : Event) (p n : ℕ) (page : List ℕ) (marks : List Bool)
+pub dirty_closing : {s : Sizes} {j : List Event} (e : Event) {p n : ℕ} {page : List ℕ} {marks : List Bool}
     → e.processor ≡ p → is_closing e.kind ≡ true → IsDirty s j p n page marks
     → IsDirty s (j ++ e ∷ []) p n page (replicate s.words false)
-dirty_closing s j e p n page marks mine closes dirty =
+dirty_closing {s = s} {j = j} e {p = p} {n = n} {page = page} mine closes dirty =
     let same = since_closing j e p mine closes in
     record {
       clean = page;

@@ -215,9 +215,9 @@ content_word {s} {j} {q} {k} {n} content w h =
     (l.item, x, same_Some (x.0 % s.words, x.1) w (sym (store_writes s j l.item q x.0 x.1 x.2) ∙ l.writes))
 
 -- and lies within the page
-pub content_within : (s : Sizes) (j : List Event) (q k n o v : ℕ) (words : List (ℕ × ℕ)) → 0 < s.words
+pub content_within : {s : Sizes} {j : List Event} {q k n o v : ℕ} {words : List (ℕ × ℕ)} → 0 < s.words
     → IsContent s j q k n words → Has words (o, v) → o < s.words
-content_within s j q k n o v words some content h =
+content_within {o = o} {v = v} some content h =
     let x = content_word content (o, v) h in
     let below = mod-lt x.1.0 some in
     let same = ap (λ (w : ℕ × ℕ). w.0) x.2 in

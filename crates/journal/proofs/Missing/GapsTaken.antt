@@ -31,8 +31,8 @@ pub gap_not_mine : (j : List Event) (p q i : ℕ) (a : Kind) → Does j i q a �
 gap_not_mine j p q i a does apart m = apart (ap (λ (e : Event). e.processor) (numbered_at_same j i (event q a) m.0 does m.1) ∙ m.2)
 
 -- a store in the gap is another processor's
-pub gaps_apart : (s : Sizes) (j : List Event) (p n q i a v : ℕ) → InGap s j p n i → Does j i q (Store a v) → q ≢ p
-gaps_apart s j p n q i a v g does mine = g.others (event q (Store a v), does, mine)
+pub gaps_apart : {s : Sizes} {j : List Event} {p n q i a v : ℕ} → InGap s j p n i → Does j i q (Store a v) → q ≢ p
+gaps_apart {q = q} {a = a} {v = v} g does mine = g.others (event q (Store a v), does, mine)
 
 -- others' events leave the gap
 pub gaps_of_others : (s : Sizes) (j es : List Event) (p n i : ℕ) → ((k : ℕ) (e : Event) → At es k e → e.processor ≢ p)
@@ -63,11 +63,11 @@ gaps_of_others s j es p n i away = (there, back)
     back g = (brought_gap_is s (j ++ es) p n i).1 ((past_others j es p i away).1 g.past, stores_longer s j es n i g.store, old g)
 
 -- an event by which p gets to know of others' adds what lies between p's timestamps before and after it
-pub gap_taken : (s : Sizes) (j : List Event) (p n q i a v : ℕ) (k : Kind) (t t' : ℕ → ℕ) → is_taking k ≡ true
+pub gap_taken : (s : Sizes) {j : List Event} {p : ℕ} (n : ℕ) {q i a v : ℕ} (k : Kind) {t t' : ℕ → ℕ} → is_taking k ≡ true
     → IsTimeOf j p t → IsTimeOf (j ++ event p k ∷ []) p t' → Does j i q (Store a v) → a / s.words ≡ n → q ≢ p
     → InGap s (j ++ event p k ∷ []) p n i
     ↔ (InGap s j p n i ⊎ ((t q ≤ interval_at j q i) × (interval_at j q i < t' q)))
-gap_taken s j p n q i a v k t t' takes time after does page apart = (there, back)
+gap_taken s {j = j} {p = p} n {q = q} {i = i} {a = a} {v = v} k {t = t} {t' = t'} takes time after does page apart = (there, back)
   where
     e : Event
     e = event p k
@@ -181,7 +181,7 @@ gaps_whole s j p n z m stored x = record {
     g = stored.3
 
     apart : z.0 ≢ p
-    apart = gaps_apart s j p n z.0 i z.2 stored.1 g does
+    apart = gaps_apart g does
 
     c : (c : ℕ) × ClosesAt j z.0 c × (interval_at j z.0 c ≡ interval_at j z.0 i)
     c = number_closed j p z.0 i (Store z.2 stored.1) does apart g.past

@@ -92,9 +92,9 @@ groups_gap s j p n missing groups are of i = (λ h. there ((joined_has groups i)
         (joined_has groups i).1 (f.0, (m.1.0, f.1), (r.2 i).1 (subst P (sym same) here))
 
 -- a store of a closed interval, with its closing event
-pub group_store_closed : (s : Sizes) (j : List Event) (q k n i c : ℕ) → StoresInInterval s j q k n i → ClosesAt j q c
+pub group_store_closed : (s : Sizes) {j : List Event} {q k n i c : ℕ} → StoresInInterval s j q k n i → ClosesAt j q c
     → interval_at j q c ≡ k → ClosedAt j i c
-group_store_closed s j q k n i c x closes number =
+group_store_closed s {j = j} {q = q} {i = i} {c = c} x closes number =
     closes_interval j q i c (Store x.0 x.1) x.2 (λ h. true≢false (sym h)) closes (x.4 ∙ sym number)
 
 -- of two intervals in closing order, the stores of the second don't happen before those of the first
@@ -119,11 +119,9 @@ groups_extend s j n missing groups placed order of = (
         let d = placed t.0 (y, t.1) in (
           c.at,
           d.at,
-          group_store_closed s j r.0.owner r.0.number n a c.at ((r.2 a).0 in_g) c.closes c.number,
-          group_store_closed s
-              j t.0.owner t.0.number n b d.at ((t.2 b).0 in_h) d.closes d.number,
-          placed_before j r.0.owner
-              r.0.number r.0.place t.0.owner t.0.number t.0.place c d (order x y r.0 t.0 less r.1 t.1),
+          group_store_closed s ((r.2 a).0 in_g) c.closes c.number,
+          group_store_closed s ((t.2 b).0 in_h) d.closes d.number,
+          placed_before c d (order x y r.0 t.0 less r.1 t.1),
         )
 
     apart : InOrder (λ (g h : List ℕ). (a b : ℕ) → Has g a → Has h b → a ≢ b) groups

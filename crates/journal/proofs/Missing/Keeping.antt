@@ -126,17 +126,16 @@ missing_taken {s} {j} {p} {n} {k} {t} {t'} {missing} {new} l news are =
         → (a : ℕ) × StoredInGapOfImage s (j ++ e ∷ []) p n (q, m, a)
     from_gap q m x =
         let g = x.1 in
-        let apart = gaps_apart s j p n q g.0 x.0 g.1 g.3 g.2 in
+        let apart = gaps_apart g.3 g.2 in
         let page : x.0 / s.words ≡ n =
-        ap (λ (a : ℕ). a / s.words) (sym (store_same j g.0 g.3.store.by q g.3.store.address x.0 g.3.store.value
-        g.1 g.3.store.does g.2).1)
+        ap (λ (a : ℕ). a / s.words) (sym (store_same j g.0 g.3.store.does g.2).1)
         ∙ g.3.store.in_page in (
           x.0,
           (
             g.0,
             g.1,
             at_e q g.0 x.0 g.1 g.2,
-            (gap_taken s j p n q g.0 x.0 g.1 k t t' l.takes l.time l.after g.2 page apart).1 (inl g.3),
+            (gap_taken s n k l.takes l.time l.after g.2 page apart).1 (inl g.3),
             number q
                 g.0 x.0 g.1 g.2
                 ∙ g.4,
@@ -155,7 +154,7 @@ missing_taken {s} {j} {p} {n} {k} {t} {t'} {missing} {new} l news are =
             x.0,
             w.1,
             at_e q x.0 w.0 w.1 w.2,
-            (gap_taken s j p n q x.0 w.0 w.1 k t t' l.takes l.time l.after w.2 w.3 x.2).1
+            (gap_taken s n k l.takes l.time l.after w.2 w.3 x.2).1
                 (inr (omega arith, omega arith)),
             number q x.0 w.0 w.1 w.2
                 ∙ w.4,
@@ -180,13 +179,13 @@ missing_taken {s} {j} {p} {n} {k} {t} {t'} {missing} {new} l news are =
         let g = x.1 in
         let w = g.3.store in
         let does : Does j g.0 q (Store x.0 g.1) = old q g.0 x.0 g.1 g.2 in
-        let apart = gaps_apart s (j ++ e ∷ []) p n q g.0 x.0 g.1 g.3 g.2 in
+        let apart = gaps_apart g.3 g.2 in
         let page : x.0 / s.words ≡ n =
         ap (λ (a : ℕ). a / s.words)
-        (sym (store_same (j ++ e ∷ []) g.0 w.by q w.address x.0 w.value g.1 w.does g.2).1)
+        (sym (store_same (j ++ e ∷ []) g.0 w.does g.2).1)
         ∙ w.in_page in
         let same : interval_at j q g.0 ≡ m = sym (number q g.0 x.0 g.1 does) ∙ g.4 in
-        elim ((gap_taken s j p n q g.0 x.0 g.1 k t t' l.takes l.time l.after does page apart).0 g.3) [
+        elim ((gap_taken s n k l.takes l.time l.after does page apart).0 g.3) [
           | inl h ↦ add q m (inl ((are.each q m).1 (x.0, (g.0, g.1, does, h, same))))
           | inr h ↦ (let le = h.0 in let less = h.1 in
               add q m

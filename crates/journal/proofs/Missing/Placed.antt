@@ -17,9 +17,9 @@ pub placed_closed_count_front : (j es : List Event) (i : ℕ) → i ≤ length j
 placed_closed_count_front j es i le = ap missing_closed_count (take-append-le i j es le)
 
 -- a lower closing number is closed earlier
-pub placed_before : (j : List Event) (q k a r m b : ℕ) (x : IsMissingPlaced j q k a) (y : IsMissingPlaced j r m b) → a < b
+pub placed_before : {j : List Event} {q k a r m b : ℕ} (x : IsMissingPlaced j q k a) (y : IsMissingPlaced j r m b) → a < b
     → x.at < y.at
-placed_before j q k a r m b x y less = elim (cases_lt x.at y.at) [
+placed_before {j = j} x y less = elim (cases_lt x.at y.at) [
   | inl h ↦ h
   | inr le ↦ (let up = count_by-mono (λ (e : Event). is_closing e.kind) j y.at x.at le in let here = x.before in
       let there = y.before in absurd (omega arith))

@@ -45,14 +45,14 @@ next_race_no_access _ h = refl
 
 -- of two accesses that conflict, by two processors, the first races with the second exactly where the second's
 -- timestamp doesn't count its interval
-pub race_by_time : (events : List Event) (place i : ℕ) (e f : Event) (t : ℕ → ℕ) → At events place e → At events i f
+pub race_by_time : {events : List Event} {place i : ℕ} {e f : Event} {t : ℕ → ℕ} → At events place e → At events i f
     → i < place → f.processor ≢ e.processor → Conflict f e → IsTimeOf (take place events) e.processor t
     → Race events i place ↔ (t f.processor ≤ interval_at events f.processor i)
-race_by_time events place i e f t at to lt apart conflict time = (there, here)
+race_by_time {events = events} {place = place} {i = i} {e = e} {f = f} {t = t} at to lt apart conflict time = (there, here)
   where
     tells : HappensBefore events i place ↔ (interval_at events f.processor i < t f.processor)
     tells =
-        time_uses_ordered events place e.processor f.processor i f.kind e.kind t time to at
+        time_uses_ordered time to at
         (next_race_access_quiet e.kind conflict.address conflict.second) apart lt
 
     there : Race events i place → t f.processor ≤ interval_at events f.processor i
@@ -159,7 +159,7 @@ does_before_last {j} {e} {t} comes q i k does counted =
         let time_now = subst (λ xs. IsTimeOf xs e.processor t) (sym front) comes.time in
         let number = count_of-front is_closing j (e ∷ []) i q (omega (arith, lt)) in
         let below = counted isnt in
-        (time_uses_ordered (j ++ e ∷ []) (length j) e.processor q i k e.kind t time_now does_now (numbered_at_last j e) comes.quiet
+        (time_uses_ordered time_now does_now (numbered_at_last j e) comes.quiet
         isnt lt).1
         (omega arith)
 
@@ -318,7 +318,7 @@ next_race_ordered_here events place e t at time none i q k does conflict apart =
     elim (cases_lt (interval_at events q i) (t q)) [
       | inl below ↦ omega arith
       | inr le ↦ absurd
-          (none i ((race_by_time events place i e (event q k) t at does_here lt apart conflict time).1 le))
+          (none i ((race_by_time at does_here lt apart conflict time).1 le))
     ]
 
 -- e ends no race with what came before, and y, which is as long as x, is to be what is kept with it

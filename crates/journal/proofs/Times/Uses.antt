@@ -37,9 +37,9 @@ time_uses_reaches_at j k p i b at quiet =
 
 -- an earlier event happens before another processor's that takes nothing exactly where its timestamp before that
 -- counts the event's interval
-pub time_uses_ordered : (j : List Event) (k p q i : ℕ) (a b : Kind) (t : ℕ → ℕ) → IsTimeOf (take k j) p t → Does j i q a
+pub time_uses_ordered : {j : List Event} {k p q i : ℕ} {a b : Kind} {t : ℕ → ℕ} → IsTimeOf (take k j) p t → Does j i q a
     → Does j k p b → is_taking b ≡ false → q ≢ p → i < k → HappensBefore j i k ↔ (interval_at j q i < t q)
-time_uses_ordered j k p q i a b t time does at quiet apart lt =
+time_uses_ordered {j = j} {k = k} {p = p} {q = q} {i = i} {a = a} {b = b} {t = t} time does at quiet apart lt =
     let past = time_uses_reaches_at j k p i b at quiet in
     let counts = covered (take k j) p q i a t time (slice_get-take j k i lt ∙ does) apart in
     let le : i ≤ k = omega arith in

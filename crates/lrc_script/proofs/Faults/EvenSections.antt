@@ -19,11 +19,11 @@ section_lines-one : (k : ℕ) (is : List Instruction) → length (section_lines 
 section_lines-one k is =
     omega (arith, length-append (section_line k ∷ map instruction_line is) [], length-map is instruction_line)
 
-pub even_more : (sections : List (Vec Instruction)) (count expected line : ℕ) (section : Vec Instruction)
+pub even_more : {sections : List (Vec Instruction)} {count expected line : ℕ} (section : Vec Instruction)
     → AreEvenSoFar sections count expected line → count < length sections → section ≡ get_or sections count section
     → length section.items ≤ 10000 → barriers section.items ≡ expected
     → AreEvenSoFar sections (count + 1) expected (line + (length section.items + 1))
-even_more sections count expected line section h lt read few same =
+even_more {sections = sections} {count = count} {expected = expected} section h lt read few same =
     let here : get_or (plan_sections sections) count [] ≡ section.items =
     get_or-map (λ section. section.items) sections count section [] lt
     ∙ ap (λ (v : Vec Instruction). v.items) (sym read) in

@@ -1,11 +1,10 @@
 -- Reading from line to line through the bytes of a script.
-use Rattle.std.proofs.Common.{◌≡◌, ◌≢◌, ℕ, ◌+◌, ◌<◌, ◌≤◌, map, List, [], ◌∷◌, ◌++◌, length, eqb, Ok, Err, refl, sym, ap, subst, ◌∙◌, append_assoc, arith}
+use Rattle.std.proofs.Common.{◌≡◌, ◌≢◌, ℕ, ◌+◌, ◌<◌, ◌≤◌, map, List, [], ◌∷◌, ◌++◌, length, Ok, Err, refl, sym, ap, subst, ◌∙◌, append_assoc, arith}
 use Rattle.std.specs.Prelude.{All}
 use Rattle.std.specs.Global.{Vec}
-use Rattle.std.specs.List.{flat_map, AllByRecursion}
+use Rattle.std.specs.List.{flat_map}
 use Rattle.std.proofs.lemmas.List.{append-nil, length-append, length-map, get_or-map}
 use Rattle.std.proofs.lemmas.List.Elements.{All-weaker}
-use Rattle.std.proofs.lemmas.List.Splits.{length-slice_split}
 use Rattle.std.proofs.lemmas.List.Concat.{flat_map-append}
 use Rattle.lrc_script.specs.declared.fault.ScriptFault.{ScriptFault}
 use Rattle.lrc_script.specs.declared.fault.ScriptFault.TheVariants.{Truncated, NoMemory}
@@ -16,7 +15,7 @@ use Rattle.lrc_script.specs.Text.{ScriptLine, line_text, line_bytes, text}
 use Rattle.lrc_script.specs.Front.{Front, Nothing, Whole, IsLawfulFront, front_lines, front_text}
 use Rattle.lrc_script.specs.LineFaults.{IsAtLine, IsFaultAt, IsFault, IsUnevenAtLine, IsUnevenText}
 use Rattle.lrc_script.specs.LineReading.{ReadFails, parts_of_line, IsLineCut, read_after}
-use Rattle.lrc_script.proofs.Reading.Words.{HasNo, parts_of_words_clean, parts_words_whole}
+use Rattle.lrc_script.proofs.Reading.Words.{HasNo, parts_words_whole}
 use Rattle.lrc_script.proofs.Front.Texts.{never_in_text, never_begins, text_ends, text_injective}
 use Rattle.lrc_script.proofs.Faults.Says.{line_says_or_adds, line_says, fault_behind_from, fault_from}
 use Rattle.lrc_script.proofs.Front.Begins.{front_begins}
@@ -29,9 +28,9 @@ lines_joined_again rest (v ∷ vs) e some = ap (λ (x : List ℕ). 10 ∷ x) (sy
 pub at_first_line : (bytes : List ℕ) → IsAtLine bytes 1 Nothing bytes
 at_first_line bytes = record { begun = tt; whole = refl; number = refl }
 
-pub at_next_line : (bytes : List ℕ) (n : ℕ) (f g : Front) (now line rest : List ℕ) → IsAtLine bytes n f now
+pub at_next_line : {bytes : List ℕ} {n : ℕ} {f : Front} (g : Front) {now line rest : List ℕ} → IsAtLine bytes n f now
     → IsLineCut now line rest → read_after f line ≡ Ok g → IsAtLine bytes (n + 1) g rest
-at_next_line bytes n f g now line rest at cut read =
+at_next_line {f = f} g {line = line} {rest = rest} at cut read =
     let a = line_says_or_adds f line g at.begun read in
     let lines = a.adds.lines_are in
     let front : front_text g ≡ front_text f ++ (line_text a.added ++ []) =
@@ -60,9 +59,9 @@ at_next_line bytes n f g now line rest at cut read =
 abbrev pub IsNoText : List ℕ → Type 0
 IsNoText bytes = (s : Plan) → IsLawful s → bytes ≢ text s
 
-pub refused_fault : (bytes : List ℕ) (n : ℕ) (f : Front) (now line rest : List ℕ) (g : ScriptFault)
+pub refused_fault : {bytes : List ℕ} {n : ℕ} {f : Front} {now line rest : List ℕ} (g : ScriptFault)
     → IsAtLine bytes n f now → IsLineCut now line rest → read_after f line ≡ Err g → IsFaultAt bytes n g × IsNoText bytes
-refused_fault bytes n f now line rest g at cut read = (
+refused_fault {f = f} {now = now} {line = line} {rest = rest} g at cut read = (
   record {
     front = f;
     rest = now;
@@ -156,13 +155,13 @@ line_cut_shorter now line rest cut =
     omega (arith, ap (λ (x : List ℕ). length x) cut.bytes_are, length-append line (10 ∷ rest))
 
 -- what a line that fails says, whatever the error
-pub failed_fault : (bytes : List ℕ) (n : ℕ) (f : Front) (now line rest : List ℕ) (g : ScriptFault)
+pub failed_fault : {bytes : List ℕ} {n : ℕ} {f : Front} {now line rest : List ℕ} (g : ScriptFault)
     → IsAtLine bytes n f now → IsLineCut now line rest → ReadFails g (read_after f line)
     → IsFault bytes n g × (g ≢ NoMemory → IsNoText bytes)
-failed_fault bytes n f now line rest NoMemory at cut read =
+failed_fault {bytes = bytes} {n = n} {f = f} {now = now} {line = line} {rest = rest} NoMemory at cut read =
     (memory_fault bytes n f now line rest at cut, λ h. absurd (h refl))
-failed_fault bytes n f now line rest g at cut read =
-    let r = refused_fault bytes n f now line rest g at cut read in (fault_from bytes n g r.0, λ h. r.1)
+failed_fault {bytes = bytes} {n = n} g at cut read =
+    let r = refused_fault g at cut read in (fault_from bytes n g r.0, λ h. r.1)
 
 -- what is read has one script
 pub text_read_again : (bytes : List ℕ) (t : Plan) → IsLawful t × (bytes ≡ text t) → (s : Plan) → IsLawful s

@@ -33,7 +33,7 @@ head_plan_passes p n w l g true e h =
     let none : g ≡ 0 = eqb-true g 0 e in
     let test : are_read_sizes (head_plan p n w l 0) ≡ true =
     subst (λ (x : ℕ). are_read_sizes (head_plan p n w l x) ≡ true) none (sizes_test (head_plan p n w l g) h) in
-    line_passes Nothing (Headed (head_plan p n w l g)) keyword.Cluster (codes "cluster") (p ∷ n ∷ w ∷ l ∷ []) refl refl (
+    line_passes Nothing (Headed (head_plan p n w l g)) keyword.Cluster (codes "cluster") refl refl (
       omega (arith, small.processors),
       (omega (arith, small.pages), (omega (arith, small.words), (omega (arith, small.locks), tt))),
     )
@@ -42,7 +42,7 @@ head_plan_passes p n w l g true e h =
 head_plan_passes p n w l g false e h =
     let small = sizes_small (head_plan p n w l g) h in
     let some : ltb 0 g ≡ true = grind (arith, nat_tests, e) in
-    line_passes Nothing (Headed (head_plan p n w l g)) keyword.Cluster (codes "cluster") (p ∷ n ∷ w ∷ l ∷ g ∷ []) refl refl (
+    line_passes Nothing (Headed (head_plan p n w l g)) keyword.Cluster (codes "cluster") refl refl (
       omega (arith, small.processors),
       (
         omega (arith, small.pages),
@@ -104,44 +104,44 @@ pub instruction_passes : (s : Plan) (before : List Instruction) (i : Instruction
 unfolding read_step
 instruction_passes s before (instruction.Load a) sizes range may room =
     let small = sizes_small s sizes in
-    line_passes (Within s before) _ keyword.Load (codes "load") (a ∷ []) refl refl
+    line_passes (Within s before) _ keyword.Load (codes "load") refl refl
     (omega (arith, small.addresses_fit, range), tt) refl
     (rw (passes_unrefused s before (instruction.Load a) range may room) refl)
 instruction_passes s before (instruction.Store a v) sizes range may room =
     let small = sizes_small s sizes in
-    line_passes (Within s before) _ keyword.Store (codes "store") (a ∷ v ∷ []) refl refl
+    line_passes (Within s before) _ keyword.Store (codes "store") refl refl
     (omega (arith, small.addresses_fit, range.0), (range.1, tt)) refl
     (rw (passes_unrefused s before (instruction.Store a v) range may room) refl)
 instruction_passes s before (instruction.Add a v) sizes range may room =
     let small = sizes_small s sizes in
-    line_passes (Within s before) _ keyword.Add (codes "add") (a ∷ v ∷ []) refl refl
+    line_passes (Within s before) _ keyword.Add (codes "add") refl refl
     (omega (arith, small.addresses_fit, range.0), (range.1, tt)) refl
     (rw (passes_unrefused s before (instruction.Add a v) range may room) refl)
 instruction_passes s before (instruction.Acquire l) sizes range may room =
     let small = sizes_small s sizes in
-    line_passes (Within s before) _ keyword.Acquire (codes "acquire") (l ∷ []) refl refl
+    line_passes (Within s before) _ keyword.Acquire (codes "acquire") refl refl
     (omega (arith, small.locks, range), tt) refl
     (rw (passes_unrefused s before (instruction.Acquire l) range may room) refl)
 instruction_passes s before (instruction.Release l) sizes range may room =
     let small = sizes_small s sizes in
-    line_passes (Within s before) _ keyword.Release (codes "release") (l ∷ []) refl refl
+    line_passes (Within s before) _ keyword.Release (codes "release") refl refl
     (omega (arith, small.locks, range), tt) refl
     (rw (passes_unrefused s before (instruction.Release l) range may room) refl)
 instruction_passes s before instruction.Barrier sizes range may room =
     let small = sizes_small s sizes in
-    line_passes (Within s before) _ keyword.Barrier (codes "barrier") ([]) refl refl tt refl
+    line_passes (Within s before) _ keyword.Barrier (codes "barrier") refl refl tt refl
     (rw (passes_unrefused s before instruction.Barrier range may room) refl)
 instruction_passes s before (instruction.Set f) sizes range may room =
     let small = sizes_small s sizes in
-    line_passes (Within s before) _ keyword.Set (codes "set") (f ∷ []) refl refl (omega (arith, small.flags, range), tt) refl
+    line_passes (Within s before) _ keyword.Set (codes "set") refl refl (omega (arith, small.flags, range), tt) refl
     (rw (passes_unrefused s before (instruction.Set f) range may room) refl)
 instruction_passes s before (instruction.Await f) sizes range may room =
     let small = sizes_small s sizes in
-    line_passes (Within s before) _ keyword.Await (codes "await") (f ∷ []) refl refl (omega (arith, small.flags, range), tt)
+    line_passes (Within s before) _ keyword.Await (codes "await") refl refl (omega (arith, small.flags, range), tt)
     refl (rw (passes_unrefused s before (instruction.Await f) range may room) refl)
 instruction_passes s before instruction.Cut sizes range may room =
     let small = sizes_small s sizes in
-    line_passes (Within s before) _ keyword.Cut (codes "cut") ([]) refl refl tt refl
+    line_passes (Within s before) _ keyword.Cut (codes "cut") refl refl tt refl
     (rw (passes_unrefused s before instruction.Cut range may room) refl)
 
 section_line_passes : (s : Plan) (is : List Instruction) → AreLawfulSizes s → suc (length s.sections) < s.processors
@@ -152,13 +152,13 @@ section_line_passes s is sizes lt =
     let next : (eqb (suc (length s.sections)) (length s.sections + 1) && ltb (suc (length s.sections)) s.processors)
     ≡ true =
     grind (arith, nat_tests, lt) in
-    line_passes (Within s is) (Within (section_closed s is) []) keyword.Section (codes "p") (suc (length s.sections) ∷ []) refl refl
+    line_passes (Within s is) (Within (section_closed s is) []) keyword.Section (codes "p") refl refl
     (omega (arith, small.processors, lt), tt) refl (rw next refl)
 
 first_section_passes : (s : Plan) → AreLawfulSizes s → LinePasses (Headed s) (section_line 0) (Within s [])
 unfolding read_step
 first_section_passes s sizes =
-    line_passes (Headed s) (Within s []) keyword.Section (codes "p") (0 ∷ []) refl refl (omega arith, tt) refl refl
+    line_passes (Headed s) (Within s []) keyword.Section (codes "p") refl refl (omega arith, tt) refl refl
 
 all_below : (n : ℕ) (xs : List ℕ) → AllByRecursion (λ a. a < n) xs → list_any (λ a. leb n a) xs ≡ false
 all_below n [] h = refl
@@ -181,7 +181,7 @@ show_line_passes s is shown sizes one_each some most below =
     let due : (leb 1 (length shown) && eqb (length s.sections + 1) s.processors) ≡ true =
     grind (arith, nat_tests, some, one_each) in
     let few : ltb 64 (length shown) ≡ false = grind (arith, nat_tests, most) in
-    line_passes (Within s is) (Whole (record (section_closed s is) { shown = shown })) keyword.Show (codes "show") shown refl refl
+    line_passes (Within s is) (Whole (record (section_closed s is) { shown = shown })) keyword.Show (codes "show") refl refl
     (all_words (plan_addresses s) shown small.addresses_fit each) due
     (rw (all_below (plan_addresses s) shown each, few) refl)
 

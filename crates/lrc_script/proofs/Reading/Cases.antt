@@ -49,11 +49,10 @@ parts_injective : (w v : List ℕ) (ws vs : List (List ℕ)) → (w ∷ ws) ≡ 
 parts_injective w v ws vs e = (cc, cc)
 
 -- words read as numbers
-read_command : (f : Front) (line w : List ℕ) (ws : List (List ℕ)) (k : Keyword) (r : Result Front ScriptFault)
-    (ns : Result (List ℕ) ScriptFault)
+read_command : (f : Front) {line w : List ℕ} {ws : List (List ℕ)} (k : Keyword) (r : Result Front ScriptFault) (ns : Result (List ℕ) ScriptFault)
     → IsLineSplit line w ws → keyword_read w ≡ Some k → is_line_due f k (length ws) ≡ true → numbers_read_after [] ws ≡ ns
     → (ns >>= read_step f k) ≡ r → Reading f line r
-read_command f line w ws k r (Ok ns) split key due read e =
+read_command f {w = w} {ws = ws} k r (Ok ns) split key due read e =
     let t = numbers_take [] ws ns read in
     let all : ns ≡ t.numbers = t.all_is in
     let words : ws ≡ map decimal ns = t.words_are ∙ ap (map decimal) (sym all) in
@@ -69,7 +68,7 @@ read_command f line w ws k r (Ok ns) split key due read e =
           ∙ ap (λ (t : List ℕ). w ++ t)
           (ap (λ (v : List (List ℕ)). flat_map (λ x. 32 ∷ x) v) words ∙ sym (line_numbers_flat ns));
     }) (sym e)
-read_command f line w ws k r (Err fault) split key due read e =
+read_command f {w = w} {ws = ws} k r (Err fault) split key due read e =
     NoNumber fault (record {
       word = w;
       words = ws;
@@ -81,12 +80,12 @@ read_command f line w ws k r (Err fault) split key due read e =
     })
     (sym e)
 
-read_due : (f : Front) (line w : List ℕ) (ws : List (List ℕ)) (k : Keyword) (r : Result Front ScriptFault) (b : Bool)
+read_due : (f : Front) {line w : List ℕ} {ws : List (List ℕ)} (k : Keyword) (r : Result Front ScriptFault) (b : Bool)
     → IsLineSplit line w ws → keyword_read w ≡ Some k → is_line_due f k (length ws) ≡ b
     → cond b (numbers_read_after [] ws >>= read_step f k) (Err BadLine) ≡ r → Reading f line r
-read_due f line w ws k r true split key due e =
-    read_command f line w ws k r (numbers_read_after [] ws) split key due refl e
-read_due f line w ws k r false split key due e = Shapeless (λ v vs k' other key' due'.
+read_due f {ws = ws} k r true split key due e =
+    read_command f k r (numbers_read_after [] ws) split key due refl e
+read_due f {line = line} {w = w} {ws = ws} k r false split key due e = Shapeless (λ v vs k' other key' due'.
     let same =
     parts_injective w v ws vs (sym (words_from_split line w ws split).0 ∙ (words_from_split line v vs other).0) in
     let keys : Some k ≡ Some k' = sym key ∙ ap keyword_read same.0 ∙ key' in
@@ -104,7 +103,7 @@ read_key f line w ws r None split key e = Shapeless (λ v vs k other key' due.
     parts_injective w v ws vs (sym (words_from_split line w ws split).0 ∙ (words_from_split line v vs other).0) in
     let keys : None ≡ Some k = sym key ∙ ap keyword_read same.0 ∙ key' in
     absurd cc) (sym e)
-read_key f line w ws r (Some k) split key e = read_due f line w ws k r (is_line_due f k (length ws)) split key refl e
+read_key f line w ws r (Some k) split key e = read_due f k r (is_line_due f k (length ws)) split key refl e
 
 read_words : (f : Front) (line w : List ℕ) (ws : List (List ℕ)) (r : Result Front ScriptFault) (b : Bool)
     → parts_of_line 32 line ≡ w ∷ ws → list_all has_bytes (w ∷ ws) ≡ b

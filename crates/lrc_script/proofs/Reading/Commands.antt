@@ -1,15 +1,15 @@
 -- A line of a word and numbers.
-use Rattle.std.proofs.Common.{◌≡◌, ℕ, ◌<◌, cond, eqb, true, false, List, [], ◌∷◌, length, Option, Some, None, Ok, refl, sym, ap, subst, ◌∙◌, arith}
-use Rattle.std.specs.List.{list_all, onto_first, AllByRecursion}
+use Rattle.std.proofs.Common.{◌≡◌, ℕ, ◌<◌, true, List, [], ◌∷◌, length, Option, Some, None, Ok, refl, sym, ap, subst, ◌∙◌, arith}
+use Rattle.std.specs.List.{list_all, AllByRecursion}
 use Rattle.std.specs.Fmt.{decimal}
 use Rattle.std.proofs.lemmas.Bool.{lt-ltb}
 use Rattle.std.proofs.lemmas.List.{length-map}
 use Rattle.lrc_script.specs.declared.line.Keyword.{Keyword}
 use Rattle.lrc_script.specs.Front.{Front}
 use Rattle.lrc_script.specs.LineFaults.{IsWordOfLine}
-use Rattle.lrc_script.specs.LineReading.{parts_of_line, has_bytes, keyword_read, numbers_read_after, read_after, read_after_words, read_after_keyword, read_after_numbers}
+use Rattle.lrc_script.specs.LineReading.{BeginsWithNumber, BeginsWithNoNumber, parts_of_line, has_bytes, keyword_read, numbers_read_after, read_after, read_after_words, read_after_keyword, read_after_numbers}
 use Rattle.lrc_script.proofs.Reading.Numbers.{numbers_take}
-use Rattle.lrc_script.proofs.Reading.Words.{words_have}
+use Rattle.lrc_script.proofs.Reading.Words.{words_have, some_parts_read}
 use Rattle.lrc_script.proofs.Reading.Lines.{line_numbers_are_words}
 
 -- words that are numbers have bytes, and are as many
@@ -42,18 +42,34 @@ pub after_numbers_read : (f : Front) (line w : List ℕ) (ws : List (List ℕ)) 
     → numbers_read_after [] ws ≡ Ok ns → read_after f line ≡ read_after_numbers f (keyword_read w) ns
 after_numbers_read f line w ws ns parts e = ap (read_after_words f) parts ∙ first_word_read f w ws ns e
 
-some_parts_read : (c : ℕ) (bytes : List ℕ) → 0 < length (parts_of_line c bytes)
-some_parts_read c [] = omega arith
-some_parts_read c (b ∷ bytes) =
-    elim (eqb b c) as (λ t. 0 < length (cond t ([] ∷ parts_of_line c bytes) (onto_first b (parts_of_line c bytes)))) [
-      | true ↦ omega arith
-      | false ↦ onto_some b (parts_of_line c bytes)
-    ]
-  where
-    onto_some : (b : ℕ) (parts : List (List ℕ)) → 0 < length (onto_first b parts)
-    onto_some b [] = omega arith
-    onto_some b (p ∷ parts) = omega arith
-
 -- two words and what stands behind a space are more than two
 pub two_numbers_read : (w v rest ns : List ℕ) → numbers_read_after [] (w ∷ v ∷ parts_of_line 32 rest) ≡ Ok ns → 2 < length ns
 two_numbers_read w v rest ns e = omega (arith, (numbers_read_have (w ∷ v ∷ parts_of_line 32 rest) ns e).1, some_parts_read 32 rest)
+
+-- a line that begins with no number has no numbers
+pub no_numbers_read : (line ns : List ℕ) → BeginsWithNoNumber line → numbers_read_after [] (parts_of_line 32 line) ≡ Ok ns
+    → 2 < length ns
+no_numbers_read line ns none e = by_parts (parts_of_line 32 line) (some_parts_read 32 line) refl e
+  where
+    by_parts : (parts : List (List ℕ)) → 0 < length parts → parts_of_line 32 line ≡ parts
+        → numbers_read_after [] parts ≡ Ok ns → 2 < length ns
+    by_parts [] some is e = absurd (omega (arith, some))
+    by_parts (w ∷ words) some is e = absurd (let no = none w words is in let read = rw no at e in cc)
+
+-- neither has one whose second word is none
+pub no_second_number_read : (line rest ns : List ℕ) (n : ℕ) → BeginsWithNumber line n (parts_of_line 32 rest)
+    → BeginsWithNoNumber rest → numbers_read_after [] (parts_of_line 32 line) ≡ Ok ns → 2 < length ns
+no_second_number_read line rest ns n (w, parts, first) none e =
+    by_parts (parts_of_line 32 rest) (some_parts_read 32 rest) refl (rw parts at e)
+  where
+    by_parts : (words : List (List ℕ)) → 0 < length words → parts_of_line 32 rest ≡ words
+        → numbers_read_after [] (w ∷ words) ≡ Ok ns → 2 < length ns
+    by_parts [] some is e = absurd (omega (arith, some))
+    by_parts (v ∷ words) some is e =
+        absurd (let no = none v words is in let read = rw (first, no) at e in cc)
+
+-- more than two stand where words stand behind two
+pub third_word_read : (line rest last ns : List ℕ) (n m : ℕ) → BeginsWithNumber line n (parts_of_line 32 rest)
+    → BeginsWithNumber rest m (parts_of_line 32 last) → numbers_read_after [] (parts_of_line 32 line) ≡ Ok ns → 2 < length ns
+third_word_read line rest last ns n m (w, parts, first) (v, others, second) e =
+    two_numbers_read w v last ns (rw (parts, others) at e)

@@ -82,10 +82,10 @@ pub record LinePasses (f : Front) (l : ScriptLine) (g : Front) : Type 0 where
   pub after_is : read_after f (line_bytes l) ≡ Ok g
   pub one_line : HasNo 10 (line_bytes l)
 
-pub line_passes : (f g : Front) (k : Keyword) (word ns : List ℕ) → keyword_read word ≡ Some k → is_plain word ≡ true
+pub line_passes : (f g : Front) (k : Keyword) (word : List ℕ) {ns : List ℕ} → keyword_read word ≡ Some k → is_plain word ≡ true
     → AreWordNumbers ns → is_line_due f k (length ns) ≡ true → read_step f k ns ≡ Ok g
     → LinePasses f (record { word = word; numbers = ns }) g
-line_passes f g k word ns key plain small due stepped =
+line_passes f g k word {ns = ns} key plain small due stepped =
     let both = and_parts (ltb 0 (length word)) (list_all (λ b. not (eqb b 32) && not (eqb b 10)) word) plain in
     let due' : is_line_due f k (length (map decimal ns)) ≡ true = rw length-map due in
     record {

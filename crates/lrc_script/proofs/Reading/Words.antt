@@ -1,5 +1,5 @@
 -- The words of a line, and what stands between separators.
-use Rattle.std.proofs.Common.{◌≡◌, ◌≢◌, ℕ, Bool, true, false, cond, eqb, List, [], ◌∷◌, ◌++◌, refl, sym, ap, subst, ◌∙◌, arith}
+use Rattle.std.proofs.Common.{◌≡◌, ◌≢◌, ℕ, ◌<◌, Bool, true, false, cond, eqb, List, [], ◌∷◌, ◌++◌, length, refl, sym, ap, subst, ◌∙◌, arith}
 use Rattle.std.specs.List.{onto_first, list_all, flat_map, join_with_byte, AllByRecursion}
 use Rattle.std.proofs.lemmas.Bool.{ltb-true, lt-ltb, and_parts, ne_eqb, eq-eqb}
 use Rattle.std.proofs.lemmas.Bool.Decides.{nat_tests}
@@ -32,6 +32,37 @@ parts_first_word c bytes rest h =
 pub parts_one_word : (c : ℕ) (bytes : List ℕ) → HasNo c bytes → parts_of_line c bytes ≡ bytes ∷ []
 parts_one_word c bytes h =
     slice_split_none (λ b. eqb b c) bytes (All-from_recursion (λ b. eqb b c ≡ false) bytes (tests_false c bytes h))
+
+pub some_parts_read : (c : ℕ) (bytes : List ℕ) → 0 < length (parts_of_line c bytes)
+some_parts_read c [] = omega arith
+some_parts_read c (b ∷ bytes) =
+    elim (eqb b c) as (λ t. 0 < length (cond t ([] ∷ parts_of_line c bytes) (onto_first b (parts_of_line c bytes)))) [
+      | true ↦ omega arith
+      | false ↦ onto_some b (parts_of_line c bytes)
+    ]
+  where
+    onto_some : (b : ℕ) (parts : List (List ℕ)) → 0 < length (onto_first b parts)
+    onto_some b [] = omega arith
+    onto_some b (p ∷ parts) = omega arith
+
+-- the first part begins with what stands before any separator
+first_word_onto : (c x : ℕ) (front bytes w : List ℕ) (parts ws : List (List ℕ)) → 0 < length parts
+    → ((p : List ℕ) (ps : List (List ℕ)) → parts ≡ p ∷ ps → (v : List ℕ) × (p ≡ front ++ v) × (parts_of_line c bytes ≡ v ∷ ps))
+    → onto_first x parts ≡ w ∷ ws → (v : List ℕ) × (w ≡ x ∷ front ++ v) × (parts_of_line c bytes ≡ v ∷ ws)
+first_word_onto c x front bytes w [] ws some found e = absurd (omega (arith, some))
+first_word_onto c x front bytes w (p ∷ ps) ws some found e =
+    let rest : ps ≡ ws = cc in
+    let first : w ≡ x ∷ p = cc in
+    let behind = found p ws (ap (λ (t : List (List ℕ)). p ∷ t) rest) in
+    (behind.0, first ∙ ap (λ (t : List ℕ). x ∷ t) behind.1, behind.2)
+
+pub parts_word_front : (c : ℕ) (front bytes w : List ℕ) (ws : List (List ℕ)) → HasNo c front
+    → parts_of_line c (front ++ bytes) ≡ w ∷ ws → (v : List ℕ) × (w ≡ front ++ v) × (parts_of_line c bytes ≡ v ∷ ws)
+parts_word_front c [] bytes w ws h e = (w, refl, e)
+parts_word_front c (x ∷ front) bytes w ws h e =
+    let apart = ne_eqb x c h.0 in
+    first_word_onto c x front bytes w (parts_of_line c (front ++ bytes)) ws (some_parts_read c (front ++ bytes))
+    (λ p ps is. parts_word_front c front bytes p ps h.1 is) (rw apart at e)
 
 -- each part is without separators
 onto_first_has : (c x : ℕ) (parts : List (List ℕ)) → x ≢ c → AllByRecursion (HasNo c) parts

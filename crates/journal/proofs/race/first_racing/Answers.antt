@@ -79,7 +79,7 @@ returns-then-time-earlier c =
     let both = c.if-is_conflict.ensures.0 refl in
     let count = c.loop-i.invariant.1 e.processor (c.requires.processors c.loop-i.i e at) in
     let le = c.if-time-earlier.true in (
-      (race_by_time c.args.events.now c.args.place c.loop-i.i c.args.event e (slice_index c.args.time.now)
+      (race_by_time
           c.requires.at at lt both.0 both.1 c.requires.time).1
           (omega arith),
       λ m r. elim (cases_lt m c.loop-i.i) [ inl below ↦ absurd (c.loop-i.invariant.2 m below r) | inr le_m ↦ le_m ],
@@ -113,7 +113,7 @@ loop-i-preserved c =
       | else-is_conflict-via-then-is_conflict+else-time-earlier w ↦ (λ r.
           let both = c.is_conflict.ensures.0 w.if-is_conflict.true in
           let le =
-          (race_by_time c.args.events.now c.args.place c.loop-i.i c.args.event e (slice_index c.args.time.now)
+          (race_by_time
           c.requires.at at lt both.0 both.1 c.requires.time).0
           r in
           let above = w.if-time-earlier.false in

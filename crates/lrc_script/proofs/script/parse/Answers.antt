@@ -16,15 +16,15 @@ pub loop-line-smaller : goal.loop-line-smaller
 loop-line-smaller c = line_cut_shorter _ _ _ c.in-Some.ensures
 
 pub loop-line-preserved : goal.loop-line-preserved
-loop-line-preserved c = at_next_line _ _ _ _ _ _ _ c.loop-line.invariant c.in-Some.ensures c.in-Ok.ensures.ok
+loop-line-preserved c = at_next_line _ c.loop-line.invariant c.in-Some.ensures c.in-Ok.ensures.ok
 
 pub returns-in-Err-clause-only : goal.returns-in-Err-clause-only
 returns-in-Err-clause-only c =
-    (failed_fault _ _ _ _ _ _ c.in-Err.fault c.loop-line.invariant c.in-Some.ensures c.in-Err.ensures.err).1
+    (failed_fault c.in-Err.fault c.loop-line.invariant c.in-Some.ensures c.in-Err.ensures.err).1
 
 pub returns-in-Err-clause-fault : goal.returns-in-Err-clause-fault
 returns-in-Err-clause-fault c =
-    (failed_fault _ _ _ _ _ _ c.in-Err.fault c.loop-line.invariant c.in-Some.ensures c.in-Err.ensures.err).0
+    (failed_fault c.in-Err.fault c.loop-line.invariant c.in-Some.ensures c.in-Err.ensures.err).0
 
 pub returns-in_default-whole-clause-only : goal.returns-in_default-whole-clause-only
 returns-in_default-whole-clause-only c =

@@ -23,7 +23,7 @@ loop-section-preserved c =
     ∙ c.deref-in-loop-section.ensures.len ∙ sym c.len.ensures in
     subst (λ (n : ℕ). AreEvenSoFar xs (c.loop-section.section-index + 1) c.barriers-expected.result
     (c.loop-section.line + (n + 1)))
-    count (even_more xs c.loop-section.section-index c.barriers-expected.result c.loop-section.line section
+    count (even_more section
     c.loop-section.invariant lt c.section-item.is
     (few_section_instructions xs c.loop-section.section-index section each lt c.section-item.is) same)
 

@@ -1,21 +1,36 @@
-use Rattle.std.proofs.Common.{◌+◌, ◌-◌, inl, inr, take, subst}
+use Rattle.std.proofs.Common.{◌≡◌, ℕ, ◌+◌, ◌-◌, ◌==◌, ◌⊎◌, ◌≢◌, cond, take, sym, subst}
+use Rattle.std.proofs.Common.{inl, inr, arith}
+use Rattle.std.proofs.lemmas.Bool.{cases_eq}
+use Rattle.std.proofs.lemmas.Bool.Decides.{nat_tests}
+use Rattle.journal.specs.declared.journal.Journal.TheInside.{Inside}
+use Rattle.journal.specs.JournalInvariant.{log_of}
 use Rattle.journal.specs.Log.{Log}
 use Rattle.journal.specs.RacesFrom.{RaceFreeFrom, IsFirstRaceFrom}
 use Rattle.journal.proofs.FromBase.Opening.{free_from, first_from}
 use Rattle.journal.proofs.Journals.ProcessorsAndAddresses.{processors_part, addresses_part, addresses_in_base, processors_checked}
 use Rattle.journal.proofs.journal.Journal.race_before.Goals as goal
-use Rattle.journal.proofs.journal.Journal.race_before.Goals.{then-self-eq0, else-self-eq0}
+
+-- where the checked events begin
+begins : (j : Inside) (log : Log) → log_of j ≡ log → (first : ℕ) → first ≡ cond (log.base.cut == 0) log.processors 0
+    → ((j.kept.cut ≡ 0) × (first ≡ j.processors)) ⊎ ((j.kept.cut ≢ 0) × (first ≡ 0))
+begins j log is first e =
+    let here : first ≡ cond (j.kept.cut == 0) j.processors 0 =
+    subst (λ (l : Log). first ≡ cond (l.base.cut == 0) l.processors 0) (sym is) e in
+    elim (cases_eq j.kept.cut 0) [
+      | inl none ↦ inl (none, grind (arith, nat_tests))
+      | inr some ↦ inr (some, grind (arith, nat_tests))
+    ]
 
 pub first_race_of-requires-clause-addresses : goal.first_race_of-requires-clause-addresses
 first_race_of-requires-clause-addresses c =
-    rw c.deref.ensures.value (addresses_part c.self.inside.addresses c.if-self-eq0.first
-    (c.self.inside.processors + c.args.count - c.if-self-eq0.first) c.self.inside.events.items
+    rw c.deref.ensures.value (addresses_part c.self.inside.addresses c.first-first.result
+    (c.self.inside.processors + c.args.count - c.first-first.result) c.self.inside.events.items
     c.self.invariant.in_range)
 
 pub first_race_of-requires-clause-processors : goal.first_race_of-requires-clause-processors
 first_race_of-requires-clause-processors c =
-    rw c.deref.ensures.value (processors_part c.self.inside.processors c.if-self-eq0.first
-    (c.self.inside.processors + c.args.count - c.if-self-eq0.first) c.self.inside.events.items
+    rw c.deref.ensures.value (processors_part c.self.inside.processors c.first-first.result
+    (c.self.inside.processors + c.args.count - c.first-first.result) c.self.inside.events.items
     c.self.invariant.by_processors)
 
 pub returns-in_err-first-clause-in_range : goal.returns-in_err-first-clause-in_range
@@ -31,12 +46,8 @@ pub returns-in-None-clause-race : goal.returns-in-None-clause-race
 returns-in-None-clause-race c =
     let j = c.self.inside in
     let here =
-    processors_checked j c.self.invariant c.if-self-eq0.first c.args.count c.deref.result.now c.deref.ensures.value (elim
-    c.if-self-eq0.branch [
-      | then-self-eq0 w ↦ inl (w.if-self-eq0.true, w.first-is)
-      | else-self-eq0 w ↦ inr (w.if-self-eq0.false, w.first-is)
-    ])
-    in
+    processors_checked j c.self.invariant c.first-first.result c.args.count c.deref.result.now c.deref.ensures.value (begins j
+    c.args.self.now c.self.view_is c.first-first.result c.first-first.ensures.value) in
     let none = rw c.in-None.is at c.in_ok-first.ensures in
     subst (λ (l : Log). RaceFreeFrom l.base (take c.args.count l.events)) c.self.view_is (free_from _ _ _ _ here none)
 
@@ -44,12 +55,8 @@ pub overflow_sub-result : goal.overflow_sub-result
 overflow_sub-result c =
     let j = c.self.inside in
     let here =
-    processors_checked j c.self.invariant c.if-self-eq0.first c.args.count c.deref.result.now c.deref.ensures.value (elim
-    c.if-self-eq0.branch [
-      | then-self-eq0 w ↦ inl (w.if-self-eq0.true, w.first-is)
-      | else-self-eq0 w ↦ inr (w.if-self-eq0.false, w.first-is)
-    ])
-    in
+    processors_checked j c.self.invariant c.first-first.result c.args.count c.deref.result.now c.deref.ensures.value (begins j
+    c.args.self.now c.self.view_is c.first-first.result c.first-first.ensures.value) in
     let some = rw c.in-Some.is at c.in_ok-first.ensures in
     (first_from _ _ _ _ here _ _ some).0
 
@@ -57,26 +64,18 @@ pub overflow_sub-result-in-Some : goal.overflow_sub-result-in-Some
 overflow_sub-result-in-Some c =
     let j = c.self.inside in
     let here =
-    processors_checked j c.self.invariant c.if-self-eq0.first c.args.count c.deref.result.now c.deref.ensures.value (elim
-    c.if-self-eq0.branch [
-      | then-self-eq0 w ↦ inl (w.if-self-eq0.true, w.first-is)
-      | else-self-eq0 w ↦ inr (w.if-self-eq0.false, w.first-is)
-    ])
-    in
+    processors_checked j c.self.invariant c.first-first.result c.args.count c.deref.result.now c.deref.ensures.value (begins j
+    c.args.self.now c.self.view_is c.first-first.result c.first-first.ensures.value) in
     let some = rw c.in-Some.is at c.in_ok-first.ensures in
     (first_from _ _ _ _ here _ _ some).1
 
 pub returns-in-Some-clause-race : goal.returns-in-Some-clause-race
 returns-in-Some-clause-race c =
     let j = c.self.inside in
-    let size = j.processors - c.if-self-eq0.first in
+    let size = j.processors - c.first-first.result in
     let here =
-    processors_checked j c.self.invariant c.if-self-eq0.first c.args.count c.deref.result.now c.deref.ensures.value (elim
-    c.if-self-eq0.branch [
-      | then-self-eq0 w ↦ inl (w.if-self-eq0.true, w.first-is)
-      | else-self-eq0 w ↦ inr (w.if-self-eq0.false, w.first-is)
-    ])
-    in
+    processors_checked j c.self.invariant c.first-first.result c.args.count c.deref.result.now c.deref.ensures.value (begins j
+    c.args.self.now c.self.view_is c.first-first.result c.first-first.ensures.value) in
     let some = rw c.in-Some.is at c.in_ok-first.ensures in
     subst (λ (l : Log). IsFirstRaceFrom l.base (take c.args.count l.events) (c.in-Some.first - size)
     (c.in-Some.second - size))
