@@ -145,6 +145,7 @@ module _ (c : SharedCluster) (ms : List Local) (cs : List (ChairToken State View
       told = apart_start.told;
       explained = apart_start.explained;
       counted = apart_start.counted;
+      copied = apart_start.copied;
       cuts = sym apart_start.cuts ∙ apart_own_cuts;
       room = let long = all.all in let owing = apart_start.owing in rw (long) (omega arith);
       sound =
@@ -175,7 +176,7 @@ finished s ms h b j fin same = record {
       let whole : sum_by (λ (m : Local). m.own_cut) (take (length ms) ms) ≡ sum_by (λ (m : Local). m.own_cut) ms =
       ap (λ (xs : List Local). sum_by (λ (m : Local). m.own_cut) xs) (take-length ms) in
       omega arith);
-  faithful = faithful s h fin.told.well_formed fin.explained fin.counted;
+  faithful = faithful s h fin.told.well_formed fin.explained fin.counted fin.copied;
   each = λ p m at. fin.done p m (slice_get_within ms p m at) at;
   in_turn = (
     fin.in_turn.0,

@@ -30,7 +30,8 @@ catching_up_kept s h b views kept p v at =
     let P : List Event → Type 0 = λ xs. LockInvariant s xs b (slice_set views p (view_having_seen s xs v.cut v.own_cut)) in
     subst P (append-nil h)
     (leaving_kept_on s h b views kept p [] (λ k e at. absurd (none-some e at)) v.cut v.own_cut v at b
-    (rw append-nil kept.told) (rw append-nil kept.explained) (rw append-nil kept.counted) kept.few refl (omega arith) behind refl)
+    (rw append-nil kept.told) (rw append-nil kept.explained) (rw append-nil kept.counted)
+    (rw append-nil kept.copied) kept.few refl (omega arith) behind refl)
 
 -- so each may see all of it
 pub catching_up_may : (p q : ℕ) (v u : View) → ChairMayConfer KeptWithViews SeesBeside p v q u

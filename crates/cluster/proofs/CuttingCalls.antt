@@ -67,6 +67,7 @@ module _ (m : Local) (b new : State) (was : WasBookCut b new) where
     told = λ f. rw append-nil (cut_law m.sizes (m.seen ++ f.rest) b new f.kept.told was);
     explained = λ f. rw append-nil f.kept.explained;
     counted = λ f. rw append-nil f.kept.counted;
+    copied = λ f. rw append-nil f.kept.copied;
     few = λ f. (let few = f.kept.few in let less = cutting_leaves_fewer in omega arith);
     taken = was.journal.taken;
     cuts = cutting_has_grown;

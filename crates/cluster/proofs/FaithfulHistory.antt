@@ -8,6 +8,7 @@ use Rattle.journal.specs.Sizes.{Sizes, addresses}
 use Rattle.journal.specs.WellFormed.{WellFormed}
 use Rattle.journal.specs.ExplainedAnswers.{Explained}
 use Rattle.journal.specs.Counted.{AreCounted}
+use Rattle.journal.specs.CopyAnswers.{AnswersCopies}
 use Rattle.journal.specs.Log.{Log, HoldsRestOfHistory}
 use Rattle.base.specs.Limits.{most_events}
 use Rattle.cluster.specs.Copies.Sound.{most_seen_by_sound}
@@ -16,12 +17,14 @@ use Rattle.book.specs.State.{State}
 use Rattle.book.specs.Told.{Represents}
 use Rattle.cluster.specs.FaithfulJournals.{IsFaithful, IsJournalOf}
 
--- a history that is well formed and explained, and whose fetches count their gaps
-pub faithful : (s : Sizes) (h : List Event) → WellFormed s h → Explained h → AreCounted s h → IsFaithful s h
-faithful s h well explained counted = record {
+-- a history that is well formed and explained, whose fetches count their gaps, and whose loads answer copies
+pub faithful : (s : Sizes) (h : List Event) → WellFormed s h → Explained h → AreCounted s h → AnswersCopies s h
+    → IsFaithful s h
+faithful s h well explained counted copied = record {
   well_formed = well;
   explained = explained;
   counted = counted;
+  copied = copied;
   flat =
       λ k none.
       flat_up_to (addresses s) h k (λ i p a v does. (well i (event p (Load a v)) does).in_range) explained none;

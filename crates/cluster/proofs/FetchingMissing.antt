@@ -33,10 +33,11 @@ use Rattle.book.specs.News.{news_of_notice}
 use Rattle.cluster.specs.Copies.PageReplica.{Copied, replica_record_words, replica_fetched, IsReplica, IsReplicaOwner, AllFitPage}
 use Rattle.cluster.specs.Copies.Counts.{AreCounts, AreCountable}
 use Rattle.cluster.specs.Copies.Local.{Local}
-use Rattle.cluster.specs.Accesses.{AreNewestAccesses, fetched_for_access}
+use Rattle.journal.specs.NewestAccesses.{AreNewestAccesses}
+use Rattle.cluster.specs.Accesses.{fetched_for_access}
 use Rattle.cluster.specs.Refusals.{fetch_refusal}
 use Rattle.cluster.specs.Copies.Sound.{IsSound}
-use Rattle.cluster.proofs.Newest.{newest}
+use Rattle.journal.proofs.Origins.Newest.{newest}
 use Rattle.cluster.proofs.Stored.{stored_few}
 use Rattle.journal.proofs.Missing.CountedLabels.{words_counted}
 use Rattle.cluster.proofs.copies.Replicas.{replica_long, replica_pushed}
@@ -94,7 +95,7 @@ module _ (m : Local) (sound : IsSound m) (n : ℕ) (c : Copied) (at : slice_get 
 
       within : (w : ℕ × ℕ) → Has (replica_record_words x) w → w.0 < m.sizes.words
       within w there =
-          content_within m.sizes m.seen x.notice.owner x.notice.number n w.0 w.1 (replica_record_words x) sound.sizes.some_words
+          content_within sound.sizes.some_words
           content there
 
   -- they are few, since each is another closed interval
@@ -172,15 +173,14 @@ module _ (m : Local) (sound : IsSound m) (n : ℕ) (c : Copied) (at : slice_get 
     fetched_valid_now =
         subst (λ ws. IsValidCopy m.sizes m.seen (m.block ++ e ∷ []) m.number n (records_applied c.page.words ws)
         (records_applied c.page.words ws)) missing_words_same
-        (stale_fetched m.sizes m.seen m.block m.number n k.writers k.records k.words c.page.words
-        (map news_of_notice c.missing) (sound.copies.each n c at).order stale)
+        (stale_fetched k.writers k.records k.words (sound.copies.each n c at).order stale)
 
     fetched_counted_now : BlockCounts m.sizes m.seen (m.block ++ e ∷ []) m.number
     fetched_counted_now =
         let P : ℕ → ℕ → Type 0 =
         λ r d. BlockCounts m.sizes m.seen (m.block ++ event m.number (Fetch k.writers n r d) ∷ []) m.number in
         subst₂ P (length-map c.missing news_of_notice ∙ sym counts.records) (missing_sums_same ∙ sym counts.words)
-        (stale_counted m.sizes m.seen m.block m.number n k.writers c.page.words (map news_of_notice c.missing)
+        (stale_counted k.writers
         (sound.copies.each n c at).order
         (count_of_same (IsReplicaOwner c.missing) (λ q. (x : Missing) × Has (map news_of_notice c.missing) x × (x.owner ≡ q))
         k.writers missing_owners_same counts.writers) stale sound.counts)
@@ -190,7 +190,7 @@ module _ (m : Local) (sound : IsSound m) (n : ℕ) (c : Copied) (at : slice_get 
         let clean : c.page.dirty ≡ replicate m.sizes.words false =
         ((sound.copies.each n c at).stale invalid).2 ∙ ap (λ k. replicate k false) long in
         let pushed =
-        dirty_push m.sizes (m.seen ++ m.block) e m.number n c.page.words c.page.dirty refl refl
+        dirty_push e refl refl
         (sound.copies.each n c at).dirty in
         let P : List Bool → Type 0 = λ ms. IsDirty m.sizes ((m.seen ++ m.block) ++ e ∷ []) m.number n c.page.words ms in
         rw (clean, ← append_assoc m.seen m.block (e ∷ []))
@@ -221,6 +221,9 @@ module _ (m : Local) (sound : IsSound m) (n : ℕ) (c : Copied) (at : slice_get 
             dirty = refl;
             access = refl;
             missing = refl;
+            unfetched =
+                λ w r d is. (let kinds : Fetch k.writers n k.records k.words ≡ Fetch w i r d = is in
+                let same : n ≡ i = cc in other (sym same));
             away = λ _. ((λ same. other (sym same)), refl);
           }) (sound.copies.each i x (sym (slice_get-set_other m.copies n i (replica_fetched c) other) ∙ found)))
     ]
@@ -236,8 +239,7 @@ module _ (m : Local) (sound : IsSound m) (n : ℕ) (c : Copied) (at : slice_get 
           idle = may.idle;
           room = may.room;
         }) (record {
-          answers = stale_answers_fetched m.sizes m.seen m.block m.number n k.writers k.records k.words c.page.words new
-              (map news_of_notice c.missing) sound.bases stale sound.answers;
+          answers = stale_answers_fetched k.writers k.records k.words new stale sound.answers;
           counts = fetched_counted_now;
           copies = record { long = length-set m.copies n (replica_fetched c) ∙ sound.copies.long; each = fetched_copies_now };
           marks = sound.marks;

@@ -67,6 +67,7 @@ module _ (s : Sizes) (ms : List Local) (k : ℕ) (b : State) (m : Local) (at : s
 
   covered_last : IsCovered m h
   covered_last = covered_on m last_block_sound rest away (rw last_block_sizes fin.told.well_formed) fin.explained (rw last_block_sizes fin.counted)
+      (rw last_block_sizes fin.copied)
 
   -- after that one more is done
   pub finishing_step : IsFinishing s ms (k + 1) (h ++ m.block) (transition_handed_last b m.block)
@@ -74,6 +75,7 @@ module _ (s : Sizes) (ms : List Local) (k : ℕ) (b : State) (m : Local) (at : s
     told = last_law s h m.block b m.number fin.told may_give_last;
     explained = covered_last.explained;
     counted = rw (← last_block_sizes) covered_last.counted;
+    copied = rw (← last_block_sizes) covered_last.copied;
     cuts = fin.cuts;
     room = let short = last_block_sound.short in let enough = room_last in let room = fin.room in omega arith;
     sound = fin.sound;

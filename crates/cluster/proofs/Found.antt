@@ -38,9 +38,6 @@ found_at_or xs k n d long within = slice_get-get_or xs k d (omega arith)
 
 module _ (m : Local) (sound : IsSound m) (b : State) (f : FindsOnEntering m b) where
   -- the processor with what it finds
-  pub found_here : Local
-  found_here = found m f.rest
-
   pub found_here_sound : IsSound (found m f.rest)
   found_here_sound =
       entered_found_sound m f.rest sound f.away f.kept.told.well_formed

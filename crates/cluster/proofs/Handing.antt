@@ -120,7 +120,8 @@ module _ {m : Local} {b new : State} {after : ChairToken State View} (t : Handed
             (copy ∙ ap (λ (x : State). record x.journal { room = j.room }) t.is)));
         faithful =
             subst (IsFaithful m.sizes) (sym ends)
-            (faithful m.sizes handing_history told.well_formed (handing_call.explained handing_visit.finds) (handing_call.counted handing_visit.finds));
+            (faithful m.sizes handing_history told.well_formed (handing_call.explained handing_visit.finds) (handing_call.counted handing_visit.finds)
+            (handing_call.copied handing_visit.finds));
         begins = (handing_visit.finds.rest ++ m.block, ends ∙ append_assoc m.seen handing_visit.finds.rest m.block);
         calls_are = sym (append-nil (events_of handed_now.seen m.number));
       }

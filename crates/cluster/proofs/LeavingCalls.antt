@@ -13,8 +13,10 @@ use Rattle.journal.specs.Log.{Log}
 use Rattle.journal.specs.Events.{At}
 use Rattle.journal.specs.ExplainedAnswers.{Explained}
 use Rattle.journal.specs.Counted.{AreCounted}
+use Rattle.journal.specs.CopyAnswers.{AnswersCopies}
 use Rattle.journal.proofs.CopyOfPage.LoadAnswers.{load_answers_push}
 use Rattle.journal.proofs.Missing.Counted.{counted_push}
+use Rattle.journal.proofs.Origins.WordOrigins.{origin_answers_push}
 use Rattle.base.specs.Limits.{most_events}
 use Rattle.base.proofs.SlicesAndCounts.{slice_append_cases, slice_push_cases}
 use Rattle.base.proofs.SliceSets.{slice_get-set_found, slice_get-set_other, slice_get-set_same}
@@ -77,14 +79,15 @@ module _ (s : Sizes) (h : List Event) (b : State) (views : List View) (kept : Lo
   ]
 
   pub leaving_kept_on : (x : View) → slice_get views p ≡ Some x → (c : State) → Represents s (h ++ es) c → Explained (h ++ es)
-      → AreCounted s (h ++ es) → length c.journal.events ≤ most_events → c.journal.room ≡ b.journal.room
+      → AreCounted s (h ++ es) → AnswersCopies s (h ++ es) → length c.journal.events ≤ most_events → c.journal.room ≡ b.journal.room
       → b.journal.base.cut ≤ c.journal.base.cut → cut ≤ c.journal.base.cut
       → own_cut + b.journal.base.cut ≡ x.own_cut + c.journal.base.cut
       → LockInvariant s (h ++ es) c (slice_set views p (view_having_seen s (h ++ es) cut own_cut))
-  leaving_kept_on x at c told explained counted few room more mine own = record {
+  leaving_kept_on x at c told explained counted copied few room more mine own = record {
     told = told;
     explained = explained;
     counted = counted;
+    copied = copied;
     few = few;
     all = length-set views p (view_having_seen s (h ++ es) cut own_cut) ∙ kept.all;
     each = leaving_goes_on;
@@ -126,7 +129,7 @@ call_kept m old es new call f =
     let cuts = call.cuts in
     leaving_kept_on m.sizes (m.seen ++ f.rest) old f.views f.kept m.number es call.mine new.journal.base.cut
     (m.own_cut + call.taken) (view_having_seen m.sizes m.seen m.cut m.own_cut) f.at new (call.told f) (call.explained f)
-    (call.counted f) (call.few f) call.room (omega arith) (omega arith) (omega arith)
+    (call.counted f) (call.copied f) (call.few f) call.room (omega arith) (omega arith) (omega arith)
 
 -- so p may leave the new book
 pub may_leave : (m : Local) (old : State) (es : List Event) (new : State) → IsCallOf m old es new
@@ -177,6 +180,7 @@ call_of_nothing m b = record {
   told = λ f. rw append-nil f.kept.told;
   explained = λ f. rw append-nil f.kept.explained;
   counted = λ f. rw append-nil f.kept.counted;
+  copied = λ f. rw append-nil f.kept.copied;
   few = λ f. f.kept.few;
   taken = 0;
   cuts = omega arith;
@@ -184,7 +188,7 @@ call_of_nothing m b = record {
 
 module _ (m : Local) (sound : IsSound m) (b : State) where
   leaving_call_covered : (f : FindsOnEntering m b) → IsCovered m (m.seen ++ f.rest)
-  leaving_call_covered f = covered_on m sound f.rest f.away f.kept.told.well_formed f.kept.explained f.kept.counted
+  leaving_call_covered f = covered_on m sound f.rest f.away f.kept.told.well_formed f.kept.explained f.kept.counted f.kept.copied
 
   -- the events that the journal has then are as many
   leaving_call_few_then : (n : ℕ) (es : List Event) (new : State) → length b.journal.events + n ≤ most_events → length es ≡ n
@@ -202,6 +206,7 @@ module _ (m : Local) (sound : IsSound m) (b : State) where
     told = λ f. hand_in_law m.sizes (m.seen ++ f.rest) m.block b m.number f.kept.told (found_may_give m sound b f);
     explained = λ f. (leaving_call_covered f).explained;
     counted = λ f. (leaving_call_covered f).counted;
+    copied = λ f. (leaving_call_covered f).copied;
     few = λ _. leaving_call_few_then (length m.block) m.block (transition_handed_in b m.block) fits refl refl;
     taken = 0;
     cuts = omega arith;
@@ -230,6 +235,10 @@ module _ (m : Local) (sound : IsSound m) (b : State) where
         λ f. rw (← append_assoc (m.seen ++ f.rest) m.block (event m.number k ∷ []))
         (counted_push m.sizes ((m.seen ++ f.rest) ++ m.block) (event m.number k) (λ p n w r d is.
         absurd (no_fetch w n r d (ap (λ (x : Event). x.kind) is))) (leaving_call_covered f).counted);
+    copied =
+        λ f. rw (← append_assoc (m.seen ++ f.rest) m.block (event m.number k ∷ []))
+        (origin_answers_push m.sizes ((m.seen ++ f.rest) ++ m.block) (event m.number k) (λ p a v is.
+        no_load a v (ap (λ (x : Event). x.kind) is)) (leaving_call_covered f).copied);
     few =
         λ _. leaving_call_few_then (length m.block + 1) (m.block ++ event m.number k ∷ []) new (omega arith)
         (length-append m.block (event m.number k ∷ [])) goes;
@@ -258,6 +267,9 @@ module _ (m : Local) (sound : IsSound m) (b : State) where
     counted =
         λ f. counted_push m.sizes (m.seen ++ f.rest) (event m.number k) (λ p n w r d is.
         absurd (no_fetch w n r d (ap (λ (x : Event). x.kind) is))) f.kept.counted;
+    copied =
+        λ f. origin_answers_push m.sizes (m.seen ++ f.rest) (event m.number k) (λ p a v is.
+        no_load a v (ap (λ (x : Event). x.kind) is)) f.kept.copied;
     few = λ _. leaving_call_few_then 1 (event m.number k ∷ []) new fits refl goes;
     taken = 0;
     cuts = (let same = cut in omega arith);

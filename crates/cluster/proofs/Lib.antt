@@ -1,6 +1,5 @@
 pub mod MayAccessAndFetch
 pub mod Access
-pub mod Newest
 pub mod Noting
 pub mod Stored
 pub mod FetchingMissing

@@ -124,7 +124,7 @@ module _ (m : Local) (a v : ℕ) (c : Copied) (free : access_refusal m a ≡ Non
   pub loaded_noted : slice_get c.page.words (a % m.sizes.words) ≡ Some v → IsSound m → IsSound (local_noted m (Load a v))
   loaded_noted word sound =
       noted_sound m (Load a v) m.copies m.stored sound.bases sound (noting (Load a v) refl refl may.within) (record {
-        answers = valid_load m.sizes m.seen m.block m.number a v sound.bases (sound.bases n) c.page.words refl
+        answers = valid_load a v refl
             ((sound.copies.each n c at).valid valid).0 word sound.answers;
         counts = block_counts_push m.sizes m.seen m.block e m.number
             (λ x w r d is. absurd (cc (ap (λ (f : Event). f.kind) is))) sound.counts;
@@ -143,6 +143,7 @@ module _ (m : Local) (a v : ℕ) (c : Copied) (free : access_refusal m a ≡ Non
         dirty = refl;
         access = refl;
         missing = refl;
+        unfetched = λ w r x is. absurd (cc);
         away =
             λ stale. (
               (λ here. let P : ℕ → Type 0 = λ k. slice_get m.copies k ≡ Some d in
@@ -178,6 +179,7 @@ module _ (m : Local) (a v : ℕ) (c : Copied) (free : access_refusal m a ≡ Non
         dirty = sym (ap (mark c.page.dirty) (store_in m.sizes n a v refl));
         access = refl;
         missing = refl;
+        unfetched = λ w r x is. absurd (cc);
         away = λ stale. absurd (noting_valid_not_stale (sym valid ∙ stale));
       }) (sound.copies.each n c at)
 
@@ -195,6 +197,7 @@ module _ (m : Local) (a v : ℕ) (c : Copied) (free : access_refusal m a ≡ Non
           dirty = sym (ap (mark x.page.dirty) (elsewhere i other));
           access = refl;
           missing = refl;
+          unfetched = λ w r x is. absurd (cc);
           away = λ stale. ((λ same. other (sym same)), elsewhere i other);
         }) (sound.copies.each i x (sym (slice_get-set_other m.copies n i d other) ∙ found))
       ]

@@ -16,6 +16,7 @@ use Rattle.journal.proofs.Times.Times.{time_none, time_equal}
 use Rattle.journal.proofs.CopyOfPage.ValidAndStale.{valid_start, valid_answers_start}
 use Rattle.journal.proofs.Intervals.Dirty.{dirty_start}
 use Rattle.journal.proofs.Missing.Counted.{counted_start, block_counts_start}
+use Rattle.journal.proofs.Origins.WordOrigins.{origin_answers_start}
 use Rattle.base.proofs.SliceSets.{index-zeros}
 use Rattle.base.proofs.Joined.{in_order-nil}
 use Rattle.base.proofs.SlicesAndCounts.{slice_push_cases, slice_get-append_right}
@@ -100,6 +101,7 @@ start_kept s some = record {
   told = new_law s some;
   explained = λ k p a v d. absurd (none-some (record { processor = p; kind = Load a v }) d);
   counted = counted_start s;
+  copied = origin_answers_start s;
   few = omega arith;
   all = length-replicate s.processors (view_of_nothing s);
   each = λ p v at. subst (ExtendsView s [] p) (slice_get-replicate_found s.processors (view_of_nothing s) v p at) (record {

@@ -1,11 +1,7 @@
 -- Loads, stores and fetches.
-use Rattle.std.specs.Prelude.{ℕ, ◌≡◌, ◌<◌, ◌≤◌, ◌⊎◌, ◌/◌, ◌%◌, true, Some, List, slice_get, slice_set}
+use Rattle.std.specs.Prelude.{ℕ, ◌≡◌, ◌/◌, ◌%◌, true, Some, slice_get, slice_set}
 use Rattle.journal.specs.declared.event.Kind.TheVariants.{Store, Fetch}
-use Rattle.journal.specs.declared.event.Event.{Event}
-use Rattle.journal.specs.Sizes.{Sizes}
-use Rattle.journal.specs.WellFormed.{Does}
-use Rattle.journal.specs.PageImages.{InGap}
-use Rattle.journal.specs.ClosedIntervals.{ClosedAt}
+use Rattle.journal.specs.NewestAccesses.{AreNewestAccesses}
 use Rattle.cluster.specs.declared.copies.page_copy.MissingCounts.{MissingCounts}
 use Rattle.cluster.specs.Copies.PageReplica.{Copied, replica_fetched, replica_written_at}
 use Rattle.cluster.specs.Copies.Counts.{AreCounts}
@@ -29,29 +25,6 @@ pub record StoreAccessDone (old : Local) (a v : ℕ) (new : Local) : Type 0 wher
   pub copy : Copied
   pub at : slice_get old.copies (a / old.sizes.words) ≡ Some copy
   pub after : new ≡ stored_by_access old a v copy
-
--- place i stores v at offset o in the gap, and of the gap's stores there its interval was closed last, and it is the
--- last of them in that interval
-pub record IsLastAccessInGap (s : Sizes) (j : List Event) (p n o v : ℕ) : Type 0 where
-  pub place : ℕ
-  pub by : ℕ
-  pub address : ℕ
-  pub stores : Does j place by (Store address v)
-  pub offset : address % s.words ≡ o
-  pub gap : InGap s j p n place
-  pub last : (i q a w c d : ℕ) → Does j i q (Store a w) → a % s.words ≡ o → InGap s j p n i → ClosedAt j i c
-      → ClosedAt j place d
-      → (c < d) ⊎ ((c ≡ d) × (i ≤ place))
-
--- no store of the gap is at offset o
-abbrev pub HasNoAccessInGap : Sizes → List Event → ℕ → ℕ → ℕ → Type 0
-HasNoAccessInGap s j p n o = (i q a w : ℕ) → Does j i q (Store a w) → a % s.words ≡ o → ¬ InGap s j p n i
-
--- each word with stores in the gap has the value of the one whose interval was closed last,
--- and the others are as before
-abbrev pub AreNewestAccesses : Sizes → List Event → ℕ → ℕ → List ℕ → List ℕ → Type 0
-AreNewestAccesses s j p n old new = (o v : ℕ) → slice_get new o ≡ Some v
-    → IsLastAccessInGap s j p n o v ⊎ ((slice_get old o ≡ Some v) × HasNoAccessInGap s j p n o)
 
 -- the processor after a fetch of page n with these counts, c being its copy of the page
 abbrev pub fetched_for_access : Local → ℕ → Copied → MissingCounts → Local

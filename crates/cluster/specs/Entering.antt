@@ -4,6 +4,7 @@ use Rattle.journal.specs.declared.event.Event.{Event}
 use Rattle.journal.specs.Events.{At}
 use Rattle.journal.specs.ExplainedAnswers.{Explained}
 use Rattle.journal.specs.Counted.{AreCounted}
+use Rattle.journal.specs.CopyAnswers.{AnswersCopies}
 use Rattle.base.specs.Limits.{most_events}
 use Rattle.turn.specs.Chairs.{lock, chair_place, chair_view, entries, IsSameChair, IsChairInside, IsChairOutside, ChairStands}
 use Rattle.turn.specs.declared.chair.Held.{Held}
@@ -31,6 +32,7 @@ pub record IsCallOf (m : Local) (old : State) (es : List Event) (new : State) : 
   pub told : (f : FindsOnEntering m old) → Represents m.sizes ((m.seen ++ f.rest) ++ es) new
   pub explained : (f : FindsOnEntering m old) → Explained ((m.seen ++ f.rest) ++ es)
   pub counted : (f : FindsOnEntering m old) → AreCounted m.sizes ((m.seen ++ f.rest) ++ es)
+  pub copied : (f : FindsOnEntering m old) → AnswersCopies m.sizes ((m.seen ++ f.rest) ++ es)
   pub few : (f : FindsOnEntering m old) → length new.journal.events ≤ most_events
   pub taken : ℕ
   pub cuts : new.journal.base.cut ≡ old.journal.base.cut + taken

@@ -6,6 +6,7 @@ use Rattle.journal.specs.Events.{events_of}
 use Rattle.journal.specs.WellFormed.{WellFormed}
 use Rattle.journal.specs.ExplainedAnswers.{Explained}
 use Rattle.journal.specs.Counted.{AreCounted}
+use Rattle.journal.specs.CopyAnswers.{AnswersCopies}
 use Rattle.journal.specs.Races.{Race}
 use Rattle.journal.specs.FlatMemory.{Replays, memory_after}
 use Rattle.journal.specs.ExplainedAnswersFrom.{ExplainedFrom}
@@ -14,12 +15,13 @@ use Rattle.journal.specs.WellFormedFrom.{WellFormedFrom}
 use Rattle.journal.specs.Log.{Log, HoldsRestOfHistory}
 use Rattle.cluster.specs.Copies.Local.{Local, calls}
 
--- some cluster of these sizes may do this: each load answers a latest store of its past, each fetch counts its gap, and
--- up to the first race the replies are those of one flat memory
+-- some cluster of these sizes may do this: each load answers a latest store of its past, and the word of its processor's
+-- copy, each fetch counts its gap, and up to the first race the replies are those of one flat memory
 pub record IsFaithful (s : Sizes) (h : List Event) : Type 0 where
   pub well_formed : WellFormed s h
   pub explained : Explained h
   pub counted : AreCounted s h
+  pub copied : AnswersCopies s h
   pub flat : (k : ℕ) → ((i j : ℕ) → j < k → ¬ Race h i j) → Replays (replicate (addresses s) 0) (take k h)
 
 -- the journal is of a cluster of these sizes, and holds what is left of this history after c was cut off

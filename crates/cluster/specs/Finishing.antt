@@ -6,6 +6,7 @@ use Rattle.journal.specs.Sizes.{Sizes}
 use Rattle.journal.specs.Events.{At, events_of}
 use Rattle.journal.specs.ExplainedAnswers.{Explained}
 use Rattle.journal.specs.Counted.{AreCounted}
+use Rattle.journal.specs.CopyAnswers.{AnswersCopies}
 use Rattle.journal.specs.Log.{Log}
 use Rattle.base.specs.Limits.{most_in_block}
 use Rattle.turn.specs.Chairs.{lock, IsChairOutside}
@@ -74,6 +75,7 @@ pub record IsFinishing (s : Sizes) (ms : List Local) (k : ℕ) (h : List Event) 
   pub told : Represents s h b
   pub explained : Explained h
   pub counted : AreCounted s h
+  pub copied : AnswersCopies s h
   pub cuts : b.journal.base.cut ≡ sum_by (λ m. m.own_cut) ms
   pub room : most_in_block * length ms ≤ b.journal.room + most_in_block * k
   pub sound : (p : ℕ) (m : Local) → slice_get ms p ≡ Some m → IsSound m × (m.number ≡ p) × (m.sizes ≡ s)

@@ -5,6 +5,7 @@ use Rattle.journal.specs.Sizes.{Sizes}
 use Rattle.journal.specs.Events.{At}
 use Rattle.journal.specs.ExplainedAnswers.{Explained}
 use Rattle.journal.specs.Counted.{AreCounted}
+use Rattle.journal.specs.CopyAnswers.{AnswersCopies}
 use Rattle.journal.specs.Log.{Log}
 use Rattle.base.specs.Limits.{most_events, most_in_block}
 use Rattle.book.specs.State.{State}
@@ -44,13 +45,14 @@ IsSeenInViews views h = (p : ℕ) × (v : View) × (slice_get views p ≡ Some v
 abbrev pub all_views_cut : List View → ℕ
 all_views_cut views = sum_by (λ v. v.own_cut) views
 
--- the book represents the history, its loads are explained and its fetches count their gaps, and it goes on from
--- what each processor has seen, who knows of no more cut off than was; somebody has seen all of it; and what was cut
--- off is what the processors' own cuts took
+-- the book represents the history, its loads are explained and answer copies, its fetches count their gaps, and it goes
+-- on from what each processor has seen, who knows of no more cut off than was; somebody has seen all of it; and what
+-- was cut off is what the processors' own cuts took
 pub record LockInvariant (s : Sizes) (h : List Event) (b : State) (views : List View) : Type 0 where
   pub told : Represents s h b
   pub explained : Explained h
   pub counted : AreCounted s h
+  pub copied : AnswersCopies s h
   pub few : length b.journal.events ≤ most_events
   pub all : length views ≡ s.processors
   pub each : (p : ℕ) (v : View) → slice_get views p ≡ Some v → ExtendsView s h p v

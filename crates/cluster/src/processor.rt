@@ -198,8 +198,10 @@ impl<T: BookTurn> Processor<T> {
         MOST_IN_BLOCK - self.block.len()
     }
 
-    /// The word at the address in the processor's own copy. It costs the address's division, two tests and
-    /// one event of the open block.
+    /// The word at the address in the processor's own copy. It is what the store stores from which the copy
+    /// has it: the processor's last own one, or, if a fetch came later that brought some, the last one that
+    /// the fetch applied; 0 if there is none. So the history says which latest store a racy load answers.
+    /// A load costs the address's division, two tests and one event of the open block.
     ///
     /// The first of these that applies: [`OutOfRange`](Refused::OutOfRange) past the last address,
     /// [`Invalid`](Refused::Invalid) if the copy of the address's page lacks records,
@@ -256,9 +258,7 @@ impl<T: BookTurn> Processor<T> {
         ensures covers { HasCoverage self.new }
     {
         self.admit_fetch(page)?;
-        let replica = &mut self.replicas[page];
-        let counts = replica.counts();
-        replica.fetch();
+        let counts = self.replicas[page].fetch();
         self.block.push_reserved(Event {
             processor: self.number,
             kind: Kind::Fetch {

@@ -1,13 +1,13 @@
 -- Records in a ring, and the place of one more.
-use Rattle.std.proofs.Common.{ℕ, ◌≡◌, ◌<◌, ◌≤◌, ◌+◌, ◌-◌, Some, List, ◌++◌, append_assoc, length, map, take, drop, get_or, slice_get, inl, inr, sym, ap, subst, ◌∙◌, arith}
+use Rattle.std.proofs.Common.{ℕ, ◌≡◌, ◌<◌, ◌≤◌, ◌+◌, ◌-◌, Some, List, [], ◌∷◌, ◌++◌, append_assoc, length, map, take, drop, get_or, slice_get, inl, inr, sym, ap, subst, subst₂, ◌∙◌, arith}
 use Rattle.std.proofs.Math.Seq.{drop-append-add, take-append-add}
 use Rattle.std.proofs.lemmas.Bool.{cases_eq}
-use Rattle.std.proofs.lemmas.List.{length-append, length-take, length-drop, take-append-drop, take-append-le, drop-append-le}
-use Rattle.std.proofs.lemmas.Option.{same_Some, slice_get-get_or}
+use Rattle.std.proofs.lemmas.List.{append-nil, take_all, drop_all, length-append, length-take, length-drop, take-append-drop, take-append-le, drop-append-le}
+use Rattle.std.proofs.lemmas.Option.{same_Some, slice_get-get_or, slice_get_within}
 use Rattle.journal.specs.MissingWords.{MissingInOrder}
 use Rattle.interval.specs.SentIntervals.{SentRecord}
 use Rattle.book.specs.News.{news_of_notice}
-use Rattle.cluster.specs.Copies.Backlogs.{backlog_read_from}
+use Rattle.cluster.specs.Copies.Backlogs.{backlog_read_from, IsPutInBacklog}
 use Rattle.cluster.proofs.copies.Learned.{in_order}
 
 -- what stands before a record that was closed no later was closed no later
@@ -40,6 +40,35 @@ backlog_all_later xs place k x order there late i y le at = elim (cases_eq i k) 
       (let later = in_order xs order k i x y (omega arith) there at in
       omega arith)
 ]
+
+-- one that was closed no earlier than the last of them is put at the end
+backlog_put_behind : (xs : List SentRecord) (x : SentRecord) → MissingInOrder (map news_of_notice xs)
+    → ((y : SentRecord) → 0 < length xs → slice_get xs (length xs - 1) ≡ Some y → y.place ≤ x.place)
+    → IsPutInBacklog xs x (xs ++ x ∷ [])
+backlog_put_behind xs x order last = record {
+  at = length xs;
+  among = record {
+    within = omega arith;
+    before = backlog_none_later xs x.place (length xs) order (omega arith) last;
+    behind = λ i y le at. (let lt = slice_get_within xs i y at in absurd (omega arith));
+  };
+  put =
+      ap (λ (ys : List SentRecord). ys ++ x ∷ []) (sym (take_all (length xs) xs (omega arith)))
+      ∙ ap (λ (ys : List SentRecord). take (length xs) xs ++ x ∷ ys) (sym (drop_all (length xs) xs (omega arith)));
+}
+
+-- so at the end of a ring that is read from its first record on
+pub backlog_put_last : (xs records new : List SentRecord) (start : ℕ) (x : SentRecord) → start ≡ 0
+    → backlog_read_from start xs ≡ records → MissingInOrder (map news_of_notice records)
+    → ((y : SentRecord) → 0 < length xs → slice_get xs (length xs - 1) ≡ Some y → y.place ≤ x.place)
+    → new ≡ xs ++ x ∷ [] → IsPutInBacklog records x (backlog_read_from start new)
+backlog_put_last xs records new start x first read order last is =
+    let From : ℕ → Type 0 = λ n. backlog_read_from n xs ≡ records in
+    let same : xs ≡ records = sym (append-nil xs) ∙ subst From first read in
+    let ordered = subst (λ (ys : List SentRecord). MissingInOrder (map news_of_notice ys)) (sym same) order in
+    let all : xs ++ x ∷ [] ≡ backlog_read_from start new =
+    sym is ∙ sym (append-nil new) ∙ ap (λ (n : ℕ). backlog_read_from n new) (sym first) in
+    subst₂ (λ (ys zs : List SentRecord). IsPutInBacklog ys x zs) same all (backlog_put_behind xs x ordered last)
 
 module _ {A : Type 0} where
   -- two lists, read round from within the first

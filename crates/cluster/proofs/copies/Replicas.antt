@@ -8,7 +8,8 @@ use Rattle.journal.specs.DidEvent.{event, did}
 use Rattle.journal.specs.Sizes.{Sizes}
 use Rattle.journal.specs.Events.{At, is_closing, is_taking}
 use Rattle.journal.specs.Blocks.{block_write, IsBlock}
-use Rattle.journal.specs.ValidAndStaleCopy.{TouchesCopy, IsValidCopy, IsStaleCopy}
+use Rattle.journal.specs.CopyOrigins.{TouchesCopy}
+use Rattle.journal.specs.ValidAndStaleCopy.{IsValidCopy, IsStaleCopy}
 use Rattle.journal.specs.ContentsSince.{since}
 use Rattle.journal.specs.Dirty.{IsDirty}
 use Rattle.journal.proofs.CopyOfPage.ValidAndStale.{valid_push, stale_push, valid_others, stale_others, valid_handed, stale_handed}
@@ -43,12 +44,13 @@ replica_same s seen block p n base c d same r = record {
   dirty = rw (same.page) r.dirty;
 }
 
--- the copy d is c after an event of the block
+-- the copy d is c after an event of the block that doesn't fetch the page
 pub record IsReplicaAfterEvent (s : Sizes) (n : ℕ) (e : Event) (c d : Copied) : Type 0 where
   pub words : d.page.words ≡ wrote c.page.words (block_write s n e.kind)
   pub dirty : d.page.dirty ≡ mark c.page.dirty (block_write s n e.kind)
   pub access : d.page.access ≡ c.page.access
   pub missing : d.missing ≡ c.missing
+  pub unfetched : (w r d : ℕ) → e.kind ≢ Fetch w n r d
   pub away : c.page.access ≡ Invalid → (¬ TouchesCopy s n e.kind) × (block_write s n e.kind ≡ None)
 
 -- an event of the block that doesn't use a stale copy
@@ -63,13 +65,15 @@ replica_pushed s seen block e p n base c d mine inner after r = record {
   stale = stale;
   order = rw (after.missing) r.order;
   dirty =
-      let now = dirty_push s (seen ++ block) e p n c.page.words c.page.dirty mine inner r.dirty in
+      let now = dirty_push e mine inner r.dirty in
       rw (after.words, after.dirty, ← append_assoc seen block (e ∷ [])) now;
 }
   where
     valid : IsValidCopy s seen block p n base c.page.words → IsValidCopy s seen (block ++ e ∷ []) p n base d.page.words
     valid old =
-        let now = valid_push s seen block e p n base c.page.words old in
+        let now =
+        valid_push s seen block e p n base c.page.words
+        (λ w r x is. after.unfetched w r x (ap (λ (f : Event). f.kind) is)) old in
         subst (IsValidCopy s seen (block ++ e ∷ []) p n base) (sym after.words) now
 
     stale : d.page.access ≡ Invalid
@@ -82,7 +86,7 @@ replica_pushed s seen block e p n base c d mine inner after r = record {
         let away = after.away was in
         let words : d.page.words ≡ c.page.words = after.words ∙ ap (wrote c.page.words) away.1 in
         let dirty : d.page.dirty ≡ c.page.dirty = after.dirty ∙ ap (mark c.page.dirty) away.1 in
-        let now = stale_push s seen block e p n c.page.words (map news_of_notice c.missing) away.0 old.0 in (
+        let now = stale_push e away.0 old.0 in (
           rw (words, after.missing) now,
           (λ none. old.1 (sym after.missing ∙ none)),
           rw (words) (dirty ∙ old.2),
@@ -94,14 +98,14 @@ pub replica_others : (s : Sizes) (seen rest block : List Event) (p n : ℕ) (bas
     → IsReplica s seen block p n base c
     → IsReplica s (seen ++ rest) block p n base c
 replica_others s seen rest block p n base c away r = record {
-  valid = λ h. let old = r.valid h in (valid_others s seen rest block p n base c.page.words away old.0, old.1);
+  valid = λ h. let old = r.valid h in (valid_others rest away old.0, old.1);
   stale = λ h. let old = r.stale h in (
-    stale_others s seen rest block p n c.page.words (map news_of_notice c.missing) away old.0,
+    stale_others rest away old.0,
     old.1,
     old.2,
   );
   order = r.order;
-  dirty = dirty_others s seen rest block p n c.page.words c.page.dirty away r.dirty;
+  dirty = dirty_others seen rest block away r.dirty;
 }
 
 -- the block is handed in
@@ -167,7 +171,9 @@ replica_closed s seen p n k base c closes r = record {
     valid : IsValidCopy s seen [] p n base c.page.words
         → IsValidCopy s (did seen p k) [] p n c.page.words c.page.words
     valid old =
-        let pushed = valid_push s seen [] e p n base c.page.words old in
+        let pushed =
+        valid_push s seen [] e p n base c.page.words
+        (λ w r x is. true≢false (sym closes ∙ ap (λ (f : Event). is_closing f.kind) is)) old in
         let same = ap (wrote c.page.words) (replica_closing_writes s n k closes) in
         let P : List ℕ → Type 0 = λ page. IsValidCopy s seen (e ∷ []) p n base page in
         valid_handed s seen (e ∷ []) p n base c.page.words is (subst P same pushed)
@@ -176,11 +182,11 @@ replica_closed s seen p n k base c closes r = record {
         → IsStaleCopy s (did seen p k) [] p n c.page.words (map news_of_notice c.missing)
     stale old =
         let away = replica_closing_touches s n k closes in
-        let pushed = stale_push s seen [] e p n c.page.words (map news_of_notice c.missing) away old in
+        let pushed = stale_push e away old in
         stale_handed s seen (e ∷ []) p n c.page.words (map news_of_notice c.missing) is pushed
 
     dirty : IsDirty s (did seen p k ++ []) p n c.page.words (replicate (length c.page.words) false)
     dirty =
         let old : IsDirty s seen p n c.page.words c.page.dirty = rw append-nil at r.dirty in
-        let now = dirty_closing s seen e p n c.page.words c.page.dirty refl closes old in
+        let now = dirty_closing e refl closes old in
         rw (append-nil, replica_long s seen [] p n base c r) now

@@ -54,6 +54,7 @@ taken_stale_same s j block p n page missing other same stale = record {
   copy = stale.copy;
   lacks = missing_same s j p n missing other same stale.lacks;
   untouched = stale.untouched;
+  origins = stale.origins;
 }
 
 module _ (c d : Copied) (news : List SentRecord) (after : IsAfterNews c news d) where
@@ -121,19 +122,19 @@ module _ (s : Sizes) (seen : List Event) (p n : ℕ) (k : Kind) (t t' : ℕ → 
     dirty_taken : IsDirty s (did seen p k ++ []) p n c.page.words c.page.dirty
     dirty_taken =
         let old = rw append-nil at r.dirty in
-        let now = dirty_push s seen (event p k) p n c.page.words c.page.dirty refl (taken_closes_none k takes) old in
+        let now = dirty_push (event p k) refl (taken_closes_none k takes) old in
         rw append-nil (rw (taken_writes_none s n k takes) at now)
 
     -- without news the copy stays as it is
     taken_without_news : AreMissingNotices s seen p n t t' [] → IsReplica s (did seen p k) [] p n c.page.words c
     taken_without_news none = record {
       valid = λ h. let old = r.valid h in (
-        valid_taken s seen p n base c.page.words k t t' takes time after_time none old.0,
+        valid_taken k takes time after_time none old.0,
         old.1,
       );
       stale = λ h. let old = r.stale h in (
         let lacking = map news_of_notice c.missing in
-            rw append-nil at (stale_taken s seen p n c.page.words k t t' lacking [] takes time after_time none old.0),
+            rw append-nil at (stale_taken k takes time after_time none old.0),
         old.1,
         old.2,
       );
@@ -150,10 +151,10 @@ module _ (s : Sizes) (seen : List Event) (p n : ℕ) (k : Kind) (t t' : ℕ → 
             → IsStaleCopy s (did seen p k) [] p n c.page.words (map news_of_notice c.missing ++ new)
         go Valid is =
             let old = r.valid is in
-            rw (old.1) (valid_staled s seen p n base c.page.words k t t' new takes time after_time news old.0)
+            rw (old.1) (valid_staled k takes time after_time news old.0)
         go Invalid is =
             let lacking = map news_of_notice c.missing in
-            stale_taken s seen p n c.page.words k t t' lacking new takes time after_time news (r.stale is).0
+            stale_taken k takes time after_time news (r.stale is).0
 
     -- a taking that brings news of the page, or none
     pub replica_taken : (d : Copied) (sent : List SentRecord) → AreMissingNotices s seen p n t t' (map news_of_notice sent)

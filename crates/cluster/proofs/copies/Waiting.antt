@@ -75,7 +75,7 @@ waiting_missing_apart : (s : Sizes) (j : List Event) (p n : ℕ) (t t' : ℕ →
     → x.place ≢ y.place
 waiting_missing_apart s j p n t t' missing new time are news x y has now same =
     let g = (are.each x.owner x.number).0 (x, has, refl, refl) in
-    let apart = gaps_apart s j p n x.owner g.1.0 g.0 g.1.1 g.1.3 g.1.2 in
+    let apart = gaps_apart g.1.3 g.1.2 in
     let counted = (covered j p x.owner g.1.0 (Store g.0 g.1.1) t time g.1.2 apart).0 g.1.3.past in
     let number = g.1.4 in
     let uncounted = ((news.each y.owner y.number).0 (y, now, refl, refl)).3 in

@@ -1,5 +1,5 @@
 //! The records that a copy lacks.
-ghost use Rattle.std.specs.Prelude.{◌≡◌, ℕ, ◌<◌, ◌≤◌, ◌+◌, ◌-◌, Some, OnOk, [], length, map, slice_get};
+ghost use Rattle.std.specs.Prelude.{◌≡◌, ℕ, ◌<◌, ◌≤◌, ◌+◌, ◌-◌, Some, OnOk, IsTrue, [], length, map, slice_get};
 ghost use Rattle.std.specs.VecDeque.{deque_capacity, deque_len};
 ghost use Rattle.interval.specs.Prelude.{SentRecord};
 ghost use Rattle.journal.specs.Prelude.{MissingInOrder};
@@ -83,6 +83,10 @@ impl Backlog {
         ensures put { IsPutInBacklog self.old.records sent self.new.records }
         ensures room { self.new.room + 1 ≡ self.old.room }
     {
+        if self.start == 0 && comes_last(&self.ring, sent.place) {
+            self.ring.push_back_reserved(sent);
+            return;
+        }
         let start = self.ring.len() - self.place_of(sent.place);
         turn(&mut self.ring, self.start, start);
         self.start = start;
@@ -100,6 +104,7 @@ impl Backlog {
 
     /// How many records were closed no later than `place`, if they are in closing order. It looks from the place
     /// of the last one that was put.
+    #[inline(never)]
     fn place_of(&self, place: u64) -> usize
         requires { MissingInOrder (map news_of_notice self.now.records) }
         ensures { IsPlaceInBacklog self.now.records place result }
@@ -139,7 +144,19 @@ impl Backlog {
     }
 }
 
+/// Whether the ring's last record, if there is one, was closed no later than `place`.
+fn comes_last(ring: &VecDeque<Sent>, place: u64) -> bool
+    ensures { IsTrue result → (x : SentRecord) → 0 < length ring.now.items
+        → slice_get ring.now.items (length ring.now.items - 1) ≡ Some x → x.place ≤ place }
+{
+    match ring.back() {
+        Some(last) => last.place <= place,
+        None => true,
+    }
+}
+
 /// Turns the ring, so that it is read round from `to` on as it was from `from` on.
+#[inline(never)]
 fn turn(ring: &mut VecDeque<Sent>, from: usize, to: usize)
     requires from { from ≤ length ring.old.items }
     requires to { to ≤ length ring.old.items }

@@ -1,14 +1,13 @@
 //! A processor's copy of a page, with the records that it lacks.
-ghost use Rattle.std.specs.Prelude.{◌≡◌, ◌<◌, ◌≤◌, ◌^◌, Some, None, Ok, IfOk, IfSome, IfNone, OnOk, [], ◌∷◌, ◌+◌};
-ghost use Rattle.std.specs.Prelude.{length, map, slice_get, sum_by};
+ghost use Rattle.std.specs.Prelude.{◌≡◌, ◌<◌, ◌≤◌, Some, None, Ok, IfOk, IfSome, IfNone, OnOk, [], ◌∷◌, ◌+◌};
+ghost use Rattle.std.specs.Prelude.{length, map, slice_get};
 ghost use Rattle.std.specs.Option.{option_map};
-ghost use Rattle.base.specs.Prelude.{records_applied, Has, most_pages, most_words};
-ghost use Rattle.journal.specs.Prelude.{HasImageCount, MissingInOrder};
+ghost use Rattle.base.specs.Prelude.{records_applied, most_words};
+ghost use Rattle.journal.specs.Prelude.{MissingInOrder};
 ghost use Rattle.page.specs.Prelude.{IsHarvest, IsClean};
 ghost use Rattle.page.specs.declared.page.Access.TheVariants.{Valid, Invalid};
-ghost use Rattle.interval.specs.Prelude.{SentRecord};
 ghost use Rattle.book.specs.Prelude.{news_of_notice};
-ghost use Rattle.cluster.specs.Copies.Prelude.{AllFitPage, IsReplicaOwner, may_use_replica, replica_words_if, replica_record_words, AreCountable};
+ghost use Rattle.cluster.specs.Copies.Prelude.{AllFitPage, may_use_replica, replica_words_if, replica_record_words, AreCountable};
 ghost use Rattle.cluster.specs.Copies.Prelude.{replica_fetched, replica_written_at, zero_replica, IsAfterNews, IsSameCopyAfterNews, MayLackNews, copy_cleaned_after_news};
 ghost use Rattle.cluster.specs.Copies.Prelude.{AreCounts};
 
@@ -99,20 +98,6 @@ impl Replica {
         self.page.store(offset, value);
     }
 
-    /// What a fetch applies now: of how many owners, how many records, and how many words.
-    pub fn counts(&self) -> MissingCounts
-        requires few { AreCountable self.now.missing }
-        requires fit { AllFitPage (length self.now.page.words) self.now.missing }
-        ensures { AreCounts self.now.missing result }
-    {
-        let missing = &self.missing;
-        MissingCounts {
-            writers: writers_of(missing),
-            records: missing.len() as u32,
-            words: words_in(missing),
-        }
-    }
-
     /// The record of its dirty words, as words of page `page`, if there are some. Takes memory only then.
     pub(crate) fn harvest(&self, page: usize) -> Result<Option<Record>, AllocError>
         ensures clean { IsClean self.now.page → result ≡ Ok None }
@@ -149,61 +134,46 @@ impl Replica {
     }
 
     /// Applies the missing records, in the order in which their intervals were closed, and makes the copy
-    /// valid. What was missing is room again.
-    pub fn fetch(&mut self)
+    /// valid. What was missing is room again. Answers of how many owners, how many records and how many words that was.
+    pub fn fetch(&mut self) -> MissingCounts
         requires invalid { self.old.page.access ≡ Invalid }
+        requires few { AreCountable self.old.missing }
         requires fit { AllFitPage (length self.old.page.words) self.old.missing }
-        ensures { self.new ≡ replica_fetched self.old }
+        ensures copy { self.new ≡ replica_fetched self.old }
+        ensures counts { AreCounts self.old.missing result }
     {
-        apply_all(&mut self.page, &self.missing);
+        let counts = apply_all(&mut self.page, &self.missing);
         self.page.set_valid();
         self.missing.clear();
+        counts
     }
 }
 
-/// Applies the records in their order.
-fn apply_all(page: &mut Page, missing: &Backlog)
+/// Applies the records in their order, and counts them, their owners and their words.
+fn apply_all(page: &mut Page, missing: &Backlog) -> MissingCounts
     requires invalid { page.old.access ≡ Invalid }
+    requires few { AreCountable missing.now.records }
     requires fit { AllFitPage (length page.old.words) missing.now.records }
-    ensures { page.new ≡ record page.old
+    ensures page { page.new ≡ record page.old
         { words = records_applied page.old.words (map replica_record_words missing.now.records) } }
+    ensures counts { AreCounts missing.now.records result }
 {
+    let mut owners = Marks::none();
+    let (mut writers, mut words) = (0, 0);
     for index in 0..missing.len() {
         let sent = missing.at(index);
         let content: &Record = &sent.content;
         page.apply(content);
-    }
-}
-
-/// How many owners the records have.
-fn writers_of(missing: &Backlog) -> u32
-    requires few { length missing.now.records < 2 ^ 32 }
-    requires fit { (x : SentRecord) → Has missing.now.records x → x.notice.owner < most_pages }
-    ensures { HasImageCount (IsReplicaOwner missing.now.records) result }
-{
-    let mut owners = Marks::none();
-    let mut count = 0;
-    for index in 0..missing.len() {
-        let sent = missing.at(index);
+        words += content.words().len() as u32;
         let owner = sent.notice.owner;
         if !owners.has(owner) {
             owners.add(owner);
-            count += 1;
+            writers += 1;
         }
     }
-    count
-}
-
-/// How many words the records have.
-fn words_in(missing: &Backlog) -> u32
-    requires { sum_by (λ x. length (replica_record_words x)) missing.now.records < 2 ^ 32 }
-    ensures { result ≡ sum_by (λ x. length (replica_record_words x)) missing.now.records }
-{
-    let mut count = 0;
-    for index in 0..missing.len() {
-        let sent = missing.at(index);
-        let content: &Record = &sent.content;
-        count += content.words().len() as u32;
+    MissingCounts {
+        writers,
+        records: missing.len() as u32,
+        words,
     }
-    count
 }
