@@ -71,10 +71,9 @@ begins_after section shown n kinds are =
     (subst Q (append_assoc kinds more.0 (kind.Arrive ∷ kind.Depart ∷ [])) whole)
 
 -- and the first event of the next instruction, of which that has two
-pub begins_within : (section : List Instruction) (shown : List ℕ) (n : ℕ) (i : Instruction) (kinds : List Kind)
-    (first last : Kind) → slice_get section n ≡ Some i → AreEventsOfInstructions (take n section) kinds
+pub begins_within : {section : List Instruction} (shown : List ℕ) (n : ℕ) {i : Instruction} (kinds : List Kind) (first last : Kind) → slice_get section n ≡ Some i → AreEventsOfInstructions (take n section) kinds
     → AreEventsOfInstruction i (first ∷ last ∷ []) → BeginsSection section shown (kinds ++ first ∷ [])
-begins_within section shown n i kinds first last at are two =
+begins_within {section = section} shown n {i = i} kinds first last at are two =
     let P : List Instruction → Type 0 = λ is. AreEventsOfInstructions is (kinds ++ first ∷ last ∷ []) in
     let more = subst P (sym (take-suc_at section n i at)) (instructions-push (take n section) i kinds (first ∷ last ∷ []) are two) in
     let whole = begins_after section shown (suc n) (kinds ++ first ∷ last ∷ []) more in

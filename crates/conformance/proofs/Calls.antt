@@ -1,5 +1,5 @@
 -- The kinds of events, fetches aside: of lists put together, and of one event more.
-use Rattle.std.proofs.Common.{ℕ, ◌≡◌, ◌≢◌, List, [], ◌∷◌, ◌++◌, Bool, true, false, filter, map, refl, ap, ◌∙◌, append-nil}
+use Rattle.std.proofs.Common.{ℕ, suc, ◌≡◌, ◌≢◌, List, [], ◌∷◌, ◌++◌, Bool, true, false, filter, map, refl, ap, ◌∙◌, append-nil}
 use Rattle.std.specs.Prelude.{not, ◌==◌}
 use Rattle.std.proofs.lemmas.Bool.{cond-true, cond-false, eq-eqb, ne_eqb}
 use Rattle.std.proofs.lemmas.List.{map-append}
@@ -7,7 +7,7 @@ use Rattle.std.proofs.lemmas.List.Elements.{filter-append}
 use Rattle.journal.specs.declared.event.Event.{Event}
 use Rattle.journal.specs.declared.event.Kind.{Kind}
 use Rattle.journal.specs.DidEvent.{event, did}
-use Rattle.journal.specs.Events.{events_of}
+use Rattle.journal.specs.Events.{At, events_of}
 use Rattle.conformance.specs.Follows.{is_fetch, call_kinds, calls_of}
 
 -- the kinds of two lists are those of the first and those of the second
@@ -76,3 +76,9 @@ calls_of_first-fetch p q k es is =
 pub calls_of_first-other : (p q : ℕ) (k : Kind) (es : List Event) → p ≢ q → calls_of (event p k ∷ es) q ≡ calls_of es q
 calls_of_first-other p q k es apart =
     followed_calls-append (event p k ∷ []) es q ∙ ap (λ ks. ks ++ calls_of es q) (calls_of_one-others p q k apart)
+
+-- who has none of these events calls nothing
+pub calls_of_others : (q : ℕ) (es : List Event) → ((k : ℕ) (e : Event) → At es k e → e.processor ≢ q) → calls_of es q ≡ []
+calls_of_others q [] away = refl
+calls_of_others q (e ∷ es) away =
+    calls_of_first-other e.processor q e.kind es (away 0 e refl) ∙ calls_of_others q es (λ k f at. away (suc k) f at)

@@ -4,6 +4,10 @@ pub mod Instructions
 pub mod Like
 pub mod Script
 pub mod Recomputing
+pub mod Projections
 pub mod WithoutFetches
+pub mod SameTurns
+pub mod TurnCalls
+pub mod OpenBlocks
 pub mod WantedFetches
 pub mod Schedules

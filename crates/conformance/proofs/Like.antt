@@ -3,4 +3,5 @@
 -- What may follow goes by these alone, and so what is like a well formed history is well formed. (WellFormed)
 pub mod Places
 pub mod Order
+pub mod Gaps
 pub mod WellFormed

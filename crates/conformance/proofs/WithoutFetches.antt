@@ -1,7 +1,7 @@
--- A history without its fetches has the same races, so that it is enough to look at flat runs without any.
--- Its events embed into the whole: places rise, counts of a kind agree. (Embeds)
--- A fetch has no edge but its processor's own order, so order, races and form stay. (Order, WellFormed, Runs)
+-- A history's races stay without its fetches, so that it is enough to look at flat runs without any.
+-- It is a projection that leaves out fetches alone. (Embeds, WellFormed)
+-- A fetch has no edge but its processor's own order, so order and races stay, and a flat run is one. (Order, Runs)
 pub mod Embeds
-pub mod Order
 pub mod WellFormed
+pub mod Order
 pub mod Runs

@@ -17,7 +17,7 @@ use Rattle.conformance.specs.Turns.{AreReachedByTurns, TurnStage}
 pub record IsReportByTurns (s : Plan) (orders : ℕ → List ℕ) (r : Report) : Type 0 where
   pub report : IsReportOf s r
   pub stages : List TurnStage
-  pub reached : AreReachedByTurns s orders report.history stages
+  pub reached : AreReachedByTurns s orders report.history stages (map load_of r.shown.items)
   pub passed : (p : ℕ) (x : TurnStage) → slice_get stages p ≡ Some x → x.progress ≡ Passed
   pub calls_are : (p : ℕ) (x : TurnStage) → slice_get stages p ≡ Some x
       → calls_of report.history p ≡ x.calls ++ cond (p == 0) (map load_of r.shown.items) []
@@ -27,7 +27,7 @@ pub record IsHaltByTurns (s : Plan) (orders : ℕ → List ℕ) (halt : Halt) : 
   pub journal : IsJournalSoFar s halt.journal
   pub least : halt.processor ≡ 0
   pub stages : List TurnStage
-  pub reached : AreReachedByTurns s orders journal.history stages
+  pub reached : AreReachedByTurns s orders journal.history stages []
   pub calls_are : (p : ℕ) (x : TurnStage) → slice_get stages p ≡ Some x → calls_of journal.history p ≡ x.calls
 
 -- one of the two

@@ -1,6 +1,7 @@
 -- How a run by turns may end.
 use Rattle.std.specs.Prelude.{◌≡◌, List, []}
 use Rattle.journal.specs.declared.event.Event.{Event}
+use Rattle.journal.specs.CopyAnswers.{AnswersCopies}
 use Rattle.journal.specs.Counted.{AreCounted}
 use Rattle.journal.specs.Deadlocks.{IsDeadlock}
 use Rattle.journal.specs.ExplainedAnswers.{Explained}
@@ -16,8 +17,8 @@ use Rattle.conformance.specs.CutInstructions.{HasNoCutInstruction}
 use Rattle.conformance.specs.Reports.{FetchesAreNeeded, IsReportOf}
 
 -- the journal has the script's sizes and holds what is left, after some of it was cut off, of a history that is well
--- formed and explained, fetches what is missing, where an access wants it, and begins the script, and that is a deadlock:
--- each processor waits, and none is ready; and nothing is cut off if the script has no cut
+-- formed and explained, answers copies, fetches what is missing, where an access wants it, and begins the script, and
+-- that is a deadlock: each processor waits, and none is ready; and nothing is cut off if the script has no cut
 pub record IsJournalSoFar (s : Plan) (j : Log) : Type 0 where
   pub processors : j.processors ≡ s.processors
   pub addresses_are : j.addresses ≡ plan_addresses s
@@ -27,6 +28,7 @@ pub record IsJournalSoFar (s : Plan) (j : Log) : Type 0 where
   pub uncut : HasNoCutInstruction s → taken ≡ []
   pub well_formed : WellFormed (plan_sizes s) history
   pub explained : Explained history
+  pub copied : AnswersCopies (plan_sizes s) history
   pub counted : AreCounted (plan_sizes s) history
   pub fetches : FetchesAreNeeded s history
   pub begins : BeginsScript s history

@@ -9,8 +9,11 @@ pub mod ByTurns
 pub mod CutInstructions
 pub mod Draws
 pub mod Ends
+pub mod OpenBlocks
 pub mod WantedFetches
 pub mod Orders
 pub mod Reports
+pub mod SameTurns
 pub mod Schedules
+pub mod TurnCalls
 pub mod Turns

@@ -5,6 +5,7 @@ use Rattle.journal.specs.declared.event.Kind.{Kind}
 use Rattle.journal.specs.Events.{events_of}
 use Rattle.journal.specs.WellFormed.{WellFormed}
 use Rattle.journal.specs.ExplainedAnswers.{Explained}
+use Rattle.journal.specs.CopyAnswers.{AnswersCopies}
 use Rattle.journal.specs.Counted.{AreCounted}
 use Rattle.journal.specs.Log.{HoldsRestOfHistory}
 use Rattle.journal.specs.Races.{Race}
@@ -30,11 +31,13 @@ pub record AreReportedReplies (calls : List Kind) (shown : List (ℕ × ℕ)) : 
 abbrev pub FetchesAreNeeded : Plan → List Event → Type 0
 FetchesAreNeeded s h = (p : ℕ) → p < s.processors → FetchesAreWanted s.words (events_of h p)
 
--- the history is well formed, explained, fetches what is missing, where an access wants it, and follows the script, and
--- its replies can be recomputed on one flat memory; the verdict, the shown words and the traffic are the history's
+-- the history is well formed, explained, answers what the copies have, fetches what is missing, where an access wants it,
+-- and follows the script, and its replies can be recomputed on one flat memory; the verdict, the shown words and the
+-- traffic are the history's
 pub record ReportsHistory (s : Plan) (r : Report) (h : List Event) : Type 0 where
   pub well_formed : WellFormed (plan_sizes s) h
   pub explained : Explained h
+  pub copied : AnswersCopies (plan_sizes s) h
   pub counted : AreCounted (plan_sizes s) h
   pub fetches : FetchesAreNeeded s h
   pub follows : Follows s h

@@ -8,7 +8,9 @@
 //! **What is proved** (module `laws`). Each well formed history that follows a script is, except for values, a flat run
 //! of it with the same races (`IsRecomputedFlat`); if the script is lawful, of one only. So if no flat run of a script
 //! without fetches has a race (`NeverRacesFlat`), no history that follows it has one, and one whose loads are explained
-//! replays.
+//! replays. By turns (`IsEndByTurns`): the same turns of a script make the same of two histories, except for values
+//! (`AreSameTurns`). Two runs of a lawful script to their ends by turns in the same orders have one history (`AreSameEnds`),
+//! and their reports have the same verdict, shown words and traffic (`AreSameReports`).
 #![tactic(auto)]
 
 mod cause;

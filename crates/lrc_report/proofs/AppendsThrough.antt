@@ -56,9 +56,9 @@ passes_through_written old mid new before after text none first second =
     }
 
 -- a text, and then another
-pub passes_through_then : (a b c : Option (List ℕ)) (k l m xs ys : List ℕ) → PassesThrough a b k l xs → PassesThrough b c l m ys
+pub passes_through_then : {a b c : Option (List ℕ)} {k l m xs ys : List ℕ} → PassesThrough a b k l xs → PassesThrough b c l m ys
     → PassesThrough a c k m (xs ++ ys)
-passes_through_then a b c k l m xs ys first second = record {
+passes_through_then {a = a} {b = b} {c = c} {k = k} {l = l} {m = m} {xs = xs} {ys = ys} first second = record {
   done = first.done ++ second.done;
   whole = sym (append_assoc k xs ys) ∙ ap (λ t. t ++ ys) first.whole ∙ append_assoc first.done l ys
       ∙ ap (λ t. first.done ++ t) second.whole ∙ sym (append_assoc first.done second.done m);
@@ -82,12 +82,11 @@ pub appends_pending_longer : (a b : Option (List ℕ)) (k xs ys : List ℕ) → 
 appends_pending_longer a b k xs ys front = rw (← append_assoc k xs ys) (appends_front_longer a b (k ++ xs) ys front)
 
 -- a list's text, item by item: one more
-pub items_through_next : {A : Type 0} (f : A → List ℕ) (xs : List A) (i : ℕ) (x : A) (a b c : Option (List ℕ))
-    (k l m : List ℕ) → slice_get xs i ≡ Some x
+pub items_through_next : {A : Type 0} (f : A → List ℕ) (xs : List A) (i : ℕ) {x : A} {a b c : Option (List ℕ)} {k l m : List ℕ} → slice_get xs i ≡ Some x
     → PassesThrough a b k l (flat_map f (take i xs)) → PassesThrough b c l m (f x) → PassesThrough a c k m (flat_map f (take (i + 1) xs))
-items_through_next f xs i x a b c k l m at before this =
+items_through_next f xs i {x = x} {a = a} {b = b} {c = c} {k = k} {l = l} {m = m} at before this =
     rw (add-one, take-suc_at xs i x at, flat_map-append f (take i xs) (x ∷ []), append-nil (f x))
-    (passes_through_then a b c k l m _ _ before this)
+    (passes_through_then before this)
 
 -- a list's text, from an item on
 items_from : {A : Type 0} (f : A → List ℕ) (xs : List A) (i : ℕ) (x : A) → slice_get xs i ≡ Some x
@@ -100,10 +99,9 @@ items_from f xs i x at =
     ∙ append_assoc (flat_map f (take i xs)) (f x) (flat_map f (drop (suc i) xs))
 
 -- and a beginning of one more is one of the whole
-pub items_through_front : {A : Type 0} (f : A → List ℕ) (xs : List A) (i : ℕ) (x : A) (a b c : Option (List ℕ))
-    (k l : List ℕ) → slice_get xs i ≡ Some x
+pub items_through_front : {A : Type 0} (f : A → List ℕ) (xs : List A) (i : ℕ) {x : A} {a b : Option (List ℕ)} (c : Option (List ℕ)) {k l : List ℕ} → slice_get xs i ≡ Some x
     → PassesThrough a b k l (flat_map f (take i xs)) → AppendsFront b c (l ++ f x) → AppendsFront a c (k ++ flat_map f xs)
-items_through_front f xs i x a b c k l at before this =
+items_through_front f xs i {x = x} {a = a} {b = b} c {k = k} {l = l} at before this =
     rw (items_from f xs i x at) (passes_through_front a b c k l (flat_map f (take i xs)) _ before
     (appends_pending_longer b c l (f x) (flat_map f (drop (suc i) xs)) this))
 

@@ -33,18 +33,18 @@ lines_next j xs i x at =
     (append-nil (event_line (j + length (take i xs)) x) ∙ ap (λ n. event_line n x) place)
 
 -- the lines of the events so far, and of one more
-pub event_lines_next : (j : ℕ) (xs : List Event) (i : ℕ) (x : Event) (a b c : Option (List ℕ)) (k l m : List ℕ)
+pub event_lines_next : (j : ℕ) (xs : List Event) (i : ℕ) {x : Event} {a b c : Option (List ℕ)} {k l m : List ℕ}
     → slice_get xs i ≡ Some x
     → PassesThrough a b k l (event_lines j (take i xs)) → PassesThrough b c l m (event_line (j + i) x)
     → PassesThrough a c k m (event_lines j (take (i + 1) xs))
-event_lines_next j xs i x a b c k l m at before this = rw (lines_next j xs i x at) (passes_through_then a b c k l m _ _ before this)
+event_lines_next j xs i {x = x} {a = a} {b = b} {c = c} {k = k} {l = l} {m = m} at before this = rw (lines_next j xs i x at) (passes_through_then before this)
 
 -- a beginning of one more is one of the whole
-pub event_lines_front : (j : ℕ) (xs : List Event) (i : ℕ) (x : Event) (a b c : Option (List ℕ)) (k l : List ℕ)
+pub event_lines_front : (j : ℕ) (xs : List Event) (i : ℕ) {x : Event} {a b : Option (List ℕ)} (c : Option (List ℕ)) {k l : List ℕ}
     → slice_get xs i ≡ Some x
     → PassesThrough a b k l (event_lines j (take i xs)) → AppendsFront b c (l ++ event_line (j + i) x)
     → AppendsFront a c (k ++ event_lines j xs)
-event_lines_front j xs i x a b c k l at before this =
+event_lines_front j xs i {x = x} {a = a} {b = b} c {k = k} {l = l} at before this =
     let rest = event_lines (j + length (take (i + 1) xs)) (drop (i + 1) xs) in
     let whole : event_lines j xs ≡ event_lines j (take i xs) ++ (event_line (j + i) x ++ rest) =
     ap (event_lines j) (sym (take-append-drop (i + 1) xs)) ∙ lines_append j (take (i + 1) xs) (drop (i + 1) xs)

@@ -1,23 +1,34 @@
 -- What loads, stores, fetches and flushes add to a processor's calls.
-use Rattle.std.proofs.Common.{ℕ, Bool, true, false, ◌≡◌, Some, Result, Ok, Err, OnErr, OnOk, IfOk, List, [], ◌∷◌, ◌++◌, map, refl, sym, ap, subst, ◌∙◌, append_assoc, append-nil}
-use Rattle.std.specs.Prelude.{◌/◌, not}
+use Rattle.std.proofs.Common.{ℕ, Bool, true, false, ◌≡◌, ◌<◌, ◌≤◌, Some, None, Result, Ok, Err, OnErr, OnOk, IfOk, List, [], ◌∷◌, ◌++◌, length, map, slice_get, slice_set, inl, inr, refl, sym, ap, ap₂, subst, ◌∙◌, append_assoc, append-nil}
+use Rattle.std.specs.Prelude.{◌/◌, ◌%◌, nat_le, not}
 use Rattle.std.specs.Result.{result_err}
+use Rattle.std.proofs.lemmas.Bool.{cases_eq, leb-true, leb-false}
 use Rattle.std.proofs.lemmas.List.{map-append}
+use Rattle.std.proofs.lemmas.Option.{slice_get_within}
+use Rattle.base.specs.Limits.{most_in_block}
+use Rattle.base.proofs.SliceSets.{slice_get-set_other, slice_get-set_same}
 use Rattle.journal.specs.declared.event.Kind.{Kind}
 use Rattle.journal.specs.declared.event.Kind.TheVariants.{Load, Store, Fetch}
 use Rattle.journal.specs.DidEvent.{event}
-use Rattle.journal.specs.Events.{events_of}
+use Rattle.journal.specs.Events.{address_of, events_of, is_taking}
+use Rattle.journal.specs.Sizes.{addresses}
 use Rattle.conformance.specs.Follows.{is_fetch, call_kinds}
+use Rattle.conformance.specs.OpenBlocks.{IsCallNotedAt, IsFetchDue, OpenBlock, block_noted}
 use Rattle.conformance.proofs.Calls.{followed_call_kinds-append, followed_call_kinds-one}
 use Rattle.book.specs.declared.refused.Refused.{Refused}
-use Rattle.book.specs.declared.refused.Refused.TheVariants.{OutOfRange, Invalid, Waiting, BlockFull}
+use Rattle.book.specs.declared.refused.Refused.TheVariants.{AlreadyValid, OutOfRange, Invalid, Waiting, BlockFull}
 use Rattle.cluster.specs.Copies.Local.{Local, calls, local_noted}
+use Rattle.cluster.specs.Copies.PageReplica.{Copied, may_use_replica, replica_written_at}
 use Rattle.cluster.specs.Accesses.{StoreAccessDone, FetchDone}
-use Rattle.cluster.specs.Calls.{IsSameProcessorOfCall, IsHandingCall}
-use Rattle.cluster.specs.Refusals.{access_refusal, first_refusal_due, refusal_has_valid, refusal_block_full, refusal_is_waiting}
+use Rattle.cluster.specs.Calls.{IsHandedByCall, IsSameProcessorOfCall, IsHandingCall}
+use Rattle.cluster.specs.Covers.{HasCoverage, KnowsGaps}
+use Rattle.cluster.specs.Entering.{EnteredAndDid}
+use Rattle.cluster.specs.Refusals.{access_refusal, fetch_refusal, first_refusal_due, refusal_copy_serves, refusal_has_valid, refusal_block_full, refusal_is_waiting}
+use Rattle.cluster.proofs.MayAccessAndFetch.{may_access, may_fetch}
 use Rattle.conformance.specs.WantedFetches.{IsWantedAccess}
 use Rattle.conformance.proofs.WantedFetches.{wanted_access}
-use Rattle.lrc_run.specs.MakesCalls.{AddsCalls, AddsCallsBy, MakesFetchBy, calls_made, MakesNone, TriesCalls}
+use Rattle.lrc_run.specs.MakesCalls.{AddsCalls, MakesNone, NotesAccessBy, NotesFetch, NotesFetchBy, TriesCalls, block_of_calls, calls_handed_in, calls_made}
+use Rattle.lrc_run.proofs.NotingCalls.{NotesJust, notes_after_flush, notes_counted, notes_counted_after_flush, notes_roomy, notes_stale, notes_valid, notes_valid_before, noting_own_split}
 use Rattle.lrc_run.proofs.SeesAndMakes.{makes_one, sees_same_processor, sees_call, sees_handed, sees_same, sees_then, makes_more_wanted}
 
 -- a processor that is as it was has no call more
@@ -64,62 +75,196 @@ adds_flush l m n r same call = adds_then l m n [] [] (adds_none l m same) (flush
       uncut = call.uncut;
     }
 
--- a call after others that added nothing
-pub adds_after : {A : Type 0} (l m n : Local) (r : Result A Refused) (kinds : A → List Kind) → AddsCalls l m []
-    → AddsCallsBy m n r kinds → AddsCallsBy l n r kinds
-adds_after l m n (Ok x) kinds first next = adds_then l m n [] (kinds x) first next
-adds_after l m n (Err e) kinds first next = adds_then l m n [] [] first next
-
--- and a fetch
-pub adds_fetch_after : {A : Type 0} (l m n : Local) (r : Result A Refused) (page : ℕ) → AddsCalls l m []
-    → MakesFetchBy m n r page → MakesFetchBy l n r page
-adds_fetch_after l m n (Ok x) page first next =
-    (next.0, next.1, next.2, adds_then l m n [] (Fetch next.0 page next.1 next.2 ∷ []) first next.3)
-adds_fetch_after l m n (Err e) page first next = adds_then l m n [] [] first next
-
 -- a processor whose block or copies alone changed is the same
 adding_same_but : (m n l : Local) → n ≡ l → IsSameProcessorOfCall m l → IsSameProcessorOfCall m n
 adding_same_but m n l e same = subst (IsSameProcessorOfCall m) (sym e) same
 
+-- an access by its answer: it is in the block, and a valid copy is valid still; or nothing changed
+abbrev AddsAccess : {A : Type 0} → Local → Local → Result A Refused → (A → Kind) → Type 0
+AddsAccess m n (Ok x) kind =
+    AddsCalls m n (kind x ∷ []) × NotesJust m n (kind x)
+    × ((page : ℕ) → refusal_has_valid m page ≡ true → refusal_has_valid n page ≡ true)
+AddsAccess m n (Err e) kind = AddsCalls m n []
+
 -- a load
 pub adds_load : (m n : Local) (a : ℕ) (r : Result ℕ Refused) → OnErr r (n ≡ m)
     → IfOk r (λ v. n ≡ local_noted m (Load a v)) → IfOk r (λ v. calls n ≡ calls m ++ event m.number (Load a v) ∷ [])
-    → AddsCallsBy m n r (λ v. Load a v ∷ [])
-adds_load m n a (Ok v) err ok more = record {
-  same = adding_same_but m n _ ok (record { lock = refl; number = refl; sizes = refl });
-  sees = sees_same m n (ap (λ (x : Local). x.seen) ok);
-  calls_are = more;
-  uncut = ap (λ (x : Local). x.own_cut) ok;
-}
+    → AddsAccess m n r (λ v. Load a v)
+adds_load m n a (Ok v) err ok more = (
+  record {
+    same = adding_same_but m n _ ok (record { lock = refl; number = refl; sizes = refl });
+    sees = sees_same m n (ap (λ (x : Local). x.seen) ok);
+    calls_are = more;
+    uncut = ap (λ (x : Local). x.own_cut) ok;
+  },
+  record {
+    sizes = ap (λ (x : Local). x.sizes) ok;
+    number = ap (λ (x : Local). x.number) ok;
+    seen = ap (λ (x : Local). x.seen) ok;
+    block = ap (λ (x : Local). x.block) ok;
+  },
+  λ page valid. ap (λ (x : Local). refusal_has_valid x page) ok ∙ valid,
+)
 adds_load m n a (Err e) err ok more = adds_none m n err
+
+-- a valid copy is valid when a word of one of them was written
+adds_written_valid : (copies : List Copied) (at page : ℕ) (c : Copied) (o v : ℕ) → slice_get copies at ≡ Some c
+    → refusal_copy_serves (slice_get copies page) ≡ true
+    → refusal_copy_serves (slice_get (slice_set copies at (replica_written_at c o v)) page) ≡ true
+adds_written_valid copies at page c o v here valid = elim (cases_eq page at) [
+  | inl is ↦ (let set : slice_get (slice_set copies at (replica_written_at c o v)) page ≡ Some (replica_written_at c o v) =
+      ap (slice_get (slice_set copies at (replica_written_at c o v))) is
+      ∙ slice_get-set_same copies at (replica_written_at c o v) (slice_get_within copies at c here) in
+      ap refusal_copy_serves set ∙ ap refusal_copy_serves (sym here)
+      ∙ ap (λ i. refusal_copy_serves (slice_get copies i)) (sym is) ∙ valid)
+  | inr isnt ↦ ap refusal_copy_serves (slice_get-set_other copies at page (replica_written_at c o v) isnt) ∙ valid
+]
 
 -- a store
 pub adds_store : {A : Type 0} (m n : Local) (a v : ℕ) (r : Result A Refused) → OnErr r (n ≡ m)
     → OnOk r (StoreAccessDone m a v n) → OnOk r (calls n ≡ calls m ++ event m.number (Store a v) ∷ [])
-    → AddsCallsBy m n r (λ _. Store a v ∷ [])
-adds_store m n a v (Ok x) err ok more = record {
-  same = adding_same_but m n _ ok.after (record { lock = refl; number = refl; sizes = refl });
-  sees = sees_same m n (ap (λ (x : Local). x.seen) ok.after);
-  calls_are = more;
-  uncut = ap (λ (x : Local). x.own_cut) ok.after;
-}
+    → AddsAccess m n r (λ _. Store a v)
+adds_store m n a v (Ok x) err ok more = (
+  record {
+    same = adding_same_but m n _ ok.after (record { lock = refl; number = refl; sizes = refl });
+    sees = sees_same m n (ap (λ (x : Local). x.seen) ok.after);
+    calls_are = more;
+    uncut = ap (λ (x : Local). x.own_cut) ok.after;
+  },
+  record {
+    sizes = ap (λ (x : Local). x.sizes) ok.after;
+    number = ap (λ (x : Local). x.number) ok.after;
+    seen = ap (λ (x : Local). x.seen) ok.after;
+    block = ap (λ (x : Local). x.block) ok.after;
+  },
+  λ page valid.
+      ap (λ (x : Local). refusal_has_valid x page) ok.after
+      ∙ adds_written_valid m.copies (a / m.sizes.words) page ok.copy (a % m.sizes.words) v ok.at valid,
+)
 adds_store m n a v (Err e) err ok more = adds_none m n err
 
--- a fetch
-pub adds_fetch_by : {A : Type 0} (m n : Local) (page : ℕ) (r : Result A Refused) → OnErr r (n ≡ m)
-    → OnOk r (FetchDone m page n) → MakesFetchBy m n r page
-adds_fetch_by m n page (Ok x) err ok = (
-  ok.counts.writers,
-  ok.counts.records,
-  ok.counts.words,
+-- an access that found room, or was refused
+pub adds_access : {A : Type 0} (m n : Local) (a : ℕ) (r : Result A Refused) (kind : A → Kind)
+    → ((x : A) → (is_taking (kind x) ≡ false) × (is_fetch (kind x) ≡ false)) → result_err r ≡ access_refusal m a → HasCoverage n
+    → AddsAccess m n r kind → NotesAccessBy m n r a kind
+adds_access m n a (Ok x) kind plain refused covers adds =
+    let may = may_access m a (sym refused) in
+    let valid : refusal_has_valid m (a / m.sizes.words) ≡ true = ap refusal_copy_serves may.at ∙ ap may_use_replica may.valid in
+    record {
+      one = notes_roomy m n (kind x) adds.0 adds.1.seen adds.1.block may.room;
+      full =
+          notes_valid_before m n (kind x) (a / m.sizes.words) adds.1 covers.alone (plain x).0 (plain x).1
+          (adds.2 (a / m.sizes.words) valid);
+    }
+adds_access m n a (Err e) kind plain refused covers adds = adds
+
+-- why an access is refused as BlockFull: the block is full, and the copy valid
+adds_full_access : (m : Local) (a : ℕ) → access_refusal m a ≡ Some BlockFull
+    → (refusal_has_valid m (a / m.sizes.words) ≡ true) × (most_in_block ≤ length m.block)
+adds_full_access m a is =
+    by (nat_le (addresses m.sizes) a) (refusal_has_valid m (a / m.sizes.words)) (refusal_is_waiting m) (refusal_block_full m) refl refl is
+  where
+    by : (past valid waits full : Bool) → refusal_has_valid m (a / m.sizes.words) ≡ valid → refusal_block_full m ≡ full
+        → first_refusal_due ((past, OutOfRange) ∷ (not valid, Invalid (a / m.sizes.words)) ∷ (waits, Waiting) ∷ (full, BlockFull) ∷ [])
+        ≡ Some BlockFull → (refusal_has_valid m (a / m.sizes.words) ≡ true) × (most_in_block ≤ length m.block)
+    by true valid waits full v f e = absurd (cc)
+    by false false waits full v f e = absurd (cc)
+    by false true true full v f e = absurd (cc)
+    by false true false true v f e = (v, leb-true most_in_block (length m.block) f)
+    by false true false false v f e = absurd (cc)
+
+-- a flush of a full block, and then what is noted
+pub record AddsFlush (m full x : Local) : Type 0 where
+  pub same : full ≡ m
+  pub call : IsHandingCall full x None
+
+adds_flush_entered : {m full x : Local} → AddsFlush m full x → EnteredAndDid IsHandedByCall m x
+adds_flush_entered {x = x} flush = subst (λ l. EnteredAndDid IsHandedByCall l x) flush.same (flush.call.ok refl).0
+
+-- an access after it
+pub adds_access_flushed : {A : Type 0} {m full x : Local} (n : Local) (a : ℕ) (r : Result A Refused) (kind : A → Kind) → AddsFlush m full x
+    → HasCoverage full → access_refusal m a ≡ Some BlockFull → AddsCalls m x [] → AddsAccess x n r kind → NotesAccessBy m n r a kind
+adds_access_flushed {m = m} {x = x} n a (Ok y) kind flush covers refused first adds =
+    let why = adds_full_access m a refused in
+    record {
+      one =
+          notes_after_flush m x n (kind y) (adds_then m x n [] (kind y ∷ []) first adds.0) (adds_flush_entered flush) adds.1.seen
+          adds.1.block why.1;
+      full = notes_valid m (a / m.sizes.words) (subst KnowsGaps flush.same covers.alone) why.0;
+    }
+adds_access_flushed {m = m} {x = x} n a (Err e) kind flush covers refused first adds = adds_then m x n [] [] first adds
+
+-- a fetch that found room, or was refused
+adds_fetch_just : (m n : Local) (page : ℕ) (done : FetchDone m page n)
+    → AddsCalls m n (Fetch done.counts.writers page done.counts.records done.counts.words ∷ [])
+    × NotesJust m n (Fetch done.counts.writers page done.counts.records done.counts.words)
+adds_fetch_just m n page ok = (
   record {
     same = adding_same_but m n _ ok.after (record { lock = refl; number = refl; sizes = refl });
     sees = sees_same m n (ap (λ (x : Local). x.seen) ok.after);
     calls_are = ap calls ok.after ∙ sym (append_assoc (events_of m.seen m.number) m.block _);
     uncut = ap (λ (x : Local). x.own_cut) ok.after;
   },
+  record {
+    sizes = ap (λ (x : Local). x.sizes) ok.after;
+    number = ap (λ (x : Local). x.number) ok.after;
+    seen = ap (λ (x : Local). x.seen) ok.after;
+    block = ap (λ (x : Local). x.block) ok.after;
+  },
 )
-adds_fetch_by m n page (Err e) err ok = adds_none m n err
+
+pub adds_fetch : {A : Type 0} (m n : Local) (page : ℕ) (r : Result A Refused) → OnErr r (n ≡ m) → OnOk r (FetchDone m page n)
+    → result_err r ≡ fetch_refusal m page → HasCoverage n → NotesFetchBy m n r page
+adds_fetch m n page (Ok x) err ok refused covers =
+    let may = may_fetch m page (sym refused) in
+    let just = adds_fetch_just m n page ok in
+    let c = ok.counts in
+    record {
+      writers = c.writers;
+      records = c.records;
+      words = c.words;
+      one = notes_roomy m n (Fetch c.writers page c.records c.words) just.0 just.1.seen just.1.block may.room;
+      within = may.within;
+      counts = λ own. notes_counted m n page c.writers c.records c.words just.1 covers.alone;
+    }
+adds_fetch m n page (Err e) err ok refused covers = adds_none m n err
+
+-- why a fetch is refused as BlockFull: the block is full
+adds_full_fetch : (m : Local) (page : ℕ) → fetch_refusal m page ≡ Some BlockFull
+    → (page < m.sizes.pages) × (most_in_block ≤ length m.block)
+adds_full_fetch m page is =
+    by (nat_le m.sizes.pages page) (refusal_is_waiting m) (refusal_block_full m) (refusal_has_valid m page) refl refl is
+  where
+    by : (past waits full valid : Bool) → nat_le m.sizes.pages page ≡ past → refusal_block_full m ≡ full
+        → first_refusal_due ((past, OutOfRange) ∷ (waits, Waiting) ∷ (full, BlockFull) ∷ (valid, AlreadyValid) ∷ [])
+        ≡ Some BlockFull → (page < m.sizes.pages) × (most_in_block ≤ length m.block)
+    by true waits full valid p f e = absurd (cc)
+    by false true full valid p f e = absurd (cc)
+    by false false true valid p f e = (leb-false m.sizes.pages page p, leb-true most_in_block (length m.block) f)
+    by false false false true p f e = absurd (cc)
+    by false false false false p f e = absurd (cc)
+
+-- a fetch after a flush
+pub adds_fetch_flushed : {A : Type 0} {m full x : Local} (n : Local) (page : ℕ) (r : Result A Refused) → AddsFlush m full x
+    → fetch_refusal m page ≡ Some BlockFull → AddsCalls m x [] → OnErr r (n ≡ x) → OnOk r (FetchDone x page n) → HasCoverage n
+    → NotesFetchBy m n r page
+adds_fetch_flushed {m = m} {x = x} n page (Ok y) flush refused first err ok covers =
+    let why = adds_full_fetch m page refused in
+    let just = adds_fetch_just x n page ok in
+    let c = ok.counts in
+    let entered = adds_flush_entered flush in
+    let fetch = Fetch c.writers page c.records c.words in
+    record {
+      writers = c.writers;
+      records = c.records;
+      words = c.words;
+      one =
+          notes_after_flush m x n fetch (adds_then m x n [] (fetch ∷ []) first just.0) entered just.1.seen just.1.block why.1;
+      within = why.0;
+      counts = λ own. notes_counted_after_flush m x n page c.writers c.records c.words entered first.same just.1 covers.alone own;
+    }
+adds_fetch_flushed {m = m} {x = x} n page (Err e) flush refused first err ok covers =
+    adds_then m x n [] [] first (adds_none x n err)
 
 -- why an access is refused as Invalid is a copy of its page
 pub adds_access_page : (m : Local) (a page : ℕ) → access_refusal m a ≡ Some (Invalid page) → page ≡ a / m.sizes.words
@@ -133,6 +278,21 @@ adds_access_page m a page is = by _ (refusal_has_valid m (a / m.sizes.words)) (r
     by false true false true e = absurd (cc)
     by false true false false e = absurd (cc)
 
+-- and that copy isn't valid
+pub adds_access_stale : (m : Local) (a page : ℕ) → access_refusal m a ≡ Some (Invalid page)
+    → refusal_has_valid m (a / m.sizes.words) ≡ false
+adds_access_stale m a page is =
+    by (nat_le (addresses m.sizes) a) (refusal_has_valid m (a / m.sizes.words)) (refusal_is_waiting m) (refusal_block_full m) refl is
+  where
+    by : (past valid waits full : Bool) → refusal_has_valid m (a / m.sizes.words) ≡ valid
+        → first_refusal_due ((past, OutOfRange) ∷ (not valid, Invalid (a / m.sizes.words)) ∷ (waits, Waiting) ∷ (full, BlockFull) ∷ [])
+        ≡ Some (Invalid page) → refusal_has_valid m (a / m.sizes.words) ≡ false
+    by true valid waits full v e = absurd (cc)
+    by false false waits full v e = v
+    by false true true full v e = absurd (cc)
+    by false true false true v e = absurd (cc)
+    by false true false false v e = absurd (cc)
+
 -- no call more is made
 pub none_adds : (m n : Local) → AddsCalls m n [] → MakesNone m n
 none_adds m n adds = record {
@@ -141,39 +301,71 @@ none_adds m n adds = record {
   uncut = adds.uncut;
 }
 
--- one call that is no fetch
-pub tries_adds : {A : Type 0} (m n : Local) (r : Result A Refused) (k : A → Kind) → ((x : A) → is_fetch (k x) ≡ false)
-    → AddsCallsBy m n r (λ x. k x ∷ []) → TriesCalls m n r (λ x. k x ∷ [])
-tries_adds m n (Ok x) k plain adds = makes_one m n (k x) (plain x) adds.same adds.sees adds.calls_are adds.uncut
-tries_adds m n (Err e) k plain adds = none_adds m n adds
+-- one access
+pub tries_access : {A : Type 0} (m n : Local) (a : ℕ) (r : Result A Refused) (kind : A → Kind)
+    → ((x : A) → (is_fetch (kind x) ≡ false) × (address_of (kind x) ≡ Some a)) → NotesAccessBy m n r a kind
+    → TriesCalls m n r (λ x. kind x ∷ [])
+tries_access m n a (Ok x) kind is access =
+    let adds = access.one.adds in
+    makes_one m n (kind x) (is x).0 adds.same adds.sees
+    (λ own. (
+      block_of_calls n,
+      subst (λ o. IsCallNotedAt m.sizes m.number (kind x) o (block_of_calls m) (block_of_calls n)) (sym (is x).1)
+          (inl (access.full, access.one.noted own)),
+      refl,
+    ))
+    adds.calls_are adds.uncut
+tries_access m n a (Err e) kind is adds = none_adds m n adds
 
--- a fetch, and the access that wants it
-pub tries_adds_fetch : {A B : Type 0} (l m n : Local) (page : ℕ) (f : Result B Refused) {b : B} (r : Result A Refused)
-    (k : A → Kind) → f ≡ Ok b → MakesFetchBy l m f page → ((x : A) → is_fetch (k x) ≡ false)
-    → ((x : A) → IsWantedAccess l.sizes.words page (k x)) → AddsCallsBy m n r (λ x. k x ∷ []) → TriesCalls l n r (λ x. k x ∷ [])
-tries_adds_fetch {A} {B} l m n page f r k is fetches plain wants adds =
-    by r (subst (λ (x : Result B Refused). MakesFetchBy l m x page) is fetches) adds
-  where
-    by : (r : Result A Refused) → (writers records words : ℕ) × AddsCalls l m (Fetch writers page records words ∷ [])
-        → AddsCallsBy m n r (λ x. k x ∷ []) → TriesCalls l n r (λ x. k x ∷ [])
-    by (Ok x) (writers, records, words, first) next =
-        let both = adds_then l m n (Fetch writers page records words ∷ []) (k x ∷ []) first next in
-        let one = event l.number (Fetch writers page records words) in
-        let two = event l.number (k x) in
-        record {
-          same = both.same;
-          sees = both.sees;
-          more = ap call_kinds both.calls_are ∙ followed_call_kinds-append (calls l) (one ∷ two ∷ [])
-              ∙ ap (λ ks. calls_made l ++ ks) (followed_call_kinds-one two (plain x));
-          wanted = makes_more_wanted l n (one ∷ two ∷ []) both.same both.calls_are
-              (wanted_access l.sizes.words page writers records words one two refl (wants x));
-          uncut = both.uncut;
-        }
-    by (Err e) (writers, records, words, first) next =
-        let both = adds_then l m n (Fetch writers page records words ∷ []) [] first next in
-        let one = event l.number (Fetch writers page records words) in
-        record {
-          same = both.same;
-          none = ap call_kinds both.calls_are ∙ followed_call_kinds-append (calls l) (one ∷ []) ∙ append-nil (calls_made l);
-          uncut = both.uncut;
-        }
+-- a fetch of what a copy lacks, and the access that wants it
+pub record AddsFetch (l m : Local) (a : ℕ) : Type 0 where
+  pub knows : KnowsGaps l
+  pub stale : refusal_has_valid l (a / l.sizes.words) ≡ false
+  pub fetch : NotesFetch l m (a / l.sizes.words)
+
+pub tries_after_fetch : {A : Type 0} (l m n : Local) (a : ℕ) (r : Result A Refused) (kind : A → Kind) → AddsFetch l m a
+    → ((x : A) → (is_fetch (kind x) ≡ false) × (address_of (kind x) ≡ Some a) × IsWantedAccess l.sizes.words (a / l.sizes.words) (kind x))
+    → NotesAccessBy m n r a kind → TriesCalls l n r (λ x. kind x ∷ [])
+tries_after_fetch l m n a (Ok x) kind fetched is access =
+    let f = fetched.fetch in
+    let page = a / l.sizes.words in
+    let fetch = Fetch f.writers page f.records f.words in
+    let both = adds_then l m n (fetch ∷ []) (kind x ∷ []) f.one.adds access.one.adds in
+    let one = event l.number fetch in
+    let two = event l.number (kind x) in
+    record {
+      same = both.same;
+      sees = both.sees;
+      more = ap call_kinds both.calls_are ∙ followed_call_kinds-append (calls l) (one ∷ two ∷ [])
+          ∙ ap (λ ks. calls_made l ++ ks) (followed_call_kinds-one two (is x).0);
+      noted = λ own.
+          let parts = noting_own_split l m n f.one.adds.same.number f.one.adds.sees access.one.adds.sees own in
+          let due : IsFetchDue l.sizes (calls_handed_in l) l.number page fetch = record {
+            gap = notes_stale l page fetched.knows f.within fetched.stale;
+            writers = f.writers;
+            records = f.records;
+            words = f.words;
+            counts = f.counts parts.0;
+            kind_is = refl;
+          } in
+          let noted : block_of_calls n ≡ block_noted l.number (kind x) (block_noted l.number fetch (block_of_calls l)) =
+          access.one.noted parts.1
+          ∙ ap₂ (λ (p : ℕ) (b : OpenBlock). block_noted p (kind x) b) f.one.adds.same.number (f.one.noted parts.0) in (
+            block_of_calls n,
+            subst (λ o. IsCallNotedAt l.sizes l.number (kind x) o (block_of_calls l) (block_of_calls n)) (sym (is x).1)
+                (inr (fetch, due, noted)),
+            refl,
+          );
+      wanted = makes_more_wanted l n (one ∷ two ∷ []) both.same both.calls_are
+          (wanted_access l.sizes.words page f.writers f.records f.words one two refl (is x).2);
+      uncut = both.uncut;
+    }
+tries_after_fetch l m n a (Err e) kind fetched is adds =
+    let f = fetched.fetch in
+    let fetch = Fetch f.writers (a / l.sizes.words) f.records f.words in
+    let both = adds_then l m n (fetch ∷ []) [] f.one.adds adds in
+    record {
+      same = both.same;
+      none = ap call_kinds both.calls_are ∙ followed_call_kinds-append (calls l) (event l.number fetch ∷ []) ∙ append-nil (calls_made l);
+      uncut = both.uncut;
+    }

@@ -1,9 +1,11 @@
 -- What comes of processors that took their turns from the start on.
-use Rattle.std.proofs.Common.{ℕ, zero, suc, ◌≡◌, ◌==◌, cond, Option, None, List, [], ◌++◌, length, map, replicate, refl, sym, ap, subst, subst₂, ◌∙◌, append_assoc, append-nil}
-use Rattle.std.specs.Prelude.{All}
+use Rattle.std.proofs.Common.{ℕ, zero, suc, ◌≡◌, ◌==◌, cond, ◌+◌, Option, Some, None, List, [], ◌∷◌, ◌++◌, length, map, replicate, refl, sym, ap, ap₂, subst, subst₂, ◌∙◌, append_assoc, append-nil, arith}
+use Rattle.std.specs.Prelude.{All, slice_get}
+use Rattle.std.specs.List.{flat_map}
 use Rattle.std.proofs.lemmas.Option.{get_or_from_slice_get, slice_get_within}
 use Rattle.journal.specs.declared.event.Event.{Event}
-use Rattle.journal.specs.Events.{events_of}
+use Rattle.journal.specs.declared.event.Kind.{Kind}
+use Rattle.journal.specs.Events.{At, events_of}
 use Rattle.journal.specs.Sizes.{Sizes}
 use Rattle.journal.specs.WellFormed.{WellFormed}
 use Rattle.lrc_script.specs.Lawful.{IsLawful}
@@ -20,13 +22,16 @@ use Rattle.conformance.specs.declared.progress.TurnProgress.TheVariants.{Next, P
 use Rattle.conformance.specs.ByTurns.{IsEndByTurns, IsHaltByTurns, IsReportByTurns, turn_orders}
 use Rattle.conformance.specs.Ends.{IsEndOf}
 use Rattle.conformance.specs.Schedules.{scheduled}
-use Rattle.conformance.specs.Turns.{AreReachedByTurns, AreScriptTurns, TurnStage, turn_stage, turns_of}
+use Rattle.conformance.specs.OpenBlocks.{block_handed_in}
+use Rattle.conformance.specs.Turns.{AreReachedByTurns, AreScriptTurns, TurnStage, TurnsEndWith, blocks_from, turn_stage, turns_of}
 use Rattle.lrc_run.specs.FollowedReports.{EndsWithBlocks, IsEndFollowedAfter, IsHaltFollowedWith, IsReportAfter}
 use Rattle.lrc_run.specs.Steps.{AreAtSteps}
 use Rattle.lrc_run.specs.Turns.{AreTaken, AreTurnedBy, HasSeenAll, HaveTakenTurnsRound}
+use Rattle.lrc_run.proofs.EndingBlocks.{ends_from_front}
 use Rattle.lrc_run.proofs.Halting.{halted_all}
+use Rattle.lrc_run.proofs.NotingCalls.{noting_own_kinds}
 use Rattle.lrc_run.proofs.Stepping.{stepping_begin}
-use Rattle.lrc_run.proofs.MakingHistory.{AllGoOn, AreInHand, AreOfThese, in_hand_new, in_hand_rounds, in_hand_taken, making_pending, making_start, making_these_front, rounds_made, taken_made, turn_stage_from, turn_stages, turn_stages_start, turning_nothing_made, turns_made_then}
+use Rattle.lrc_run.proofs.MakingHistory.{AllGoOn, AreInHand, AreOfThese, in_hand_new, in_hand_rounds, in_hand_taken, making_start, making_these_front, rounds_made, stage_of, taken_made, turn_stage_from, turn_stages, turn_stages_start, turning_nothing_made, turns_made_then}
 use Rattle.lrc_run.proofs.Turning.{turning_seen_same, turns_taken_way}
 
 -- the turns from the start on make the history that goes on from what each has seen at their end
@@ -89,11 +94,42 @@ pub by_turns_in_rounds : {s : Plan} {c : SharedCluster} {seed : Option ℕ} {ms 
 by_turns_in_rounds {ms = ms} {start = start} n sizes new many is gone =
     by_turns_taken start n sizes new many is (turning_seen_same ms, refl) gone
 
+-- the open blocks of processors are those of their stages
+by_turns_blocks : (a : ℕ) (ms : List Local) (all : List TurnProgress) → length all ≡ length ms
+    → ((p : ℕ) (m : Local) → slice_get ms p ≡ Some m → (k : ℕ) (e : Event) → At m.block k e → e.processor ≡ a + p)
+    → blocks_from a (turn_stages ms all) ≡ flat_map (λ (m : Local). m.block) ms
+by_turns_blocks a [] all long own = refl
+by_turns_blocks a (m ∷ ms) [] long own = absurd (omega (arith, long))
+by_turns_blocks a (m ∷ ms) (at ∷ all) long own =
+    ap₂ (λ (xs ys : List Event). xs ++ ys)
+    (noting_own_kinds a m.block (λ k e found. let is = own zero m refl k e found in omega (arith, is)))
+    (by_turns_blocks (suc a) ms all (omega (arith, long))
+    (λ p x here k e found. let is = own (suc p) x here k e found in omega (arith, is)))
+
+-- a history that ends with blocks ends the turns
+by_turns_ends : {s : Plan} {ms : List Local} (all : List TurnProgress) {kinds : List Kind} {h : List Event} → length all ≡ length ms
+    → (ends : EndsWithBlocks s ms kinds h) → TurnsEndWith s ends.front (turn_stages ms all) kinds h
+by_turns_ends [] long ends =
+    let same = ap length ends.all in
+    absurd (omega (arith, long, same))
+by_turns_ends (at ∷ all) long ends =
+    let same = ap length ends.all in
+    let blocks = by_turns_blocks 1 ends.others all (omega (arith, long, same))
+    (λ p m here k e found. let is = ends.own p m here k e found in omega (arith, is)) in
+    record {
+      first = stage_of ends.first at;
+      others = turn_stages ends.others all;
+      stages_are = ap (λ ms. turn_stages ms (at ∷ all)) ends.all;
+      last = ends.last;
+      noted = ends.noted;
+      is = ends.is ∙ ap (λ es. block_handed_in 0 ends.last ++ es) (sym blocks);
+    }
+
 -- all have come so far by turns in these orders, in each history that ends with their blocks; and processor 0 has seen all
 pub record AreToldByTurns (s : Plan) (orders : ℕ → List ℕ) (ns : List Local) (all : List TurnProgress) : Type 0 where
   pub ahead : HasSeenAll ns 0
-  pub told : (h : List Event) → EndsWithBlocks s ns h → WellFormed (plan_sizes s) h
-      → AreReachedByTurns s orders h (turn_stages ns all)
+  pub told : (kinds : List Kind) (h : List Event) → EndsWithBlocks s ns kinds h → WellFormed (plan_sizes s) h
+      → AreReachedByTurns s orders h (turn_stages ns all) kinds
 
 -- by turns that come to these
 told_by_turns : {s : Plan} {c : SharedCluster} {turns : List ℕ} {seed : Option ℕ}
@@ -102,23 +138,19 @@ told_by_turns : {s : Plan} {c : SharedCluster} {turns : List ℕ} {seed : Option
     → turns_of orders rounds ≡ turns ++ turns_of (turn_orders s seed) by.gone.count → AreToldByTurns s orders ns all
 told_by_turns {s = s} {c = c} {turns = turns} {seed = seed} rounds {ms = ms} {ns = ns} {all = all} sizes new by are = record {
   ahead = (in_hand_by_turns s c turns seed ms ns all new by).ahead;
-  told = λ h ends well_formed.
-      let these = making_these_front s.processors h ends.front ends.blocks ends.is (λ k e at. (well_formed k e at).processor) in
+  told = λ kinds h ends well_formed.
+      let rest = ends_from_front ends in
+      let these = making_these_front s.processors h ends.front rest.0 rest.1 (λ k e at. (well_formed k e at).processor) in
+      let way = by.gone.way in
+      let many = way.many in
+      let long = way.long in
       let P : List ℕ → Type 0 =
       λ ps. AreScriptTurns s ps [] (replicate s.processors (turn_stage (Next 0) [] [])) ends.front (turn_stages ns all) in
       record {
         rounds = rounds;
         front = ends.front;
-        rest = ends.blocks;
-        is = ends.is;
         turns = subst P (sym are) (made_by_turns_start ends.front sizes new by ends.goes_on these);
-        calls_are = λ p x here.
-            let is = turn_stage_from ns all p x here in
-            let number = (in_hand_by_turns s c turns seed ms ns all new by).number p is.processor is.processor_is in
-            let Q : TurnStage → Type 0 = λ y. calls_of ends.front p ++ y.pending ≡ y.calls in
-            subst Q (sym is.is)
-            (making_pending ends.front p is.processor number (ends.goes_on p is.processor is.processor_is));
-        parts = ends.parts;
+        ends = by_turns_ends all (long ∙ sym many) ends;
       };
 }
 
@@ -148,7 +180,7 @@ report_by_turns : (s : Plan) (orders : ℕ → List ℕ) (ns : List Local) (all 
 report_by_turns s orders ns all r told passed after = record {
   report = after.is;
   stages = turn_stages ns all;
-  reached = told.told after.is.history (after.ends told.ahead) after.is.tells.well_formed;
+  reached = told.told (map load_of r.shown.items) after.is.history (after.ends told.ahead) after.is.tells.well_formed;
   passed = λ p x here.
       let is = turn_stage_from ns all p x here in
       ap (λ (y : TurnStage). y.progress) is.is ∙ sym (get_or_from_slice_get all p is.at Passed is.at_is)
@@ -168,7 +200,7 @@ halt_by_turns {s = s} {c = c} {ns = ns} {all = all} lawful sizes way told with_c
   journal = with_calls.is;
   least = first;
   stages = turn_stages ns all;
-  reached = told.told with_calls.is.history with_calls.ends with_calls.is.well_formed;
+  reached = told.told [] with_calls.is.history with_calls.ends with_calls.is.well_formed;
   calls_are = λ p x here.
       let is = turn_stage_from ns all p x here in
       let m = is.processor in

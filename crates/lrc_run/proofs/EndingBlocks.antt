@@ -1,84 +1,120 @@
 -- How the history ends: with the blocks that are open.
-use Rattle.std.proofs.Common.{ℕ, zero, suc, ◌≡◌, ◌+◌, ◌<◌, Some, List, [], ◌∷◌, ◌++◌, length, slice_get, slice_set, inl, inr, refl, sym, ap, subst, ◌∙◌, append_assoc, arith}
-use Rattle.std.specs.List.{flat_map, range_with_len}
-use Rattle.base.proofs.SlicesAndCounts.{slice_append_cases}
+use Rattle.std.proofs.Common.{ℕ, suc, ◌≡◌, ◌<◌, Some, List, [], ◌∷◌, ◌++◌, length, map, slice_get, slice_set, refl, sym, ap, ap₂, subst₂, ◌∙◌, append_assoc, arith}
+use Rattle.std.specs.List.{flat_map}
+use Rattle.std.proofs.lemmas.Option.{none-some, same_Some}
 use Rattle.journal.specs.declared.event.Event.{Event}
-use Rattle.journal.specs.Events.{At}
+use Rattle.journal.specs.declared.event.Kind.{Kind}
+use Rattle.journal.specs.DidEvent.{event}
 use Rattle.journal.specs.Log.{Log}
 use Rattle.journal.specs.Sizes.{Sizes}
 use Rattle.lrc_script.specs.Plan.{Plan}
 use Rattle.conformance.specs.Follows.{plan_sizes}
-use Rattle.conformance.specs.Turns.{AreTurnParts, IsTurnPart}
+use Rattle.conformance.specs.OpenBlocks.{AreCallsNoted, OpenBlock, block_handed_in, open_block}
+use Rattle.conformance.proofs.SameTurns.Noted.{noted_calls_go_on}
 use Rattle.cluster.specs.Copies.Local.{Local}
 use Rattle.cluster.specs.Clusters.{SharedCluster}
 use Rattle.cluster.specs.Finishing.{AreAllToFinish, IsFinished}
 use Rattle.lrc_run.specs.FollowedReports.{EndsWithBlocks}
 use Rattle.lrc_run.specs.Turns.{HasSeenAll}
-use Rattle.lrc_run.specs.MakesCalls.{MadeCalls}
-use Rattle.journal.specs.declared.event.Kind.{Kind}
-use Rattle.lrc_run.proofs.MakingHistory.{AreOfThese, making_goes_on, making_is, making_own, making_part, making_these_front}
+use Rattle.lrc_run.specs.MakesCalls.{MadeCalls, SeesOwnCalls, block_of_calls}
+use Rattle.lrc_run.proofs.MakingHistory.{AreOfThese, making_goes_on, making_is, making_own, making_part, making_seen, making_these_front}
+use Rattle.lrc_run.proofs.NotingCalls.{noting_own_kinds}
 
--- the blocks of processors from a number on are parts of theirs
-ending_blocks_in_parts : (ms : List Local) (a : ℕ)
-    → ((p : ℕ) (m : Local) → slice_get ms p ≡ Some m → (k : ℕ) (e : Event) → At m.block k e → e.processor ≡ a + p)
-    → AreTurnParts (range_with_len a (length ms)) (flat_map (λ (m : Local). m.block) ms)
-ending_blocks_in_parts [] a own = refl
-ending_blocks_in_parts (m ∷ ms) a own = (
-  m.block,
-  flat_map (λ (x : Local). x.block) ms,
-  refl,
-  λ k e at. (let is = own zero m refl k e at in omega arith),
-  ending_blocks_in_parts ms (a + 1) (λ p x here k e at. let is = own (suc p) x here k e at in omega arith),
-)
+-- the first of some processors, and the others
+ending_first : (ms : List Local) → 0 < length ms → (m : Local) × (others : List Local) × (ms ≡ m ∷ others)
+ending_first [] some = absurd (omega (arith, some))
+ending_first (m ∷ ms) some = (m, ms, refl)
 
--- a finished cluster's history ends with them
-pub ends_with_blocks : (s : Plan) (c : SharedCluster) (ms : List Local) (j : Log) → c.sizes ≡ plan_sizes s → AreAllToFinish c ms
-    → (fin : IsFinished c.sizes ms j) → EndsWithBlocks s ms fin.history
-ends_with_blocks s c ms j sizes all fin =
-    let many : length ms ≡ s.processors = all.all ∙ ap (λ (x : Sizes). x.processors) sizes in
-    let P : ℕ → Type 0 = λ n. AreTurnParts (range_with_len 0 n) (flat_map (λ (m : Local). m.block) ms) in
-    record {
-      front = fin.in_turn.0;
-      blocks = flat_map (λ (m : Local). m.block) ms;
-      is = fin.in_turn.1;
-      goes_on = fin.goes_on;
-      parts = subst P many
-          (ending_blocks_in_parts ms 0 (λ p m here k e at. let is = fin.own p m here k e at in omega arith));
-    }
+-- a finished cluster's history ends with the open blocks
+pub ends_with_blocks : (s : Plan) (c : SharedCluster) (ms : List Local) (j : Log) → 0 < s.processors → c.sizes ≡ plan_sizes s
+    → AreAllToFinish c ms → (fin : IsFinished c.sizes ms j) → EndsWithBlocks s ms [] fin.history
+ends_with_blocks s c ms j some sizes all fin = record {
+  front = front;
+  goes_on = fin.goes_on;
+  first = parts.0;
+  others = parts.1;
+  all = parts.2;
+  last = open_block front (map (λ (e : Event). e.kind) parts.0.block);
+  noted = refl;
+  is = fin.in_turn.1 ∙ ap (λ xs. front ++ flat_map (λ (m : Local). m.block) xs) parts.2
+      ∙ sym (append_assoc front parts.0.block (flat_map (λ (m : Local). m.block) parts.1))
+      ∙ ap (λ es. (front ++ es) ++ flat_map (λ (m : Local). m.block) parts.1)
+      (sym (noting_own_kinds 0 parts.0.block (fin.own 0 parts.0 (here 0 parts.0 refl))));
+  own = λ p m at. fin.own (suc p) m (here (suc p) m at);
+}
+  where
+    front : List Event
+    front = fin.in_turn.0
 
--- before the first part there may be more of it
-ending_parts_more : (n : ℕ) (part es : List Event) → 0 < n → IsTurnPart 0 part → AreTurnParts (range_with_len 0 n) es
-    → AreTurnParts (range_with_len 0 n) (part ++ es)
-ending_parts_more zero part es some own parts = absurd (omega arith)
-ending_parts_more (suc n) part es some own parts = (
-  part ++ parts.0,
-  parts.1,
-  ap (λ xs. part ++ xs) parts.2 ∙ sym (append_assoc part parts.0 parts.1),
-  λ k e at. elim (slice_append_cases part parts.0 k e at) [
-    | inl a ↦ own k e a.1
-    | inr a ↦ parts.3 a.0 e a.2
-  ],
-  parts.4,
-)
+    parts : (m : Local) × (others : List Local) × (ms ≡ m ∷ others)
+    parts =
+        let many : length ms ≡ s.processors = all.all ∙ ap (λ (x : Sizes). x.processors) sizes in
+        ending_first ms (omega (arith, some, many))
+
+    here : (p : ℕ) (m : Local) → slice_get (parts.0 ∷ parts.1) p ≡ Some m → slice_get ms p ≡ Some m
+    here p m at = ap (λ xs. slice_get xs p) parts.2 ∙ at
+
+-- what goes on from what each has seen is the front of it
+pub ends_from_front : {s : Plan} {ms : List Local} {kinds : List Kind} {h : List Event} (ends : EndsWithBlocks s ms kinds h)
+    → (rest : List Event) × (h ≡ ends.front ++ rest)
+ends_from_front {s = s} {kinds = kinds} ends =
+    let start = open_block ends.front (map (λ (e : Event). e.kind) ends.first.block) in
+    let more = noted_calls_go_on (plan_sizes s) 0 kinds start ends.last ends.noted in
+    let pending = map (event 0) ends.last.pending in
+    let blocks = flat_map (λ (m : Local). m.block) ends.others in (
+      more.0 ++ (pending ++ blocks),
+      ends.is ∙ append_assoc ends.last.history pending blocks ∙ ap (λ es. es ++ (pending ++ blocks)) more.1
+          ∙ append_assoc ends.front more.0 (pending ++ blocks),
+    )
 
 -- so it does where processor 0, which had seen all, made some calls more
-pub ends_before_loads : {s : Plan} {ms : List Local} {m n : Local} {kinds : List Kind} {h : List Event} → 0 < s.processors
-    → length ms ≡ s.processors → ((q : ℕ) (x : Local) → slice_get ms q ≡ Some x → x.number ≡ q) → slice_get ms 0 ≡ Some m
-    → MadeCalls m n kinds → AreOfThese s.processors h → HasSeenAll ms 0 → EndsWithBlocks s (slice_set ms 0 n) h
-    → EndsWithBlocks s ms h
-ends_before_loads {s = s} {ms = ms} {m = m} {n = n} {h = h} some many number at made these latest ends =
-    let ns = slice_set ms 0 n in
-    let front = making_these_front s.processors h ends.front ends.blocks ends.is these in
-    let part = making_part s.processors 0 ms ns m n ends.front at refl made.sees made.same.number latest many number ends.goes_on
-    front in
-    record {
-      front = m.seen;
-      blocks = part ++ ends.blocks;
-      is = ends.is
-          ∙ ap (λ es. es ++ ends.blocks) (making_is s.processors 0 ms ns m n ends.front at refl made.sees made.same.number latest many
-          number ends.goes_on front) ∙ append_assoc m.seen part ends.blocks;
-      goes_on = making_goes_on s.processors 0 ms ns m n ends.front at refl made.sees made.same.number latest many number
-          ends.goes_on front;
-      parts = ending_parts_more s.processors part ends.blocks some (making_own s.processors 0 ms ns m n ends.front at refl made.sees
-          made.same.number latest many number ends.goes_on front) ends.parts;
-    }
+pub ends_before_loads : {s : Plan} {ms : List Local} {m n : Local} {kinds : List Kind} {h : List Event}
+    → length ms ≡ s.processors → ((q : ℕ) (x : Local) → slice_get ms q ≡ Some x → x.number ≡ q) → m.sizes ≡ plan_sizes s
+    → slice_get ms 0 ≡ Some m → MadeCalls m n kinds → AreOfThese s.processors h → HasSeenAll ms 0
+    → EndsWithBlocks s (slice_set ms 0 n) [] h → EndsWithBlocks s ms kinds h
+ends_before_loads {ms = []} {m = m} many number sizes at made these latest ends = absurd (none-some m at)
+ends_before_loads {s = s} {ms = (x ∷ xs)} {m = m} {n = n} {kinds = kinds} {h = h} many number sizes at made these latest ends = record {
+  front = m.seen;
+  goes_on = making_goes_on s.processors 0 (x ∷ xs) (n ∷ xs) m n ends.front at refl made.sees made.same.number latest many number
+      ends.goes_on few;
+  first = m;
+  others = xs;
+  all = ap (λ y. y ∷ xs) (same_Some x m at);
+  last = block_of_calls n;
+  noted = subst₂ (λ sizes p. AreCallsNoted sizes p kinds (block_of_calls m) (block_of_calls n)) sizes (number 0 m at)
+      (made.noted own);
+  is = ends.is
+      ∙ ap₂ (λ (b : OpenBlock) (ls : List Local). block_handed_in 0 b ++ flat_map (λ (l : Local). l.block) ls)
+      (ends.noted ∙ ap₂ (λ (es : List Event) (l : Local). open_block es (map (λ (e : Event). e.kind) l.block)) (whole ∙ seen) (sym first))
+      (sym others);
+  own = λ p l here. ends.own p l (ap (λ ls. slice_get ls p) (sym others) ∙ here);
+}
+  where
+    few : AreOfThese s.processors ends.front
+    few = let rest = ends_from_front ends in making_these_front s.processors h ends.front rest.0 rest.1 these
+
+    first : n ≡ ends.first
+    first = let all = ends.all in cc
+
+    others : xs ≡ ends.others
+    others = let all = ends.all in cc
+
+    part : List Event
+    part = making_part s.processors 0 (x ∷ xs) (n ∷ xs) m n ends.front at refl made.sees made.same.number latest many number ends.goes_on
+        few
+
+    whole : ends.front ≡ m.seen ++ part
+    whole = making_is s.processors 0 (x ∷ xs) (n ∷ xs) m n ends.front at refl made.sees made.same.number latest many number
+        ends.goes_on few
+
+    seen : m.seen ++ part ≡ n.seen
+    seen = making_seen s.processors 0 (x ∷ xs) (n ∷ xs) m n ends.front at refl made.sees made.same.number latest many number
+        ends.goes_on few
+
+    own : SeesOwnCalls m n
+    own = (
+      part,
+      λ k e found. making_own s.processors 0 (x ∷ xs) (n ∷ xs) m n ends.front at refl made.sees made.same.number latest many number
+          ends.goes_on few k e found ∙ sym (number 0 m at),
+      sym seen,
+    )

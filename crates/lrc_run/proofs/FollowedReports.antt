@@ -13,6 +13,7 @@ use Rattle.journal.specs.declared.event.Kind.{Kind}
 use Rattle.journal.specs.Base.{Base}
 use Rattle.journal.specs.EpisodeBases.{IsBaseOf}
 use Rattle.journal.specs.BaseLaws.{BaseSaysTheSame}
+use Rattle.journal.specs.CopyAnswers.{AnswersCopies}
 use Rattle.journal.specs.Counted.{AreCounted}
 use Rattle.journal.specs.Events.{events_of}
 use Rattle.journal.specs.RacesFrom.{IsFirstRaceFrom, RaceFreeFrom}
@@ -278,6 +279,7 @@ report_is {s = s} {c = c} {ms = ms} {r = r} o all finished race racy messages_ar
     tells = record {
       well_formed = well_formed;
       explained = finished.faithful.explained;
+      copied = subst (λ (x : Sizes). AnswersCopies x h) all.sizes finished.faithful.copied;
       counted = subst (λ (x : Sizes). AreCounted x h) all.sizes finished.faithful.counted;
       fetches = needed_followed s c ms r.shown.items h all finished.each;
       follows = follows;
@@ -299,7 +301,7 @@ report_is {s = s} {c = c} {ms = ms} {r = r} o all finished race racy messages_ar
     };
   };
   each = finished.each;
-  ends = ends_with_blocks s c ms r.journal all.sizes all.all finished;
+  ends = ends_with_blocks s c ms r.journal all.lawful.but_uneven.sizes.some_processors all.sizes all.all finished;
 }
   where
     h : List Event
@@ -348,10 +350,11 @@ report_after {s = s} {c = c} {ms = ms} m n {r = r} lawful sizes walked at loads 
     number p x here =
         let w = walks_followed_at s c ms lawful sizes walked p x here in (followed_walked_of c p x w.0 w.1).number
 
-    ends : HasSeenAll ms 0 → EndsWithBlocks s ms h
+    ends : HasSeenAll ms 0 → EndsWithBlocks s ms (map load_of r.shown.items) h
     ends ahead =
-        ends_before_loads lawful.but_uneven.sizes.some_processors
-        (walked.all ∙ ap (λ (x : Sizes). x.processors) sizes) number at loads
+        let w = walks_followed_at s c ms lawful sizes walked 0 m at in
+        ends_before_loads (walked.all ∙ ap (λ (x : Sizes). x.processors) sizes) number
+        ((followed_walked_of c 0 m w.0 w.1).sizes ∙ sizes) at loads
         (λ k e here. (told.is.tells.well_formed k e here).processor) ahead told.ends
 
     first_are : calls_of h 0 ≡ calls_made m ++ map load_of r.shown.items

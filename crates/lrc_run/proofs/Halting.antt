@@ -9,6 +9,7 @@ use Rattle.base.proofs.SlicesAndCounts.{slice_get-append_right, slice_get-from_t
 use Rattle.journal.specs.declared.event.Event.{Event}
 use Rattle.journal.specs.declared.event.Kind.TheVariants.{Arrive, Depart}
 use Rattle.journal.specs.declared.event.Kind.{Kind}
+use Rattle.journal.specs.CopyAnswers.{AnswersCopies}
 use Rattle.journal.specs.Counted.{AreCounted}
 use Rattle.journal.specs.Deadlocks.{IsDeadlock}
 use Rattle.journal.specs.Events.{events_of}
@@ -65,7 +66,7 @@ halt_waits_begins : (section : List Instruction) (shown : List ℕ) (n : ℕ) (k
 halt_waits_begins section shown n kinds first last within are two = cases (nat_lt n (length section)) refl
   where
     cases : (b : Bool) → nat_lt n (length section) ≡ b → BeginsSection section shown (kinds ++ first ∷ [])
-    cases true e = begins_within section shown n (instruction_at_turn section n) kinds first last
+    cases true e = begins_within shown n kinds first last
         (slice_get-get_or section n Barrier (ltb-true n (length section) e)) are two
     cases false e =
         let past : length section ≤ n = ltb-false n (length section) e in
@@ -149,13 +150,14 @@ halted_is {s = s} {c = c} {ms = ms} {all = all} {j = j} lawful sizes way stuck f
     uncut = λ none. followed_nothing_of finished.taken (finished.cuts ∙ followed_no_sum ms (own none));
     well_formed = well_formed;
     explained = finished.faithful.explained;
+    copied = subst (λ (x : Sizes). AnswersCopies x h) sizes finished.faithful.copied;
     counted = subst (λ (x : Sizes). AreCounted x h) sizes finished.faithful.counted;
     fetches = followed_needed_all s c ms h sizes (halted_all s c ms all lawful sizes way) finished.each wanted;
     begins = begins;
     deadlock = deadlock;
   };
   each = finished.each;
-  ends = ends_with_blocks s c ms j sizes (halted_all s c ms all lawful sizes way) finished;
+  ends = ends_with_blocks s c ms j lawful.but_uneven.sizes.some_processors sizes (halted_all s c ms all lawful sizes way) finished;
 }
   where
     h : List Event

@@ -1,3 +1,4 @@
+pub mod NotingCalls
 pub mod SeesAndMakes
 pub mod Adding
 pub mod Calling

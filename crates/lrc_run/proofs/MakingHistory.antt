@@ -1,5 +1,5 @@
 -- What the processors' turns make of the history.
-use Rattle.std.proofs.Common.{ℕ, zero, suc, ◌≡◌, ◌≢◌, ◌+◌, ◌<◌, Bool, true, false, Some, List, [], ◌∷◌, ◌++◌, length, replicate, get_or, slice_get, slice_set, eq-eqb, ne_eqb, refl, sym, ap, ap₂, subst, subst₂, ◌∙◌, inl, inr, append_assoc, append-nil, arith}
+use Rattle.std.proofs.Common.{ℕ, zero, suc, ◌≡◌, ◌≢◌, ◌+◌, ◌<◌, Bool, true, false, Some, List, [], ◌∷◌, ◌++◌, length, map, replicate, get_or, slice_get, slice_set, refl, sym, ap, ap₂, subst, subst₂, ◌∙◌, inl, inr, append_assoc, append-nil, arith}
 use Rattle.std.proofs.lemmas.Bool.{cases_eq}
 use Rattle.std.proofs.lemmas.List.{append_cancel_left, append_cancel_right, length-set}
 use Rattle.std.proofs.lemmas.List.Elements.{filter-append}
@@ -14,26 +14,28 @@ use Rattle.journal.specs.Sizes.{Sizes}
 use Rattle.journal.specs.WellFormed.{Ready}
 use Rattle.lrc_script.specs.declared.script.Instruction.{Instruction}
 use Rattle.lrc_script.specs.Plan.{Plan}
-use Rattle.conformance.specs.Follows.{call_kinds, calls_of, plan_sizes}
+use Rattle.conformance.specs.Follows.{call_kinds, plan_sizes}
 use Rattle.conformance.proofs.Calls.{followed_call_kinds-append, followed_call_kinds-one}
 use Rattle.cluster.specs.Copies.Local.{Local, calls}
+use Rattle.cluster.specs.Calls.{IsSameProcessorOfCall}
 use Rattle.cluster.specs.Clusters.{IsNewCluster, SharedCluster}
 use Rattle.cluster.specs.Finishing.{IsToFinish}
-use Rattle.cluster.proofs.Covering.{covering_part_away}
 use Rattle.cluster.specs.Taking.{IsTakeLate, taking_awaited_event}
 use Rattle.conformance.specs.declared.progress.TurnProgress.{TurnProgress}
 use Rattle.conformance.specs.declared.progress.TurnProgress.TheVariants.{Next, Passed, Waits}
-use Rattle.conformance.specs.Turns.{AreScriptTurns, IsScriptTurn, IsTurnAt, IsTurnPart, TurnLooksInVain, TurnStage, instruction_at_turn, progress_after_turn, turn_stage, turns_of}
+use Rattle.conformance.specs.OpenBlocks.{AreCallsNoted, open_block}
+use Rattle.conformance.specs.Turns.{AreScriptTurns, IsScriptTurn, IsTurnAt, TurnLooksInVain, TurnStage, instruction_at_turn, progress_after_turn, turn_stage, turns_of}
 use Rattle.lrc_run.specs.Steps.{AreAtSteps, IsAtStep}
 use Rattle.lrc_run.specs.Turns.{AreSeenAfterTurns, AreSeenOn, AreTaken, AreTurned, AreTurnRounds, HasSeenAll, IsOwnTurn, IsTurnOfRun, TakesTurn}
-use Rattle.lrc_run.specs.MakesCalls.{IsOnItsWay, SeesMoreCalls, TriedTake, calls_made, new_at_call}
+use Rattle.lrc_run.specs.MakesCalls.{AreOwnCalls, IsOnItsWay, NotesCalls, SeesMoreCalls, SeesOwnCalls, TriedTake, block_of_calls, calls_made, new_at_call}
+use Rattle.lrc_run.proofs.NotingCalls.{notes_none_seen, noting_away, noting_empty}
 use Rattle.lrc_run.proofs.SeesAndMakes.{makes_last_no_fetch, sees_same_processor}
 use Rattle.lrc_run.proofs.Stepping.{stepping_same_after}
 use Rattle.lrc_run.proofs.Turning.{turn_same, turn_sees, turn_way_seen, turn_way_rounds, turning_before_at, way_turned}
 
--- a processor's stage: where it is, what it has made, and what of it is open
+-- a processor's stage: where it is, what it has made, and its open block
 abbrev pub stage_of : Local → TurnProgress → TurnStage
-stage_of m at = turn_stage at (calls_made m) (call_kinds m.block)
+stage_of m at = turn_stage at (calls_made m) (map (λ (e : Event). e.kind) m.block)
 
 -- the processors' stages
 abbrev pub turn_stages : List Local → List TurnProgress → List TurnStage
@@ -90,7 +92,7 @@ turn_stages_start [] (suc n) long each = absurd (omega arith)
 turn_stages_start (m ∷ ms) zero long each = absurd (omega arith)
 turn_stages_start (m ∷ ms) (suc n) long each =
     let none = each 0 m refl in
-    let first = ap₂ (λ (ks : List Kind) (es : List Event). turn_stage (Next 0) ks (call_kinds es)) none.0 none.1 in
+    let first = ap₂ (λ (ks : List Kind) (es : List Event). turn_stage (Next 0) ks (map (λ (e : Event). e.kind) es)) none.0 none.1 in
     let rest = turn_stages_start ms n (omega arith) (λ p x here. each (suc p) x here) in
     ap (λ (x : TurnStage). x ∷ turn_stages ms (replicate n (Next 0))) first ∙ ap (λ xs. turn_stage (Next 0) [] [] ∷ xs) rest
 
@@ -111,28 +113,9 @@ turn_stages_seen (m ∷ ms) (n ∷ ns) (at ∷ all) on =
       each = λ p x y here there. on.each (suc p) x y here there;
     } in
     let first = on.each 0 m n refl refl in
-    ap₂ (λ (ks : List Kind) (es : List Event). turn_stage at ks (call_kinds es) ∷ turn_stages ns all) (ap call_kinds first.calls_are)
+    ap₂ (λ (ks : List Kind) (es : List Event). turn_stage at ks (map (λ (e : Event). e.kind) es) ∷ turn_stages ns all) (ap call_kinds first.calls_are)
     first.block_is
     ∙ ap (λ xs. stage_of m at ∷ xs) (turn_stages_seen ms ns all rest)
-
--- where nothing stands there is nothing
-making_empty : (es : List Event) → ((k : ℕ) (e : Event) → At es k e → ⊥) → es ≡ []
-making_empty [] none = refl
-making_empty (e ∷ es) none = absurd (none zero e refl)
-
--- events with no part of p: the first is another's, and the others have none
-making_away_first : (x : Event) (es : List Event) (p : ℕ) → events_of (x ∷ es) p ≡ [] → x.processor ≢ p
-making_away_first x es p none is =
-    let some : x ∷ events_of es p ≡ [] = rw (eq-eqb x.processor p is) at none in absurd (cc)
-
-making_away_rest : (x : Event) (es : List Event) (p : ℕ) → events_of (x ∷ es) p ≡ [] → events_of es p ≡ []
-making_away_rest x es p none = rw (ne_eqb x.processor p (making_away_first x es p none)) at none
-
--- so all are of others
-making_away : (es : List Event) (p : ℕ) → events_of es p ≡ [] → (k : ℕ) (e : Event) → At es k e → e.processor ≢ p
-making_away [] p none k e at = absurd (none-some e at)
-making_away (x ∷ es) p none zero e at = subst (λ (y : Event). y.processor ≢ p) (same_Some x e at) (making_away_first x es p none)
-making_away (x ∷ es) p none (suc k) e at = making_away es p (making_away_rest x es p none) k e at
 
 -- the processors of a cluster by rising number, of whom the first has seen all
 pub record AreInHand (n : ℕ) (ms : List Local) : Type 0 where
@@ -215,15 +198,6 @@ in_hand_rounds {n = n} s orders (suc k) {ns = ns} start all hand rounds =
 abbrev pub AllGoOn : List Local → List Event → Type 0
 AllGoOn ms h = (p : ℕ) (m : Local) → slice_get ms p ≡ Some m → IsToFinish h m
 
--- so it has all that each has made but what is pending
-pub making_pending : (h : List Event) (p : ℕ) (m : Local) → m.number ≡ p → IsToFinish h m
-    → calls_of h p ++ call_kinds m.block ≡ calls_made m
-making_pending h p m number goes =
-    let own : events_of (m.seen ++ goes.rest) m.number ≡ events_of m.seen m.number =
-    rw (filter-append, covering_part_away goes.rest m.number goes.away, append-nil) refl in
-    ap (λ es. call_kinds es ++ call_kinds m.block) (ap₂ events_of goes.begins (sym number) ∙ own)
-    ∙ sym (followed_call_kinds-append (events_of m.seen m.number) m.block)
-
 -- its events are of n processors
 abbrev pub AreOfThese : ℕ → List Event → Type 0
 AreOfThese n h = (k : ℕ) (e : Event) → At h k e → e.processor < n
@@ -249,7 +223,7 @@ making_before ms ns h on goes p m here =
       rest = saw.sees.0 ++ next.rest;
       begins = next.begins ∙ ap (λ es. es ++ next.rest) saw.sees.1 ∙ append_assoc m.seen saw.sees.0 next.rest;
       away = λ k e at. elim (slice_append_cases saw.sees.0 next.rest k e at) [
-        | inl a ↦ making_away saw.sees.0 m.number none k e a.1
+        | inl a ↦ noting_away saw.sees.0 m.number none k e a.1
         | inr a ↦ (λ is. next.away a.0 e a.2 (is ∙ sym saw.same.number))
       ];
     }
@@ -266,57 +240,75 @@ turn_in_vain s h p x number sizes none late seen = record {
       subst Q (sym seen) (subst₂ P sizes number late);
 }
 
--- what a turn does is told of the history that the processor has seen then
-turn_told : (s : Plan) (h : List Event) (p : ℕ) (l m x : Local) (section : List Instruction) (at to : TurnProgress)
-    → x.number ≡ p → x.sizes ≡ plan_sizes s → IsAtStep l m section at → TakesTurn section m at x to → h ≡ x.seen
-    → IsScriptTurn s h p section at (calls_made m) (stage_of x to)
-turn_told s h p l m x section (Next n) to number sizes is turn seen = by turn.done turn.way turn.late turn.to_is
+-- what was noted is told of the script's sizes and processor p
+making_noted : (s : Plan) {p : ℕ} (m x : Local) (kinds : List Kind) → x.number ≡ p → x.sizes ≡ plan_sizes s
+    → IsSameProcessorOfCall m x → NotesCalls m x kinds → SeesOwnCalls m x
+    → AreCallsNoted (plan_sizes s) p kinds (block_of_calls m) (block_of_calls x)
+making_noted s m x kinds number sizes same noted own =
+    subst₂ (λ sizes q. AreCallsNoted sizes q kinds (block_of_calls m) (block_of_calls x)) (sym same.sizes ∙ sizes)
+    (sym same.number ∙ number) (noted own)
+
+-- what a turn does is told of the histories that the processor has seen before and after it
+turn_told : (s : Plan) {p : ℕ} (l m x : Local) (section : List Instruction) (at to : TurnProgress) → x.number ≡ p
+    → x.sizes ≡ plan_sizes s → IsAtStep l m section at → TakesTurn section m at x to → SeesOwnCalls m x
+    → IsScriptTurn s p section m.seen (stage_of m at) at x.seen (stage_of x to)
+turn_told s {p = p} l m x section (Next n) to number sizes is turn own = by turn.done turn.way turn.late turn.to_is
   where
     by : (done : Bool) → IsOnItsWay m x (instruction_at_turn section n) done → (done ≡ false → IsTakeLate x)
-        → to ≡ progress_after_turn section n done → IsScriptTurn s h p section (Next n) (calls_made m) (stage_of x to)
+        → to ≡ progress_after_turn section n done
+        → IsScriptTurn s p section m.seen (stage_of m (Next n)) (Next n) x.seen (stage_of x to)
     by true way late to_is = inl (record {
       kinds = way.kinds;
       are = way.are;
-      new_is = ap₂ (λ (a : TurnProgress) (b : List Kind). turn_stage a b (call_kinds x.block)) to_is way.makes.more;
-      handed = λ hands. ap call_kinds (way.handed hands);
+      noted = making_noted s m x way.kinds number sizes way.makes.same way.makes.noted own;
+      new_is = ap₂ (λ (a : TurnProgress) (b : List Kind). turn_stage a b (map (λ (e : Event). e.kind) x.block)) to_is way.makes.more;
     })
     by false way late to_is = inr (record {
       first = way.first;
       last = way.last;
       are = way.are;
-      new_is = ap₂ (λ (a : TurnProgress) (b : List Kind). turn_stage a b (call_kinds x.block)) to_is way.makes.more
-          ∙ ap (λ es. turn_stage (progress_after_turn section n false) (calls_made m ++ way.first ∷ []) (call_kinds es)) way.handed;
-      vain = turn_in_vain s h p x number sizes way.handed (late refl) seen;
+      waits = way.waits;
+      noted =
+          let P : List Event → Type 0 = λ es. AreCallsNoted (plan_sizes s) p (way.first ∷ []) (block_of_calls m)
+          (open_block x.seen (map (λ (e : Event). e.kind) es)) in
+          subst P way.handed (making_noted s m x (way.first ∷ []) number sizes way.makes.same way.makes.noted own);
+      new_is = ap₂ (λ (a : TurnProgress) (b : List Kind). turn_stage a b (map (λ (e : Event). e.kind) x.block)) to_is way.makes.more
+          ∙ ap (λ es. turn_stage (progress_after_turn section n false) (calls_made m ++ way.first ∷ []) (map (λ (e : Event). e.kind) es))
+          way.handed;
+      vain = turn_in_vain s x.seen p x number sizes way.handed (late refl) refl;
     })
-turn_told s h p l m x section (Waits n) to number sizes is turn seen = by turn.taken turn.takes turn.to_is
+turn_told s {p = p} l m x section (Waits n) to number sizes is turn own = by turn.taken turn.takes turn.to_is
   where
     by : (taken : Bool) → TriedTake m x taken → to ≡ progress_after_turn section n taken
-        → IsScriptTurn s h p section (Waits n) (calls_made m) (stage_of x to)
+        → IsScriptTurn s p section m.seen (stage_of m (Waits n)) (Waits n) x.seen (stage_of x to)
     by true takes to_is = inl (record {
       first = is.0.begins.first;
       last = is.0.begins.last;
       are = is.0.begins.are;
+      waits = is.0.begins.waits;
+      taken = takes.noted refl own ∙ ap (λ o. m.seen ++ taking_awaited_event m.number o) is.0.begins.awaits
+          ∙ ap (λ q. m.seen ++ event q is.0.begins.last ∷ []) (sym takes.same.number ∙ number);
       new_is =
           let last = event m.number is.0.begins.last in
           let more = ap call_kinds (takes.yes refl ∙ ap (λ k. calls m ++ taking_awaited_event m.number k) is.0.begins.awaits)
           ∙ followed_call_kinds-append (calls m) (last ∷ []) ∙ ap (λ ks. calls_made m ++ ks) (followed_call_kinds-one last
           (makes_last_no_fetch (instruction_at_turn section n) is.0.begins.first is.0.begins.last is.0.begins.are)) in
-          ap₂ (λ (a : TurnProgress) (b : List Kind). turn_stage a b (call_kinds x.block)) to_is more
-          ∙ ap (λ es. turn_stage (progress_after_turn section n true) (calls_made m ++ is.0.begins.last ∷ []) (call_kinds es))
+          ap₂ (λ (a : TurnProgress) (b : List Kind). turn_stage a b (map (λ (e : Event). e.kind) x.block)) to_is more
+          ∙ ap (λ es. turn_stage (progress_after_turn section n true) (calls_made m ++ is.0.begins.last ∷ []) (map (λ (e : Event). e.kind) es))
           (takes.block_is ∙ is.0.begins.handed);
     })
     by false takes to_is =
         let none = takes.no refl in
         let same = ap call_kinds none.calls_are in
-        let P : List Kind → Type 0 = TurnLooksInVain s h p in
-        let empty = takes.block_is ∙ is.0.begins.handed in
+        let seen = notes_none_seen m x takes.same none.calls_are none.block_is own in
         inr (record {
-          new_is = ap₂ (λ (a : TurnProgress) (b : List Kind). turn_stage a b (call_kinds x.block)) to_is same
-              ∙ ap (λ es. turn_stage (Waits n) (calls_made m) (call_kinds es)) empty;
-          vain = subst P same (turn_in_vain s h p x number sizes empty none.late seen);
+          none = seen;
+          new_is = ap₂ (λ (a : TurnProgress) (b : List Kind). turn_stage a b (map (λ (e : Event). e.kind) x.block)) to_is same
+              ∙ ap (λ es. turn_stage (Waits n) (calls_made m) (map (λ (e : Event). e.kind) es)) none.block_is;
+          vain = subst₂ (λ es ks. TurnLooksInVain s es p ks) seen same
+              (turn_in_vain s x.seen p x number sizes (takes.block_is ∙ is.0.begins.handed) none.late refl);
         })
-turn_told s h p l m x section Passed to number sizes is turn seen =
-    ap₂ (λ (a : TurnProgress) (b : List Kind). turn_stage a b (call_kinds x.block)) turn.1 (ap calls_made turn.0)
+turn_told s l m x section Passed to number sizes is turn own = (ap (λ (y : Local). y.seen) turn.0, ap₂ stage_of turn.0 turn.1)
 
 -- a history that goes on from what each had seen then is this turn's part behind one that went on from what each had seen
 -- before
@@ -324,7 +316,7 @@ pub record IsTurnMade (s : Plan) (p : ℕ) (ms : List Local) (old new : List Tur
   pub front : List Event
   pub part : List Event
   pub is : h ≡ front ++ part
-  pub turn : IsTurnAt s front part p old new
+  pub turn : IsTurnAt s p front old h new
   pub goes_on : AllGoOn ms front
 
 -- one processor alone changed, which had seen all: the history is what that had seen, and a part of its own
@@ -360,7 +352,7 @@ module _ (n p : ℕ) (ms ns : List Local) (x y : Local) (h : List Event) (at : s
       let P : List Event → Type 0 = λ es. (k : ℕ) (e : Event) → At es k e → e.processor ≢ m.number in
       (saw.0, saw.1, λ k e found own. subst P is theirs.away k e found (own ∙ sym (number q m here)))
 
-  pub making_own : IsTurnPart p making_part
+  pub making_own : AreOwnCalls p making_part
   making_own k e found = elim (cases_eq e.processor p) [
     | inl is ↦ is
     | inr isnt ↦
@@ -375,7 +367,7 @@ module _ (n p : ℕ) (ms ns : List Local) (x y : Local) (h : List Event) (at : s
   -- so it has seen all of it
   making_nothing : making_mine.rest ≡ []
   making_nothing =
-      making_empty making_mine.rest (λ k e found. making_mine.away k e found
+      noting_empty making_mine.rest (λ k e found. making_mine.away k e found
       (making_own (length sees.0 + k) e (slice_get-append_right sees.0 making_mine.rest k ∙ found) ∙ sym making_number))
 
   pub making_seen : x.seen ++ making_part ≡ y.seen
@@ -398,12 +390,6 @@ module _ (n p : ℕ) (ms ns : List Local) (x y : Local) (h : List Event) (at : s
         })
   ]
 
-  pub making_calls : calls_of (x.seen ++ making_part) p ++ call_kinds y.block ≡ calls_made y
-  making_calls =
-      ap (λ es. call_kinds (events_of es p) ++ call_kinds y.block) making_seen
-      ∙ ap (λ q. call_kinds (events_of y.seen q) ++ call_kinds y.block) (sym making_number)
-      ∙ sym (followed_call_kinds-append (events_of y.seen y.number) y.block)
-
 -- a turn of one's own, by whoever had seen all
 own_turn_made : {s : Plan} {c : SharedCluster} (n : ℕ) {p : ℕ} {ms ns : List Local} {all to : List TurnProgress}
     {h : List Event} → c.sizes ≡ plan_sizes s → AreAtSteps c s.sections ms all → IsOwnTurn s.sections p ms ns all to
@@ -418,8 +404,17 @@ own_turn_made {s = s} {c = c} n {p = p} {ms = ms} {ns = ns} {all = all} {h = h} 
     let same = sees_same_processor (new_at_call c p) m x (stepping_same_after (new_at_call c p) m turn.section turn.at at) own in
     let part = making_part n p ms ns m x h turn.before_is turn.new_is sees own.number latest many number goes these in
     let seen = making_seen n p ms ns m x h turn.before_is turn.new_is sees own.number latest many number goes these in
+    let whole : x.seen ≡ h =
+    sym (making_is n p ms ns m x h turn.before_is turn.new_is sees own.number latest many number goes these ∙ seen) in
+    let mine : SeesOwnCalls m x = (
+      part,
+      λ k e found. making_own n p ms ns m x h turn.before_is turn.new_is sees own.number latest many number goes these k e found
+          ∙ sym (number p m turn.before_is),
+      sym seen,
+    ) in
     let P : List Local → List TurnProgress → Type 0 =
     λ xs ys. turn_stages xs ys ≡ slice_set (turn_stages ms all) p (stage_of x turn.next) in
+    let Q : List Event → Type 0 = λ es. IsScriptTurn s p turn.section m.seen (stage_of m turn.at) turn.at es (stage_of x turn.next) in
     record {
       front = m.seen;
       part = part;
@@ -431,10 +426,8 @@ own_turn_made {s = s} {c = c} n {p = p} {ms = ms} {ns = ns} {all = all} {h = h} 
         after = stage_of x turn.next;
         section_is = turn.section_is;
         before_is = turn_stages_at ms all p m turn.at turn.before_is turn.at_is;
-        turn = turn_told s (m.seen ++ part) p (new_at_call c p) m x turn.section turn.at turn.next same.number
-            (same.sizes ∙ sizes) at turn.takes seen;
-        own = making_own n p ms ns m x h turn.before_is turn.new_is sees own.number latest many number goes these;
-        calls_are = making_calls n p ms ns m x h turn.before_is turn.new_is sees own.number latest many number goes these;
+        turn = subst Q whole (turn_told s (new_at_call c p) m x turn.section turn.at turn.next same.number
+            (same.sizes ∙ sizes) at turn.takes mine);
         others = subst₂ P (sym turn.new_is) (sym turn.to_is) (turn_stages_set ms all p x turn.next);
       };
     }
@@ -453,7 +446,7 @@ turn_made {s = s} {c = c} {n = n} {p = p} {ms = ms} {ns = ns} {all = all} {to = 
     let made = own_turn_made n sizes (turn_way_seen c s.sections ms turn.seen all way turn.first)
     turn.turn (turn.latest hand.ahead) (turn.first.all ∙ hand.many) (in_hand_numbers_on ms turn.seen turn.first hand.number)
     (making_before turn.turned ns h turn.last goes) these in
-    let P : List TurnStage → List TurnStage → Type 0 = λ xs ys. IsTurnAt s made.front made.part p xs ys in
+    let P : List TurnStage → List TurnStage → Type 0 = λ xs ys. IsTurnAt s p made.front xs h ys in
     record {
       front = made.front;
       part = made.part;
@@ -469,7 +462,7 @@ script_turns-append s [] qs f g h xs ys zs first next =
     let P : List Event → List TurnStage → Type 0 = λ es x. AreScriptTurns s qs es x h zs in
     subst₂ P first.0 first.1 next
 script_turns-append s (p ∷ ps) qs f g h xs ys zs first next =
-    (first.0, first.1, first.2, script_turns-append s ps qs (f ++ first.0) g h first.1 ys zs first.3 next)
+    (first.0, first.1, first.2, script_turns-append s ps qs first.0 g h first.1 ys zs first.3 next)
 
 -- what went on from what each had seen before these turns, and what they made of it
 pub record AreTurnsMade (s : Plan) (ps : List ℕ) (ms : List Local) (old new : List TurnStage) (h : List Event) : Type 0 where
@@ -489,15 +482,13 @@ turns_made_none s ms old new h same goes =
 turns_made_first : {s : Plan} {p : ℕ} (ps : List ℕ) {ms : List Local} (between : List Local) {xs ys zs : List TurnStage}
     {h : List Event} (later : AreTurnsMade s ps between ys zs h) → IsTurnMade s p ms xs ys later.front
     → AreTurnsMade s (p ∷ ps) ms xs zs h
-turns_made_first {s = s} ps between {ys = ys} {zs = zs} {h = h} later one =
-    let P : List Event → Type 0 = λ es. AreScriptTurns s ps es ys h zs in
-    record {
-      front = one.front;
-      rest = one.part ++ later.rest;
-      is = later.is ∙ ap (λ es. es ++ later.rest) one.is ∙ append_assoc one.front one.part later.rest;
-      turns = (one.part, ys, one.turn, subst P one.is later.turns);
-      goes_on = one.goes_on;
-    }
+turns_made_first ps between {ys = ys} later one = record {
+  front = one.front;
+  rest = one.part ++ later.rest;
+  is = later.is ∙ ap (λ es. es ++ later.rest) one.is ∙ append_assoc one.front one.part later.rest;
+  turns = (later.front, ys, one.turn, later.turns);
+  goes_on = one.goes_on;
+}
 
 -- and then more
 pub turns_made_then : {s : Plan} {ps : List ℕ} (qs : List ℕ) {ms : List Local} (between : List Local)
@@ -547,7 +538,7 @@ taken_made {s = s} {c = c} {n = n} {ps = (p ∷ ps)} {ms = ms} ns {all = all} to
     (in_hand_turned n s.sections p seen between all half held taken.4) taken.5 goes these in
     let one = turn_made sizes on held taken.4 later.goes_on
     (making_these_front n h later.front later.rest later.is these) in
-    let P : List TurnStage → Type 0 = λ xs. IsTurnAt s one.front one.part p xs (turn_stages between half) in
+    let P : List TurnStage → Type 0 = λ xs. IsTurnAt s p one.front xs later.front (turn_stages between half) in
     turns_made_first ps between later (record {
       front = one.front;
       part = one.part;
@@ -581,7 +572,7 @@ rounds_made {s = s} {n = n} orders (suc k) {ms = ms} ns {start = start} all {h =
 -- before the first call there is nothing
 pub making_start : (c : SharedCluster) (ms : List Local) (h : List Event) → IsNewCluster c ms → AllGoOn ms h
     → AreOfThese c.sizes.processors h → h ≡ []
-making_start c ms h new goes these = making_empty h none
+making_start c ms h new goes these = noting_empty h none
   where
     none : (k : ℕ) (e : Event) → At h k e → ⊥
     none k e at =

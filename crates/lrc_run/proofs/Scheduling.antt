@@ -27,8 +27,7 @@ scheduling_turn_fault s turns n place p (fault.Misfit turn misfit) many at told 
 }
 
 -- where there are so many processors
-pub scheduling_fault_at : (s : Plan) (c : SharedCluster) (turns : List ℕ) (ms : List Local) (all : List TurnProgress) (place p : ℕ)
-    (e : ScheduleFault) (n : ℕ) → n ≡ length ms → c.sizes ≡ plan_sizes s → AreAtSteps c s.sections ms all
+pub scheduling_fault_at : (s : Plan) {c : SharedCluster} (turns : List ℕ) {ms : List Local} {all : List TurnProgress} (place : ℕ) {p : ℕ} (e : ScheduleFault) {n : ℕ} → n ≡ length ms → c.sizes ≡ plan_sizes s → AreAtSteps c s.sections ms all
     → slice_get turns place ≡ Some p → IsScheduledTurnFault n place p e → IsScheduleFault s turns e
-scheduling_fault_at s c turns ms all place p e n long sizes way at told =
+scheduling_fault_at s turns place {p = p} e {n = n} long sizes way at told =
     scheduling_turn_fault s turns n place p e (long ∙ way.many ∙ ap (λ (x : Sizes). x.processors) sizes) at told

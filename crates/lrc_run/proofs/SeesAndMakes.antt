@@ -1,19 +1,23 @@
 -- What calls on a processor add to those that it has made.
-use Rattle.std.proofs.Common.{ℕ, Bool, inl, inr, ◌≡◌, Option, Some, None, Result, Ok, Err, OnOk, List, [], ◌∷◌, ◌++◌, length, false, true, cond, refl, sym, ap, subst, subst₂, ◌∙◌, append_assoc, append-nil}
+use Rattle.std.proofs.Common.{ℕ, Bool, inl, inr, ◌≡◌, Option, Some, None, Result, Ok, Err, OnOk, List, [], ◌∷◌, ◌++◌, length, map, false, true, cond, refl, sym, ap, subst, subst₂, ◌∙◌, append_assoc, append-nil}
 use Rattle.std.specs.Prelude.{not}
 use Rattle.std.specs.Result.{result_err}
+use Rattle.std.proofs.lemmas.List.{map-append}
 use Rattle.std.proofs.lemmas.Option.{slice_get_within}
 use Rattle.base.proofs.SlicesAndCounts.{slice_get-append_left, slice_get-last}
 use Rattle.journal.specs.declared.event.Event.{Event}
 use Rattle.journal.specs.declared.event.Kind.{Kind}
+use Rattle.journal.specs.declared.event.Kind.TheVariants.{Load}
 use Rattle.journal.specs.DidEvent.{event}
+use Rattle.journal.specs.Events.{address_of}
 use Rattle.journal.specs.Sizes.{Sizes}
 use Rattle.journal.specs.Waits.{awaited}
 use Rattle.lrc_script.specs.declared.script.Instruction.{Instruction}
 use Rattle.lrc_script.specs.declared.script.Instruction.TheVariants.{Barrier, Cut}
 use Rattle.conformance.specs.Instructions.{AreEventsOfInstruction}
-use Rattle.conformance.specs.Follows.{is_fetch, call_kinds}
+use Rattle.conformance.specs.Follows.{is_fetch, call_kinds, load_of}
 use Rattle.conformance.proofs.Calls.{followed_call_kinds-append, followed_call_kinds-one}
+use Rattle.conformance.proofs.SameTurns.Kinds.{kinds_awaited_plain}
 use Rattle.conformance.proofs.Instructions.{NoInstructionFetches, instructions-push, instruction_no_fetch}
 use Rattle.book.specs.declared.refused.Refused.{Refused}
 use Rattle.book.specs.declared.refused.Refused.TheVariants.{NoMemory, NotYet, NothingAwaited, SeatSpent}
@@ -26,7 +30,8 @@ use Rattle.cluster.specs.Taking.{IsTakeLate, IsTakeDone, IsTakingCall, taking_aw
 use Rattle.conformance.specs.CutInstructions.{HasCutInstruction}
 use Rattle.conformance.specs.WantedFetches.{FetchesAreWanted}
 use Rattle.conformance.proofs.WantedFetches.{wanted-append, wanted_one}
-use Rattle.lrc_run.specs.MakesCalls.{AreCallsWanted, calls_made, MadeCalls, MakesBut, SeesMoreCalls, TriesCalls, DidInstruction, BeginsCall, IsOnItsWay, TriedTake, MakesAll, Walks}
+use Rattle.lrc_run.specs.MakesCalls.{AreCallsWanted, calls_made, MadeCalls, MakesBut, MakesLoads, NotesCalls, SeesMoreCalls, TriesCalls, DidInstruction, BeginsCall, IsOnItsWay, TriedTake, MakesAll, Walks}
+use Rattle.lrc_run.proofs.NotingCalls.{notes_after_take, notes_closed, notes_none, notes_taken, notes_then}
 
 pub sees_same_processor : (l m n : Local) → IsSameProcessorOfCall l m → IsSameProcessorOfCall m n → IsSameProcessorOfCall l n
 sees_same_processor l m n a b = record { lock = b.lock ∙ a.lock; number = b.number ∙ a.number; sizes = b.sizes ∙ a.sizes }
@@ -63,29 +68,32 @@ makes_none m n e = record {
   same = makes_same_none m n e;
   sees = sees_same m n (ap (λ (x : Local). x.seen) e);
   more = ap calls_made e ∙ sym (append-nil (calls_made m));
+  noted = notes_none m n (makes_same_none m n e) (ap calls e) (ap (λ (x : Local). x.block) e);
   wanted = makes_same_wanted m n (makes_same_none m n e) (ap calls e);
   uncut = ap (λ (x : Local). x.own_cut) e;
 }
 
 -- nor one whose calls are as they were
-pub makes_same : (m n : Local) → IsSameProcessorOfCall m n → SeesMoreCalls m n → calls n ≡ calls m → n.own_cut ≡ m.own_cut
-    → MadeCalls m n []
-makes_same m n same sees e uncut = record {
+pub makes_same : (m n : Local) → IsSameProcessorOfCall m n → SeesMoreCalls m n → calls n ≡ calls m → n.block ≡ m.block
+    → n.own_cut ≡ m.own_cut → MadeCalls m n []
+makes_same m n same sees e block uncut = record {
   same = same;
   sees = sees;
   more = ap call_kinds e ∙ sym (append-nil (calls_made m));
+  noted = notes_none m n same e block;
   wanted = makes_same_wanted m n same e;
   uncut = uncut;
 }
 
 -- one more event is one more call
 pub makes_one : (m n : Local) (k : Kind) → is_fetch k ≡ false → IsSameProcessorOfCall m n → SeesMoreCalls m n
-    → calls n ≡ calls m ++ event m.number k ∷ [] → n.own_cut ≡ m.own_cut → MadeCalls m n (k ∷ [])
-makes_one m n k is same sees e uncut = record {
+    → NotesCalls m n (k ∷ []) → calls n ≡ calls m ++ event m.number k ∷ [] → n.own_cut ≡ m.own_cut → MadeCalls m n (k ∷ [])
+makes_one m n k is same sees noted e uncut = record {
   same = same;
   sees = sees;
   more = ap call_kinds e ∙ followed_call_kinds-append (calls m) (event m.number k ∷ [])
       ∙ ap (λ ks. calls_made m ++ ks) (followed_call_kinds-one (event m.number k) is);
+  noted = noted;
   wanted = makes_more_wanted m n (event m.number k ∷ []) same e (wanted_one m.sizes.words (event m.number k) is);
   uncut = uncut;
 }
@@ -96,6 +104,7 @@ makes_then l m n xs ys first next = record {
   same = sees_same_processor l m n first.same next.same;
   sees = sees_then l m n first.sees next.sees;
   more = next.more ∙ ap (λ ks. ks ++ ys) first.more ∙ append_assoc (calls_made l) xs ys;
+  noted = notes_then l m n xs ys first.same first.sees next.sees first.noted next.noted;
   wanted = λ was. next.wanted (first.wanted was);
   uncut = next.uncut ∙ first.uncut;
 }
@@ -106,6 +115,7 @@ makes_but makes = record {
   same = makes.same;
   sees = makes.sees;
   more = makes.more;
+  noted = makes.noted;
   wanted = makes.wanted;
   uncut = λ _. makes.uncut;
 }
@@ -117,6 +127,7 @@ makes_but_then l m n xs ys one other first next = record {
   same = sees_same_processor l m n first.same next.same;
   sees = sees_then l m n first.sees next.sees;
   more = next.more ∙ ap (λ ks. ks ++ ys) first.more ∙ append_assoc (calls_made l) xs ys;
+  noted = notes_then l m n xs ys first.same first.sees next.sees first.noted next.noted;
   wanted = λ was. next.wanted (first.wanted was);
   uncut = λ none. next.uncut (λ b. none (other b)) ∙ first.uncut (λ a. none (one a));
 }
@@ -168,14 +179,14 @@ sees_same_if_tried m n (Err e) kinds h = h.same
 
 -- a call that closes the interval was made, the block is handed in, and what comes next is awaited
 pub makes_closing_call : {A : Type 0} {first : Option Refused} {many : ℕ} {absent : Local → Type 0} (k : Kind)
-    (m n : Local) (r : Result A Refused) {x : A} → is_fetch k ≡ false → r ≡ Ok x
+    (m n : Local) (r : Result A Refused) {x : A} → is_fetch k ≡ false → address_of k ≡ None → r ≡ Ok x
     → IsCall first many absent (IsClosedBy k) (event m.number k ∷ []) m n (result_err r)
     → MadeCalls m n (k ∷ []) × (n.block ≡ []) × (n.awaits ≡ awaited k)
-makes_closing_call {A} {first} {many} {absent} k m n r {x} plain is call =
+makes_closing_call {A} {first} {many} {absent} k m n r {x} plain flat is call =
     let none : result_err r ≡ None = rw is refl in
     let done = call.ok none in
     let sees = sees_call (λ a b. sees_closed k a b) call in (
-      makes_one m n k plain call.same sees done.2 call.uncut,
+      makes_one m n k plain call.same sees (notes_closed k m n flat done.0) done.2 call.uncut,
       ap (λ (l : Local). l.block) done.0.after,
       ap (λ (l : Local). l.awaits) done.0.after,
     )
@@ -184,13 +195,21 @@ makes_closing_call {A} {first} {many} {absent} k m n r {x} plain is call =
 pub makes_beginning_by : (k last : Kind) (i : Instruction) (m n : Local) → AreEventsOfInstruction i (k ∷ last ∷ []) → awaited k ≡ Some last
     → MadeCalls m n (k ∷ []) × (n.block ≡ []) × (n.awaits ≡ awaited k) → BeginsCall m n i
 makes_beginning_by k last i m n are next calls_made =
-    record { first = k; last = last; are = are; makes = calls_made.0; handed = calls_made.1; awaits = calls_made.2 ∙ next }
+    record {
+      first = k;
+      last = last;
+      are = are;
+      waits = next;
+      makes = calls_made.0;
+      handed = calls_made.1;
+      awaits = calls_made.2 ∙ next;
+    }
 
 -- or done
 pub makes_instruction_by : (k : Kind) (i : Instruction) (m n : Local) → AreEventsOfInstruction i (k ∷ [])
     → MadeCalls m n (k ∷ []) × (n.block ≡ []) × (n.awaits ≡ awaited k) → DidInstruction m n i
 makes_instruction_by k i m n are calls_made =
-    record { kinds = k ∷ []; are = are; makes = makes_but calls_made.0; handed = λ _. calls_made.1 }
+    record { kinds = k ∷ []; are = are; makes = makes_but calls_made.0 }
 
 -- of two kinds that are no fetches the last one isn't
 makes_no_fetch_last : (first last : Kind) → NoInstructionFetches (first ∷ last ∷ []) → is_fetch last ≡ false
@@ -240,6 +259,7 @@ sees_nothing_taken {A} m n r is call =
       sees = sees_refused m n inside.entered;
       block_is = ap (λ (l : Local). l.block) inside.entered.after.same;
       yes = λ not. absurd (cc);
+      noted = λ not. absurd (cc);
       no = λ not. record {
         calls_are = refused.kept (λ none. cc);
         block_is = ap (λ (l : Local). l.block) inside.entered.after.same;
@@ -259,6 +279,7 @@ sees_taken_all {A} m n r {x} is call =
       sees = sees_call (λ a b taken. sees_taken a b taken) call;
       block_is = ap (λ (l : Local). l.block) done.0.after.after;
       yes = λ yes. done.2;
+      noted = λ yes own. notes_taken m n done.0 own;
       no = λ no. absurd (cc);
       uncut = call.uncut;
     }
@@ -270,19 +291,25 @@ makes_its_way l m n i true begun took = record {
   kinds = begun.first ∷ begun.last ∷ [];
   are = begun.are;
   makes = makes_but (makes_then l m n (begun.first ∷ []) (begun.last ∷ []) begun.makes
-      (makes_one m n begun.last (makes_last_no_fetch i begun.first begun.last begun.are) took.same took.sees last
+      (makes_one m n begun.last (makes_last_no_fetch i begun.first begun.last begun.are) took.same took.sees taken last
       took.uncut));
-  handed = λ _. took.block_is ∙ begun.handed;
 }
   where
     last : calls n ≡ calls m ++ event m.number begun.last ∷ []
     last = took.yes refl ∙ ap (λ ks. calls m ++ taking_awaited_event m.number ks) begun.awaits
+
+    taken : NotesCalls m n (begun.last ∷ [])
+    taken =
+        notes_after_take m n begun.last (kinds_awaited_plain begun.first begun.last begun.waits).1 begun.handed
+        (took.block_is ∙ begun.handed)
+        (λ own. took.noted refl own ∙ ap (λ ks. m.seen ++ taking_awaited_event m.number ks) begun.awaits)
 makes_its_way l m n i false begun took = record {
   first = begun.first;
   last = begun.last;
   are = begun.are;
+  waits = begun.waits;
   makes = makes_then l m n (begun.first ∷ []) [] begun.makes
-      (makes_same m n took.same took.sees (took.no refl).calls_are took.uncut);
+      (makes_same m n took.same took.sees (took.no refl).calls_are took.block_is took.uncut);
   handed = (took.no refl).block_is ∙ begun.handed;
   awaits = (took.no refl).awaits_is ∙ begun.awaits;
 }
@@ -324,3 +351,10 @@ pub makes_walk_where : {A E : Type 0} (l m n : Local) (section : List Instructio
     → OnOk r (DidInstruction m n Barrier) → OnOk r (Walks l n section)
 makes_walk_where l m n section (Ok x) all last = makes_walk_by l m n section all last
 makes_walk_where l m n section (Err e) all last = tt
+
+-- one load more
+pub makes_loads_more : (l m n : Local) (words more : List (ℕ × ℕ)) (a v : ℕ) → more ≡ words ++ (a, v) ∷ [] → MakesLoads l m words
+    → MadeCalls m n (Load a v ∷ []) → MakesLoads l n more
+makes_loads_more l m n words more a v is first next =
+    subst (MadeCalls l n) (sym (ap (map load_of) is ∙ map-append load_of words ((a, v) ∷ [])))
+    (makes_then l m n (map load_of words) (Load a v ∷ []) first next)

@@ -23,6 +23,7 @@ use Rattle.conformance.specs.Turns.{instruction_at_turn}
 use Rattle.lrc_run.specs.Steps.{AreAtSteps, IsAtStep}
 use Rattle.lrc_run.specs.Turns.{AreTurnRounds, AreSeenAfterTurns, AreSeenOn, AreTaken, AreTurned, HasSeenAll, HaveTakenTurnsRound, IsCaughtUp, IsOwnTurn, IsTurnOfRun, SeesOnlyMore, TakesTurn}
 use Rattle.lrc_run.specs.MakesCalls.{IsOnItsWay, MakesBut, SeesMoreCalls, TriedTake, new_at_call}
+use Rattle.lrc_run.proofs.NotingCalls.{notes_seen}
 use Rattle.lrc_run.proofs.SeesAndMakes.{sees_same_processor, sees_same, sees_then, makes_same_wanted}
 use Rattle.lrc_run.proofs.Stepping.{stepping_after_instruction, stepping_after_look, stepping_turned}
 
@@ -85,6 +86,7 @@ turning_makes_seen l m n kinds makes on = record {
   same = sees_same_processor l m n makes.same on.same;
   sees = sees_then l m n makes.sees on.sees;
   more = ap call_kinds on.calls_are ∙ makes.more;
+  noted = notes_seen l m n kinds makes.same on.same makes.sees on.sees on.calls_are on.block_is makes.noted;
   wanted = λ was. makes_same_wanted m n on.same on.calls_are (makes.wanted was);
   uncut = λ none. on.uncut ∙ makes.uncut none;
 }
@@ -109,10 +111,13 @@ turn_seen_at l m n section (Waits k) is on =
           first = begun.first;
           last = begun.last;
           are = begun.are;
+          waits = begun.waits;
           makes = record {
             same = sees_same_processor between m n begun.makes.same on.same;
             sees = sees_then between m n begun.makes.sees on.sees;
             more = ap call_kinds on.calls_are ∙ begun.makes.more;
+            noted = notes_seen between m n (begun.first ∷ []) begun.makes.same on.same begun.makes.sees on.sees on.calls_are on.block_is
+                begun.makes.noted;
             wanted = λ was. makes_same_wanted m n on.same on.calls_are (begun.makes.wanted was);
             uncut = on.uncut ∙ begun.makes.uncut;
           };
@@ -357,11 +362,10 @@ turning_changed ms p x P new others q y here = elim (cases_eq q p) [
 ]
 
 -- those of one lock are of it still, once one of them had its turn
-pub turning_locks : {lock : ChairLockId} (ms : List Local) (p : ℕ) (m x : Local) (section : List Instruction)
-    (at to : TurnProgress) → slice_get ms p ≡ Some m → TakesTurn section m at x to
+pub turning_locks : {lock : ChairLockId} (ms : List Local) (p : ℕ) {m : Local} (x : Local) (section : List Instruction) (at to : TurnProgress) → slice_get ms p ≡ Some m → TakesTurn section m at x to
     → ((q : ℕ) (y : Local) → slice_get ms q ≡ Some y → y.lock ≡ lock) → (q : ℕ) (y : Local)
     → slice_get (slice_set ms p x) q ≡ Some y → y.lock ≡ lock
-turning_locks {lock = lock} ms p m x section at to here takes locks =
+turning_locks {lock = lock} ms p {m = m} x section at to here takes locks =
     turning_changed ms p x (λ y. y.lock ≡ lock) ((turn_same section m x at to takes).lock ∙ locks p m here) locks
 
 -- the first of those who are there

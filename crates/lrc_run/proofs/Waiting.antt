@@ -13,6 +13,7 @@ use Rattle.cluster.specs.Waiting.{IsWaitingCall}
 use Rattle.cluster.specs.Taking.{taking_awaited_event}
 use Rattle.lrc_run.specs.Turns.{AreSeenAfterTurns, HasSeenAll, SeesOnlyMore}
 use Rattle.lrc_run.specs.MakesCalls.{SeesMoreCalls, TriedTake}
+use Rattle.lrc_run.proofs.NotingCalls.{noting_own_split, notes_none_seen}
 use Rattle.lrc_run.proofs.SeesAndMakes.{sees_same_processor, sees_same, sees_then}
 use Rattle.lrc_run.proofs.Turning.{turning_same_on}
 
@@ -52,6 +53,12 @@ waiting_takes_on l m n taken on took = record {
   yes = λ yes. took.yes yes ∙ ap (λ es. es ++ taking_awaited_event m.number m.awaits) on.calls_are
       ∙ ap (λ p. calls l ++ taking_awaited_event p m.awaits) on.same.number
       ∙ ap (λ k. calls l ++ taking_awaited_event l.number k) on.awaits_is;
+  noted = λ yes own.
+      let parts = noting_own_split l m n on.same.number on.sees took.sees own in
+      took.noted yes parts.1
+      ∙ ap (λ es. es ++ taking_awaited_event m.number m.awaits) (notes_none_seen l m on.same on.calls_are on.block_is parts.0)
+      ∙ ap (λ p. l.seen ++ taking_awaited_event p m.awaits) on.same.number
+      ∙ ap (λ k. l.seen ++ taking_awaited_event l.number k) on.awaits_is;
   no = λ no.
       let none = took.no no in
       record {

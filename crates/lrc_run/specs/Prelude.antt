@@ -1,5 +1,5 @@
 -- The words that contracts name, passed on from one place. Declares nothing.
-pub use Rattle.lrc_run.specs.MakesCalls.{AddsCallsBy, AreWalked, DidInstruction, MakesFetchBy, IsOnItsWay, MakesLoads, MadeCalls, TriedTake, TriesCalls, Walks}
+pub use Rattle.lrc_run.specs.MakesCalls.{AreWalked, DidInstruction, IsOnItsWay, MadeCalls, MakesLoads, NotesAccessBy, NotesFetchBy, TriedTake, TriesCalls, Walks}
 pub use Rattle.lrc_run.specs.Steps.{AreAtSteps, IsAtStep}
 pub use Rattle.lrc_run.specs.Turns.{AreSeenAfterTurns, AreTaken, AreTurned, HaveTakenTurnsRound, IsCaughtUp, IsTurnOfRun, SeesDeadlockAtTurns, SeesOnlyMore, TakesTurn}
 pub use Rattle.lrc_run.specs.Orders.{AreOrderedProcessors, chosen_order}

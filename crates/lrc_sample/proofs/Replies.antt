@@ -15,10 +15,10 @@ sample_replies_without_last old xs new before after n shown b a is num =
     ∙ ap (λ m. old ++ take m xs) count
 
 -- processor 0's own are those
-pub sample_replies_own_added : (old new : List Reply) (before after n shown p : ℕ) (h : List Event) → p ≡ 0 → before ≡ length old
+pub sample_replies_own_added : (old new : List Reply) {before after n : ℕ} (shown p : ℕ) (h : List Event) → p ≡ 0 → before ≡ length old
     → after ≡ length new → new ≡ old ++ replies_by p h → n ≡ after - before - shown
     → take (before + n) new ≡ old ++ own_replies shown p h
-sample_replies_own_added old new before after n shown p h zeroth b a is num =
+sample_replies_own_added old new {before = before} {after = after} {n = n} shown p h zeroth b a is num =
     sample_replies_without_last old (replies_by p h) new before after n shown b a is num
     ∙ ap (λ q. old ++ cond (q == 0) (take (length (replies_by p h) - shown) (replies_by p h)) (replies_by p h))
     (sym zeroth)

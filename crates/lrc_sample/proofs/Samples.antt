@@ -68,11 +68,10 @@ sample_made_none came s = record {
 }
 
 -- one run more
-pub sample_made_next : (came : Plan → Option ℕ → DrawnRun → Type 0) (s : Plan) (seed : Option ℕ) (run : DrawnRun)
-    (old new : List TallyLine) (is : IsSampleMade came s (tally_run_of seed) old) → IsSampleRun came s seed run
+pub sample_made_next : {came : Plan → Option ℕ → DrawnRun → Type 0} {s : Plan} {seed : Option ℕ} {run : DrawnRun} {old new : List TallyLine} (is : IsSampleMade came s (tally_run_of seed) old) → IsSampleRun came s seed run
     → TallyOrderStarted (outcomes_of s is.runs ++ outcome_of_end s.processors run.ended ∷ []) new
     → AreLinesShown (schedules_of is.runs ++ run.schedule.turns.items ∷ []) new → IsSampleMade came s (tally_run_of seed + 1) new
-sample_made_next came s seed run old new is one noted shown = record {
+sample_made_next {came = came} {s = s} {seed = seed} {run = run} {new = new} is one noted shown = record {
   runs = is.runs ++ run ∷ [];
   are = record { many = omega (arith, length-append is.runs (run ∷ []), is.are.many); each = each };
   noted = subst (λ os. TallyOrderStarted os new)
@@ -104,11 +103,10 @@ pub sample_made_few : (came : Plan → Option ℕ → DrawnRun → Type 0) (s : 
 sample_made_few came s n lines few is = omega (arith, few, is.noted.tally.sum, (made_many came s n lines is).0)
 
 -- a line's schedule shows its outcome
-line_shows : (came : Plan → Option ℕ → DrawnRun → Type 0) (s : Plan) (n : ℕ) (runs : List DrawnRun)
-    (lines : List TallyLine) → AreSampleRuns came s n runs → TallyCountsRuns (outcomes_of s runs) lines
+line_shows : {came : Plan → Option ℕ → DrawnRun → Type 0} {s : Plan} {n : ℕ} {runs : List DrawnRun} {lines : List TallyLine} → AreSampleRuns came s n runs → TallyCountsRuns (outcomes_of s runs) lines
     → AreLinesShown (schedules_of runs) lines → (line : TallyLine) → Has lines line
     → SampleShows s line.schedule.turns.items line.outcome
-line_shows came s n runs lines are tally shown line has =
+line_shows {came = came} {s = s} {runs = runs} {lines = lines} are tally shown line has =
     let told = first_law (outcomes_of s runs) lines line tally has in
     let a = at_map (λ (r : DrawnRun). outcome_of_end s.processors r.ended) runs (tally_run_of line.seed) line.outcome told.came in
     let b = at_map (λ (r : DrawnRun). r.schedule.turns.items) runs (tally_run_of line.seed) line.schedule.turns.items
@@ -134,6 +132,6 @@ sample_of came s n old sampled is tally shown order =
       are = is.are;
       tally = counts;
       shown = by;
-      shows = line_shows came s n is.runs sampled.lines.items is.are counts by;
+      shows = line_shows is.are counts by;
       order = order is.noted.seen;
     }

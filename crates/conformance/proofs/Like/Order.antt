@@ -24,12 +24,12 @@ like_lets_back _ _ h = absurd h
 lets_like : (a b c d : Kind) → like_without_value a ≡ like_without_value c → like_without_value b ≡ like_without_value d → LetsThrough a b → LetsThrough c d
 lets_like a b c d first second h = like_lets_back c d (rw (← first, ← second) (like_lets_valueless a b h))
 
-link_like : (h g : List Event) (i k : ℕ) (e f x y : Event) → SameButValues h g → AreLikeEvents e x → AreLikeEvents f y → Link h i k e f
+link_like : {h g : List Event} {i k : ℕ} {e f x y : Event} → SameButValues h g → AreLikeEvents e x → AreLikeEvents f y → Link h i k e f
     → Link g i k x y
-link_like h g i k e f x y like first second (same s) = same (sym first.processors ∙ s ∙ second.processors)
-link_like h g i k e f x y like first second (lets l) =
+link_like like first second (same s) = same (sym first.processors ∙ s ∙ second.processors)
+link_like {e = e} {f = f} {x = x} {y = y} like first second (lets l) =
     lets (lets_like e.kind f.kind x.kind y.kind first.kinds second.kinds l)
-link_like h g i k e f x y like first second (meets m) =
+link_like {h = h} {g = g} {i = i} {k = k} {e = e} {f = f} {x = x} {y = y} like first second (meets m) =
     let arrivals = count_like is_arrive (take i h) (take i g) e.processor like_arrive_valueless (like_take h g i like) in
     let departures = count_like is_depart (take k h) (take k g) f.processor like_depart_valueless (like_take h g k like) in
     meets (record {
@@ -48,7 +48,7 @@ edge_like h g i k like e =
       to = to.event;
       from_at = from.at;
       to_at = to.at;
-      link = link_like h g i k e.from e.to from.event to.event like from.like to.like e.link;
+      link = link_like like from.like to.like e.link;
     }
 
 -- what happens before what, happens so in what is alike
@@ -66,7 +66,7 @@ like_store_valueless (Load a v) = refl
 like_store_valueless (Store a v) = refl
 like_store_valueless _ = refl
 
-address_like : (a b : Kind) → like_without_value a ≡ like_without_value b → address_of a ≡ address_of b
+pub address_like : (a b : Kind) → like_without_value a ≡ like_without_value b → address_of a ≡ address_of b
 address_like a b e = sym (like_address_valueless a) ∙ ap address_of e ∙ like_address_valueless b
 
 store_like : (a b : Kind) → like_without_value a ≡ like_without_value b → IsTrue (is_store a) → IsTrue (is_store b)

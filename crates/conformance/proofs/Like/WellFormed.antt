@@ -55,7 +55,7 @@ arrived_like s h g p like all q inside =
     rw (← departures, ← arrivals) (all q inside)
 
 -- what may be done next, may be done next after what is alike
-allowed_here_like : (s : Sizes) (h g : List Event) (p : ℕ) (k : Kind) → SameButValues h g → Allowed s h p k → Allowed s g p k
+pub allowed_here_like : (s : Sizes) (h g : List Event) (p : ℕ) (k : Kind) → SameButValues h g → Allowed s h p k → Allowed s g p k
 allowed_here_like s h g p (Ask l) like x = λ held. x (holds_like g h p l (sym like) held)
 allowed_here_like s h g p (Acquire l) like x =
     (x.0, last_like h g p x.0 (Ask l) like refl x.1, granted_like h g x.0 l like x.2)
@@ -81,17 +81,17 @@ allowed_like s h g p a b like same x =
     allowed_here_like s h g p b like (allowed_back_like s h p b (subst (Allowed s h p) same (like_allowed_valueless s h p a x)))
 
 -- the answer to a call that waits, where what answers is of the same kind
-answers_like : (h g : List Event) (p i : ℕ) (a b c : Kind) → SameButValues h g → like_without_value a ≡ like_without_value b
+answers_like : {h g : List Event} {p i : ℕ} (a b c : Kind) → SameButValues h g → like_without_value a ≡ like_without_value b
     → ((k : Kind) → LastIs h p i k → AnswersCall k a) → LastIs g p i c → AnswersCall c b
-answers_like h g p i a b (Ask l) like same answers last =
+answers_like {h = h} {g = g} {p = p} {i = i} a b (Ask l) like same answers last =
     exact_if_like b (Acquire l) (sym same ∙ ap like_without_value
     (answers (Ask l) (last_like g h p i (Ask l) (sym like) refl last))) refl
-answers_like h g p i a b Arrive like same answers last =
+answers_like {h = h} {g = g} {p = p} {i = i} a b Arrive like same answers last =
     exact_if_like b Depart (sym same ∙ ap like_without_value (answers Arrive (last_like g h p i Arrive (sym like) refl last))) refl
-answers_like h g p i a b (Watch f) like same answers last =
+answers_like {h = h} {g = g} {p = p} {i = i} a b (Watch f) like same answers last =
     exact_if_like b (Await f) (sym same ∙ ap like_without_value
     (answers (Watch f) (last_like g h p i (Watch f) (sym like) refl last))) refl
-answers_like h g p i a b _ like same answers last = tt
+answers_like a b _ like same answers last = tt
 
 follow_like : (s : Sizes) (h g : List Event) (e f : Event) → SameButValues h g → AreLikeEvents e f → MayFollow s h e
     → MayFollow s g f
@@ -99,7 +99,7 @@ follow_like s h g e f like alike m =
     let P : ℕ → Type 0 = λ p. (i : ℕ) (c : Kind) → LastIs g p i c → AnswersCall c f.kind in
     let Q : ℕ → Type 0 = λ p. Allowed s g p f.kind in
     let answers : P e.processor =
-    λ i c last. answers_like h g e.processor i e.kind f.kind c like alike.kinds (m.answers i) last in
+    λ i c last. answers_like e.kind f.kind c like alike.kinds (m.answers i) last in
     record {
       processor = rw (← alike.processors) m.processor;
       in_range = range_like s e.kind f.kind alike.kinds m.in_range;

@@ -83,11 +83,11 @@ redo_fetch memory due p k es is inside calls redo =
     }
 
 -- a call of p is made of its first step
-redo_step : (memory : List ℕ) (due : ℕ → DueToRedo) (p old : ℕ) (k : Kind) (es : List Event) (s : Step) (steps : List Step)
+redo_step : {memory : List ℕ} {due : ℕ → DueToRedo} {p : ℕ} (old : ℕ) {k : Kind} {es : List Event} {s : Step} {steps : List Step}
     → is_fetch k ≡ false → (due p).steps ≡ s ∷ steps → AreSteps old (s ∷ steps) (k ∷ calls_of es p)
     → AddressesInRange (length memory) (event p k ∷ es) → CallsDueToRedo (event p k ∷ es) due → CanRedo es
     → RedoneOnFlatMemory memory due (event p k ∷ es)
-redo_step memory due p old k es s steps call first is inside calls redo =
+redo_step {memory = memory} {due = due} {p = p} old {k = k} {es = es} {s = s} {steps = steps} call first is inside calls redo =
     record {
       events = event p made.kind ∷ rest.events;
       like = replaying_like_first p k made.kind es rest.events made.like rest.like;
@@ -146,7 +146,7 @@ redo_call memory due p k es call inside calls redo =
     by_steps : (steps : List Step) → (due p).steps ≡ steps → AreSteps (calls p).0 steps (k ∷ calls_of es p)
         → RedoneOnFlatMemory memory due (event p k ∷ es)
     by_steps [] first is = absurd is
-    by_steps (s ∷ steps) first is = redo_step memory due p (calls p).0 k es s steps call first is inside calls redo
+    by_steps (s ∷ steps) first is = redo_step (calls p).0 call first is inside calls redo
 
 redo_first : (memory : List ℕ) (due : ℕ → DueToRedo) (e : Event) (es : List Event) (fetches : Bool)
     → is_fetch e.kind ≡ fetches → AddressesInRange (length memory) (e ∷ es) → CallsDueToRedo (e ∷ es) due → CanRedo es

@@ -5,7 +5,7 @@
 //! again what each call does.
 ghost use Rattle.std.specs.Prelude.{◌≡◌, ◌+◌, ◌%◌, ◌^◌, OnOk, ℕ, [], ◌∷◌};
 ghost use Rattle.cluster.specs.Prelude.{IsSameProcessorOfCall};
-ghost use Rattle.lrc_run.specs.Prelude.{AddsCallsBy, MakesFetchBy, MadeCalls, TriesCalls};
+ghost use Rattle.lrc_run.specs.Prelude.{MadeCalls, NotesAccessBy, NotesFetchBy, TriesCalls};
 ghost use Rattle.journal.specs.declared.event.Kind.TheVariants as kind;
 
 use book::Refused;
@@ -79,7 +79,7 @@ fn fetch<T: BookTurn, R: Wait>(
     page: usize,
 ) -> Result<(), Refused>
     requires own { processor.old.lock ≡ cluster.now.lock }
-    ensures { MakesFetchBy processor.old processor.new result page }
+    ensures { NotesFetchBy processor.old processor.new result page }
 {
     match processor.fetch(page) {
         Err(Refused::BlockFull) => {
@@ -98,7 +98,7 @@ fn load_roomy<T: BookTurn, R: Wait>(
     address: usize,
 ) -> Result<u32, Refused>
     requires own { processor.old.lock ≡ cluster.now.lock }
-    ensures { AddsCallsBy processor.old processor.new result (λ v. kind.Load address v ∷ []) }
+    ensures { NotesAccessBy processor.old processor.new result address (λ v. kind.Load address v) }
 {
     match processor.load(address) {
         Err(Refused::BlockFull) => {
@@ -118,7 +118,7 @@ fn store_roomy<T: BookTurn, R: Wait>(
     value: u32,
 ) -> Result<(), Refused>
     requires own { processor.old.lock ≡ cluster.now.lock }
-    ensures { AddsCallsBy processor.old processor.new result (λ _. kind.Store address value ∷ []) }
+    ensures { NotesAccessBy processor.old processor.new result address (λ _. kind.Store address value) }
 {
     match processor.store(address, value) {
         Err(Refused::BlockFull) => {

@@ -19,8 +19,7 @@ returns-in_err-write_journal g c =
 
 pub returns : goal.returns
 returns g c =
-    let both = passes_through_then _ (g.W.Write.contents c.write_summary.new.out) _ _ c.write_summary.new.pending
-    _ _ _ c.in_ok-write_summary.ensures c.in_ok-write_journal.ensures in
+    let both = passes_through_then c.in_ok-write_summary.ensures c.in_ok-write_journal.ensures in
     MatchResult-weaker c.finish.result c.finish.ensures
     (λ _ last. passes_through_all _ (g.W.Write.contents c.write_journal.new.out) _ _ c.write_journal.new.pending
     _ c.new-pending.ensures both last)

@@ -19,5 +19,5 @@ returns g c =
     let cut = rw c.cut_events-cut.ensures.value at c.in_ok-write_cut.ensures in
     let lines = rw (c.cut_events-cut.ensures.value, all) at (rw c.events.ensures.value at c.write_events.ensures) in
     MatchResult-weaker c.write_events.result lines
-    (λ _ last. passes_through_then _ (g.W.Write.contents c.write_cut.new.out) _ _ c.write_cut.new.pending _ _ _ cut last)
+    (λ _ last. passes_through_then cut last)
     (λ _ last. passes_through_front _ (g.W.Write.contents c.write_cut.new.out) _ _ c.write_cut.new.pending _ _ cut last)

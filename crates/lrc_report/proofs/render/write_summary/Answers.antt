@@ -22,10 +22,9 @@ returns-in_err-write_verdict g c =
 pub returns : goal.returns
 returns g c =
     let words = rw c.deref.ensures.value at c.in_ok-write_words.ensures in
-    let both = passes_through_then _ (g.W.Write.contents c.write_words.new.out) _ _ c.write_words.new.pending _ _ _ words
+    let both = passes_through_then words
     c.in_ok-write_verdict.ensures in
     MatchResult-weaker c.write_traffic.result c.write_traffic.ensures
-    (λ _ last. passes_through_then _ (g.W.Write.contents c.write_verdict.new.out) _ _ c.write_verdict.new.pending
-    _ _ _ both last)
+    (λ _ last. passes_through_then both last)
     (λ _ last. passes_through_front _ (g.W.Write.contents c.write_verdict.new.out) _ _ c.write_verdict.new.pending _ _ both
     last)

@@ -45,7 +45,7 @@ catch_first_up-requires-clause-own g c κs within =
     let same = on.all in
     let inside : p < length seen = omega (arith, c.requires.within) in
     let way = way_seen g (goal.at.catch_first_up-requires-clause-own g c).After-catch_up_with_first in
-    turning_locks seen p m c.take_turn.new.processor c.deref.result.now c.index.result.now c.in-Ok.outcome.0
+    turning_locks seen p c.take_turn.new.processor c.deref.result.now c.index.result.now c.in-Ok.outcome.0
     (slice_get_read seen (length seen) p m refl inside c.index_mut.ensures.value) c.in-Ok.ensures.turn (λ q x here.
     stepping_own_at q x c.requires.lawful
     c.requires.sizes way here)

@@ -5,7 +5,6 @@ use Rattle.lrc_sample.proofs.outcome.add_own.Goals as goal
 pub returns-then-processor-eq0 : goal.returns-then-processor-eq0
 returns-then-processor-eq0 c =
     c.truncate.ensures.items
-    ∙ sample_replies_own_added c.args.replies.now.items c.add_replies.new.replies.items c.len-before.result c.len.result
-    c.saturating_sub.result c.args.shown c.args.processor c.args.events.now c.if-processor-eq0.true
+    ∙ sample_replies_own_added c.args.replies.now.items c.add_replies.new.replies.items c.args.shown c.args.processor c.args.events.now c.if-processor-eq0.true
     (c.len-before.ensures ∙ c.args.replies.now.ok.0) (c.len.ensures ∙ c.add_replies.new.replies.ok.0)
     c.in_ok-add_replies.ensures c.saturating_sub.ensures

@@ -14,6 +14,6 @@ returns-in-Ok g c =
     let run = c.in_ok-schedule.field-0 in
     let many = made_many came s (tally_run_of c.args.seed) c.args.lines.now.items made in
     let noted = c.in-Ok.ensures.tally (outcomes_of s made.runs) made.noted many.0 in
-    sample_made_next came s c.args.seed run c.args.lines.now.items c.note.new.lines.items made c.in_ok-schedule.ensures
+    sample_made_next made c.in_ok-schedule.ensures
     (subst (λ o. TallyOrderStarted (outcomes_of s made.runs ++ o ∷ []) c.note.new.lines.items) c.in_ok-outcome.ensures noted)
     (c.in-Ok.ensures.shown (schedules_of made.runs) made.shown many.1)

@@ -41,6 +41,6 @@ pub returns-in-Err-clause-fault : goal.returns-in-Err-clause-fault
 returns-in-Err-clause-fault g c =
     let turns = c.args.turns.now in
     let at = slice_get-get_or turns c.loop-place.place _ c.loop-place-test.true in
-    scheduling_fault_at (plan_of c.args.script.now) c.args.cluster.now turns c.loop-place.processors.items c.loop-place.all.items
-    c.loop-place.place _ c.in-Err.fault _ (omega (arith, c.loop-place.processors.ok)) c.requires.sizes
+    scheduling_fault_at (plan_of c.args.script.now) turns
+    c.loop-place.place c.in-Err.fault (omega (arith, c.loop-place.processors.ok)) c.requires.sizes
     c.loop-place.invariant.way at c.in-Err.ensures.fault

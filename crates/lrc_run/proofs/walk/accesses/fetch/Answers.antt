@@ -1,5 +1,8 @@
+use Rattle.std.proofs.Common.{rules, ◌≡◌, Err, ap, sym, ◌∙◌}
+use Rattle.std.specs.Result.{result_err}
 use Rattle.std.proofs.lemmas.Result.{err_from_is_err_and}
-use Rattle.lrc_run.proofs.Adding.{adds_flush, adds_fetch_after, adds_fetch_by}
+use Rattle.book.specs.declared.refused.Refused.TheVariants.{BlockFull}
+use Rattle.lrc_run.proofs.Adding.{adds_flush, adds_fetch, adds_fetch_flushed}
 use Rattle.lrc_run.proofs.walk.accesses.fetch.Goals as goal
 
 pub returns-in_err-flush-in-Err-BlockFull : goal.returns-in_err-flush-in-Err-BlockFull
@@ -11,13 +14,18 @@ returns-in_err-flush-in-Err-BlockFull g c =
 
 pub returns-in_ok-flush-in-Err-BlockFull : goal.returns-in_ok-flush-in-Err-BlockFull
 returns-in_ok-flush-in-Err-BlockFull g c =
+    let m = c.args.processor.now in
     let full = c.fetch.new.self in
     let roomy = c.flush.new.processor in
     let answer = c.fetch-in-Err-BlockFull in
-    adds_fetch_after c.args.processor.now roomy answer.new.self answer.result c.args.page
-    (adds_flush c.args.processor.now full roomy c.flush.result c.in-Err-BlockFull.ensures.err c.flush.ensures)
-    (adds_fetch_by roomy answer.new.self c.args.page answer.result answer.ensures.err answer.ensures.ok)
+    let is : c.in-Err-BlockFull.field-0 ≡ BlockFull = search rules in
+    adds_fetch_flushed answer.new.self c.args.page answer.result
+    (record { same = c.in-Err-BlockFull.ensures.err; call = c.in_ok-flush-in-Err-BlockFull.ensures })
+    (sym c.fetch.ensures.refused ∙ ap result_err (c.in-Err-BlockFull.is ∙ ap Err is))
+    (adds_flush m full roomy c.flush.result c.in-Err-BlockFull.ensures.err c.flush.ensures) answer.ensures.err answer.ensures.ok
+    answer.ensures.covers
 
 pub returns-in_default-2 : goal.returns-in_default-2
-returns-in_default-2 g c = adds_fetch_by c.args.processor.now c.fetch.new.self c.args.page c.fetch.result
-    c.fetch.ensures.err c.fetch.ensures.ok
+returns-in_default-2 g c =
+    adds_fetch c.args.processor.now c.fetch.new.self c.args.page c.fetch.result c.fetch.ensures.err c.fetch.ensures.ok
+    c.fetch.ensures.refused c.fetch.ensures.covers

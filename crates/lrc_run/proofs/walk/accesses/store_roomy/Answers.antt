@@ -1,5 +1,9 @@
+use Rattle.std.proofs.Common.{rules, ◌≡◌, Err, ap, refl, sym, ◌∙◌}
+use Rattle.std.specs.Result.{result_err}
 use Rattle.std.proofs.lemmas.Result.{err_from_is_err_and}
-use Rattle.lrc_run.proofs.Adding.{adds_after, adds_flush, adds_store}
+use Rattle.book.specs.declared.refused.Refused.TheVariants.{BlockFull}
+use Rattle.journal.specs.declared.event.Kind.TheVariants as kind
+use Rattle.lrc_run.proofs.Adding.{adds_access, adds_access_flushed, adds_flush, adds_store}
 use Rattle.lrc_run.proofs.walk.accesses.store_roomy.Goals as goal
 
 pub returns-in_err-flush-in-Err-BlockFull : goal.returns-in_err-flush-in-Err-BlockFull
@@ -11,14 +15,19 @@ returns-in_err-flush-in-Err-BlockFull g c =
 
 pub returns-in_ok-flush-in-Err-BlockFull : goal.returns-in_ok-flush-in-Err-BlockFull
 returns-in_ok-flush-in-Err-BlockFull g c =
+    let m = c.args.processor.now in
     let full = c.store.new.self in
     let roomy = c.flush.new.processor in
     let answer = c.store-in-Err-BlockFull in
-    adds_after c.args.processor.now roomy answer.new.self answer.result _
-    (adds_flush c.args.processor.now full roomy c.flush.result c.in-Err-BlockFull.ensures.err c.flush.ensures)
-    (adds_store roomy answer.new.self c.args.address c.args.value answer.result answer.ensures.err answer.ensures.ok
-    answer.ensures.calls)
+    let is : c.in-Err-BlockFull.field-0 ≡ BlockFull = search rules in
+    adds_access_flushed answer.new.self c.args.address answer.result (λ x. kind.Store c.args.address c.args.value)
+    (record { same = c.in-Err-BlockFull.ensures.err; call = c.in_ok-flush-in-Err-BlockFull.ensures }) c.store.ensures.covers
+    (sym c.store.ensures.refused ∙ ap result_err (c.in-Err-BlockFull.is ∙ ap Err is))
+    (adds_flush m full roomy c.flush.result c.in-Err-BlockFull.ensures.err c.flush.ensures)
+    (adds_store roomy answer.new.self c.args.address c.args.value answer.result answer.ensures.err answer.ensures.ok answer.ensures.calls)
 
 pub returns-in_default-2 : goal.returns-in_default-2
-returns-in_default-2 g c = adds_store c.args.processor.now c.store.new.self c.args.address c.args.value
-    c.store.result c.store.ensures.err c.store.ensures.ok c.store.ensures.calls
+returns-in_default-2 g c =
+    adds_access c.args.processor.now c.store.new.self c.args.address c.store.result (λ x. kind.Store c.args.address c.args.value) (λ x. (refl, refl))
+    c.store.ensures.refused c.store.ensures.covers
+    (adds_store c.args.processor.now c.store.new.self c.args.address c.args.value c.store.result c.store.ensures.err c.store.ensures.ok c.store.ensures.calls)

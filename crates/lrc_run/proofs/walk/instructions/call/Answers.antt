@@ -14,7 +14,7 @@ returns-in-Store-clause-ok g c =
     let a = c.in-Store.address in
     let v = c.in-Store.value in
     rw c.in-Store.is (call_done_tries (kind.Store a v ∷ []) (instruction.Store a v) c.args.processor.now
-    c.store.new.processor c.store.result refl refl c.store.ensures)
+    c.store.new.processor c.store.result refl c.store.ensures)
 
 pub returns-in-Add-clause-ok : goal.returns-in-Add-clause-ok
 returns-in-Add-clause-ok g c =
@@ -29,22 +29,22 @@ returns-in-Cut-clause-ok g c = rw c.in-Cut.is c.cut.ensures.ok
 
 pub returns-in-Acquire-clause-ok : goal.returns-in-Acquire-clause-ok
 returns-in-Acquire-clause-ok g c =
-    rw c.in-Acquire.is (begun_call (kind.Ask c.in-Acquire.lock) (kind.Acquire c.in-Acquire.lock) (instruction.Acquire c.in-Acquire.lock) c.ask.result refl refl refl c.ask.ensures)
+    rw c.in-Acquire.is (begun_call (kind.Ask c.in-Acquire.lock) (kind.Acquire c.in-Acquire.lock) (instruction.Acquire c.in-Acquire.lock) c.ask.result refl refl refl refl c.ask.ensures)
 
 pub returns-in-Barrier-clause-ok : goal.returns-in-Barrier-clause-ok
 returns-in-Barrier-clause-ok g c =
-    rw c.in-Barrier.is (begun_call kind.Arrive kind.Depart instruction.Barrier c.arrive.result refl refl refl c.arrive.ensures)
+    rw c.in-Barrier.is (begun_call kind.Arrive kind.Depart instruction.Barrier c.arrive.result refl refl refl refl c.arrive.ensures)
 
 pub returns-in-Await-clause-ok : goal.returns-in-Await-clause-ok
 returns-in-Await-clause-ok g c =
-    rw c.in-Await.is (begun_call (kind.Watch c.in-Await.flag) (kind.Await c.in-Await.flag) (instruction.Await c.in-Await.flag) c.watch.result refl refl refl c.watch.ensures)
+    rw c.in-Await.is (begun_call (kind.Watch c.in-Await.flag) (kind.Await c.in-Await.flag) (instruction.Await c.in-Await.flag) c.watch.result refl refl refl refl c.watch.ensures)
 
 pub returns-in-Release-clause-ok : goal.returns-in-Release-clause-ok
 returns-in-Release-clause-ok g c =
     rw c.in-Release.is (done_call (kind.Release c.in-Release.lock) (instruction.Release c.in-Release.lock) c.args.processor.now c.release.new.processor
-    c.release.result refl refl c.release.ensures)
+    c.release.result refl refl refl c.release.ensures)
 
 pub returns-in-Set-clause-ok : goal.returns-in-Set-clause-ok
 returns-in-Set-clause-ok g c =
     rw c.in-Set.is (done_call (kind.Set c.in-Set.flag) (instruction.Set c.in-Set.flag) c.args.processor.now c.set.new.processor
-    c.set.result refl refl c.set.ensures)
+    c.set.result refl refl refl c.set.ensures)
