@@ -24,7 +24,7 @@ use Rattle.causes.specs.declared.brought.Applied.{Applied}
 use Rattle.causes.specs.declared.brought.PageFetch.{PageFetch}
 use Rattle.causes.specs.declared.stores.NumberedStore.{NumberedStore}
 use Rattle.causes.specs.Index.{IsIndexedClosing}
-use Rattle.causes.specs.Origins.{IsOriginAppliedBefore, IsOriginBrought}
+use Rattle.journal.specs.WordOrigins.{IsOriginAppliedBefore, IsOriginBrought}
 use Rattle.causes.specs.OriginSteps.{IsOriginFetch, IsOriginLastApplied, IsOriginLaterApplied, OriginLastApplied}
 use Rattle.causes.specs.Stores.{AreStoresBelow, IsLastStoredUnder, NoneStoredUnder}
 use Rattle.causes.proofs.FreshNews.{news_number_in_front}
@@ -106,7 +106,7 @@ pub brought_own : (s : Sizes) (j : List Event) (p a m q i c : ℕ) → q ≡ p �
 brought_own s j p a m q i c mine x =
     let low =
     slice_get-take_within j m i (event x.gap.store.by (Store x.gap.store.address x.gap.store.value)) x.gap.store.does in
-    gaps_apart s (take m j) p (a / s.words) q i a x.value x.gap (slice_get-take j m i low ∙ x.does) mine
+    gaps_apart x.gap (slice_get-take j m i low ∙ x.does) mine
 
 -- the number of a brought store's interval lies between the fetch's timestamps
 pub brought_between : {s : Sizes} {j : List Event} {x : PageFetch} {a q : ℕ} (i c : ℕ) → FetchesFromOther s j x a q

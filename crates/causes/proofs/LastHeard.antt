@@ -1,5 +1,5 @@
 -- What one processor has heard of another's events.
-use Rattle.std.proofs.Common.{◌≡◌, ◌≢◌, ℕ, ◌+◌, ◌<◌, ◌≤◌, inl, inr, List, length, Option, Some, MatchOption, false, subst, subst₂, refl, arith}
+use Rattle.std.proofs.Common.{◌≡◌, ◌≢◌, ℕ, ◌+◌, ◌<◌, ◌≤◌, inl, inr, List, length, Option, Some, MatchOption, false, subst, refl, arith}
 use Rattle.std.specs.Prelude.{None}
 use Rattle.std.proofs.lemmas.Bool.{cases_eq}
 use Rattle.journal.specs.declared.event.Event.{Event}
@@ -7,14 +7,10 @@ use Rattle.journal.specs.declared.event.Kind.{Kind}
 use Rattle.journal.specs.declared.event.Kind.TheVariants.{Load, Store}
 use Rattle.journal.specs.Events.{At, address_of, is_taking}
 use Rattle.journal.specs.HappensBeforeEdges.{HappensBefore}
-use Rattle.journal.specs.Races.{IsFirstRace, Race, RaceFree}
-use Rattle.journal.specs.RacesFrom.{IsFirstRaceFrom, RaceFreeFrom}
-use Rattle.journal.specs.Base.{Base, no_base}
-use Rattle.journal.specs.Log.{Log, HoldsHistory}
+use Rattle.journal.specs.Races.{Race}
 use Rattle.journal.specs.WellFormed.{Does}
 use Rattle.journal.proofs.Order.CountedAndNumbered.{numbered_at_same, numbered_at_within, numbered_does_at}
 use Rattle.journal.proofs.Order.HappensBefore.{before_goes_forward}
-use Rattle.journal.proofs.FromBase.Uncut.{uncut_race}
 use Rattle.causes.specs.Heard.{IsHeard}
 
 -- q's event at place i happens before place k, and no later one of q below place n does

@@ -171,7 +171,7 @@ index_turn_here {j} {n} {e} {t} has f at =
     subst (λ (x : Event). IsIndexedTurn j n x.processor t) (numbered_at_same j n e f has.at at) has.turn
 
 -- a count of a journal's front is small, where the journal is
-pub index_turn_small : (j : List Event) (n q : ℕ) (t : Turn) → n ≤ length j → length j ≤ 2097152 → IsIndexedTurn j n q t
+pub index_turn_small : (j : List Event) (n q : ℕ) (t : Turn) → n ≤ length j → length j ≤ 2097168 → IsIndexedTurn j n q t
     → (t.arrived < 4194304) × (t.departed < 4194304)
 index_turn_small j n q t le few is =
     (let arrivals = count_by-le-length (λ (e : Event). (e.processor == q) && is_arrive e.kind) (take n j) in

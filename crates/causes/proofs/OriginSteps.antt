@@ -19,7 +19,8 @@ use Rattle.judge.specs.GapTally.{gap_tally_row_index}
 use Rattle.causes.specs.declared.brought.Applied.{Applied}
 use Rattle.causes.specs.declared.origin.WordOrigin.{WordOrigin}
 use Rattle.causes.specs.declared.brought.PageFetch.{PageFetch}
-use Rattle.causes.specs.Origins.{IsOriginBrought, IsOrigin, IsWordOriginOf, OriginWritesWord}
+use Rattle.journal.specs.WordOrigins.{IsOriginBrought, OriginWritesWord}
+use Rattle.causes.specs.Origins.{IsOrigin, IsWordOriginOf}
 use Rattle.causes.specs.OriginSteps.{AreOriginsBefore, AreOriginsPartFetched, IsOriginAfter, OriginLastApplied}
 use Rattle.causes.proofs.StoreRows.{row_same}
 

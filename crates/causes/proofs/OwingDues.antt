@@ -75,8 +75,8 @@ pub record IsQuietAt (j : List Event) (k : ℕ) (e : Event) : Type 0 where
 pub due_lacks_is : {s : Sizes} {j : List Event} {p n : ℕ} {f t : ℕ → ℕ} (q m : ℕ) → q ≢ p → GapFetchedUpTo s j p n f
     → IsTimeOf j p t → DueLacks s j p n q m ↔ DueBetween s j n q f t m
 due_lacks_is {s} {j} {p} {n} {f} {t} q m apart fetched time = (
-  λ g. (let h = (stored_is_in_gap s j p n q m g.0 f t fetched time apart).0 g.1 in ((g.0, h.0), h.1, h.2)),
-  λ h. (h.0.0, (stored_is_in_gap s j p n q m h.0.0 f t fetched time apart).1 (h.0.1, h.1, h.2)),
+  λ g. (let h = (stored_is_in_gap q m g.0 fetched time apart).0 g.1 in ((g.0, h.0), h.1, h.2)),
+  λ h. (h.0.0, (stored_is_in_gap q m h.0.0 fetched time apart).1 (h.0.1, h.1, h.2)),
 )
 
 -- nobody lacks what it stored itself
@@ -123,9 +123,9 @@ due_comes_is {j} {p} {k} {f} {t} s n q m x apart = (there, back)
         let was = old i a v does in
         let same = number i a v was in
         let y = gap.store in
-        let address = (store_same (j ++ e ∷ []) i q y.by a y.address v y.value does y.does).1 in
+        let address = (store_same (j ++ e ∷ []) i does y.does).1 in
         let page : a / s.words ≡ n = ap (λ (b : ℕ). b / s.words) address ∙ y.in_page in
-        elim ((gap_taken s j p n q i a v k f t x.takes x.before x.after was page apart).0 gap) [
+        elim ((gap_taken s n k x.takes x.before x.after was page apart).0 gap) [
           | inl known ↦ absurd (h.1 (a, (i, v, was, known, sym same ∙ is)))
           | inr range ↦ (let le = range.0 in let lt = range.1 in ((a, ((i, v, does, is), page)), omega arith, omega arith))
         ]
@@ -144,7 +144,7 @@ due_comes_is {j} {p} {k} {f} {t} s n q m x apart = (there, back)
         let was = old i a v does in
         let same = number i a v was in
         let gap =
-        (gap_taken s j p n q i a v k f t x.takes x.before x.after was page apart).1 (inr (omega arith, omega arith)) in (
+        (gap_taken s n k x.takes x.before x.after was page apart).1 (inr (omega arith, omega arith)) in (
           (a, (i, v, does, gap, is)),
           λ g.
               (let less = (covered j p q g.1.0 (Store g.0 g.1.1) f x.before g.1.2 apart).0 g.1.3.past in

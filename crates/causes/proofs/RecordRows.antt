@@ -92,7 +92,7 @@ pub record_last : {j : List Event} {a q : ℕ} {row : List NumberedStore} {last 
 record_last {j} {a} {q} {row} {last} m b p v are is late stored =
     let own = are.each is.index last is.at in
     let under = is.under in
-    let same = store_same j last.place p q b a v own.value stored own.does in
+    let same = store_same j last.place stored own.does in
     record {
       place = last.place;
       does = subst (λ u. Does j last.place q (Store a u)) (sym same.2) own.does;
@@ -119,7 +119,7 @@ record_last_same j q m a v w x y =
     let le = y.last x.place v x.does x.number in
     let ge = x.last y.place w y.does y.number in
     let is : x.place ≡ y.place = omega arith in
-    (store_same j y.place q q a a v w (subst (λ i. Does j i q (Store a v)) is x.does) y.does).2
+    (store_same j y.place (subst (λ i. Does j i q (Store a v)) is x.does) y.does).2
 
 -- an address that the interval doesn't store to
 pub record_words_quiet : (j : List Event) (q m a n : ℕ) (words : List (ℕ × ℕ)) → IsNoneOfInterval j q m (a + n)

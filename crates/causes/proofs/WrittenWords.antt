@@ -14,7 +14,8 @@ use Rattle.judge.specs.Prelude.{IsEventInSizes}
 use Rattle.causes.specs.declared.origin.WordOrigin.{WordOrigin}
 use Rattle.causes.specs.declared.written.WrittenRange.{WrittenRange}
 use Rattle.causes.specs.declared.written.WrittenWord.{WrittenWord}
-use Rattle.causes.specs.Origins.{IsOrigin, IsWordOriginOf, OriginWritesWord}
+use Rattle.journal.specs.WordOrigins.{OriginWritesWord}
+use Rattle.causes.specs.Origins.{IsOrigin, IsWordOriginOf}
 use Rattle.causes.proofs.OriginSteps.{origin_in_page}
 use Rattle.causes.specs.Writing.{AreWritten, AreWrittenAmong, IsStoreWrittenAt, IsWrittenRange}
 

@@ -13,7 +13,8 @@ use Rattle.causes.specs.declared.brought.LookedUp.{LookedUp}
 use Rattle.causes.specs.declared.origin.WordOrigin.{WordOrigin}
 use Rattle.causes.specs.declared.brought.PageFetch.{PageFetch}
 use Rattle.causes.specs.Index.{IsIndex}
-use Rattle.causes.specs.Origins.{IsOriginAppliedBefore, IsOriginBrought, IsWordOriginOf}
+use Rattle.journal.specs.WordOrigins.{IsOriginAppliedBefore, IsOriginBrought}
+use Rattle.causes.specs.Origins.{IsWordOriginOf}
 use Rattle.causes.specs.Stores.{AreStoreRows}
 
 -- what is looked up is the history's

@@ -1,54 +1,22 @@
--- Where the words of copies come from: a fetch brings the stores of its gap, and applies them in the order in which their
--- intervals were closed.
-use Rattle.std.specs.Prelude.{ℕ, ◌≡◌, ◌⊎◌, ◌/◌, ◌<◌, List, Option, Some, None, MatchOption, slice_get, take}
+-- From which store the words of copies come that loads answer (journal's WordOrigins).
+use Rattle.std.specs.Prelude.{ℕ, ◌≡◌, List, Option, Some, None, MatchOption, slice_get}
 use Rattle.journal.specs.declared.event.Event.{Event}
 use Rattle.journal.specs.declared.event.Kind.TheVariants.{Load, Store}
-use Rattle.journal.specs.PageImages.{FetchesPage, InGap}
 use Rattle.base.specs.InOrderOnce.{Has}
-use Rattle.journal.specs.Events.{At, interval_at}
+use Rattle.journal.specs.Events.{At}
 use Rattle.journal.specs.ExplainedAnswers.{LatestStore}
 use Rattle.journal.specs.Sizes.{Sizes}
-use Rattle.journal.specs.Times.{ClosesAt}
 use Rattle.journal.specs.WellFormed.{Does}
+use Rattle.journal.specs.WordOrigins.{IsWordFrom, HasNoOrigin}
 use Rattle.causes.specs.declared.origin.WordOrigin.{WordOrigin}
 use Rattle.causes.specs.declared.source.Source.{Source}
 use Rattle.causes.specs.declared.source.Source.TheVariants.{StoreAt}
 
--- p's fetch at place m of the page of a brings q's store to a at place i, whose interval is closed at place c
-pub record IsOriginBrought (s : Sizes) (j : List Event) (p a m q i c : ℕ) : Type 0 where
-  pub fetches : FetchesPage j m p (a / s.words)
-  pub value : ℕ
-  pub does : Does j i q (Store a value)
-  pub gap : InGap s (take m j) p (a / s.words) i
-  pub closes : ClosesAt j q c
-  pub interval : interval_at j q c ≡ interval_at j q i
-
--- the store at place i, whose interval is closed at place c, is applied before that at place k, whose is closed at place d
-abbrev pub IsOriginAppliedBefore : ℕ → ℕ → ℕ → ℕ → Type 0
-IsOriginAppliedBefore i c k d = (c < d) ⊎ ((c ≡ d) × (i < k))
-
--- of the stores to a that p's fetch at place m brings, that at place i is applied last
-pub record IsOriginLastBrought (s : Sizes) (j : List Event) (p a m i : ℕ) : Type 0 where
-  pub by : ℕ
-  pub closed : ℕ
-  pub brought : IsOriginBrought s j p a m by i closed
-  pub last : (q k d : ℕ) → IsOriginBrought s j p a m q k d → ¬ IsOriginAppliedBefore i closed k d
-
--- by its event at place m, p's copy has the word at a from the store at place i: from its own store, which that event is,
--- or from the last one that its fetch applies
-abbrev pub OriginWritesWord : Sizes → List Event → ℕ → ℕ → ℕ → ℕ → Type 0
-OriginWritesWord s j p a m i = ((i ≡ m) × ((v : ℕ) × Does j m p (Store a v))) ⊎ IsOriginLastBrought s j p a m i
-
 -- before place k, p's copy has the word at a from this store, by this event, and by none that comes later
-pub record IsOrigin (s : Sizes) (j : List Event) (p a k : ℕ) (x : WordOrigin) : Type 0 where
-  pub before : x.write < k
-  pub writes : OriginWritesWord s j p a x.write x.store
-  pub last : (m i : ℕ) → x.write < m → m < k → ¬ OriginWritesWord s j p a m i
+abbrev pub IsOrigin : Sizes → List Event → ℕ → ℕ → ℕ → WordOrigin → Type 0
+IsOrigin s j p a k x = IsWordFrom s j p a k x.write x.store
 
--- it has it from no store
-abbrev pub HasNoOrigin : Sizes → List Event → ℕ → ℕ → ℕ → Type 0
-HasNoOrigin s j p a k = (m i : ℕ) → m < k → ¬ OriginWritesWord s j p a m i
-
+-- it has it from this store, or from none
 abbrev pub IsWordOriginOf : Sizes → List Event → ℕ → ℕ → ℕ → Option WordOrigin → Type 0
 IsWordOriginOf s j p a k o = MatchOption o (HasNoOrigin s j p a k) (IsOrigin s j p a k)
 

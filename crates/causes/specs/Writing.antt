@@ -8,7 +8,7 @@ use Rattle.journal.specs.Sizes.{Sizes}
 use Rattle.causes.specs.declared.origin.WordOrigin.{WordOrigin}
 use Rattle.causes.specs.declared.written.WrittenRange.{WrittenRange}
 use Rattle.causes.specs.declared.written.WrittenWord.{WrittenWord}
-use Rattle.causes.specs.Origins.{OriginWritesWord}
+use Rattle.journal.specs.WordOrigins.{OriginWritesWord}
 
 -- what the event at place k writes is in p's copies, in this range
 abbrev pub IsWrittenRange : Sizes → List Event → ℕ → ℕ → WrittenRange → Type 0

@@ -1,13 +1,14 @@
 //! What keeps the two accesses of a race apart: what the one's processor had heard of the other's, and which locks they held.
 ghost use Rattle.std.specs.Prelude.{◌<◌, ◌≤◌, IfOk, length};
-ghost use Rattle.base.specs.Prelude.{most_held, most_processors};
+ghost use Rattle.base.specs.Prelude.{most_processors};
 ghost use Rattle.journal.specs.declared.event.Event.{Event};
 ghost use Rattle.journal.specs.Prelude.{ProcessorsInRange, Race};
+ghost use Rattle.judge.specs.Prelude.{most_in_history};
 ghost use Rattle.causes.specs.Prelude.{IsRaceApart};
 
 use crate::heard::heard;
 use crate::locks::locks_at;
-use journal::Event;
+use judge::History;
 use std::alloc::{AllocError, Global};
 
 /// Two accesses that race, and what keeps them apart.
@@ -26,28 +27,24 @@ pub struct RaceApart {
     pub second_locks: Vec<usize>,
 }
 
-/// What keeps the two accesses of this race apart, in a history of so many processors, at most `MOST_PROCESSORS`. Of its
-/// locks the first ones are looked at, so many of them. The only error is running out of memory.
+/// What keeps the two accesses of this race of the history apart. The only error is running out of memory.
 ///
 /// It takes time in the order of the events up to the second access times the processors and the locks.
 pub fn race_apart(
     alloc: Global,
-    processors: usize,
-    locks: usize,
-    events: &[Event],
+    history: &History<'_>,
     race: (usize, usize),
 ) -> Result<RaceApart, AllocError>
-    requires few { length events.now ≤ most_held }
-    requires few_processors { processors ≤ most_processors }
-    requires processors { ProcessorsInRange processors events.now }
-    requires race { Race events.now race.0 race.1 }
-    ensures { IfOk result (IsRaceApart locks events.now race.0 race.1) }
+    requires { Race history.now.events race.0 race.1 }
+    ensures { IfOk result (IsRaceApart history.now.sizes.locks history.now.events race.0 race.1) }
 {
+    let events = history.events();
+    let sizes = history.sizes();
     let (first, second) = race;
     let by = events[first].processor;
-    let heard = heard(alloc, processors, events, by, second)?;
-    let first_locks = locks_at(alloc, events, first, locks)?;
-    let second_locks = locks_at(alloc, events, second, locks)?;
+    let heard = heard(alloc, sizes.processors, events, by, second)?;
+    let first_locks = locks_at(alloc, events, first, sizes.locks)?;
+    let second_locks = locks_at(alloc, events, second, sizes.locks)?;
     Ok(RaceApart {
         first,
         second,

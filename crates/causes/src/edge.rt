@@ -7,6 +7,7 @@ ghost use Rattle.causes.specs.Prelude.{AreEdges, EdgeLeadsOn};
 
 use base::MOST_PROCESSORS;
 use journal::{Event, Kind};
+use judge::History;
 use std::alloc::{AllocError, Global};
 
 /// Whether it is a release of this lock.
@@ -82,17 +83,17 @@ pub(crate) fn departures_before(events: &[Event], processor: usize, place: usize
     departed
 }
 
-/// The places of the events of other processors with an edge to the event at this place, rising: releases of the lock
+/// The places of the events of other processors with an edge to the history's event at this place, rising: releases of the lock
 /// that it acquires, sets of the flag that it awaits, arrivals at the episode that it departs from. None where it takes
 /// nothing. The only error is running out of memory.
 ///
 /// It takes time in the order of the place. Of a lock that is released often every acquire has an edge from all releases
 /// before it, so asking of each event of a history takes time in the order of the square of their number.
-pub fn edges(alloc: Global, events: &[Event], place: usize) -> Result<Vec<usize>, AllocError>
-    requires place { place < length events.now }
-    requires processors { ProcessorsInRange most_processors events.now }
-    ensures { IfOk result (λ v. AreEdges events.now place v.items) }
+pub fn edges(alloc: Global, history: &History<'_>, place: usize) -> Result<Vec<usize>, AllocError>
+    requires { place < length history.now.events }
+    ensures { IfOk result (λ v. AreEdges history.now.events place v.items) }
 {
+    let events = history.events();
     let to = events[place];
     let departed = departures_before(events, to.processor, place);
     let mut arrivals = [0; MOST_PROCESSORS];

@@ -1,17 +1,17 @@
 //! What copies of pages lack: of which records an event that takes brings word, and which a fetch brings.
 ghost use Rattle.std.specs.Prelude.{◌≡◌, ℕ, ◌+◌, ◌*◌, ◌<◌, ◌≤◌, ◌^◌, [], IfOk, List, OnOk, Some, length, slice_index, take, true, vec_len};
-ghost use Rattle.base.specs.Prelude.{most_held, most_processors};
+ghost use Rattle.base.specs.Prelude.{most_processors};
 ghost use Rattle.journal.specs.declared.event.Event.{Event};
 ghost use Rattle.journal.specs.declared.event.Kind.TheVariants.{Fetch};
 ghost use Rattle.journal.specs.Events.{At};
 ghost use Rattle.journal.specs.Prelude.{IsTimeOf, is_taking};
-ghost use Rattle.judge.specs.Prelude.{AreSizesSmall, IsEventInSizes, TellsGaps, sizes_of};
+ghost use Rattle.judge.specs.Prelude.{IsEventInSizes, TellsGaps, most_in_history, sizes_of};
 ghost use Rattle.causes.specs.Prelude.{AreAllDues, DuesBelow, AreDues, IsOneOfDues};
 
 use crate::span::{Span, fetch_span, taking_span};
 use crate::takings::takes;
 use journal::{Clock, Event, Kind};
-use judge::{Gaps, Sizes};
+use judge::{Gaps, History};
 use std::alloc::{AllocError, Global};
 
 /// Records of a page that a copy lacks. A record is what one interval of its processor changes in one page.
@@ -90,7 +90,7 @@ fn dues_of_fetch(
     place: usize,
     page: usize,
 ) -> Result<Vec<Due>, AllocError>
-    requires few { length events.now ≤ most_held }
+    requires few { length events.now ≤ most_in_history }
     requires tells { TellsGaps (take place events.now) gaps.now }
     requires place { place < length events.now }
     requires processor { (e : Event) → At events.now place e → e.processor < most_processors }
@@ -113,7 +113,7 @@ fn dues_of_taking(
     place: usize,
     before: &Clock,
 ) -> Result<Vec<Due>, AllocError>
-    requires few { length events.now ≤ most_held }
+    requires few { length events.now ≤ most_in_history }
     requires tells { TellsGaps (take (place + 1) events.now) gaps.now }
     requires place { place < length events.now }
     requires within { (k : ℕ) (e : Event) → At events.now k e → IsEventInSizes (sizes_of gaps.now.sizes) e }
@@ -135,7 +135,7 @@ fn dues_at(
     events: &[Event],
     place: usize,
 ) -> Result<Vec<Due>, AllocError>
-    requires few { length events.now ≤ most_held }
+    requires few { length events.now ≤ most_in_history }
     requires place { place < length events.now }
     requires within { (k : ℕ) (e : Event) → At events.now k e → IsEventInSizes (sizes_of gaps.old.sizes) e }
     requires so_far { TellsGaps (take place events.now) gaps.old }
@@ -161,7 +161,7 @@ fn dues_at(
 
 /// Takes note of all events, and answers of which records each tells. The gaps tell nothing so far.
 fn all_dues(alloc: Global, gaps: &mut Gaps, events: &[Event]) -> Result<Vec<Vec<Due>>, AllocError>
-    requires few { length events.now ≤ most_held }
+    requires few { length events.now ≤ most_in_history }
     requires within { (k : ℕ) (e : Event) → At events.now k e → IsEventInSizes (sizes_of gaps.old.sizes) e }
     requires start { TellsGaps [] gaps.old }
     ensures long { IfOk result (λ v. vec_len v ≡ length events.now) }
@@ -174,19 +174,16 @@ fn all_dues(alloc: Global, gaps: &mut Gaps, events: &[Event]) -> Result<Vec<Vec<
     Ok(rows)
 }
 
-/// Of each event of a history of a cluster of these sizes: of a fetch, which records its processor's copy of the page
-/// lacked, by writers; of an event that takes, which records its processor's copies lack after it that they did not lack
-/// before, by pages and then by writers; and nothing of any other. A page with such records is stale.
+/// Of each event of the history: of a fetch, which records its processor's copy of the page lacked, by writers; of an event that
+/// takes, which records its processor's copies lack after it that they did not lack before, by pages and then by writers; and
+/// nothing of any other. A page with such records is stale.
 ///
 /// The only error is running out of memory. It takes time in the order of the events, and for each event that takes that
 /// of the pages times the processors of which it brings news, times the logarithm of the events.
-pub fn dues(alloc: Global, sizes: Sizes, events: &[Event]) -> Result<Vec<Vec<Due>>, AllocError>
-    requires sizes { AreSizesSmall (sizes_of sizes) }
-    requires few { length events.now ≤ most_held }
-    requires within { (k : ℕ) (e : Event) → At events.now k e → IsEventInSizes (sizes_of sizes) e }
-    ensures long { IfOk result (λ v. vec_len v ≡ length events.now) }
-    ensures dues { IfOk result (λ v. AreAllDues (sizes_of sizes) events.now v.items) }
+pub fn dues(alloc: Global, history: &History<'_>) -> Result<Vec<Vec<Due>>, AllocError>
+    ensures long { IfOk result (λ v. vec_len v ≡ length history.now.events) }
+    ensures dues { IfOk result (λ v. AreAllDues (sizes_of history.now.sizes) history.now.events v.items) }
 {
-    let mut gaps = Gaps::new(alloc, sizes)?;
-    all_dues(alloc, &mut gaps, events)
+    let mut gaps = Gaps::new(alloc, history.sizes())?;
+    all_dues(alloc, &mut gaps, history.events())
 }

@@ -1,9 +1,6 @@
 //! Why the events of a history went as they did, all together.
-ghost use Rattle.std.specs.Prelude.{ℕ, ◌≤◌, IfOk, length};
-ghost use Rattle.base.specs.Prelude.{most_held};
-ghost use Rattle.journal.specs.Events.{At};
-ghost use Rattle.journal.specs.declared.event.Event.{Event};
-ghost use Rattle.judge.specs.Prelude.{AreSizesSmall, IsEventInSizes, sizes_of};
+ghost use Rattle.std.specs.Prelude.{IfOk};
+ghost use Rattle.judge.specs.Prelude.{sizes_of};
 ghost use Rattle.causes.specs.Prelude.{IsExplanation};
 
 use crate::news::incoming;
@@ -11,8 +8,7 @@ use crate::origin::{WordOrigin, origins};
 use crate::racing::{FirstRace, race};
 use crate::source::{Source, loads};
 use crate::waiting::{Wait, waits};
-use journal::Event;
-use judge::Sizes;
+use judge::History;
 use judge::sources::latest;
 use std::alloc::{AllocError, Global};
 
@@ -34,21 +30,17 @@ pub struct Explanation {
     pub waits: Vec<Wait>,
 }
 
-/// What `judge::sources::latest`, `origins`, `loads`, `race`, `incoming` and `waits` tell of a history of a cluster of these
-/// sizes. The only error is running out of memory.
-pub fn explain(alloc: Global, sizes: Sizes, events: &[Event]) -> Result<Explanation, AllocError>
-    requires sizes { AreSizesSmall (sizes_of sizes) }
-    requires few { length events.now ≤ most_held }
-    requires within { (k : ℕ) (e : Event) → At events.now k e → IsEventInSizes (sizes_of sizes) e }
-    ensures { IfOk result (IsExplanation (sizes_of sizes) events.now) }
+/// What `judge::sources::latest`, `origins`, `loads`, `race`, `incoming` and `waits` tell of the history. The only error is running
+/// out of memory.
+pub fn explain(alloc: Global, history: &History<'_>) -> Result<Explanation, AllocError>
+    ensures { IfOk result (IsExplanation (sizes_of history.now.sizes) history.now.events) }
 {
-    let addresses = sizes.pages * sizes.words;
-    let race = race(alloc, sizes.processors, addresses, events)?;
-    let latest = latest(alloc, sizes.processors, addresses, events)?;
-    let origins = origins(alloc, sizes, events)?;
-    let loads = loads(alloc, &latest, &origins, events)?;
-    let incoming = incoming(alloc, sizes.processors, events)?;
-    let waits = waits(alloc, sizes.processors, events)?;
+    let race = race(alloc, history)?;
+    let latest = latest(alloc, history)?;
+    let origins = origins(alloc, history)?;
+    let loads = loads(alloc, history, &latest, &origins)?;
+    let incoming = incoming(alloc, history)?;
+    let waits = waits(alloc, history)?;
     Ok(Explanation {
         latest,
         origins,

@@ -1,14 +1,16 @@
 //! By which events each event's processor gets its news: of those that it had not heard of, the last ones.
 ghost use Rattle.std.specs.Prelude.{◌≡◌, ◌↔◌, ℕ, ◌<◌, ◌≤◌, IsTrue, IfOk, length};
 ghost use Rattle.base.specs.InOrderOnce.{Has, InOrder};
-ghost use Rattle.base.specs.Prelude.{most_held, most_processors};
+ghost use Rattle.base.specs.Prelude.{most_processors};
 ghost use Rattle.journal.specs.Pasts.{UpTo};
 ghost use Rattle.journal.specs.Prelude.{ProcessorsInRange};
+ghost use Rattle.judge.specs.Prelude.{most_in_history};
 ghost use Rattle.causes.specs.Prelude.{AreAllHandOvers, AreIncoming, AreLastHandOversFrom, IsPathReach};
 
 use crate::news::incoming;
 use crate::reaching::Reach;
 use journal::Event;
+use judge::History;
 use std::alloc::{AllocError, Global};
 
 /// Whether the event at `from` is one of those at these places, or happens before one.
@@ -70,35 +72,24 @@ fn all_hand_overs(
 /// The same of the history's news.
 pub(crate) fn hand_overs_by(
     alloc: Global,
-    processors: usize,
     reach: &Reach,
-    events: &[Event],
+    history: &History<'_>,
 ) -> Result<Vec<Vec<usize>>, AllocError>
-    requires few { length events.now ≤ most_held }
-    requires few_processors { processors ≤ most_processors }
-    requires processors { ProcessorsInRange processors events.now }
-    requires tells { IsPathReach events.now reach.now }
-    ensures { IfOk result (λ v. AreAllHandOvers events.now v.items) }
+    requires tells { IsPathReach history.now.events reach.now }
+    ensures { IfOk result (λ v. AreAllHandOvers history.now.events v.items) }
 {
-    let rows = incoming(alloc, processors, events)?;
-    all_hand_overs(alloc, reach, events, &rows)
+    let rows = incoming(alloc, history)?;
+    all_hand_overs(alloc, reach, history.events(), &rows)
 }
 
-/// Of each event of a history of `processors` processors, at most `MOST_PROCESSORS`: of its news, as `incoming` finds them, the
-/// last ones, falling. None of them happens before another, and each of the others happens before one. So they are at most
-/// one of each other processor, and of an acquire the last release alone. The only error is running out of memory.
+/// Of each event of the history: of its news, as `incoming` finds them, the last ones, falling. None of them happens before
+/// another, and each of the others happens before one. So they are at most one of each other processor, and of an acquire the
+/// last release alone. The only error is running out of memory.
 ///
 /// It takes time as `incoming` does, and for each of the news that of the processors times the logarithm of the events.
-pub fn hand_overs(
-    alloc: Global,
-    processors: usize,
-    events: &[Event],
-) -> Result<Vec<Vec<usize>>, AllocError>
-    requires few { length events.now ≤ most_held }
-    requires few_processors { processors ≤ most_processors }
-    requires processors { ProcessorsInRange processors events.now }
-    ensures { IfOk result (λ v. AreAllHandOvers events.now v.items) }
+pub fn hand_overs(alloc: Global, history: &History<'_>) -> Result<Vec<Vec<usize>>, AllocError>
+    ensures { IfOk result (λ v. AreAllHandOvers history.now.events v.items) }
 {
-    let reach = Reach::new(alloc, processors, events)?;
-    hand_overs_by(alloc, processors, &reach, events)
+    let reach = Reach::new(alloc, history)?;
+    hand_overs_by(alloc, &reach, history)
 }

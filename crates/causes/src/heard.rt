@@ -1,11 +1,12 @@
 //! What one processor has heard of another's events.
 ghost use Rattle.std.specs.Prelude.{◌≡◌, ◌≢◌, ◌↔◌, ◌==◌, ◌&&◌, ℕ, ◌<◌, ◌≤◌, IfOk, cond, length, false};
-ghost use Rattle.base.specs.Prelude.{most_held, most_processors};
+ghost use Rattle.base.specs.Prelude.{most_processors};
 ghost use Rattle.journal.specs.declared.event.Event.{Event};
 ghost use Rattle.journal.specs.declared.event.Kind.{Kind};
 ghost use Rattle.journal.specs.Events.{At, interval_at};
 ghost use Rattle.journal.specs.WellFormed.{Does};
 ghost use Rattle.journal.specs.Prelude.{HappensBefore, ProcessorsInRange, is_closing, is_taking};
+ghost use Rattle.judge.specs.Prelude.{most_in_history};
 ghost use Rattle.causes.specs.Prelude.{IsHeard};
 
 use crate::index::closes;
@@ -48,7 +49,7 @@ pub(crate) fn heard(
     by: usize,
     second: usize,
 ) -> Result<Option<usize>, AllocError>
-    requires few { length events.now ≤ most_held }
+    requires few { length events.now ≤ most_in_history }
     requires few_processors { processors ≤ most_processors }
     requires processors { ProcessorsInRange processors events.now }
     requires by { by < most_processors }

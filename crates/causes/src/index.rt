@@ -1,8 +1,9 @@
 //! What is looked up of a history again and again: how often each event's processor had arrived and departed, and where
 //! each processor closed its intervals.
 ghost use Rattle.std.specs.Prelude.{◌≡◌, ◌==◌, ◌&&◌, ◌+◌, ◌<◌, ◌≤◌, ◌^◌, IfOk, cond, length};
-ghost use Rattle.base.specs.Prelude.{most_held, most_processors};
+ghost use Rattle.base.specs.Prelude.{most_processors};
 ghost use Rattle.journal.specs.Prelude.{ProcessorsInRange, is_arrive, is_closing, is_depart};
+ghost use Rattle.judge.specs.Prelude.{most_in_history};
 ghost use Rattle.causes.specs.Prelude.{AreIndexedClosings, AreIndexedClosingsOf, AreIndexedTurns, IsIndex};
 
 use base::MOST_PROCESSORS;
@@ -59,7 +60,7 @@ fn turn_after(turn: Turn, kind: Kind) -> Turn
 
 /// The turn of each event.
 fn index_turns(alloc: Global, events: &[Event]) -> Result<Vec<Turn>, AllocError>
-    requires few { length events.now ≤ most_held }
+    requires few { length events.now ≤ most_in_history }
     requires processors { ProcessorsInRange most_processors events.now }
     ensures { IfOk result (λ v. AreIndexedTurns events.now v.items) }
 {
@@ -103,7 +104,7 @@ fn index_closings(alloc: Global, events: &[Event]) -> Result<Vec<Vec<usize>>, Al
 
 /// What is looked up of this history. The only error is running out of memory.
 pub(crate) fn index_of(alloc: Global, events: &[Event]) -> Result<Index, AllocError>
-    requires few { length events.now ≤ most_held }
+    requires few { length events.now ≤ most_in_history }
     requires processors { ProcessorsInRange most_processors events.now }
     ensures { IfOk result (IsIndex events.now) }
 {

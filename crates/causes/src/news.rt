@@ -1,15 +1,17 @@
 //! What each event brings its processor news of: the events that let it through and that its processor had not heard of.
 ghost use Rattle.std.specs.Prelude.{◌≡◌, ◌↔◌, ◌⊎◌, ℕ, ◌<◌, ◌≤◌, [], IsTrue, IfOk, OnOk, length, vec_len};
-ghost use Rattle.base.specs.Prelude.{Has, most_held, most_processors};
+ghost use Rattle.base.specs.Prelude.{Has, most_processors};
 ghost use Rattle.base.specs.InOrderOnce.{IsOnce};
 ghost use Rattle.journal.specs.Times.{ClosesAt};
 ghost use Rattle.journal.specs.Prelude.{AreClocks, ProcessorsInRange};
+ghost use Rattle.judge.specs.Prelude.{most_in_history};
 ghost use Rattle.causes.specs.Prelude.{AreIncoming, AreNewsInOrder, AreIndexedTurns, EdgeFromOther, IsIndex, IsNewsOfStep, TimesAroundNews};
 
 use crate::edge::edge_leads_on;
 use crate::index::{Index, Turn, index_of};
 use crate::step::{Step, take_step};
 use journal::{Clocks, Event};
+use judge::History;
 use std::alloc::{AllocError, Global};
 
 /// Whether an edge leads from the event at the first place to another processor's at the second one.
@@ -85,7 +87,7 @@ fn all_news(
     events: &[Event],
     index: &Index,
 ) -> Result<Vec<Vec<usize>>, AllocError>
-    requires few { length events.now ≤ most_held }
+    requires few { length events.now ≤ most_in_history }
     requires processors { ProcessorsInRange clocks.old.present events.now }
     requires start { AreClocks [] clocks.old }
     requires index { IsIndex events.now index.now }
@@ -100,24 +102,18 @@ fn all_news(
     Ok(rows)
 }
 
-/// Of each event of a history of `processors` processors, at most `MOST_PROCESSORS`: the places, rising, of the events
-/// of other processors that have an edge to it and that its processor had not heard of: that happen before none of its
-/// earlier events. None where it takes nothing, or nothing new. The only error is running out of memory.
+/// Of each event of the history: the places, rising, of the events of other processors that have an edge to it and that its
+/// processor had not heard of: that happen before none of its earlier events. None where it takes nothing, or nothing new. The
+/// only error is running out of memory.
 ///
 /// Each event stands at most once among the news of each other processor. So time and memory are in the order of the
 /// number of events times that of processors; each event's news are sorted besides.
-pub fn incoming(
-    alloc: Global,
-    processors: usize,
-    events: &[Event],
-) -> Result<Vec<Vec<usize>>, AllocError>
-    requires few { length events.now ≤ most_held }
-    requires few_processors { processors ≤ most_processors }
-    requires processors { ProcessorsInRange processors events.now }
-    ensures long { IfOk result (λ v. vec_len v ≡ length events.now) }
-    ensures news { IfOk result (λ v. AreIncoming events.now v.items) }
+pub fn incoming(alloc: Global, history: &History<'_>) -> Result<Vec<Vec<usize>>, AllocError>
+    ensures long { IfOk result (λ v. vec_len v ≡ length history.now.events) }
+    ensures news { IfOk result (λ v. AreIncoming history.now.events v.items) }
 {
+    let events = history.events();
     let index = index_of(alloc, events)?;
-    let mut clocks = Clocks::new(alloc, processors)?;
+    let mut clocks = Clocks::new(alloc, history.sizes().processors)?;
     all_news(alloc, &mut clocks, events, &index)
 }

@@ -1,9 +1,9 @@
 //! Write notices: which intervals of other processors an event tells its processor of, page by page.
 ghost use Rattle.std.specs.Prelude.{◌≡◌, ℕ, ◌+◌, ◌*◌, ◌<◌, ◌≤◌, ◌^◌, ◌↔◌, IfOk, IsTrue, List, OnOk, length, take};
-ghost use Rattle.base.specs.Prelude.{most_held, most_processors};
+ghost use Rattle.base.specs.Prelude.{most_processors};
 ghost use Rattle.journal.specs.declared.event.Event.{Event};
 ghost use Rattle.journal.specs.Events.{At};
-ghost use Rattle.judge.specs.Prelude.{GapStoresInPage, IsEventInSizes, TellsGaps, gap_tally_row_index, sizes_of};
+ghost use Rattle.judge.specs.Prelude.{GapStoresInPage, IsEventInSizes, TellsGaps, gap_tally_row_index, most_in_history, sizes_of};
 ghost use Rattle.causes.specs.Prelude.{AreWriteNotices, HasNoticeOf, NoticesBelow};
 
 use crate::span::{Span, fetch_span, taking_span};
@@ -123,7 +123,7 @@ pub(crate) fn notices_at(
     events: &[Event],
     place: usize,
 ) -> Result<Vec<WriteNotice>, AllocError>
-    requires few { length events.now ≤ most_held }
+    requires few { length events.now ≤ most_in_history }
     requires place { place < length events.now }
     requires within { (k : ℕ) (e : Event) → At events.now k e → IsEventInSizes (sizes_of gaps.old.sizes) e }
     requires so_far { TellsGaps (take place events.now) gaps.old }

@@ -1,10 +1,10 @@
 //! Where the words of copies come from: of each load, the store whose word stands in its processor's copy.
 ghost use Rattle.std.specs.Prelude.{◌≡◌, ℕ, ◌+◌, ◌*◌, ◌<◌, ◌≤◌, [], IfOk, List, None, Option, Some, length, slice_get, take, vec_len};
-ghost use Rattle.base.specs.Prelude.{most_held, most_processors};
+ghost use Rattle.base.specs.Prelude.{most_processors};
 ghost use Rattle.journal.specs.declared.event.Event.{Event};
 ghost use Rattle.journal.specs.Events.{At};
 ghost use Rattle.journal.specs.Sizes.{Sizes as SizesOf};
-ghost use Rattle.judge.specs.Prelude.{AreSizesSmall, IsEventInSizes, TellsGaps, sizes_of};
+ghost use Rattle.judge.specs.Prelude.{AreSizesSmall, IsEventInSizes, TellsGaps, most_in_history, sizes_of};
 ghost use Rattle.causes.specs.declared.origin.WordOrigin.{WordOrigin};
 ghost use Rattle.causes.specs.Prelude.{AreOrigins, AreOriginsBefore, AreOriginsPartFetched, IsOriginFetch};
 ghost use Rattle.causes.specs.Prelude.{IsOriginLookedUp, IsOriginAfter, IsOriginAt};
@@ -14,7 +14,7 @@ use crate::index::index_of;
 use crate::stores::StoreRows;
 use base::MOST_PROCESSORS;
 use journal::{Event, Kind};
-use judge::{Gaps, Sizes};
+use judge::{Gaps, History, Sizes};
 use std::alloc::{AllocError, Global};
 
 /// Where the word of a copy comes from.
@@ -132,7 +132,7 @@ fn all_origins(
     events: &[Event],
     sizes: Sizes,
 ) -> Result<Vec<Option<WordOrigin>>, AllocError>
-    requires few { length events.now ≤ most_held }
+    requires few { length events.now ≤ most_in_history }
     requires within { (k : ℕ) (e : Event) → At events.now k e → IsEventInSizes (sizes_of sizes) e }
     requires sizes { gaps.old.sizes ≡ sizes }
     requires start { TellsGaps [] gaps.old }
@@ -163,25 +163,20 @@ pub(crate) fn no_origins(alloc: Global, count: usize) -> Result<Vec<Option<WordO
     Ok(words)
 }
 
-/// Of each event of a history of a cluster of these sizes: where the word comes from that it loads, which stands in its
-/// processor's copy; None if it is no load, or if no store has come into the copy there.
+/// Of each event of the history: where the word comes from that it loads, which stands in its processor's copy; None if it is no
+/// load, or if no store has come into the copy there.
 ///
 /// A copy has a word from its processor's own store, or from a fetch. A fetch applies the intervals of its gap in the order
 /// in which they were closed, so of a word it has the gap's store whose interval was closed last, the last of them in it.
 ///
 /// The only error is running out of memory. It takes time in the order of the events, and for each fetch that of the page's
 /// words times the processors times the logarithm of the events.
-pub fn origins(
-    alloc: Global,
-    sizes: Sizes,
-    events: &[Event],
-) -> Result<Vec<Option<WordOrigin>>, AllocError>
-    requires sizes { AreSizesSmall (sizes_of sizes) }
-    requires few { length events.now ≤ most_held }
-    requires within { (k : ℕ) (e : Event) → At events.now k e → IsEventInSizes (sizes_of sizes) e }
-    ensures long { IfOk result (λ v. vec_len v ≡ length events.now) }
-    ensures origins { IfOk result (λ v. AreOrigins (sizes_of sizes) events.now v.items) }
+pub fn origins(alloc: Global, history: &History<'_>) -> Result<Vec<Option<WordOrigin>>, AllocError>
+    ensures long { IfOk result (λ v. vec_len v ≡ length history.now.events) }
+    ensures origins { IfOk result (λ v. AreOrigins (sizes_of history.now.sizes) history.now.events v.items) }
 {
+    let sizes = history.sizes();
+    let events = history.events();
     let addresses = sizes.pages * sizes.words;
     let looked = LookedUp {
         index: index_of(alloc, events)?,

@@ -1,13 +1,15 @@
 //! The first race of a history, and what keeps its two accesses apart.
 ghost use Rattle.std.specs.Prelude.{◌<◌, ◌≤◌, IfOk, MatchOption, length};
-ghost use Rattle.base.specs.Prelude.{most_held, most_processors};
+ghost use Rattle.base.specs.Prelude.{most_processors};
 ghost use Rattle.journal.specs.declared.event.Event.{Event};
 ghost use Rattle.journal.specs.Prelude.{AddressesInRange, ProcessorsInRange};
 ghost use Rattle.journal.specs.Prelude.{RaceFree};
+ghost use Rattle.judge.specs.Prelude.{most_in_history};
 ghost use Rattle.causes.specs.Prelude.{IsFirstRaceTold};
 
 use crate::heard::heard;
-use journal::{Event, first_race_of};
+use journal::first_race_of;
+use judge::History;
 use std::alloc::{AllocError, Global};
 
 /// The first race of a history.
@@ -22,25 +24,18 @@ pub struct FirstRace {
     pub heard: Option<usize>,
 }
 
-/// The first race of a history of `processors` processors, at most `MOST_PROCESSORS`, and `addresses` addresses: the
-/// pair with the least second place and, among these, the least first one, as `journal::first_race_of` answers it, and the
-/// last event of the first one's processor that the second one's processor had heard of. None where there is no race.
-/// The only error is running out of memory.
+/// The first race of the history: the pair with the least second place and, among these, the least first one, as
+/// `journal::first_race_of` answers it, and the last event of the first one's processor that the second one's processor had
+/// heard of. None where there is no race. The only error is running out of memory.
 ///
 /// It takes time as `Journal::first_race` does.
-pub fn race(
-    alloc: Global,
-    processors: usize,
-    addresses: usize,
-    events: &[Event],
-) -> Result<Option<FirstRace>, AllocError>
-    requires few { length events.now ≤ most_held }
-    requires few_processors { processors ≤ most_processors }
-    requires addresses { AddressesInRange addresses events.now }
-    requires processors { ProcessorsInRange processors events.now }
-    ensures { IfOk result (λ o. MatchOption o (RaceFree events.now) (IsFirstRaceTold events.now)) }
+pub fn race(alloc: Global, history: &History<'_>) -> Result<Option<FirstRace>, AllocError>
+    ensures { IfOk result (λ o. MatchOption o (RaceFree history.now.events) (IsFirstRaceTold history.now.events)) }
 {
-    let Some((first, second)) = first_race_of(alloc, processors, addresses, events)? else {
+    let events = history.events();
+    let processors = history.sizes().processors;
+    let Some((first, second)) = first_race_of(alloc, processors, history.addresses(), events)?
+    else {
         return Ok(None);
     };
     let by = events[first].processor;

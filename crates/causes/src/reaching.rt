@@ -1,12 +1,12 @@
 //! Which event of a processor is the first that an event reaches.
 ghost use Rattle.std.specs.Prelude.{◌↔◌, ◌<◌, ◌≤◌, IsTrue, IfOk, length};
-ghost use Rattle.base.specs.Prelude.{most_held, most_processors};
+ghost use Rattle.base.specs.Prelude.{most_processors};
 ghost use Rattle.journal.specs.Pasts.{UpTo};
-ghost use Rattle.journal.specs.Prelude.{ProcessorsInRange};
 ghost use Rattle.causes.specs.Prelude.{PathFirstReached, IsPathReach};
 
 use crate::takings::{Taking, first_taking_above, numbers_of, takings_of};
 use journal::Event;
+use judge::History;
 use std::alloc::{AllocError, Global};
 
 /// What is looked up of a history to tell which events one reaches: happens before, or is.
@@ -22,19 +22,13 @@ pub(crate) struct Reach {
 }
 
 impl Reach {
-    /// What is looked up of this history of so many processors. The only error is running out of memory.
-    pub(crate) fn new(
-        alloc: Global,
-        processors: usize,
-        events: &[Event],
-    ) -> Result<Reach, AllocError>
-        requires few { length events.now ≤ most_held }
-        requires few_processors { processors ≤ most_processors }
-        requires processors { ProcessorsInRange processors events.now }
-        ensures { IfOk result (IsPathReach events.now) }
+    /// What is looked up of this history. The only error is running out of memory.
+    pub(crate) fn new(alloc: Global, history: &History<'_>) -> Result<Reach, AllocError>
+        ensures { IfOk result (IsPathReach history.now.events) }
     {
+        let events = history.events();
         let numbers = numbers_of(alloc, events)?;
-        let takings = takings_of(alloc, processors, events)?;
+        let takings = takings_of(alloc, history.sizes().processors, events)?;
         Ok(Reach { numbers, takings })
     }
 

@@ -1,10 +1,10 @@
 //! The records of a closed interval: what its stores come to, page by page.
 ghost use Rattle.std.specs.Prelude.{◌≡◌, ℕ, ◌+◌, ◌<◌, ◌≤◌, ◌^◌, IfOk, MatchOption, length, take, true};
-ghost use Rattle.base.specs.Prelude.{most_held, most_processors};
+ghost use Rattle.base.specs.Prelude.{most_processors};
 ghost use Rattle.journal.specs.declared.event.Event.{Event};
 ghost use Rattle.journal.specs.Events.{At, interval_at};
 ghost use Rattle.journal.specs.Prelude.{is_closing};
-ghost use Rattle.judge.specs.Prelude.{AreSizesSmall, IsEventInSizes, TellsGaps, sizes_of};
+ghost use Rattle.judge.specs.Prelude.{AreSizesSmall, IsEventInSizes, TellsGaps, most_in_history, sizes_of};
 ghost use Rattle.causes.specs.Prelude.{AreClosedRecords, AreRecordWordsBelow, AreStoreRows, IsLastOfInterval, IsNoneOfInterval, IsRecordIndex};
 
 use crate::notices::stores_in;
@@ -93,7 +93,7 @@ impl RecordIndex {
         events: &[Event],
     ) -> Result<RecordIndex, AllocError>
         requires sizes { AreSizesSmall (sizes_of sizes) }
-        requires few { length events.now ≤ most_held }
+        requires few { length events.now ≤ most_in_history }
         requires within { (k : ℕ) (e : Event) → At events.now k e → IsEventInSizes (sizes_of sizes) e }
         ensures { IfOk result (IsRecordIndex (sizes_of sizes) events.now) }
     {
@@ -113,7 +113,7 @@ impl RecordIndex {
         events: &[Event],
         place: usize,
     ) -> Result<Vec<PageRecord>, AllocError>
-        requires few { length events.now ≤ most_held }
+        requires few { length events.now ≤ most_in_history }
         requires place { place < length events.now }
         requires within { (k : ℕ) (e : Event) → At events.now k e → IsEventInSizes (sizes_of gaps.now.sizes) e }
         requires tells { TellsGaps (take (place + 1) events.now) gaps.now }

@@ -10,6 +10,7 @@ ghost use Rattle.causes.specs.Prelude.{NamesOriginAt};
 
 use crate::origin::WordOrigin;
 use journal::{Event, Kind};
+use judge::History;
 use std::alloc::{AllocError, Global};
 
 /// Where the value that a load answers comes from.
@@ -121,7 +122,7 @@ fn source_at(
     }
 }
 
-/// Of each event of a history where the value that it answers comes from, if it is a load, and None if it is none. The only
+/// Of each event of the history where the value that it answers comes from, if it is a load, and None if it is none. The only
 /// error is running out of memory.
 ///
 /// `latest` has of each event the latest stores, as `judge::sources::latest` finds them, and `origins` where the word comes
@@ -129,17 +130,18 @@ fn source_at(
 /// it is none of them, the first.
 pub fn loads(
     alloc: Global,
+    history: &History<'_>,
     latest: &[Vec<usize>],
     origins: &[Option<WordOrigin>],
-    events: &[Event],
 ) -> Result<Vec<Option<Source>>, AllocError>
-    requires latest_long { length latest.now ≡ length events.now }
-    requires latest { AreLatestRows events.now latest.now }
-    requires origins_long { length origins.now ≡ length events.now }
-    ensures long { IfOk result (λ v. vec_len v ≡ length events.now) }
-    ensures sources { IfOk result (λ v. AreSources events.now v.items) }
-    ensures origins { IfOk result (λ v. NameOrigins events.now origins.now v.items) }
+    requires latest_long { length latest.now ≡ length history.now.events }
+    requires latest { AreLatestRows history.now.events latest.now }
+    requires origins_long { length origins.now ≡ length history.now.events }
+    ensures long { IfOk result (λ v. vec_len v ≡ length history.now.events) }
+    ensures sources { IfOk result (λ v. AreSources history.now.events v.items) }
+    ensures origins { IfOk result (λ v. NameOrigins history.now.events origins.now v.items) }
 {
+    let events = history.events();
     let mut sources = Vec::with_capacity(alloc, events.len())?;
     for place in 0..events.len() {
         let source = source_at(events, &latest[place], events[place], origins[place]);

@@ -1,11 +1,10 @@
 //! The protocol's state at the events of a history: timestamps, intervals with their records, write notices, and which copies
 //! are stale or dirty.
 ghost use Rattle.std.specs.Prelude.{◌≡◌, ℕ, ◌+◌, ◌<◌, ◌≤◌, [], IfOk, OnOk, false, length, take, true, vec_len};
-ghost use Rattle.base.specs.Prelude.{most_held};
 ghost use Rattle.journal.specs.declared.event.Event.{Event};
 ghost use Rattle.journal.specs.Events.{At, interval_at};
 ghost use Rattle.journal.specs.Prelude.{is_closing};
-ghost use Rattle.judge.specs.Prelude.{AreSizesSmall, IsEventInSizes, TellsGaps, sizes_of};
+ghost use Rattle.judge.specs.Prelude.{IsEventInSizes, TellsGaps, most_in_history, sizes_of};
 ghost use Rattle.causes.specs.Prelude.{AreClosedRecords, AreEventStates, AreWriteNotices, IsEventState, IsRecordIndex, IsStateIfAsked};
 
 use crate::copies::{dirty_copies, stale_copies};
@@ -13,7 +12,7 @@ use crate::index::closes;
 use crate::notices::{WriteNotice, notices_at};
 use crate::records::{PageRecord, RecordIndex};
 use journal::{Clock, Event};
-use judge::{Gaps, Sizes};
+use judge::{Gaps, History};
 use std::alloc::{AllocError, Global};
 
 /// The protocol's state at an event, in the words of Keleher, Cox and Zwaenepoel (1992).
@@ -44,7 +43,7 @@ fn records_at(
     events: &[Event],
     place: usize,
 ) -> Result<Vec<PageRecord>, AllocError>
-    requires few { length events.now ≤ most_held }
+    requires few { length events.now ≤ most_in_history }
     requires place { place < length events.now }
     requires within { (k : ℕ) (e : Event) → At events.now k e → IsEventInSizes (sizes_of gaps.now.sizes) e }
     requires tells { TellsGaps (take (place + 1) events.now) gaps.now }
@@ -72,7 +71,7 @@ fn state_of(
     place: usize,
     notices: Vec<WriteNotice>,
 ) -> Result<EventState, AllocError>
-    requires few { length events.now ≤ most_held }
+    requires few { length events.now ≤ most_in_history }
     requires place { place < length events.now }
     requires within { (k : ℕ) (e : Event) → At events.now k e → IsEventInSizes (sizes_of gaps.now.sizes) e }
     requires tells { TellsGaps (take (place + 1) events.now) gaps.now }
@@ -106,7 +105,7 @@ fn state_at(
     place: usize,
     is_asked: bool,
 ) -> Result<Option<EventState>, AllocError>
-    requires few { length events.now ≤ most_held }
+    requires few { length events.now ≤ most_in_history }
     requires place { place < length events.now }
     requires within { (k : ℕ) (e : Event) → At events.now k e → IsEventInSizes (sizes_of gaps.old.sizes) e }
     requires so_far { TellsGaps (take place events.now) gaps.old }
@@ -132,7 +131,7 @@ fn all_states(
     events: &[Event],
     asked: &[bool],
 ) -> Result<Vec<Option<EventState>>, AllocError>
-    requires few { length events.now ≤ most_held }
+    requires few { length events.now ≤ most_in_history }
     requires within { (k : ℕ) (e : Event) → At events.now k e → IsEventInSizes (sizes_of gaps.old.sizes) e }
     requires start { TellsGaps [] gaps.old }
     requires index { IsRecordIndex (sizes_of gaps.old.sizes) events.now index.now }
@@ -147,25 +146,23 @@ fn all_states(
     Ok(rows)
 }
 
-/// Of each event of a history of a cluster of these sizes the protocol's state, if `asked` has true for it; else None. The only
-/// error is running out of memory.
+/// Of each event of the history the protocol's state, if `asked` has true for it; else None. The only error is running out of
+/// memory.
 ///
 /// It takes time in the order of the events, and for each event whose state is asked for that of the pages times the
 /// processors times the logarithm of the events; for a closing event besides that of the words of the pages that it has
 /// records of, and for one that takes or fetches that of the intervals that it brings, times the pages.
 pub fn states(
     alloc: Global,
-    sizes: Sizes,
-    events: &[Event],
+    history: &History<'_>,
     asked: &[bool],
 ) -> Result<Vec<Option<EventState>>, AllocError>
-    requires sizes { AreSizesSmall (sizes_of sizes) }
-    requires few { length events.now ≤ most_held }
-    requires within { (k : ℕ) (e : Event) → At events.now k e → IsEventInSizes (sizes_of sizes) e }
-    requires asked { length asked.now ≡ length events.now }
-    ensures long { IfOk result (λ v. vec_len v ≡ length events.now) }
-    ensures states { IfOk result (λ v. AreEventStates (sizes_of sizes) events.now asked.now v.items) }
+    requires { length asked.now ≡ length history.now.events }
+    ensures long { IfOk result (λ v. vec_len v ≡ length history.now.events) }
+    ensures states { IfOk result (λ v. AreEventStates (sizes_of history.now.sizes) history.now.events asked.now v.items) }
 {
+    let sizes = history.sizes();
+    let events = history.events();
     let index = RecordIndex::of(alloc, sizes, events)?;
     let mut gaps = Gaps::new(alloc, sizes)?;
     all_states(alloc, &index, &mut gaps, events, asked)

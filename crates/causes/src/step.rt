@@ -1,7 +1,7 @@
 //! A history's events, one after the other, each with its processor's timestamps before and after it.
 ghost use Rattle.std.specs.Prelude.{◌≡◌, ◌+◌, ◌<◌, ◌≤◌, IfOk, OnOk, length, take};
-ghost use Rattle.base.specs.Prelude.{most_held};
 ghost use Rattle.journal.specs.Prelude.{AreClocks, ProcessorsInRange};
+ghost use Rattle.judge.specs.Prelude.{most_in_history};
 ghost use Rattle.causes.specs.Prelude.{TimesAroundNews};
 
 use journal::{Clock, Clocks, Event};
@@ -22,7 +22,7 @@ pub(crate) fn take_step(
     place: usize,
 ) -> Result<Step, AllocError>
     requires place { place < length events.now }
-    requires few { length events.now ≤ most_held }
+    requires few { length events.now ≤ most_in_history }
     requires processors { ProcessorsInRange clocks.old.present events.now }
     requires so_far { AreClocks (take place events.now) clocks.old }
     ensures clocks { OnOk result (AreClocks (take (place + 1) events.now) clocks.new) }

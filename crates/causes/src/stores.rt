@@ -2,10 +2,10 @@
 ghost use Rattle.std.specs.Prelude.{◌≡◌, ◌+◌, ◌*◌, ◌^◌, ◌<◌, ◌≤◌, IfOk, List, MatchOption, OnOk, length, slice_get, Some, ℕ, vec_len, []};
 ghost use Rattle.std.specs.Global.{Vec};
 ghost use Rattle.base.specs.InOrderOnce.{InOrder};
-ghost use Rattle.base.specs.Prelude.{most_held, most_processors};
+ghost use Rattle.base.specs.Prelude.{most_processors};
 ghost use Rattle.journal.specs.declared.event.Event.{Event};
 ghost use Rattle.journal.specs.Prelude.{AddressesInRange, ProcessorsInRange};
-ghost use Rattle.judge.specs.Prelude.{gap_tally_row_index};
+ghost use Rattle.judge.specs.Prelude.{gap_tally_row_index, most_in_history};
 ghost use Rattle.causes.specs.Prelude.{AreTakingNumbers, AreStoreRows, IsLastStoredUnder, NoneStoredUnder};
 
 use crate::takings::numbers_of;
@@ -95,7 +95,7 @@ impl StoreRows {
         addresses: usize,
         events: &[Event],
     ) -> Result<StoreRows, AllocError>
-        requires few { length events.now ≤ most_held }
+        requires few { length events.now ≤ most_in_history }
         requires few_addresses { addresses ≤ 2 ^ 12 }
         requires processors { ProcessorsInRange most_processors events.now }
         requires addresses { AddressesInRange addresses events.now }

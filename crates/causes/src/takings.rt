@@ -1,9 +1,10 @@
 //! Of each processor, the events that take, with its timestamps after them; of each event, the number of its interval.
 ghost use Rattle.std.specs.Prelude.{◌≡◌, ◌+◌, ◌<◌, ◌≤◌, IfOk, List, MatchOption, OnOk, cond, length, slice_index};
 ghost use Rattle.base.specs.InOrderOnce.{InOrder};
-ghost use Rattle.base.specs.Prelude.{most_held, most_processors};
+ghost use Rattle.base.specs.Prelude.{most_processors};
 ghost use Rattle.journal.specs.declared.event.Event.{Event};
 ghost use Rattle.journal.specs.Prelude.{ProcessorsInRange, is_closing, is_taking};
+ghost use Rattle.judge.specs.Prelude.{most_in_history};
 ghost use Rattle.causes.specs.Prelude.{AreAllTakings, AreTakingNumbers, IsFirstTakingAbove, TimesAroundNews, NoTakingAbove};
 
 use crate::index::closes;
@@ -38,7 +39,7 @@ fn closing_of(event: Event) -> u32
 
 /// Of each event, how many intervals its processor had closed before it. The only error is running out of memory.
 pub(crate) fn numbers_of(alloc: Global, events: &[Event]) -> Result<Vec<u32>, AllocError>
-    requires few { length events.now ≤ most_held }
+    requires few { length events.now ≤ most_in_history }
     requires processors { ProcessorsInRange most_processors events.now }
     ensures { IfOk result (λ v. AreTakingNumbers events.now v.items) }
 {
@@ -93,7 +94,7 @@ pub(crate) fn takings_of(
     processors: usize,
     events: &[Event],
 ) -> Result<Vec<Vec<Taking>>, AllocError>
-    requires few { length events.now ≤ most_held }
+    requires few { length events.now ≤ most_in_history }
     requires few_processors { processors ≤ most_processors }
     requires processors { ProcessorsInRange processors events.now }
     ensures { IfOk result (λ v. AreAllTakings events.now (length events.now) v.items) }

@@ -8,6 +8,7 @@ ghost use Rattle.causes.specs.Prelude.{AreThose, AreWaits, WaitAsksBefore, Waits
 use crate::edge::{arrives, departures_before, sets};
 use crate::locks::lock_holder;
 use journal::{Event, Kind};
+use judge::History;
 use std::alloc::{AllocError, Global};
 
 /// What a processor waits for.
@@ -169,13 +170,15 @@ fn wait_of(
     }
 }
 
-/// What each of so many processors waits for at the end of the history. The only error is running out of memory.
+/// What each processor waits for at the end of the history. The only error is running out of memory.
 ///
 /// It takes time in the order of the number of events times the square of the number of processors.
-pub fn waits(alloc: Global, processors: usize, events: &[Event]) -> Result<Vec<Wait>, AllocError>
-    ensures long { IfOk result (λ v. vec_len v ≡ processors) }
-    ensures waits { IfOk result (λ v. AreWaits processors events.now v.items) }
+pub fn waits(alloc: Global, history: &History<'_>) -> Result<Vec<Wait>, AllocError>
+    ensures long { IfOk result (λ v. vec_len v ≡ history.now.sizes.processors) }
+    ensures waits { IfOk result (λ v. AreWaits history.now.sizes.processors history.now.events v.items) }
 {
+    let processors = history.sizes().processors;
+    let events = history.events();
     let mut waits = Vec::with_capacity(alloc, processors)?;
     for by in 0..processors {
         waits.push(wait_of(alloc, processors, events, by)?)?;

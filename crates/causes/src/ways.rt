@@ -1,13 +1,14 @@
 //! Ways from one event to another, along edges.
 ghost use Rattle.std.specs.Prelude.{◌≡◌, ◌↔◌, ℕ, ◌<◌, ◌≤◌, IsSome, IsTrue, IfOk, IfSome, MatchOption, length};
-ghost use Rattle.base.specs.Prelude.{most_held, most_processors};
+ghost use Rattle.base.specs.Prelude.{most_processors};
 ghost use Rattle.journal.specs.Pasts.{UpTo};
-ghost use Rattle.journal.specs.Prelude.{Edge, ProcessorsInRange};
+ghost use Rattle.journal.specs.Prelude.{Edge};
 ghost use Rattle.causes.specs.Prelude.{ArePathWays, EdgeFromOther, PathFirstReached, IsNews, IsWay};
 
 use crate::handing::hand_overs_by;
 use crate::reaching::Reach;
 use journal::Event;
+use judge::History;
 use std::alloc::{AllocError, Global};
 
 /// What is looked up of a history to find ways in it, as often as one likes. The memory is in the order of the events times the
@@ -20,16 +21,12 @@ pub struct Ways {
 }
 
 impl Ways {
-    /// What is looked up of this history of `processors` processors, at most `MOST_PROCESSORS`. It takes time as
-    /// `hand_overs` does. The only error is running out of memory.
-    pub fn new(alloc: Global, processors: usize, events: &[Event]) -> Result<Ways, AllocError>
-        requires few { length events.now ≤ most_held }
-        requires few_processors { processors ≤ most_processors }
-        requires processors { ProcessorsInRange processors events.now }
-        ensures { IfOk result (ArePathWays events.now) }
+    /// What is looked up of this history. It takes time as `hand_overs` does. The only error is running out of memory.
+    pub fn new(alloc: Global, history: &History<'_>) -> Result<Ways, AllocError>
+        ensures { IfOk result (ArePathWays history.now.events) }
     {
-        let reach = Reach::new(alloc, processors, events)?;
-        let hand_overs = hand_overs_by(alloc, processors, &reach, events)?;
+        let reach = Reach::new(alloc, history)?;
+        let hand_overs = hand_overs_by(alloc, &reach, history)?;
         Ok(Ways { reach, hand_overs })
     }
 
@@ -134,26 +131,21 @@ impl Ways {
     }
 }
 
-/// The places of a way from the event at `from` to the one at `to` of a history of `processors` processors, at most
-/// `MOST_PROCESSORS`, as `Ways::way` finds it: of which each has an edge to the next. None where `from` is not `to` and
-/// doesn't happen before it. The only error is running out of memory.
+/// The places of a way from the event at `from` to the one at `to` of the history, as `Ways::way` finds it: of which each has an
+/// edge to the next. None where `from` is not `to` and doesn't happen before it. The only error is running out of memory.
 ///
 /// It takes time and memory in the order of the number of events times that of processors.
 pub fn way(
     alloc: Global,
-    processors: usize,
-    events: &[Event],
+    history: &History<'_>,
     from: usize,
     to: usize,
 ) -> Result<Option<Vec<usize>>, AllocError>
-    requires few { length events.now ≤ most_held }
-    requires few_processors { processors ≤ most_processors }
-    requires processors { ProcessorsInRange processors events.now }
-    requires from { from < length events.now }
-    requires to { to < length events.now }
-    ensures found { IfOk result (λ o. IsSome o ↔ UpTo events.now to from) }
-    ensures way { IfOk result (λ o. IfSome o (λ v. IsWay events.now from to v.items)) }
+    requires from { from < length history.now.events }
+    requires to { to < length history.now.events }
+    ensures found { IfOk result (λ o. IsSome o ↔ UpTo history.now.events to from) }
+    ensures way { IfOk result (λ o. IfSome o (λ v. IsWay history.now.events from to v.items)) }
 {
-    let ways = Ways::new(alloc, processors, events)?;
-    ways.way(alloc, events, from, to)
+    let ways = Ways::new(alloc, history)?;
+    ways.way(alloc, history.events(), from, to)
 }

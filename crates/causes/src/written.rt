@@ -1,10 +1,10 @@
 //! Which words of its processor's copies each event writes, and from which stores they are.
 ghost use Rattle.std.specs.Prelude.{◌≡◌, ℕ, ◌+◌, ◌*◌, ◌<◌, ◌≤◌, [], IfOk, List, length, vec_len};
-ghost use Rattle.base.specs.Prelude.{most_held, most_processors};
+ghost use Rattle.base.specs.Prelude.{most_processors};
 ghost use Rattle.journal.specs.declared.event.Event.{Event};
 ghost use Rattle.journal.specs.Events.{At};
 ghost use Rattle.journal.specs.Sizes.{Sizes as SizesOf};
-ghost use Rattle.judge.specs.Prelude.{AreSizesSmall, IsEventInSizes, TellsGaps, sizes_of};
+ghost use Rattle.judge.specs.Prelude.{AreSizesSmall, IsEventInSizes, TellsGaps, most_in_history, sizes_of};
 ghost use Rattle.causes.specs.Prelude.{AreAllWritten, AreOriginsBefore, AreWritten, AreWrittenAmong, IsOriginLookedUp, IsStoreWrittenAt, IsWrittenRange};
 
 use crate::brought::LookedUp;
@@ -13,7 +13,7 @@ use crate::origin::{WordOrigin, no_origins, note_origins};
 use crate::stores::StoreRows;
 use base::MOST_PROCESSORS;
 use journal::{Event, Kind};
-use judge::{Gaps, Sizes};
+use judge::{Gaps, History, Sizes};
 use std::alloc::{AllocError, Global};
 
 /// A word that an event writes in its processor's copy.
@@ -118,7 +118,7 @@ fn all_written(
     events: &[Event],
     sizes: Sizes,
 ) -> Result<Vec<Vec<WrittenWord>>, AllocError>
-    requires few { length events.now ≤ most_held }
+    requires few { length events.now ≤ most_in_history }
     requires within { (k : ℕ) (e : Event) → At events.now k e → IsEventInSizes (sizes_of sizes) e }
     requires sizes { gaps.old.sizes ≡ sizes }
     requires start { TellsGaps [] gaps.old }
@@ -137,25 +137,22 @@ fn all_written(
     Ok(rows)
 }
 
-/// Of each event of a history of a cluster of these sizes: the words that it writes in its processor's copies, by rising
-/// addresses, each with the store from which the copy has it then. A store writes its own word. A fetch writes the words that
-/// the records of its gap have; of several stores to one it takes the one whose interval was closed last, the last of them
-/// in it. Other events write nothing.
+/// Of each event of the history: the words that it writes in its processor's copies, by rising addresses, each with the store
+/// from which the copy has it then. A store writes its own word. A fetch writes the words that the records of its gap have; of
+/// several stores to one it takes the one whose interval was closed last, the last of them in it. Other events write nothing.
 ///
 /// So a copy's word after the first N events is that of the last of them which writes it, or 0 where none does.
 ///
 /// The only error is running out of memory. It takes time as `origins` does.
 pub fn written_words(
     alloc: Global,
-    sizes: Sizes,
-    events: &[Event],
+    history: &History<'_>,
 ) -> Result<Vec<Vec<WrittenWord>>, AllocError>
-    requires sizes { AreSizesSmall (sizes_of sizes) }
-    requires few { length events.now ≤ most_held }
-    requires within { (k : ℕ) (e : Event) → At events.now k e → IsEventInSizes (sizes_of sizes) e }
-    ensures long { IfOk result (λ v. vec_len v ≡ length events.now) }
-    ensures written { IfOk result (λ v. AreAllWritten (sizes_of sizes) events.now v.items) }
+    ensures long { IfOk result (λ v. vec_len v ≡ length history.now.events) }
+    ensures written { IfOk result (λ v. AreAllWritten (sizes_of history.now.sizes) history.now.events v.items) }
 {
+    let sizes = history.sizes();
+    let events = history.events();
     let addresses = sizes.pages * sizes.words;
     let looked = LookedUp {
         index: index_of(alloc, events)?,

@@ -1,20 +1,18 @@
 -- One memory after one more event.
-use Rattle.std.proofs.Common.{◌≡◌, ◌≢◌, ℕ, ◌<◌, ◌≤◌, inl, inr, List, [], ◌∷◌, ◌++◌, length, Option, Some, slice_get, slice_set, replicate, subst, sym, refl, ap, ◌∙◌, arith, length-append}
+use Rattle.std.proofs.Common.{◌≡◌, ◌≢◌, ℕ, inl, inr, List, [], ◌∷◌, ◌++◌, length, Option, Some, slice_get, slice_set, subst, sym, refl, ap, ◌∙◌, arith, length-append}
 use Rattle.std.specs.Prelude.{None}
 use Rattle.std.proofs.lemmas.Bool.{cases_eq}
-use Rattle.std.proofs.lemmas.Option.{none-some}
 use Rattle.base.specs.LastWritten.{wrote}
 use Rattle.base.proofs.LastWritten.{written-append}
 use Rattle.base.proofs.SlicesAndCounts.{slice_push_cases}
 use Rattle.base.proofs.SliceSets.{slice_get-set_found, slice_get-set_other}
 use Rattle.journal.specs.declared.event.Event.{Event}
 use Rattle.journal.specs.declared.event.Kind.{Kind}
-use Rattle.journal.specs.declared.event.Kind.TheVariants.{Load, Store}
+use Rattle.journal.specs.declared.event.Kind.TheVariants.{Store}
 use Rattle.journal.specs.DidEvent.{did, event}
-use Rattle.journal.specs.WellFormed.{Does}
 use Rattle.journal.specs.FlatMemory.{flat_write, memory_after}
 use Rattle.journal.proofs.Order.CountedAndNumbered.{numbered_at_last, numbered_at_longer, numbered_at_within}
-use Rattle.judge.specs.FlatMemory.{IsLastFlatStoreTo, IsMemoryAfter, LastFlatStoreTo}
+use Rattle.judge.specs.FlatMemory.{IsLastFlatStoreTo, LastFlatStoreTo}
 
 -- the memory after one more event
 pub flattened_memory_next : (start : List ℕ) (j : List Event) (e : Event)

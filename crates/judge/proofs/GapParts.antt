@@ -35,12 +35,11 @@ gap_part_counts_own s j p n q mine = record {
     away r k a is g = own_none_in_gap s j p n k a (subst (λ z. StoredInGapOfImage s j p n (z, k, a)) (is ∙ mine) g)
 
 -- another's count what lies between the timestamps
-pub counts_part : (s : Sizes) (j : List Event) (p n q : ℕ) (m t : ℕ → ℕ) (intervals words : List ℕ)
-    (w r d : ℕ) → q ≢ p → GapFetchedUpTo s j p n m → IsTimeOf j p t → IsRowOfGapTally (GapStoresInPage s j n q) (λ k. k) intervals
+pub counts_part : {s : Sizes} {j : List Event} {p n q : ℕ} {m t : ℕ → ℕ} {intervals words : List ℕ} (w r d : ℕ) → q ≢ p → GapFetchedUpTo s j p n m → IsTimeOf j p t → IsRowOfGapTally (GapStoresInPage s j n q) (λ k. k) intervals
     → IsRowOfGapTally (GapStoresWord s j n q) (λ x. x.0) words → r ≡ count_by (is_gap_tally_between (m q) (t q)) intervals
     → d ≡ count_by (is_gap_tally_between (m q) (t q)) words → w ≡ cond (nat_lt 0 r) 1 0
     → GapCountsAmong s j p n (λ x. x ≡ q) w r d
-counts_part s j p n q m t intervals words w r d apart fetched time in_rows in_words rs ds ws = record {
+counts_part {s = s} {j = j} {p = p} {n = n} {q = q} {m = m} {t = t} {intervals = intervals} {words = words} w r d apart fetched time in_rows in_words rs ds ws = record {
   writers_are = subst (HasImageCount W) (sym ws) (writers (cases_lt 0 r));
   records_are =
       count_map (λ k. GapPartRecords s j p n (q, k)) (λ (x : ℕ × ℕ). (x.0 ≡ q) × GapPartRecords s j p n x) (λ k. (q, k)) r
@@ -61,7 +60,7 @@ counts_part s j p n q m t intervals words w r d apart fetched time in_rows in_wo
     W x = (x ≡ q) × GapPartWrites s j p n x
 
     is : (k a : ℕ) → StoredInGapOfImage s j p n (q, k, a) ↔ (GapStoresWord s j n q (k, a) × (m q ≤ k) × (k < t q))
-    is k a = stored_is_in_gap s j p n q k a m t fetched time apart
+    is k a = stored_is_in_gap q k a fetched time apart
 
     pairs : (a b : ℕ × ℕ) → a.0 ≡ b.0 → a.1 ≡ b.1 → a ≡ b
     pairs a b first second = ap₂ (λ (k x : ℕ). (k, x)) first second
@@ -121,18 +120,18 @@ gap_part_joined {A} key V n a b =
     back x (inr h) = ((let is = h.0 in omega arith), h.1)
 
 -- one more processor's
-pub gap_part_counts_next : (s : Sizes) (j : List Event) (p n q w r d w' r' d' : ℕ) → GapCountsAmong s j p n (λ x. x < q) w r d
+pub gap_part_counts_next : {s : Sizes} {j : List Event} {p n : ℕ} (q w r d w' r' d' : ℕ) → GapCountsAmong s j p n (λ x. x < q) w r d
     → GapCountsAmong s j p n (λ x. x ≡ q) w' r' d' → GapCountsAmong s j p n (λ x. x < q + 1) (w + w') (r + r') (d + d')
-gap_part_counts_next s j p n q w r d w' r' d' old now = record {
+gap_part_counts_next {s = s} {j = j} {p = p} {n = n} q w r d w' r' d' old now = record {
   writers_are = gap_part_joined (λ (x : ℕ). x) (GapPartWrites s j p n) q w w' old.writers_are now.writers_are;
   records_are = gap_part_joined (λ (x : ℕ × ℕ). x.0) (GapPartRecords s j p n) q r r' old.records_are now.records_are;
   words_are = gap_part_joined (λ (x : ℕ × ℕ × ℕ). x.0) (StoredInGapOfImage s j p n) q d d' old.words_are now.words_are;
 }
 
 -- all processors'
-pub gap_part_counts_all : (s : Sizes) (j : List Event) (p n most w r d : ℕ) → ProcessorsInRange most j
+pub gap_part_counts_all : (s : Sizes) {j : List Event} (p n : ℕ) {most : ℕ} (w r d : ℕ) → ProcessorsInRange most j
     → GapCountsAmong s j p n (λ x. x < most) w r d → GapCounts s j p n w r d
-gap_part_counts_all s j p n most w r d range c = record {
+gap_part_counts_all s {j = j} p n {most = most} w r d range c = record {
   writers_are =
       count_of_same (λ (q : ℕ). (q < most) × GapPartWrites s j p n q) (GapPartWrites s j p n) w
       (λ q. (λ h. h.1, λ h. (within q h.0 h.1 h.2, h))) c.writers_are;

@@ -170,11 +170,10 @@ pub record IsGapTallyMore {A : Type 0} (old new : ℕ → ℕ → A → Type 0) 
   pub others : (m r : ℕ) (x : A) → new m r x → old m r x ⊎ ((m ≡ n) × (r ≡ q) × (x ≡ y))
 
 -- a value more of page n, marked at x, in processor q's interval f y: added unless it was there
-pub tally_next : {A : Type 0} (P Q : ℕ → ℕ → A → Type 0) (f : A → ℕ) (M N : ℕ → ℕ → ℕ → Type 0) (most : ℕ)
-    (old new : Tally) (n x q : ℕ) (y : A) → q < 16 → IsGapTallyMore P Q n q y → IsGapTallyMore M N x q (f y)
+pub tally_next : {A : Type 0} {P Q : ℕ → ℕ → A → Type 0} {f : A → ℕ} {M N : ℕ → ℕ → ℕ → Type 0} {most : ℕ} {old new : Tally} {n x q : ℕ} {y : A} → q < 16 → IsGapTallyMore P Q n q y → IsGapTallyMore M N x q (f y)
     → (P n q y ↔ M x q (f y)) → ((z : A) → P n q z → f z ≤ f y) → ((k : ℕ) → M x q k → k ≤ f y)
     → AddsToGapTally old new (gap_tally_row_index n q) (gap_tally_row_index x q) (f y) → IsGapTallyOfValues P f M most old → IsGapTallyOfValues Q f N (most + 1) new
-tally_next {A} P Q f M N most old new n x q y lt more marked link past marked_past adds is =
+tally_next {A} {P = P} {Q = Q} {f = f} {M = M} {N = N} {most = most} {old = old} {new = new} {n = n} {x = x} {q = q} {y = y} lt more marked link past marked_past adds is =
     elim adds [ inl added ↦ add added | inr known ↦ keep known ]
   where
     was : f y < tally_mark old (gap_tally_row_index x q) → P n q y
@@ -285,10 +284,10 @@ tally_next {A} P Q f M N most old new n x q y lt more marked link past marked_pa
         ]
 
 -- values that stay leave the tally
-pub tally_same : {A : Type 0} (P Q : ℕ → ℕ → A → Type 0) (f : A → ℕ) (M N : ℕ → ℕ → ℕ → Type 0) (most : ℕ) (t : Tally)
+pub tally_same : {A : Type 0} {P : ℕ → ℕ → A → Type 0} (Q : ℕ → ℕ → A → Type 0) {f : A → ℕ} {M : ℕ → ℕ → ℕ → Type 0} (N : ℕ → ℕ → ℕ → Type 0) {most : ℕ} {t : Tally}
     → ((m r : ℕ) (z : A) → P m r z ↔ Q m r z) → ((m r k : ℕ) → M m r k ↔ N m r k) → IsGapTallyOfValues P f M most t
     → IsGapTallyOfValues Q f N (most + 1) t
-tally_same P Q f M N most t same marks is = record {
+tally_same {P = P} Q {f = f} N {t = t} same marks is = record {
   rows = λ m r lt. row_same (P m r) (Q m r) f (gap_tally_numbers t.rows.items (gap_tally_row_index m r)) (same m r) (is.rows m r lt);
   marks = λ a r lt. record {
     below = λ k h. (is.marks a r lt).below k ((marks a r k).1 h);

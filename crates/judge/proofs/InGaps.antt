@@ -207,14 +207,14 @@ fetched_none_in_gap s p n m none = record {
 }
 
 -- what is in the gap, by intervals: what p's timestamp counts and its last fetch of the page didn't bring
-pub stored_is_in_gap : (s : Sizes) (j : List Event) (p n q k a : ℕ) (m t : ℕ → ℕ) → GapFetchedUpTo s j p n m → IsTimeOf j p t
+pub stored_is_in_gap : {s : Sizes} {j : List Event} {p n : ℕ} (q k a : ℕ) {m t : ℕ → ℕ} → GapFetchedUpTo s j p n m → IsTimeOf j p t
     → q ≢ p → StoredInGapOfImage s j p n (q, k, a) ↔ (GapStoresWord s j n q (k, a) × (m q ≤ k) × (k < t q))
-stored_is_in_gap s j p n q k a m t fetched time apart = (there, back)
+stored_is_in_gap {s = s} {j = j} {p = p} {n = n} q k a {m = m} {t = t} fetched time apart = (there, back)
   where
     there : StoredInGapOfImage s j p n (q, k, a) → GapStoresWord s j n q (k, a) × (m q ≤ k) × (k < t q)
     there g =
         let x = g.3.store in
-        let address = (store_same j g.0 q x.by a x.address g.1 x.value g.2 x.does).1 in
+        let address = (store_same j g.0 g.2 x.does).1 in
         let page : a / s.words ≡ n = ap (λ (b : ℕ). b / s.words) address ∙ x.in_page in
         let less = (covered j p q g.0 (Store a g.1) t time g.2 apart).0 g.3.past in
         let is = g.4 in (
@@ -246,4 +246,4 @@ stored_is_in_gap s j p n q k a m t fetched time apart = (there, back)
 
 -- one's own stores are in no gap of one's
 pub own_none_in_gap : (s : Sizes) (j : List Event) (p n k a : ℕ) → ¬ StoredInGapOfImage s j p n (p, k, a)
-own_none_in_gap s j p n k a g = gaps_apart s j p n p g.0 a g.1 g.3 g.2 refl
+own_none_in_gap s j p n k a g = gaps_apart g.3 g.2 refl

@@ -22,13 +22,12 @@ keeping_gaps j e g fetched none fetches are = record {
   fetched = fetches;
   intervals =
       subst (λ x. IsGapTallyOfValues (GapStoresInPage s (j ++ e ∷ [])) (λ z. z) (GapStoresInPage s (j ++ e ∷ [])) x g.intervals) long
-      (tally_same (GapStoresInPage s j) (GapStoresInPage s (j ++ e ∷ [])) (λ z. z) (GapStoresInPage s j)
-      (GapStoresInPage s (j ++ e ∷ [])) (length j) g.intervals (pages_others_in_gap s j e none) (pages_others_in_gap s j e none)
+      (tally_same (GapStoresInPage s (j ++ e ∷ []))
+      (GapStoresInPage s (j ++ e ∷ [])) (pages_others_in_gap s j e none) (pages_others_in_gap s j e none)
       are.intervals);
   words =
       subst (λ x. IsGapTallyOfValues (GapStoresWord s (j ++ e ∷ [])) (λ z. z.0) (GapStoresAt (j ++ e ∷ [])) x g.words) long
-      (tally_same (GapStoresWord s j) (GapStoresWord s (j ++ e ∷ [])) (λ z. z.0) (GapStoresAt j) (GapStoresAt (j ++ e ∷ []))
-      (length j) g.words (words_others_in_gap s j e none) (stores_others_in_gap j e none) are.words);
+      (tally_same (GapStoresWord s (j ++ e ∷ [])) (GapStoresAt (j ++ e ∷ [])) (words_others_in_gap s j e none) (stores_others_in_gap j e none) are.words);
 }
   where
     s : Sizes

@@ -12,3 +12,4 @@ pub mod GapParts
 pub mod NearestRaces
 pub mod Flattening
 pub mod OwedStays
+pub mod JournalHistories

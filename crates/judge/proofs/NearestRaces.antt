@@ -1,11 +1,11 @@
 -- Each processor's last accesses, and the race that is nearest to an event.
-use Rattle.std.proofs.Common.{◌≡◌, ◌≢◌, ℕ, ◌+◌, ◌*◌, ◌<◌, ◌≤◌, ◌⊎◌, inl, inr, ◌↔◌, ◌==◌, Bool, true, false, IsTrue, List, [], ◌∷◌, ◌++◌, length, take, Option, Some, slice_get, slice_set, subst, sym, refl, ap, ◌∙◌, arith, length-append}
-use Rattle.std.specs.Prelude.{None, MatchOption, IfSome, slice_index_or}
+use Rattle.std.proofs.Common.{◌≡◌, ◌≢◌, ℕ, ◌+◌, ◌<◌, ◌≤◌, ◌⊎◌, inl, inr, ◌↔◌, Bool, IsTrue, List, [], ◌∷◌, ◌++◌, length, take, Option, Some, slice_get, slice_set, subst, sym, refl, ap, ◌∙◌, arith, length-append}
+use Rattle.std.specs.Prelude.{None, IfSome, slice_index_or}
 use Rattle.std.proofs.lemmas.Bool.{cases_eq, cases_lt, eq-eqb, eqb-true}
 use Rattle.std.proofs.lemmas.Option.{same_Some, none-some, slice_get-get_or}
 use Rattle.std.proofs.Math.Seq.{take-append_seam}
 use Rattle.base.proofs.SlicesAndCounts.{slice_push_cases}
-use Rattle.base.proofs.SliceSets.{slice_get-set_found, slice_get-set_other, slice_get-replicate_found}
+use Rattle.base.proofs.SliceSets.{slice_get-set_found, slice_get-set_other}
 use Rattle.journal.specs.declared.event.Event.{Event}
 use Rattle.journal.specs.declared.event.Kind.{Kind}
 use Rattle.journal.specs.declared.event.Kind.TheVariants.{Load, Store}
@@ -15,7 +15,7 @@ use Rattle.journal.specs.WellFormed.{Does}
 use Rattle.journal.specs.InRange.{ProcessorsInRange}
 use Rattle.journal.specs.Times.{IsTimeOf}
 use Rattle.journal.specs.Races.{Conflict, Race, RaceFree}
-use Rattle.journal.proofs.Order.CountedAndNumbered.{numbered_at_within, numbered_at_longer, numbered_at_shorter, numbered_at_last, numbered_at_same, numbered_does_at, count_of-front, count_of-mono}
+use Rattle.journal.proofs.Order.CountedAndNumbered.{numbered_at_within, numbered_at_longer, numbered_at_shorter, numbered_at_last, count_of-front, count_of-mono}
 use Rattle.journal.proofs.Order.HappensBefore.{before_longer, before_shorter}
 use Rattle.journal.proofs.Passes.ReachedNextRaces.{race_by_time, race_events}
 use Rattle.judge.specs.declared.races.Access.{Access}
@@ -68,11 +68,11 @@ nearest_race_rows_left j e of rows away are a q o lt at =
     race_last_access_others j e (of a) q o (λ same. away a) (are a q o lt at)
 
 -- an access of a is kept in its row
-pub nearest_race_rows_kept : (j : List Event) (p a : ℕ) (k : Kind) (of : ℕ → Kind → Bool) (rows : List (Option Access)) (x : Access)
+pub nearest_race_rows_kept : {j : List Event} (p : ℕ) {a : ℕ} (k : Kind) {of : ℕ → Kind → Bool} (rows : List (Option Access)) (x : Access)
     → p < 16 → IsTrue (of a k) → ((b : ℕ) → IsTrue (of b k) → a ≡ b) → x.place ≡ length j
     → x.interval ≡ count_of is_closing j p → AreLastRacingAccesses j of rows
     → AreLastRacingAccesses (did j p k) of (slice_set rows (source_row_of a p) (Some x))
-nearest_race_rows_kept j p a k of rows x few counts one place interval are b q o lt at =
+nearest_race_rows_kept {j = j} p {a = a} k {of = of} rows x few counts one place interval are b q o lt at =
     elim (cases_eq (source_row_of b q) (source_row_of a p)) [
       | inl same ↦
           (let address : a ≡ b = omega arith in
@@ -190,10 +190,10 @@ nearest_race_uncounted_one rows row t p q i m x y =
     (same_Some (Some x.access) (Some y.access) (sym x.at ∙ y.at)) in
     sym x.place ∙ (ap (λ (z : Access). z.place) same ∙ y.place)
 
-pub nearest_race_uncounted_some : (rows : List (Option Access)) (row : ℕ) (t : ℕ → ℕ) (p n place k : ℕ) (o : Option ℕ)
+pub nearest_race_uncounted_some : {rows : List (Option Access)} {row : ℕ} {t : ℕ → ℕ} {p n place : ℕ} (k : ℕ) (o : Option ℕ)
     → IsLastUncountedByRaces rows row t p n o → IsUncountedByRaces rows row t p n place → place ≤ k → IfSome o (λ m. m ≤ k)
     → (k ≡ place) ⊎ (o ≡ Some k) → IsLastUncountedByRaces rows row t p (n + 1) (Some k)
-nearest_race_uncounted_some rows row t p n place k None before here le old one = (
+nearest_race_uncounted_some {rows = rows} {row = row} {t = t} {p = p} {n = n} {place = place} k None before here le old one = (
   record { by = n; below = omega arith; is = subst (IsUncountedByRaces rows row t p n) (sym is) here },
   λ m x. elim (cases_lt x.by n) [
     | inl lt ↦ absurd (before m (record { by = x.by; below = lt; is = x.is }))
@@ -205,7 +205,7 @@ nearest_race_uncounted_some rows row t p n place k None before here le old one =
   where
     is : k ≡ place
     is = elim one [ inl same ↦ same | inr other ↦ absurd (none-some k other) ]
-nearest_race_uncounted_some rows row t p n place k (Some m) before here le old one = (
+nearest_race_uncounted_some {rows = rows} {row = row} {t = t} {p = p} {n = n} {place = place} k (Some m) before here le old one = (
   elim one [
     | inl same ↦ record { by = n; below = omega arith; is = subst (IsUncountedByRaces rows row t p n) (sym same) here }
     | inr other ↦ record {
@@ -238,15 +238,15 @@ race_tells : (j : List Event) (e f : Event) (t : ℕ → ℕ) (i : ℕ) → At j
 race_tells j e f t i at apart conflict time =
     let lt = numbered_at_within j i f at in
     let front = take-append_seam j (e ∷ []) in
-    let tells = race_by_time (j ++ e ∷ []) (length j) i e f t (numbered_at_last j e) (numbered_at_longer j (e ∷ []) i f at) lt apart conflict
+    let tells = race_by_time (numbered_at_last j e) (numbered_at_longer j (e ∷ []) i f at) lt apart conflict
     (subst (λ xs. IsTimeOf xs e.processor t) (sym front) time) in
     let same = count_of-front is_closing j (e ∷ []) i f.processor (omega arith) in
     ((λ r. (let le = tells.0 r in omega arith)), (λ le. tells.1 (omega arith)))
 
 -- an access whose interval isn't counted races
-uncounted_races : (j : List Event) (e : Event) (is : Kind → Bool) (t : ℕ → ℕ) (rows : List (Option Access)) (row n q i : ℕ)
+uncounted_races : {j : List Event} {e : Event} {is : Kind → Bool} {t : ℕ → ℕ} {rows : List (Option Access)} {row n q i : ℕ}
     → IsRaceRowFor j e is t rows row n → q < n → IsUncountedByRaces rows row t e.processor q i → Race (j ++ e ∷ []) i (length j)
-uncounted_races j e is t rows row n q i given lt x =
+uncounted_races {j = j} {e = e} {is = is} {t = t} {q = q} given lt x =
     let last : IsLastRacingAccess j is q x.access = given.last q (Some x.access) lt x.at in
     let f : Event = event q last.kind in
     let tells = race_tells j e f t x.access.place last.does x.apart ((given.conflicts f).1 last.counts) given.time in
@@ -260,9 +260,9 @@ record RacesUpToUncounted (rows : List (Option Access)) (row : ℕ) (t : ℕ →
   some : SomeUncountedByRaces rows row t p n place
   up_to : i ≤ place
 
-races_up_to : (j : List Event) (e : Event) (is : Kind → Bool) (t : ℕ → ℕ) (rows : List (Option Access)) (row n i : ℕ)
+races_up_to : {j : List Event} {e : Event} {is : Kind → Bool} {t : ℕ → ℕ} {rows : List (Option Access)} {row n i : ℕ}
     → IsRaceRowFor j e is t rows row n → Race (j ++ e ∷ []) i (length j) → RacesUpToUncounted rows row t e.processor n i
-races_up_to j e is t rows row n i given r = go (slice_index_or rows (row + f.processor) None) there
+races_up_to {j = j} {e = e} {is = is} {t = t} {rows = rows} {row = row} {n = n} {i = i} given r = go (slice_index_or rows (row + f.processor) None) there
   where
     f : Event
     f = r.first
@@ -303,13 +303,12 @@ races_up_to j e is t rows row n i given r = go (slice_index_or rows (row + f.pro
           up_to = le;
         }
 
-pub nearest_race_is : (j : List Event) (e : Event) (is : Kind → Bool) (t : ℕ → ℕ) (rows : List (Option Access)) (row n : ℕ)
-    (o : Option ℕ) → IsRaceRowFor j e is t rows row n → IsLastUncountedByRaces rows row t e.processor n o → IsNearestTo j e o
-nearest_race_is j e is t rows row n None given none =
-    λ i r. let x = races_up_to j e is t rows row n i given r in none x.place x.some
-nearest_race_is j e is t rows row n (Some k) given last = (
-  uncounted_races j e is t rows row n last.0.by k given last.0.below last.0.is,
-  λ m r. (let x = races_up_to j e is t rows row n m given r in
+pub nearest_race_is : {j : List Event} {e : Event} {is : Kind → Bool} {t : ℕ → ℕ} {rows : List (Option Access)} {row n : ℕ} (o : Option ℕ) → IsRaceRowFor j e is t rows row n → IsLastUncountedByRaces rows row t e.processor n o → IsNearestTo j e o
+nearest_race_is None given none =
+    λ i r. let x = races_up_to given r in none x.place x.some
+nearest_race_is {is = is} (Some k) given last = (
+  uncounted_races given last.0.below last.0.is,
+  λ m r. (let x = races_up_to given r in
       let top = last.1 x.place x.some in
       let le = x.up_to in
       omega arith),

@@ -1,18 +1,16 @@
 -- What a load may answer under a model stays as the history goes on.
-use Rattle.std.proofs.Common.{◌≡◌, ℕ, suc, ◌<◌, ◌≤◌, ◌⊎◌, inl, inr, ◌↔◌, List, ◌++◌, length, replicate, take, Some, slice_get, subst, sym, arith}
+use Rattle.std.proofs.Common.{◌≡◌, ℕ, suc, ◌<◌, ◌≤◌, inl, inr, List, ◌++◌, length, replicate, Some, slice_get, subst, sym, arith}
 use Rattle.std.proofs.lemmas.List.{take-append-le}
 use Rattle.journal.specs.declared.event.Event.{Event}
 use Rattle.journal.specs.declared.event.Kind.TheVariants.{Store}
 use Rattle.journal.specs.DidEvent.{event}
-use Rattle.journal.specs.Sizes.{Sizes, addresses}
-use Rattle.journal.specs.ExplainedAnswers.{IsAnswer}
+use Rattle.journal.specs.Sizes.{addresses}
 use Rattle.journal.specs.Races.{RaceFree}
 use Rattle.journal.specs.FlatMemory.{memory_after}
 use Rattle.journal.proofs.Order.CountedAndNumbered.{numbered_at_longer, numbered_at_shorter}
 use Rattle.journal.proofs.Order.HappensBefore.{before_longer, before_shorter}
-use Rattle.judge.specs.declared.models.MemoryModel.{MemoryModel}
 use Rattle.judge.specs.declared.models.MemoryModel.TheVariants as model
-use Rattle.judge.specs.Models.{IsOwed, OwedByModelStaysLaw, ModelUnorderedStore}
+use Rattle.judge.specs.Models.{OwedByModelStaysLaw, ModelUnorderedStore}
 use Rattle.judge.proofs.sources.Answering.{stays_law}
 
 -- an unordered store stays one

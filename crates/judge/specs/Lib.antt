@@ -12,3 +12,6 @@ pub mod Models
 pub mod NearestRaces
 pub mod FlatMemory
 pub mod Owed
+pub mod Locksets
+pub mod History
+pub mod HistoryInvariant

@@ -11,3 +11,4 @@ pub use Rattle.judge.specs.Models.{ExplainedUnderModel, IsFlatModelWord, IsOwed,
 pub use Rattle.judge.specs.NearestRaces.{RaceAccessesAreKept, AreRacesOf, IsLastUncountedByRaces, IsNearestRace, IsNearestTo, IsUncountedByRaces}
 pub use Rattle.judge.specs.FlatMemory.{IsLastFlatStoreTo, IsMemoryAfter}
 pub use Rattle.judge.specs.Owed.{AreOwedBy, ArePermitted, IsRacyWithNext}
+pub use Rattle.judge.specs.History.{IsHistoryInSizes, IsHistoryOfJournal, IsHistoryOfSizes, IsSizedHistory, most_in_history, whole_history}

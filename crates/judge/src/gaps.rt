@@ -1,13 +1,13 @@
 //! What fetches have to count.
 ghost use Rattle.std.specs.Prelude.{◌≡◌, ℕ, ◌+◌, ◌*◌, ◌<◌, ◌≤◌, ◌^◌, [], ◌∷◌, ◌++◌, IfOk, OnOk, List, Some, length};
 ghost use Rattle.std.specs.Prelude.{cond, nat_lt, slice_get, slice_index, take};
-ghost use Rattle.base.specs.Prelude.{most_held, most_processors};
+ghost use Rattle.base.specs.Prelude.{most_processors};
 ghost use Rattle.journal.specs.declared.event.Event.{Event};
 ghost use Rattle.journal.specs.PageImages.{GapCounts};
 ghost use Rattle.journal.specs.declared.event.Kind.TheVariants.{Fetch, Store};
 ghost use Rattle.journal.specs.Prelude.{HasImageCount, IsTimeOf, did};
 ghost use Rattle.judge.specs.Prelude.{AreGapCountsFew, AreGapsOf, AreGapsLong, AreSizesSmall, GapCountsAmong, IsEventInSizes, TellsGaps, sizes_of};
-ghost use Rattle.judge.specs.Prelude.{GapFetchedUpTo, GapStoresInPage, gap_tally_row_index};
+ghost use Rattle.judge.specs.Prelude.{GapFetchedUpTo, GapStoresInPage, gap_tally_row_index, most_in_history};
 
 use crate::sizes::Sizes;
 use crate::tally::Tally;
@@ -241,7 +241,7 @@ impl Gaps {
     /// may tell no history.
     pub fn note(&mut self, events: &[Event], place: usize) -> Result<(), AllocError>
         requires place { place < length events.now }
-        requires few { length events.now ≤ most_held }
+        requires few { length events.now ≤ most_in_history }
         requires within { (k : ℕ) (e : Event) → slice_get events.now k ≡ Some e
             → IsEventInSizes (sizes_of self.old.sizes) e }
         requires so_far { TellsGaps (take place events.now) self.old }

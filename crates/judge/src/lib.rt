@@ -4,13 +4,15 @@
 //! **What contracts see.** `MayFollow` and `WellFormed` of journal's specs/WellFormed: each event may follow what
 //! stands before it. `WellFormedLax` of specs/Lax is the same but for the order in which a lock's asks are granted.
 //! `IsWhy` of specs/Why says of each reason what it means. What fetches count is `AreCounted` of journal's
-//! specs/Counted.
+//! specs/Counted. A `History` is a `SizedHistory` of specs/History: sizes, and events whose numbers are within them.
 //!
 //! **What is proved.** `first_ill_formed` answers None exactly where the history is well formed, else the first event
 //! that may not follow what stands before it, with the first reason that applies, in the order of `Why`. The history
 //! may be anyone's: nothing is asked of the numbers in its events. Of a well formed history, lax or not,
 //! `first_miscounted` answers None exactly where each fetch counts its gap, else the first one that does not, with the
 //! counts of its gap. `Gaps` tells the same of any history, an event at a time: what each processor's copies of pages lack.
+//! There is a `History` of some events, or of a journal, exactly if they are within its sizes; so whoever is handed one need
+//! not ask that.
 //!
 //! **What is only tested** (crate `test_memory`): that these definitions say what they are to say, by histories worked
 //! by hand; and that `first_ill_formed` judges 2^20 events in a test's time. Only `first_miscounted` takes memory.
@@ -19,9 +21,11 @@
 mod flat_memory;
 mod front;
 mod gaps;
+mod history;
 mod judge;
 mod kinds;
 mod laws;
+pub mod locksets;
 mod miscounted;
 mod models;
 mod owed;
@@ -35,6 +39,7 @@ mod why;
 pub use flat_memory::FlatMemory;
 pub use front::Frontier;
 pub use gaps::Gaps;
+pub use history::History;
 pub use judge::{IllFormed, first_ill_formed};
 pub use laws::{lax_law, owed_stays_law, range_law, why_law};
 pub use miscounted::{Miscounted, first_miscounted, miscount};

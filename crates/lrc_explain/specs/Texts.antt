@@ -20,6 +20,14 @@ IsExplainText ended text = (front : List ℕ) × (text ≡ front ++ end_text end
 abbrev pub ExplainWritten : Option (List ℕ) → Option (List ℕ) → Ended → Type 0
 ExplainWritten old new ended = (text : List ℕ) × (IsExplainText ended text × Appends old new text)
 
+-- some text that ends with this one
+abbrev pub IsTextBefore : List ℕ → List ℕ → Type 0
+IsTextBefore end text = (front : List ℕ) × (text ≡ front ++ end)
+
+-- such a text was appended: a trace's story, and behind it what was found
+abbrev pub TraceTextWritten : Option (List ℕ) → Option (List ℕ) → List ℕ → Type 0
+TraceTextWritten old new verdict = (text : List ℕ) × (IsTextBefore verdict text × Appends old new text)
+
 -- but for a failed output nothing was
 abbrev pub ExplainUnwritten : Option (List ℕ) → Option (List ℕ) → ExplainFault → Type 0
 ExplainUnwritten old new Output = ⊤

@@ -1,11 +1,12 @@
 //! The store that stands last before each access, whether or not it is ordered before it.
 ghost use Rattle.std.specs.Prelude.{◌≡◌, ◌≤◌, ◌<◌, [], List, length};
-ghost use Rattle.base.specs.Prelude.{most_held, most_processors};
 ghost use Rattle.journal.specs.declared.event.Event.{Event};
 ghost use Rattle.journal.specs.Prelude.{AddressInRange, AddressesInRange, ProcessorsInRange};
+ghost use Rattle.judge.specs.Prelude.{most_in_history};
 ghost use Rattle.judge.specs.Sources.Prelude.{AreSourceStoresOf};
 
 use journal::{Event, Kind};
+use judge::History;
 use judge::sources::Sources;
 use std::alloc::{AllocError, Global};
 
@@ -54,7 +55,7 @@ fn find_stores(
     sources: &mut Sources,
     events: &[Event],
 ) -> Result<(), AllocError>
-    requires few { length events.now ≤ most_held }
+    requires few { length events.now ≤ most_in_history }
     requires places { length found.old ≡ length events.now }
     requires tells { AreSourceStoresOf [] sources.old }
     requires addresses { AddressesInRange sources.old.addresses events.now }
@@ -69,22 +70,17 @@ fn find_stores(
     Ok(())
 }
 
-/// Of each event of a history, in order: the last store to its address before it, where it is an access and there is such a
+/// Of each event of the history, in order: the last store to its address before it, where it is an access and there is such a
 /// store; else None. The only error is running out of memory.
 ///
 /// It takes time as `causes::loads` does.
 pub fn stores_before(
     alloc: Global,
-    processors: usize,
-    addresses: usize,
-    events: &[Event],
-) -> Result<Vec<Option<Earlier>>, AllocError>
-    requires few { length events.now ≤ most_held }
-    requires few_processors { processors ≤ most_processors }
-    requires addresses { AddressesInRange addresses events.now }
-    requires processors { ProcessorsInRange processors events.now }
-{
-    let mut sources = Sources::new(alloc, processors, addresses)?;
+    history: &History<'_>,
+) -> Result<Vec<Option<Earlier>>, AllocError> {
+    let events = history.events();
+    let addresses = history.addresses();
+    let mut sources = Sources::new(alloc, history.sizes().processors, addresses)?;
     let mut last = vec![in alloc; None; addresses]?;
     let mut found = vec![in alloc; None; events.len()]?;
     find_stores(&mut found, &mut last, &mut sources, events)?;

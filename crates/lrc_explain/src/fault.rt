@@ -12,10 +12,6 @@ pub enum ExplainFault {
     /// A growth was refused. Nothing was written.
     #[error("out of memory")]
     NoMemory,
-    /// The journal has a processor that isn't one of so many, or they are more than 16, or its events are too many. No run
-    /// of a script has such a journal. Nothing was written.
-    #[error("journal out of range")]
-    OutOfRange,
 }
 
 impl From<AllocError> for ExplainFault {

@@ -1,25 +1,17 @@
 //! What is looked up of a history before it is told.
-ghost use Rattle.std.specs.Prelude.{◌≡◌, ℕ, ◌≤◌, IfOk, MatchOption, length, vec_len};
-ghost use Rattle.base.specs.Prelude.{most_held, most_processors};
-ghost use Rattle.journal.specs.declared.event.Event.{Event};
-ghost use Rattle.journal.specs.Events.{At};
-ghost use Rattle.journal.specs.Prelude.{AddressesInRange, IsFirstRace, ProcessorsInRange, RaceFree};
-ghost use Rattle.judge.specs.Prelude.{AreSizesSmall, IsEventInSizes, sizes_of};
+ghost use Rattle.std.specs.Prelude.{◌≡◌, IfOk, MatchOption, length, vec_len};
+ghost use Rattle.journal.specs.Prelude.{IsFirstRace, RaceFree};
 ghost use Rattle.causes.specs.Prelude.{IsRaceApart};
 
 use crate::earlier::{Earlier, stores_before};
-use crate::fault::ExplainFault;
 use crate::journey::ways_to_loads;
-use crate::lacks::{are_within, sizes_for};
 use crate::rivals::{Rival, rivals_of};
-use crate::shape::RunShape;
-use base::MOST_LOCKS;
+use crate::strays::{Stray, strays_of};
 use causes::{
     Due, EventState, RaceApart, Source, Ways, WordOrigin, dues, incoming, loads, origins,
     race_apart, states,
 };
-use journal::{Event, first_race_of};
-use judge::Sizes;
+use judge::History;
 use judge::sources::latest;
 use std::alloc::{AllocError, Global};
 
@@ -28,7 +20,7 @@ use std::alloc::{AllocError, Global};
 pub struct LoadsFound {
     /// Of each event, the store that it answers, where it is a load.
     pub sources: Vec<Option<Source>>,
-    /// Of each event, where the word comes from that its copy has, where it is a load and a page is known.
+    /// Of each event, where the word comes from that its copy has, where it is a load and pages are told.
     pub origins: Vec<Option<WordOrigin>>,
     /// Of each event, the other latest stores, where it is a load.
     pub rivals: Vec<Vec<Rival>>,
@@ -36,9 +28,29 @@ pub struct LoadsFound {
     pub earlier: Vec<Option<Earlier>>,
     /// Of each event, the way from the store that it answers, where it is a load.
     pub ways: Vec<Option<Vec<usize>>>,
+    /// Of each event, another store of its value, where it is a load that answers none that it may.
+    pub strays: Vec<Option<Stray>>,
 }
 
-/// What is found of a history whose pages are known.
+impl LoadsFound {
+    /// Another store of the value of the event at this place, where it is a load that answers none that it may.
+    pub fn stray(&self, place: usize) -> Option<Stray> {
+        match self.strays.get(place) {
+            Some(stray) => *stray,
+            None => None,
+        }
+    }
+
+    /// Whether the store is that.
+    pub fn is_stray(&self, place: usize, store: usize) -> bool {
+        match self.stray(place) {
+            Some(stray) => stray.store == store,
+            None => false,
+        }
+    }
+}
+
+/// What is found of a history by its pages.
 #[derive(Drop)]
 struct FoundByPages {
     /// Of each event, where the word comes from that its copy has, where it is a load.
@@ -52,10 +64,8 @@ struct FoundByPages {
 /// What is found of a history.
 #[derive(Drop)]
 pub struct Findings {
-    /// Its first race, and what keeps that apart.
-    pub race: Option<RaceApart>,
     pub loads: LoadsFound,
-    /// Of each event, the records that it tells of; empty where nobody knows what a page is.
+    /// Of each event, the records that it tells of; empty where pages aren't told.
     pub dues: Vec<Vec<Due>>,
     /// Of each event, the protocol's state at it, where that is told; empty where it is told of none.
     pub states: Vec<Option<EventState>>,
@@ -63,94 +73,79 @@ pub struct Findings {
     pub incoming: Vec<Vec<usize>>,
 }
 
-/// The first race of these events, and what keeps it apart. The only error is running out of memory.
-fn race_of(
-    alloc: Global,
-    shape: RunShape,
-    events: &[Event],
-) -> Result<Option<RaceApart>, AllocError>
-    requires few { length events.now ≤ most_held }
-    requires few_processors { shape.processors ≤ most_processors }
-    requires addresses { AddressesInRange shape.addresses events.now }
-    requires processors { ProcessorsInRange shape.processors events.now }
-    ensures { IfOk result (λ o. MatchOption o (RaceFree events.now)
-        (λ x. IsFirstRace events.now x.first x.second × IsRaceApart MOST_LOCKS events.now x.first x.second x)) }
+/// The first race of the history, and what keeps it apart. The only error is running out of memory.
+pub fn race_of(alloc: Global, history: &History<'_>) -> Result<Option<RaceApart>, AllocError>
+    ensures { IfOk result (λ o. MatchOption o (RaceFree history.now.events)
+        (λ x. IsFirstRace history.now.events x.first x.second
+        × IsRaceApart history.now.sizes.locks history.now.events x.first x.second x)) }
 {
-    match first_race_of(alloc, shape.processors, shape.addresses, events)? {
-        Some(race) => Ok(Some(race_apart(alloc, shape.processors, MOST_LOCKS, events, race)?)),
+    match history.first_race(alloc)? {
+        Some(race) => Ok(Some(race_apart(alloc, history, race)?)),
         None => Ok(None),
     }
 }
 
-/// What is found of the loads of these events, whose words come from these origins. The only error is running out of memory.
+/// What is found of the loads of the history, whose words come from these origins; with pages, also where what they answer was
+/// fetched. The only error is running out of memory.
 fn loads_of(
     alloc: Global,
-    shape: RunShape,
-    events: &[Event],
+    history: &History<'_>,
+    pages: bool,
     origins: Vec<Option<WordOrigin>>,
 ) -> Result<LoadsFound, AllocError>
-    requires few { length events.now ≤ most_held }
-    requires few_processors { shape.processors ≤ most_processors }
-    requires addresses { AddressesInRange shape.addresses events.now }
-    requires processors { ProcessorsInRange shape.processors events.now }
-    requires origins { vec_len origins ≡ length events.now }
+    requires { vec_len origins ≡ length history.now.events }
 {
-    let latest = latest(alloc, shape.processors, shape.addresses, events)?;
-    let sources = loads(alloc, &latest, &origins, events)?;
-    let earlier = stores_before(alloc, shape.processors, shape.addresses, events)?;
-    let all_ways = Ways::new(alloc, shape.processors, events)?;
-    let rivals = rivals_of(alloc, &all_ways, events, shape.words, &latest, &sources)?;
+    let events = history.events();
+    let words = pages.then_some(history.sizes().words);
+    let latest = latest(alloc, history)?;
+    let sources = loads(alloc, history, &latest, &origins)?;
+    let earlier = stores_before(alloc, history)?;
+    let all_ways = Ways::new(alloc, history)?;
+    let rivals = rivals_of(alloc, &all_ways, events, words, &latest, &sources)?;
     let ways = ways_to_loads(alloc, &all_ways, events, &sources)?;
+    let strays = strays_of(alloc, &all_ways, events, &sources)?;
     Ok(LoadsFound {
         sources,
         origins,
         rivals,
         earlier,
         ways,
+        strays,
     })
 }
 
-/// The protocol's state at each of these events that is asked for; nothing where `asked` hasn't one for each event. The only
-/// error is running out of memory.
+/// The protocol's state at each event of the history that is asked for; nothing where `asked` hasn't one for each event. The
+/// only error is running out of memory.
 fn states_of(
     alloc: Global,
-    sizes: Sizes,
-    events: &[Event],
+    history: &History<'_>,
     asked: &[bool],
-) -> Result<Vec<Option<EventState>>, AllocError>
-    requires sizes { AreSizesSmall (sizes_of sizes) }
-    requires few { length events.now ≤ most_held }
-    requires within { (k : ℕ) (e : Event) → At events.now k e → IsEventInSizes (sizes_of sizes) e }
-{
-    if asked.len() != events.len() {
+) -> Result<Vec<Option<EventState>>, AllocError> {
+    if asked.len() != history.events().len() {
         return Ok(Vec::new(alloc));
     }
-    states(alloc, sizes, events, asked)
+    states(alloc, history, asked)
 }
 
-/// What is found of these events of a run of this shape by its pages; nothing where nobody knows how many words a page has.
-/// OutOfRange where its addresses aren't pages of so many words, or a memory of such pages can't have the events.
+/// What is found of the history by its pages; nothing where these aren't told. The only error is running out of memory.
 fn found_by_pages(
     alloc: Global,
-    shape: RunShape,
-    events: &[Event],
+    history: &History<'_>,
+    pages: bool,
     asked: &[bool],
-) -> Result<FoundByPages, ExplainFault>
-    ensures { IfOk result (λ f. vec_len f.origins ≡ length events.now) }
+) -> Result<FoundByPages, AllocError>
+    ensures { IfOk result (λ f. vec_len f.origins ≡ length history.now.events) }
 {
-    let Some(sizes) = sizes_for(shape)? else {
+    if !pages {
         return Ok(FoundByPages {
-            origins: vec![in alloc; None; events.len()]?,
+            origins: vec![in alloc; None; history.events().len()]?,
             dues: Vec::new(alloc),
             states: Vec::new(alloc),
         });
-    };
-    if !are_within(events, sizes) {
-        return Err(ExplainFault::OutOfRange);
     }
-    let origins = origins(alloc, sizes, events)?;
-    let dues = dues(alloc, sizes, events)?;
-    let states = states_of(alloc, sizes, events, asked)?;
+    let origins = origins(alloc, history)?;
+    let dues = dues(alloc, history)?;
+    let states = states_of(alloc, history, asked)?;
     Ok(FoundByPages {
         origins,
         dues,
@@ -158,30 +153,22 @@ fn found_by_pages(
     })
 }
 
-/// What is found of these events of a run of this shape, and the protocol's state at those for which `asked` has true; it is
-/// empty where no state is asked for. OutOfRange where its addresses aren't pages of so many words, or a memory of such pages
-/// can't have the events.
+/// What is found of the history, by its pages too if these are told, and then the protocol's state at those events for which
+/// `asked` has true; it is empty where no state is asked for. The only error is running out of memory.
 pub fn found_of(
     alloc: Global,
-    shape: RunShape,
-    events: &[Event],
+    history: &History<'_>,
+    pages: bool,
     asked: &[bool],
-) -> Result<Findings, ExplainFault>
-    requires few { length events.now ≤ most_held }
-    requires few_processors { shape.processors ≤ most_processors }
-    requires addresses { AddressesInRange shape.addresses events.now }
-    requires processors { ProcessorsInRange shape.processors events.now }
-{
+) -> Result<Findings, AllocError> {
     let FoundByPages {
         origins,
         dues,
         states,
-    } = found_by_pages(alloc, shape, events, asked)?;
-    let race = race_of(alloc, shape, events)?;
-    let loads = loads_of(alloc, shape, events, origins)?;
-    let incoming = incoming(alloc, shape.processors, events)?;
+    } = found_by_pages(alloc, history, pages, asked)?;
+    let loads = loads_of(alloc, history, pages, origins)?;
+    let incoming = incoming(alloc, history)?;
     Ok(Findings {
-        race,
         loads,
         dues,
         states,

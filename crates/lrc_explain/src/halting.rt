@@ -2,7 +2,8 @@
 
 use crate::held::HeldNow;
 use crate::marked::Marked;
-use journal::{Event, Journal, Kind, MOST_PROCESSORS};
+use journal::{Event, Kind, MOST_PROCESSORS};
+use judge::History;
 use lrc_prose::text::Text;
 
 /// A run that can't go on: what is held at its end, and the last event of each processor.
@@ -135,13 +136,13 @@ impl Halted<'_> {
     }
 }
 
-/// Puts what each processor waits for where this is held at the end of the journal.
-pub fn put_waits(text: &mut Text, held: &HeldNow, journal: &Journal) {
-    let last = last_of(journal.events());
+/// Puts what each processor waits for where this is held at the end of the history.
+pub fn put_waits(text: &mut Text, held: &HeldNow, history: &History<'_>) {
+    let last = last_of(history.left());
     let halted = Halted {
         held,
         last: &last,
-        is_cut: journal.cut_events() > 0,
+        is_cut: history.cut_events() > 0,
     };
     for processor in 0..held.arrived().len() {
         halted.put_processor(text, processor);

@@ -1,55 +1,12 @@
 //! Which pages go stale by an event that takes, and whose records a fetch brings.
-ghost use Rattle.std.specs.Prelude.{ℕ, ◌≤◌, IsTrue, length};
-ghost use Rattle.base.specs.Prelude.{most_held};
-ghost use Rattle.journal.specs.declared.event.Event.{Event};
-ghost use Rattle.journal.specs.Events.{At};
-ghost use Rattle.judge.specs.Prelude.{AreSizesSmall, IsEventInSizes, sizes_of};
 
-use crate::fault::ExplainFault;
-use crate::shape::RunShape;
-use base::{MOST_FLAGS, MOST_LOCKS, MOST_PAGES, MOST_PROCESSORS};
+use base::{MOST_PAGES, MOST_PROCESSORS};
 use causes::Due;
-use journal::{Event, Kind, MOST_HELD};
-use judge::Sizes;
+use journal::{Event, Kind};
 use lrc_prose::text::Text;
 
 /// How many pages of an event are told at most.
 const MOST_TOLD: usize = 3;
-
-/// Whether a history of these sizes can have all of the events.
-pub fn are_within(events: &[Event], sizes: Sizes) -> bool
-    ensures small { IsTrue result → AreSizesSmall (sizes_of sizes) }
-    ensures few { IsTrue result → length events.now ≤ most_held }
-    ensures within { IsTrue result → (k : ℕ) (e : Event) → At events.now k e → IsEventInSizes (sizes_of sizes) e }
-{
-    if !sizes.are_small() {
-        return false;
-    }
-    for event in events {
-        if !sizes.have_event(*event) {
-            return false;
-        }
-    }
-    events.len() <= MOST_HELD
-}
-
-/// The sizes of a memory with a run of this shape, with as many locks and flags as there may be; None where nobody knows how
-/// many words a page has. OutOfRange where that many words don't make pages of the addresses.
-pub fn sizes_for(shape: RunShape) -> Result<Option<Sizes>, ExplainFault> {
-    let Some(words) = shape.words else {
-        return Ok(None);
-    };
-    if words == 0 || shape.addresses % words != 0 {
-        return Err(ExplainFault::OutOfRange);
-    }
-    Ok(Some(Sizes {
-        processors: shape.processors,
-        pages: shape.addresses / words,
-        words,
-        locks: MOST_LOCKS,
-        flags: MOST_FLAGS,
-    }))
-}
 
 /// Which copies of pages are stale, as far as is known.
 #[derive(Clone, Copy)]

@@ -3,24 +3,43 @@
 use crate::earlier::Earlier;
 use crate::found::Findings;
 use crate::held::{HeldNow, LockState, PastDeed};
-use crate::history::EventNumbers;
+use crate::history::{EventNumbers, ToldHistory, numbers_of};
 use crate::journey::Crossings;
 use crate::lacks::{GoneStale, Stale, Writers};
 use crate::marked::Marked;
 use crate::rivals::Rival;
-use crate::shape::RunShape;
 use crate::state::ToldState;
+use crate::strays::Stray;
 use causes::{Due, Source, WordOrigin};
 use journal::{Event, Kind, MOST_PROCESSORS};
+use judge::Sizes;
 use lrc_prose::text::Text;
 
 /// What is known of a history.
 #[derive(Clone, Copy)]
 pub struct Known<'a> {
     pub numbers: EventNumbers,
-    pub shape: RunShape,
+    pub sizes: Sizes,
     pub events: &'a [Event],
+    /// Of each event its label.
+    pub labels: &'a [Vec<u8>],
+    /// Why the last event is a lie, in words; None where it is none.
+    pub lie: Option<&'a str>,
     pub found: &'a Findings,
+}
+
+impl<'a> Known<'a> {
+    /// The history of which this was found.
+    pub fn new(told: ToldHistory<'a>, found: &'a Findings) -> Known<'a> {
+        Known {
+            numbers: numbers_of(told.history),
+            sizes: told.history.sizes(),
+            events: told.history.events(),
+            labels: told.labels,
+            lie: told.lie,
+            found,
+        }
+    }
 }
 
 impl Known<'_> {
@@ -72,8 +91,23 @@ impl Known<'_> {
                 text.put_number("no store to ", address);
                 text.put(" happens before it");
             }
-            Source::Unexplained => text.put("no store before it has this word"),
+            Source::Unexplained => self.put_stray(text, self.found.loads.stray(place)),
         }
+    }
+
+    /// Puts which other store has the word of a load that answers none that it may.
+    fn put_stray(&self, text: &mut Text, stray: Option<Stray>) {
+        let Some(stray) = stray else {
+            text.put("no store before it has this word");
+            return;
+        };
+        text.put_number("event ", self.numbers.of(stray.store));
+        text.put_number(": p", self.deed(stray.store).processor);
+        text.put(if stray.is_ordered {
+            " stored it, which later stores overwrite"
+        } else {
+            " stored it, which nothing orders before the load"
+        });
     }
 
     /// The other latest stores of the load at this place.
@@ -93,11 +127,25 @@ impl Known<'_> {
         }
     }
 
-    /// Puts why the copy of the load's processor doesn't have the rival's word, but the one of this origin.
-    fn put_rival(&self, text: &mut Text, rival: Rival, origin: Option<WordOrigin>) {
+    /// Where the word comes from that the load at this place answers, where it was fetched.
+    fn fetched(&self, place: usize, source: Source) -> Option<WordOrigin> {
+        let origin = self.origin(place, source)?;
+        match self.events.get(origin.write) {
+            Some(
+                Event {
+                    kind: Kind::Fetch { .. },
+                    ..
+                },
+            ) => Some(origin),
+            _ => None,
+        }
+    }
+
+    /// Puts why the copy of the load's processor doesn't have the rival's word, but the one that was fetched.
+    fn put_rival(&self, text: &mut Text, rival: Rival, fetched: Option<WordOrigin>) {
         put_other_store(text, self.numbers, self.deed(rival.store));
         text.put(" is as late");
-        let Some(origin) = origin else {
+        let Some(origin) = fetched else {
             return;
         };
         let write = self.numbers.of(origin.write);
@@ -110,10 +158,11 @@ impl Known<'_> {
                 text.put_number(": the fetch at ", self.numbers.of(fetch));
                 text.put(" had brought it before");
             }
-            None => {
+            None if rival.is_own => {
                 text.put_number(": the fetch at ", write);
                 text.put(" overwrote it");
             }
+            None => {}
         }
     }
 
@@ -128,7 +177,7 @@ impl Known<'_> {
             return;
         };
         if source != Source::StoreAt(last.place) {
-            if !last.is_ordered {
+            if !last.is_ordered && !self.found.loads.is_stray(place, last.place) {
                 put_other_store(text, self.numbers, self.deed(last.place));
                 text.put(" is not ordered before it");
             }
@@ -147,9 +196,9 @@ impl Known<'_> {
     fn put_load(&self, text: &mut Text, place: usize, address: usize) {
         if let Some(Some(source)) = self.found.loads.sources.get(place) {
             self.put_source(text, place, address, *source);
-            let origin = self.origin(place, *source);
+            let fetched = self.fetched(place, *source);
             for rival in self.rivals(place) {
-                self.put_rival(text, *rival, origin);
+                self.put_rival(text, *rival, fetched);
             }
             self.put_last(text, place, *source);
         }
@@ -227,8 +276,38 @@ impl Known<'_> {
         arrived.put(text);
     }
 
-    /// Puts what is said of the event at this place, before which this is held and these copies are stale. Nothing is put
-    /// where there is nothing to say.
+    /// Why the event at this place is a lie, in words, where it is one.
+    fn lie_at(&self, place: usize) -> Option<&str> {
+        let lie = self.lie?;
+        if place.saturating_add(1) == self.events.len() {
+            Some(lie)
+        } else {
+            None
+        }
+    }
+
+    /// Puts that the event at this place is a lie, and why; of a load besides what it answers.
+    fn put_lie(&self, text: &mut Text, reason: &str, place: usize, event: Event) {
+        text.put("a lie: ");
+        text.put(reason);
+        if let Kind::Load(address, _) = event.kind {
+            text.put("; ");
+            self.put_load(text, place, address);
+        }
+    }
+
+    /// Puts the label of the event at this place, behind two spaces where something stands before it.
+    fn put_label(&self, text: &mut Text, start: usize, place: usize) {
+        if let Some(label) = self.labels.get(place)
+            && !label.is_empty()
+        {
+            text.leave(if text.len() > start { 2 } else { 0 });
+            text.put(str::from_utf8(label).unwrap_or(""));
+        }
+    }
+
+    /// Puts what is said of the event at this place, before which this is held and these copies are stale, and its label.
+    /// Nothing is put where there is nothing to say.
     pub fn put_note(
         &self,
         text: &mut Text,
@@ -237,6 +316,17 @@ impl Known<'_> {
         place: usize,
         event: Event,
     ) {
+        let start = text.len();
+        self.put_told(text, held, stale, place, event);
+        self.put_label(text, start, place);
+    }
+
+    /// Puts the same, without the label.
+    fn put_told(&self, text: &mut Text, held: &HeldNow, stale: &Stale, place: usize, event: Event) {
+        if let Some(reason) = self.lie_at(place) {
+            self.put_lie(text, reason, place, event);
+            return;
+        }
         let start = text.len();
         self.put_reason(text, held, place, event);
         if let Kind::Fetch { records, .. } = event.kind {
@@ -258,13 +348,12 @@ impl Known<'_> {
 
     /// The protocol's state at the event at this place, where that is told.
     pub fn state(&self, place: usize, event: Event) -> Option<ToldState<'_>> {
-        let words = self.shape.words?;
         match self.found.states.get(place) {
             Some(Some(state)) => Some(ToldState {
                 event,
-                processors: self.shape.processors,
-                pages: self.shape.addresses.checked_div(words)?,
-                words,
+                processors: self.sizes.processors,
+                pages: self.sizes.pages,
+                words: self.sizes.words,
                 is_cut: self.numbers.has_cut(),
                 state,
             }),

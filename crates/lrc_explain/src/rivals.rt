@@ -12,8 +12,18 @@ use std::alloc::{AllocError, Global};
 pub struct Rival {
     /// Where it stands.
     pub store: usize,
-    /// Where the load's processor fetched it; None where it is its own, or where nobody knows what a page is.
+    /// Whether it is one of the load's own processor.
+    pub is_own: bool,
+    /// Where the load's processor fetched it before the load, where it did.
     pub fetch: Option<usize>,
+}
+
+/// A load whose rivals are found.
+#[derive(Clone, Copy)]
+struct RivaledLoad {
+    place: usize,
+    processor: usize,
+    address: usize,
 }
 
 /// What rivals are found by.
@@ -53,75 +63,92 @@ fn first_from(places: &[usize], from: usize) -> Option<usize> {
 }
 
 impl Rivalry<'_> {
-    /// Where the processor fetched the store to the address, which is another one's.
-    fn fetch_of(&self, store: usize, address: usize, processor: usize) -> Option<usize>
+    /// Where the load's processor fetched the store, which is another one's, before the load.
+    fn fetch_of(&self, store: usize, load: RivaledLoad) -> Option<usize>
         requires { ArePathWays self.now.events.now self.now.ways.now }
     {
         let words = self.words?;
-        if words == 0 || store >= self.events.len() || processor >= MOST_PROCESSORS {
+        if words == 0 || store >= self.events.len() || load.processor >= MOST_PROCESSORS {
             return None;
         }
-        let first = self.ways.first(self.events, store, processor)?;
+        let first = self.ways.first(self.events, store, load.processor)?;
         let row = self.fetches.get(
-            (address / words)
+            (load.address / words)
                 .saturating_mul(MOST_PROCESSORS)
-                .saturating_add(processor),
+                .saturating_add(load.processor),
         )?;
-        first_from(row, first)
+        let fetch = first_from(row, first)?;
+        if fetch < load.place {
+            Some(fetch)
+        } else {
+            None
+        }
     }
 
-    /// The rivals of the load of the address by the processor that has these latest stores and this source.
+    /// The rival of the load that stands there.
+    fn rival(&self, store: usize, load: RivaledLoad) -> Rival
+        requires { ArePathWays self.now.events.now self.now.ways.now }
+    {
+        let is_own = match self.events.get(store) {
+            Some(event) => event.processor == load.processor,
+            None => false,
+        };
+        let fetch = if is_own {
+            None
+        } else {
+            self.fetch_of(store, load)
+        };
+        Rival {
+            store,
+            is_own,
+            fetch,
+        }
+    }
+
+    /// The rivals of the load that has these latest stores and answers the store at this place.
     fn rivals(
         &self,
         alloc: Global,
         latest: &[usize],
-        source: Option<Source>,
-        address: usize,
-        processor: usize,
+        answered: usize,
+        load: RivaledLoad,
     ) -> Result<Vec<Rival>, AllocError>
         requires { ArePathWays self.now.events.now self.now.ways.now }
     {
         let mut rivals = Vec::new(alloc);
         for store in latest {
-            if source != Some(Source::StoreAt(*store)) {
-                let is_own = match self.events.get(*store) {
-                    Some(event) => event.processor == processor,
-                    None => false,
-                };
-                let fetch = if is_own {
-                    None
-                } else {
-                    self.fetch_of(*store, address, processor)
-                };
-                rivals.push(Rival {
-                    store: *store,
-                    fetch,
-                })?;
+            if *store != answered {
+                rivals.push(self.rival(*store, load))?;
             }
         }
         Ok(rivals)
     }
 
-    /// The rivals of the event at this place, which has these latest stores and this source; none where it is no load.
+    /// The rivals of the event at this place, which has these latest stores and this source; none where it is no load that
+    /// answers a store.
     fn rivals_at(
         &self,
         alloc: Global,
         latest: &[usize],
         source: Option<Source>,
+        place: usize,
         event: Event,
     ) -> Result<Vec<Rival>, AllocError>
         requires { ArePathWays self.now.events.now self.now.ways.now }
     {
-        match event.kind {
-            Kind::Load(address, _) => {
-                self.rivals(alloc, latest, source, address, event.processor)
-            }
-            _ => Ok(Vec::new(alloc)),
-        }
+        let (Kind::Load(address, _), Some(Source::StoreAt(answered))) = (event.kind, source) else {
+            return Ok(Vec::new(alloc));
+        };
+        let load = RivaledLoad {
+            place,
+            processor: event.processor,
+            address,
+        };
+        self.rivals(alloc, latest, answered, load)
     }
 }
 
-/// Of each event its rivals, where it is a load; else none. The only error is running out of memory.
+/// Of each event its rivals, where it is a load that answers a store; else none. The only error is running out of memory.
 ///
 /// It takes time in the order of the events and their latest stores, times the logarithm of the events.
 pub fn rivals_of(
@@ -144,7 +171,8 @@ pub fn rivals_of(
     };
     let mut rows = Vec::with_capacity(alloc, events.len())?;
     for place in 0..events.len() {
-        rows.push(rivalry.rivals_at(alloc, &latest[place], sources[place], events[place])?)?;
+        let (latest, source) = (&latest[place], sources[place]);
+        rows.push(rivalry.rivals_at(alloc, latest, source, place, events[place])?)?;
     }
     Ok(rows)
 }

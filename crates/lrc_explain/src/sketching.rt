@@ -1,20 +1,13 @@
 //! What a picture has of a run besides its events: what is said of each, which loads answer which stores, who waits for whom.
-ghost use Rattle.std.specs.Prelude.{◌≤◌, length};
-ghost use Rattle.base.specs.Prelude.{most_held, most_processors};
-ghost use Rattle.journal.specs.Prelude.{AddressesInRange, ProcessorsInRange};
 
-use crate::fault::ExplainFault;
 use crate::found::{Findings, found_of};
 use crate::halting::{Halted, last_of};
 use crate::held::HeldNow;
-use crate::history::{EventNumbers, are_in_range, history_of, numbers_of};
+use crate::history::{EventNumbers, ToldHistory};
 use crate::lacks::Stale;
 use crate::notes::Known;
-use crate::rendering::journal_of;
-use crate::shape::RunShape;
 use causes::Source;
-use conformance::Ended;
-use journal::{Event, Journal, MOST_PROCESSORS};
+use judge::History;
 use lrc_prose::text::Text;
 use std::alloc::{AllocError, Global};
 
@@ -23,7 +16,7 @@ use std::alloc::{AllocError, Global};
 pub struct Sketch {
     /// Of each event what is said of it, in one line.
     pub notes: Vec<Vec<u8>>,
-    /// Of each event the place of the store that it answers, where it is a load that answers one that is left.
+    /// Of each event the place of the store that it answers, where it is a load of the value of one that is left.
     pub reads: Vec<Option<usize>>,
     /// Of each event whether it is a load that misses a store: one that stands before it, and is neither what it answers nor
     /// ordered before it.
@@ -54,13 +47,21 @@ fn add_notes(
     Ok(())
 }
 
-/// The place of the store that the event at this place answers, counted from where the events are that are left.
-fn read_at(found: &Findings, numbers: EventNumbers, place: usize) -> Option<usize> {
+/// The place of the store that has the word that the event at this place answers.
+fn store_of(found: &Findings, place: usize) -> Option<usize> {
     match found.loads.sources.get(place) {
-        Some(Some(Source::StoreAt(store))) if !numbers.is_cut(*store) => {
-            Some(store.saturating_sub(numbers.opening))
-        }
-        _ => None,
+        Some(Some(Source::StoreAt(store))) => Some(*store),
+        _ => Some(found.loads.stray(place)?.store),
+    }
+}
+
+/// The same, counted from where the events are that are left.
+fn read_at(found: &Findings, numbers: EventNumbers, place: usize) -> Option<usize> {
+    let store = store_of(found, place)?;
+    if numbers.is_cut(store) {
+        None
+    } else {
+        Some(store.saturating_sub(numbers.opening))
     }
 }
 
@@ -70,8 +71,8 @@ fn is_stale(found: &Findings, place: usize) -> bool {
         found.loads.sources.get(place),
         found.loads.earlier.get(place),
     ) {
-        (Some(Some(source)), Some(Some(last))) => {
-            !last.is_ordered && *source != Source::StoreAt(last.place)
+        (Some(Some(_)), Some(Some(last))) => {
+            !last.is_ordered && store_of(found, place) != Some(last.place)
         }
         _ => false,
     }
@@ -146,72 +147,64 @@ fn holders_of(
     Ok(holders)
 }
 
-/// What is told of these events of a run of this shape, the journal's.
+/// What is told of the events of the history, and of its pages, if these are told. `held` is what is held before the first event,
+/// and then what is held at the end. The only error is running out of memory.
 fn sketch_history(
     alloc: Global,
-    shape: RunShape,
-    numbers: EventNumbers,
-    journal: &Journal,
-    events: &[Event],
-) -> Result<Sketch, ExplainFault>
-    requires few { length events.now ≤ most_held }
-    requires few_processors { shape.processors ≤ most_processors }
-    requires addresses { AddressesInRange shape.addresses events.now }
-    requires processors { ProcessorsInRange shape.processors events.now }
-{
-    let found = found_of(alloc, shape, events, &[])?;
-    let known = Known {
-        numbers,
-        shape,
-        events,
-        found: &found,
-    };
-    let mut held = HeldNow::new(alloc, shape.processors)?;
+    held: &mut HeldNow,
+    history: &ToldHistory<'_>,
+    pages: bool,
+) -> Result<Sketch, AllocError> {
+    let found = found_of(alloc, history.history, pages, &[])?;
     let mut notes = Vec::new(alloc);
-    add_notes(&mut notes, &mut held, alloc, &known)?;
-    let reads = reads_of(alloc, &found, numbers, events.len())?;
-    let stale = stale_of(alloc, &found, numbers, events.len())?;
-    let last = last_of(journal.events());
-    let halted = Halted {
-        held: &held,
-        last: &last,
-        is_cut: journal.cut_events() > 0,
-    };
-    let waits = waits_of(alloc, &halted, shape.processors)?;
-    let holders = holders_of(alloc, &halted, shape.processors)?;
+    let known = Known::new(*history, &found);
+    add_notes(&mut notes, held, alloc, &known)?;
+    let numbers = known.numbers;
+    let count = known.events.len();
     Ok(Sketch {
         notes,
-        reads,
-        stale,
-        waits,
-        holders,
+        reads: reads_of(alloc, &found, numbers, count)?,
+        stale: stale_of(alloc, &found, numbers, count)?,
+        waits: Vec::new(alloc),
+        holders: Vec::new(alloc),
     })
 }
 
-/// What is told of the events of a run of so many processors, whose pages have so many words.
-///
-/// # Errors
-///
-/// NoMemory and OutOfRange, as those of `render`.
-pub fn sketch_run(
+/// Adds who waits at the history's end, where this is held, for what and for whom. The only error is running out of memory.
+fn add_waits(
+    sketch: &mut Sketch,
     alloc: Global,
-    processors: usize,
-    words: usize,
-    ended: &Ended,
-) -> Result<Sketch, ExplainFault> {
-    if processors > MOST_PROCESSORS {
-        return Err(ExplainFault::OutOfRange);
-    }
-    let journal = journal_of(ended);
-    let shape = RunShape {
-        processors,
-        addresses: journal.base().len(),
-        words: Some(words),
+    held: &HeldNow,
+    history: &History<'_>,
+) -> Result<(), AllocError> {
+    let processors = history.sizes().processors;
+    let last = last_of(history.left());
+    let halted = Halted {
+        held,
+        last: &last,
+        is_cut: history.cut_events() > 0,
     };
-    let numbers = numbers_of(processors, journal);
-    let events = history_of(alloc, numbers.opening, journal)?;
-    if !are_in_range(&events, processors, shape.addresses) {
-        return Err(ExplainFault::OutOfRange);
-    }
-    sketch_history(alloc, shape, numbers, journal, &events)
+    sketch.waits = waits_of(alloc, &halted, processors)?;
+    sketch.holders = holders_of(alloc, &halted, processors)?;
+    Ok(())
+}
+
+/// What is told of the events of a run with this history, and of its pages. The only error is running out of memory.
+pub fn sketch_run(alloc: Global, history: &History<'_>) -> Result<Sketch, AllocError> {
+    let mut held = HeldNow::new(alloc, history.sizes().processors)?;
+    let told = ToldHistory::of_run(history);
+    let mut sketch = sketch_history(alloc, &mut held, &told, true)?;
+    add_waits(&mut sketch, alloc, &held, history)?;
+    Ok(sketch)
+}
+
+/// What is told of the events of a trace, and of its pages, if these are told. Nobody waits at its end, as far as is told. The
+/// only error is running out of memory.
+pub fn sketch_trace(
+    alloc: Global,
+    history: &ToldHistory<'_>,
+    pages: bool,
+) -> Result<Sketch, AllocError> {
+    let mut held = HeldNow::new(alloc, history.history.sizes().processors)?;
+    sketch_history(alloc, &mut held, history, pages)
 }

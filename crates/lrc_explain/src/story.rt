@@ -1,19 +1,15 @@
 //! The events of a run, told.
-ghost use Rattle.std.specs.Prelude.{◌≤◌, length};
-ghost use Rattle.base.specs.Prelude.{most_held, most_processors};
-ghost use Rattle.journal.specs.Prelude.{AddressesInRange, ProcessorsInRange};
 
 use crate::extent::Extent;
-use crate::fault::ExplainFault;
-use crate::found::found_of;
+use crate::found::{found_of, race_of};
 use crate::held::HeldNow;
-use crate::history::{EventNumbers, are_in_range, history_of, numbers_of};
+use crate::history::{ToldHistory, numbers_of};
 use crate::lacks::Stale;
 use crate::layout::{Columns, layout_of};
 use crate::notes::Known;
-use crate::shape::RunShape;
 use causes::Part;
-use journal::{Event, Journal};
+use journal::Event;
+use judge::History;
 use lrc_prose::racing::RaceStory;
 use lrc_prose::text::Text;
 use std::alloc::{AllocError, Global};
@@ -68,28 +64,11 @@ fn put_cut(text: &mut Text, cut: u64) {
     }
 }
 
-/// Puts the sentences on the race, where there is one, and an empty line before and after.
-fn put_race(text: &mut Text, known: &Known<'_>) {
-    text.end_line();
-    if let Some(apart) = &known.found.race {
-        let race = RaceStory {
-            numbers: known.numbers,
-            events: known.events,
-            apart,
-        };
-        race.put(text);
-        text.end_line();
-    }
-}
-
-/// Of each of these events whether it is told: whether it isn't cut off, and the part has it. The only error is running out of
-/// memory.
-fn told_of(
-    alloc: Global,
-    part: &Part,
-    numbers: EventNumbers,
-    events: &[Event],
-) -> Result<Vec<bool>, AllocError> {
+/// Of each event of the history whether it is told: whether it isn't cut off, and the part has it. The only error is running out
+/// of memory.
+fn told_of(alloc: Global, part: &Part, history: &History<'_>) -> Result<Vec<bool>, AllocError> {
+    let numbers = numbers_of(history);
+    let events = history.events();
     let mut told = Vec::with_capacity(alloc, events.len())?;
     for (place, event) in events.iter().enumerate() {
         let number = numbers.of(place) as usize;
@@ -103,61 +82,76 @@ fn put_known(
     text: &mut Text,
     held: &mut HeldNow,
     alloc: Global,
-    extent: &Extent,
+    part: &Part,
     known: &Known<'_>,
     told: &[bool],
 ) -> Result<(), AllocError> {
     let last = known.numbers.of(known.events.len().saturating_sub(1));
-    let processors = known.shape.processors;
-    let layout = layout_of(alloc, processors, &extent.part, known.events, told, last)?;
+    let layout = layout_of(
+        alloc,
+        known.sizes.processors,
+        part,
+        known.events,
+        told,
+        last,
+    )?;
     put_cut(text, known.numbers.cut);
     put_events(text, held, known, &layout, told)?;
-    put_race(text, known);
+    text.end_line();
     Ok(())
 }
 
-/// Puts as much of these events of a run of this shape, then the first race, and an empty line.
+/// Puts as much of the history, and an empty line. `held` is what is held before the first event, and then what is held at the
+/// end. The only error is running out of memory.
 fn put_history(
     text: &mut Text,
     held: &mut HeldNow,
     alloc: Global,
     extent: &Extent,
-    shape: RunShape,
-    numbers: EventNumbers,
-    events: &[Event],
-) -> Result<(), ExplainFault>
-    requires few { length events.now ≤ most_held }
-    requires few_processors { shape.processors ≤ most_processors }
-    requires addresses { AddressesInRange shape.addresses events.now }
-    requires processors { ProcessorsInRange shape.processors events.now }
-{
-    let told = told_of(alloc, &extent.part, numbers, events)?;
+    history: &ToldHistory<'_>,
+) -> Result<(), AllocError> {
+    let told = told_of(alloc, &extent.part, history.history)?;
     let asked: &[bool] = if extent.state { &told } else { &[] };
-    let found = found_of(alloc, shape, events, asked)?;
-    let known = Known {
-        numbers,
-        shape,
-        events,
-        found: &found,
-    };
-    put_known(text, held, alloc, extent, &known, &told)?;
+    let found = found_of(alloc, history.history, extent.pages, asked)?;
+    let known = Known::new(*history, &found);
+    put_known(text, held, alloc, &extent.part, &known, &told)
+}
+
+/// Puts the sentences on the first race, where there is one, and an empty line behind them. The only error is running out of
+/// memory.
+fn put_race(text: &mut Text, alloc: Global, history: &History<'_>) -> Result<(), AllocError> {
+    if let Some(apart) = &race_of(alloc, history)? {
+        let race = RaceStory {
+            numbers: numbers_of(history),
+            events: history.events(),
+            apart,
+        };
+        race.put(text);
+        text.end_line();
+    }
     Ok(())
 }
 
-/// Puts as much of the events of the journal of a run of this shape, then the first race, and an empty line. `held` is what is held
-/// before the first event, and then what is held at the end. OutOfRange where the shape can't have the events.
+/// Puts as much of the history of a run, then the first race, and an empty line. `held` is what is held before the first event,
+/// and then what is held at the end. The only error is running out of memory.
 pub fn put_story(
     text: &mut Text,
     held: &mut HeldNow,
     alloc: Global,
     extent: &Extent,
-    shape: RunShape,
-    journal: &Journal,
-) -> Result<(), ExplainFault> {
-    let numbers = numbers_of(shape.processors, journal);
-    let events = history_of(alloc, numbers.opening, journal)?;
-    if !are_in_range(&events, shape.processors, shape.addresses) {
-        return Err(ExplainFault::OutOfRange);
-    }
-    put_history(text, held, alloc, extent, shape, numbers, &events)
+    history: &History<'_>,
+) -> Result<(), AllocError> {
+    put_history(text, held, alloc, extent, &ToldHistory::of_run(history))?;
+    put_race(text, alloc, history)
+}
+
+/// Puts as much of the history of a trace, and an empty line. The only error is running out of memory.
+pub fn put_trace(
+    text: &mut Text,
+    alloc: Global,
+    extent: &Extent,
+    history: &ToldHistory<'_>,
+) -> Result<(), AllocError> {
+    let mut held = HeldNow::new(alloc, history.history.sizes().processors)?;
+    put_history(text, &mut held, alloc, extent, history)
 }

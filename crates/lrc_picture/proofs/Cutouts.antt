@@ -21,9 +21,9 @@ pub cutout_those_within : (P : ℕ → Type 0) (n : ℕ) (xs : List ℕ) → Are
 cutout_those_within P n xs are = λ k d lt. ((are.has (slice_index_or xs k d)).0 (k, slice_get-get_or xs k d lt)).0
 
 -- the processor of an event that is drawn has a lane
-pub cutout_has_lane : (x : Part) (n : ℕ) (j : List Event) (lanes places : List ℕ) (k : ℕ) (e : Event) → ProcessorsInRange n j
+pub cutout_has_lane : {x : Part} {n : ℕ} (j : List Event) {lanes places : List ℕ} {k : ℕ} {e : Event} → ProcessorsInRange n j
     → AreLanes x n lanes → ArePlacesDrawn x j places → Has places k → At j k e → Has lanes e.processor
-cutout_has_lane x n j lanes places k e range are drawn has at =
+cutout_has_lane {x = x} j {k = k} {e = e} range are drawn has at =
     let is = ((drawn.has k).0 has).1 in
     let shown = subst (λ (f : Event). slice_get x.processors f.processor ≡ Some true) (numbered_at_same j k is.0 e is.1 at)
     is.2.shown in
@@ -35,10 +35,10 @@ AreDrawnSoFar lanes j places drawn =
     (r k : ℕ) (e : Event) → slice_get places r ≡ Some k → At drawn r e → IsDrawnAs lanes j k e
 
 -- a row more
-pub cutout_drawn_next : (lanes : List ℕ) (j : List Event) (places : List ℕ) (drawn : List Event) (row k : ℕ) (new : Event)
+pub cutout_drawn_next : {lanes : List ℕ} {j : List Event} (places : List ℕ) (drawn : List Event) (row : ℕ) {k : ℕ} {new : Event}
     → length drawn ≡ row → slice_get places row ≡ Some k → IsDrawnAs lanes j k new → AreDrawnSoFar lanes j places drawn
     → AreDrawnSoFar lanes j places (drawn ++ new ∷ [])
-cutout_drawn_next lanes j places drawn row k new long there now are r m e place at = elim (slice_push_cases drawn new r e at) [
+cutout_drawn_next {lanes = lanes} {j = j} places drawn row {k = k} {new = new} long there now are r m e place at = elim (slice_push_cases drawn new r e at) [
   | inl was ↦ are r m e place was.1
   | inr is ↦
       (let same : r ≡ row = omega (arith, is.0) in
@@ -48,11 +48,11 @@ cutout_drawn_next lanes j places drawn row k new long there now are r m e place 
 ]
 
 -- so it can be drawn
-pub cutout_can_be_drawn : (n lanes_count : ℕ) (j : List Event) (lanes places : List ℕ) (drawn : List Event)
-    → (incoming : List (Vec ℕ)) → lanes_count ≡ length lanes → lanes_count ≤ n → n ≤ most_processors
+pub cutout_can_be_drawn : (n lanes_count : ℕ) {j : List Event} {lanes places : List ℕ} {drawn : List Event}
+    → {incoming : List (Vec ℕ)} → lanes_count ≡ length lanes → lanes_count ≤ n → n ≤ most_processors
     → length places ≤ length j → length j ≤ most_held → AreDrawn lanes j places drawn
     → ArePlaces (length places) incoming → CanBeDrawn lanes_count drawn incoming
-cutout_can_be_drawn n lanes_count j lanes places drawn incoming lanes_long lanes_few few_processors short few are rows = record {
+cutout_can_be_drawn n lanes_count {lanes = lanes} {places = places} {drawn = drawn} {incoming = incoming} lanes_long lanes_few few_processors short few are rows = record {
   few = (let long = are.long in omega arith);
   few_processors = omega arith;
   processors = processors;

@@ -1,16 +1,13 @@
 //! What each event of a run changes: timestamps, copies and their words, locks, flags, and who waits for what.
-ghost use Rattle.std.specs.Prelude.{ℕ, ◌≤◌, IfOk, IfSome, IsTrue, length};
-ghost use Rattle.base.specs.Prelude.{most_held};
-ghost use Rattle.journal.specs.declared.event.Event.{Event};
-ghost use Rattle.journal.specs.Events.{At};
-ghost use Rattle.judge.specs.Prelude.{AreSizesSmall, IsEventInSizes, sizes_of};
+ghost use Rattle.std.specs.Prelude.{IfOk};
+ghost use Rattle.judge.specs.Prelude.{sizes_of};
 ghost use Rattle.lrc_picture.specs.Prelude.{AreRunChanges};
 
 use crate::run_front::others_of;
 use crate::times::times;
 use causes::{Due, WrittenWord, dues, written_words};
-use journal::{Awaited, Clock, Event, Kind, MOST_HELD};
-use judge::Sizes;
+use journal::{Awaited, Clock};
+use judge::History;
 use std::alloc::{AllocError, Global};
 
 /// Whether what a processor waits for is on its way.
@@ -69,62 +66,22 @@ pub struct RunChanges {
     pub others: Vec<Vec<StateChange>>,
 }
 
-/// Whether a memory of these sizes can have all of the events.
-fn are_within(events: &[Event], sizes: Sizes) -> bool
-    ensures small { IsTrue result → AreSizesSmall (sizes_of sizes) }
-    ensures few { IsTrue result → length events.now ≤ most_held }
-    ensures within { IsTrue result → (k : ℕ) (e : Event) → At events.now k e → IsEventInSizes (sizes_of sizes) e }
+/// What each event of the history changes. Where something was cut off, they begin with an arrival of each processor, which stands
+/// for it; then it isn't known at first which copies are valid, and who holds which lock. The only error is running out of
+/// memory.
+///
+/// It takes time and memory as `causes::written_words` and `causes::dues` do.
+pub fn changes(alloc: Global, history: &History<'_>) -> Result<RunChanges, AllocError>
+    ensures { IfOk result (AreRunChanges (sizes_of history.now.sizes) history.now.events) }
 {
-    if !sizes.are_small() {
-        return false;
-    }
-    for event in events {
-        if !sizes.have_event(*event) {
-            return false;
-        }
-    }
-    events.len() <= MOST_HELD
-}
-
-/// What each event of a run of these sizes changes. The only error is running out of memory.
-fn changes_of(
-    alloc: Global,
-    sizes: Sizes,
-    is_cut: bool,
-    events: &[Event],
-) -> Result<RunChanges, AllocError>
-    requires sizes { AreSizesSmall (sizes_of sizes) }
-    requires few { length events.now ≤ most_held }
-    requires within { (k : ℕ) (e : Event) → At events.now k e → IsEventInSizes (sizes_of sizes) e }
-    ensures { IfOk result (AreRunChanges (sizes_of sizes) events.now) }
-{
-    let times = times(alloc, sizes.processors, events)?;
-    let written = written_words(alloc, sizes, events)?;
-    let dues = dues(alloc, sizes, events)?;
-    let others = others_of(alloc, sizes, is_cut, events, &dues)?;
+    let times = times(alloc, history)?;
+    let written = written_words(alloc, history)?;
+    let dues = dues(alloc, history)?;
+    let others = others_of(alloc, history, &dues)?;
     Ok(RunChanges {
         times,
         written,
         dues,
         others,
     })
-}
-
-/// What each event of a run of these sizes changes; None where a memory of these sizes can't have the events. Where something
-/// was cut off, they begin with an arrival of each processor, which stands for it; then it isn't known at first which copies
-/// are valid, and who holds which lock. The only error is running out of memory.
-///
-/// It takes time and memory as `causes::written_words` and `causes::dues` do.
-pub fn changes(
-    alloc: Global,
-    sizes: Sizes,
-    is_cut: bool,
-    events: &[Event],
-) -> Result<Option<RunChanges>, AllocError>
-    ensures { IfOk result (λ o. IfSome o (AreRunChanges (sizes_of sizes) events.now)) }
-{
-    if !are_within(events, sizes) {
-        return Ok(None);
-    }
-    Ok(Some(changes_of(alloc, sizes, is_cut, events)?))
 }

@@ -1,9 +1,9 @@
-//! What stands at the head of a picture: the script's name, and the run's verdict.
+//! What stands at the head of a picture: the file's name, and the verdict.
 
 use crate::cutout::Cutout;
 use crate::elements::{WordStyle, begin_words, end_words};
 use crate::grid::Point;
-use crate::story::Story;
+use crate::story::{Story, Subject};
 use crate::svg::Svg;
 
 /// Where the head stands.
@@ -15,6 +15,14 @@ fn put_count(text: &mut Svg, count: usize, one: &str, many: &str) {
     text.put(if count == 1 { one } else { many });
 }
 
+/// What it is called.
+fn name_of(subject: Subject) -> &'static str {
+    match subject {
+        Subject::Run => "run",
+        Subject::FaithfulTrace | Subject::LyingTrace => "trace",
+    }
+}
+
 /// Whether all of the run is drawn.
 fn is_whole(story: &Story<'_>, cutout: &Cutout) -> bool {
     cutout.lanes.len() == story.processors && cutout.places.len() == story.events.len()
@@ -23,10 +31,12 @@ fn is_whole(story: &Story<'_>, cutout: &Cutout) -> bool {
 /// Puts the title of the file: what the picture is of.
 pub fn put_title(text: &mut Svg, story: &Story<'_>, cutout: &Cutout) {
     text.put(if is_whole(story, cutout) {
-        "<title>A run of "
+        "<title>A "
     } else {
-        "<title>Part of a run of "
+        "<title>Part of a "
     });
+    text.put(name_of(story.subject));
+    text.put(" of ");
     put_count(
         text,
         story.processors,
@@ -38,10 +48,10 @@ pub fn put_title(text: &mut Svg, story: &Story<'_>, cutout: &Cutout) {
         Some(_) => "with a race",
         None => "without a race",
     });
-    text.put(if story.halted {
-        ", that can't go on</title>\n"
-    } else {
-        "</title>\n"
+    text.put(match (story.subject, story.halted) {
+        (Subject::LyingTrace, _) => ", that ends with a lie</title>\n",
+        (_, true) => ", that can't go on</title>\n",
+        (_, false) => "</title>\n",
     });
 }
 
@@ -55,8 +65,8 @@ fn put_name(text: &mut Svg, path: &str) {
     text.put(": ");
 }
 
-/// What the run came to.
-fn verdict(is_racy: bool, halted: bool) -> &'static str {
+/// What a run came to.
+fn run_verdict(is_racy: bool, halted: bool) -> &'static str {
     match (is_racy, halted) {
         (true, false) => "racy",
         (false, false) => "race-free",
@@ -65,14 +75,36 @@ fn verdict(is_racy: bool, halted: bool) -> &'static str {
     }
 }
 
-/// Puts the headline: the script's name, where it has one, the verdict, and whether only a part is drawn.
+/// What a trace was found to be.
+fn trace_verdict(is_racy: bool, is_faithful: bool) -> &'static str {
+    match (is_racy, is_faithful) {
+        (true, true) => "racy, faithful",
+        (false, true) => "race-free, faithful",
+        (true, false) => "racy, unfaithful",
+        (false, false) => "unfaithful",
+    }
+}
+
+/// What it came to.
+fn verdict(story: &Story<'_>) -> &'static str {
+    let is_racy = story.race.is_some();
+    match story.subject {
+        Subject::Run => run_verdict(is_racy, story.halted),
+        Subject::FaithfulTrace => trace_verdict(is_racy, true),
+        Subject::LyingTrace => trace_verdict(is_racy, false),
+    }
+}
+
+/// Puts the headline: the file's name, where it has one, the verdict, and whether only a part is drawn.
 pub fn put_headline(text: &mut Svg, story: &Story<'_>, cutout: &Cutout) {
     if let Some(path) = story.name {
         put_name(text, path);
     }
-    text.put(verdict(story.race.is_some(), story.halted));
+    text.put(verdict(story));
     if !is_whole(story, cutout) {
-        text.put(" (part of the run)");
+        text.put(" (part of the ");
+        text.put(name_of(story.subject));
+        text.put(")");
     }
 }
 

@@ -34,12 +34,13 @@ enum Sign {
     Flag,
     Barrier,
     Race,
+    Lie,
     Waits,
     Holder,
 }
 
 /// All signs, in the legend's order.
-const SIGNS: [Sign; 14] = [
+const SIGNS: [Sign; 15] = [
     Sign::Store,
     Sign::Load,
     Sign::Stale,
@@ -52,6 +53,7 @@ const SIGNS: [Sign; 14] = [
     Sign::Flag,
     Sign::Barrier,
     Sign::Race,
+    Sign::Lie,
     Sign::Waits,
     Sign::Holder,
 ];
@@ -71,6 +73,7 @@ fn meaning(sign: Sign) -> &'static str {
         Sign::Flag => "a set hands on news by a flag",
         Sign::Barrier => "barrier: all have arrived",
         Sign::Race => "race: nothing orders the two",
+        Sign::Lie => "lie: no such memory does this",
         Sign::Waits => "waits, and nothing comes",
         Sign::Holder => "who could let it go on",
     }
@@ -106,6 +109,14 @@ fn has_stale(story: &Story<'_>, cutout: &Cutout) -> bool {
     false
 }
 
+/// Whether the trace's lie is drawn.
+fn has_lie(story: &Story<'_>, cutout: &Cutout) -> bool {
+    match cutout.places.last() {
+        Some(place) => story.is_lie(*place),
+        None => false,
+    }
+}
+
 /// Whether some load that is drawn answers a store that is.
 fn has_reads(story: &Story<'_>, cutout: &Cutout) -> bool {
     for place in &cutout.places {
@@ -133,6 +144,7 @@ fn occurs(sign: Sign, layout: &DiagramLayout, story: &Story<'_>, cutout: &Cutout
         Sign::Flag => has_arrow(layout, Way::Flag),
         Sign::Barrier => !layout.bars.is_empty(),
         Sign::Race => cutout.race(story).is_some(),
+        Sign::Lie => has_lie(story, cutout),
         Sign::Waits => story.halted && cutout.has_end,
         Sign::Holder => count_holders(story, cutout) > 0,
     }
@@ -167,7 +179,7 @@ fn put_sign(text: &mut Svg, sign: Sign, y: usize) {
         Sign::Flag => put_sign_line(text, "flag", y),
         Sign::Barrier => put_sign_line(text, "barrier", y),
         Sign::Race => put_sign_line(text, "race", y),
-        Sign::Waits => put_sign_mark(text, "stop", y),
+        Sign::Lie | Sign::Waits => put_sign_mark(text, "stop", y),
         Sign::Holder => put_sign_line(text, "holder", y),
     }
 }

@@ -1,4 +1,4 @@
-//! The picture of a run: its space-time diagram as an SVG file, which a browser opens without anything else; and a page with it
+//! The picture of a run or a trace: its space-time diagram as an SVG file, which a browser opens without anything else; and a page with it
 //! that steps through the run, as an HTML file (module `page`).
 //!
 //! A line a processor downwards, an event a row: its number, its mark and its label, and what is said of it where one points
@@ -6,7 +6,7 @@
 //! lanes, so that they touch nothing else. Thin edges lead from stores to the loads that answer them; a stale load has a
 //! stroke. A bar stands where all have arrived at the barrier. The first race is a dotted line between two marks in frames.
 //! Where the run can't go on, a cross stands for each processor that waits, with for what, and an arrow to who could let it
-//! go on. Shapes and dashes tell what colours tell. Where lanes with labels would be too wide for a page, the labels stand in
+//! go on. Of a trace a cross stands on its first lie. Shapes and dashes tell what colours tell. Where lanes with labels would be too wide for a page, the labels stand in
 //! a column right of all lanes.
 //!
 //! A picture may be of a part of the run (module `cutout`): of the events of some processors from one to another. An arrow or an
@@ -46,7 +46,7 @@ mod looks;
 pub mod marks;
 pub mod page;
 mod page_looks;
-pub mod panel;
+mod panel;
 pub mod picture;
 mod run_front;
 mod steps;

@@ -13,21 +13,30 @@ use crate::story::Story;
 use crate::svg::Svg;
 use crate::text::put_picture;
 use causes::Part;
-use journal::Event;
+use judge::History;
 use std::alloc::{AllocError, Global};
 use std::io::Write;
 
 /// What a page tells of a run's state.
 #[derive(Clone, Copy)]
 pub struct RunState<'a> {
-    /// The memory before the first event.
-    pub start: StartMemory<'a>,
-    /// The events, behind the arrivals that stand for what was cut off.
-    pub history: &'a [Event],
-    /// How many arrivals do.
-    pub opening: usize,
+    /// The run's history, with what stands for events that were cut off.
+    pub history: &'a History<'a>,
+    /// The words of the memory before the first event.
+    pub words: &'a [u32],
     /// What each event of the history changes.
     pub changes: &'a RunChanges,
+}
+
+impl<'a> RunState<'a> {
+    /// The memory before the first event.
+    fn start(&self) -> StartMemory<'a> {
+        StartMemory {
+            sizes: self.history.sizes(),
+            words: self.words,
+            is_cut: self.history.cut_events() > 0,
+        }
+    }
 }
 
 /// Puts what the file begins with.
@@ -71,13 +80,13 @@ fn put_controls(text: &mut Svg, story: &Story<'_>, cutout: &Cutout) {
 fn put_end(text: &mut Svg, story: &Story<'_>, state: &RunState<'_>) {
     text.put("</div>\n</main>\n<script type=\"application/json\" id=\"steps\"");
     text.put_number(" data-first=\"", story.number(0));
-    text.put_number("\" data-opening=\"", state.opening);
+    text.put_number("\" data-opening=\"", state.history.opening());
     text.put("\">");
     put_steps(
         text,
-        state.history,
+        state.history.events(),
         state.changes,
-        state.start.sizes.processors,
+        state.history.sizes().processors,
     );
     text.put("</script>\n");
     text.put(PAGE_SCRIPT);
@@ -100,7 +109,7 @@ fn page_of(
     put_top(&mut text, story, &cutout);
     put_picture(&mut text, &layout, story, &cutout);
     put_controls(&mut text, story, &cutout);
-    put_panel(&mut text, alloc, state.start, &cutout, story.events)?;
+    put_panel(&mut text, alloc, state.start(), &cutout, story.events)?;
     put_end(&mut text, story, state);
     text.finish()
 }

@@ -4,7 +4,7 @@
 use crate::changes::{Standing, StateChange};
 use causes::Due;
 use journal::{Awaited, Event, Kind};
-use judge::Sizes;
+use judge::{History, Sizes};
 use std::alloc::{AllocError, Global};
 
 /// What a lock's front is.
@@ -356,15 +356,14 @@ fn others_at(
     Ok(changes)
 }
 
-/// What each event changes besides, of a run of these sizes. The only error is running out of memory.
+/// What each event of the history changes besides. The only error is running out of memory.
 pub fn others_of(
     alloc: Global,
-    sizes: Sizes,
-    is_cut: bool,
-    events: &[Event],
+    history: &History<'_>,
     dues: &[Vec<Due>],
 ) -> Result<Vec<Vec<StateChange>>, AllocError> {
-    let mut front = RunFront::new(alloc, sizes, is_cut)?;
+    let events = history.events();
+    let mut front = RunFront::new(alloc, history.sizes(), history.cut_events() > 0)?;
     let mut others = Vec::with_capacity(alloc, events.len())?;
     for (event, records) in events.iter().zip(dues.iter()) {
         others.push(others_at(&mut front, *event, records)?)?;

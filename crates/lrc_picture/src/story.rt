@@ -19,10 +19,23 @@ pub struct Details<'a> {
     pub holders: &'a [Option<usize>],
 }
 
-/// What a picture tells of a run.
+/// Of what a picture is.
+#[derive(Clone, Copy, PartialEq, Eq)]
+pub enum Subject {
+    /// A run of a script.
+    Run,
+    /// A trace that is faithful.
+    FaithfulTrace,
+    /// A trace up to its first lie, which is the last event.
+    LyingTrace,
+}
+
+/// What a picture tells of a run or a trace.
 #[derive(Clone, Copy)]
 pub struct Story<'a> {
-    /// The name of the script's file, where it has one; of a path only what stands behind its last `/` is shown.
+    /// Of what it is.
+    pub subject: Subject,
+    /// The name of the file, where there is one; of a path only what stands behind its last `/` is shown.
     pub name: Option<&'a str>,
     /// How many processors there are, at most `MOST_PROCESSORS`.
     pub processors: usize,
@@ -74,6 +87,11 @@ impl Story<'_> {
             Some(read) => *read,
             None => None,
         }
+    }
+
+    /// Whether the event at this place is the trace's first lie.
+    pub fn is_lie(&self, place: usize) -> bool {
+        self.subject == Subject::LyingTrace && place.saturating_add(1) == self.events.len()
     }
 
     /// For what the processor waits, where the run can't go on, in words.

@@ -210,6 +210,9 @@ fn put_event(
     if story.is_stale(place) {
         put_mark(text, "stale", "slash", mark.at);
     }
+    if story.is_lie(place) {
+        put_mark(text, "lie", "stop", mark.at);
+    }
     put_event_label(text, grid, mark, event);
     text.put("</g>\n");
 }

@@ -1,21 +1,18 @@
 //! The timestamps of a run's events.
-ghost use Rattle.std.specs.Prelude.{◌≡◌, ◌≤◌, IfOk, length, vec_len};
-ghost use Rattle.base.specs.Prelude.{most_held, most_processors};
-ghost use Rattle.journal.specs.Prelude.{ProcessorsInRange};
+ghost use Rattle.std.specs.Prelude.{◌≡◌, IfOk, length, vec_len};
 ghost use Rattle.lrc_picture.specs.Prelude.{AreTimesAfter};
 
-use journal::{Clock, Clocks, Event};
+use journal::{Clock, Clocks};
+use judge::History;
 use std::alloc::{AllocError, Global};
 
-/// Of each event of so many processors its processor's vector timestamp after it. The only error is running out of memory.
-pub fn times(alloc: Global, processors: usize, events: &[Event]) -> Result<Vec<Clock>, AllocError>
-    requires few { length events.now ≤ most_held }
-    requires few_processors { processors ≤ most_processors }
-    requires processors { ProcessorsInRange processors events.now }
-    ensures long { IfOk result (λ v. vec_len v ≡ length events.now) }
-    ensures times { IfOk result (λ v. AreTimesAfter events.now v.items) }
+/// Of each event of the history its processor's vector timestamp after it. The only error is running out of memory.
+pub fn times(alloc: Global, history: &History<'_>) -> Result<Vec<Clock>, AllocError>
+    ensures long { IfOk result (λ v. vec_len v ≡ length history.now.events) }
+    ensures times { IfOk result (λ v. AreTimesAfter history.now.events v.items) }
 {
-    let mut clocks = Clocks::new(alloc, processors)?;
+    let events = history.events();
+    let mut clocks = Clocks::new(alloc, history.sizes().processors)?;
     let mut times = Vec::with_capacity(alloc, events.len())?;
     for place in 0..events.len() {
         clocks.note(events, place)?;

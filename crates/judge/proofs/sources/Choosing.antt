@@ -32,7 +32,7 @@ use Rattle.judge.specs.Sources.Tells.{AreSourceStoresOf}
 pub choosing_source_ordered_at : (j : List Event) (k p q i : ℕ) (a b : Kind) (t : ℕ → ℕ) → IsTimeOf (take k j) p t → Does j i q a
     → Does j k p b → is_taking b ≡ false → (q ≡ p → i ≡ k) → HappensBefore j i k ↔ (interval_at j q i < t q)
 choosing_source_ordered_at j k p q i a b t time does at quiet same = elim (cases_lt i k) [
-  | inl lt ↦ time_uses_ordered j k p q i a b t time does at quiet (λ is. (let e = same is in absurd (omega arith))) lt
+  | inl lt ↦ time_uses_ordered time does at quiet (λ is. (let e = same is in absurd (omega arith))) lt
   | inr le ↦
       (let top = time.within q in
       let up = count_of-mono is_closing j k i q le in

@@ -1,15 +1,14 @@
 -- Stores that a load's past doesn't have.
-use Rattle.std.proofs.Common.{◌≡◌, ◌≢◌, ℕ, ◌+◌, ◌<◌, ◌≤◌, ◌⊎◌, inl, inr, ◌↔◌, List, [], ◌∷◌, ◌++◌, length, Some, slice_get, subst, sym, refl, ap, ◌∙◌, arith}
-use Rattle.std.proofs.lemmas.Bool.{cases_eq, cases_lt}
-use Rattle.std.proofs.lemmas.Option.{same_Some, slice_get_within}
+use Rattle.std.proofs.Common.{◌≡◌, ◌≢◌, ℕ, ◌<◌, ◌≤◌, inl, inr, ◌↔◌, List, [], ◌∷◌, length, Some, slice_get, subst, sym, refl, ap, ◌∙◌, arith}
+use Rattle.std.proofs.lemmas.Bool.{cases_lt}
+use Rattle.std.proofs.lemmas.Option.{same_Some}
 use Rattle.std.proofs.Math.Seq.{take-append_seam}
-use Rattle.base.specs.InOrderOnce.{Has}
-use Rattle.base.proofs.SlicesAndCounts.{slice_push_cases, slice_get-append_left, slice_get-last}
+use Rattle.base.proofs.SlicesAndCounts.{slice_push_cases}
 use Rattle.journal.specs.declared.event.Event.{Event}
 use Rattle.journal.specs.declared.event.Kind.{Kind}
 use Rattle.journal.specs.declared.event.Kind.TheVariants.{Load, Store}
 use Rattle.journal.specs.DidEvent.{did, event}
-use Rattle.journal.specs.Events.{At, interval_at, is_closing}
+use Rattle.journal.specs.Events.{interval_at, is_closing}
 use Rattle.journal.specs.HappensBeforeEdges.{HappensBefore}
 use Rattle.journal.specs.HappensBeforeEdges.Link.{same}
 use Rattle.journal.specs.HappensBeforeEdges.HappensBefore.{edge}
@@ -19,8 +18,8 @@ use Rattle.journal.proofs.Order.CountedAndNumbered.{numbered_at_last, numbered_a
 use Rattle.journal.proofs.Times.Uses.{time_uses_ordered}
 use Rattle.judge.specs.declared.sources.stored.Stored.{Stored}
 use Rattle.judge.specs.Models.{ModelUnorderedStore}
-use Rattle.judge.specs.Sources.Stored.{AreStored, IsStoreOf}
-use Rattle.judge.specs.Sources.Unordered.{AreUnorderedFrom, IsFirstUnorderedFrom, IsUnorderedAt, SomeUnorderedStores}
+use Rattle.judge.specs.Sources.Stored.{AreStored}
+use Rattle.judge.specs.Sources.Unordered.{AreUnorderedFrom, IsFirstUnorderedFrom, SomeUnorderedStores}
 
 -- the load doesn't store
 unordered_load_no_store : (a v b w p q : ℕ) → event p (Load a v) ≡ event q (Store b w) → ⊥
@@ -52,7 +51,7 @@ unordered_store_counted : (j : List Event) (p a v q i w : ℕ) (t : ℕ → ℕ)
 unordered_store_counted j p a v q i w t time apart does =
     let lt = numbered_at_within j i (event q (Store a w)) does in
     let front = take-append_seam j (event p (Load a v) ∷ []) in
-    let tells = time_uses_ordered (did j p (Load a v)) (length j) p q i (Store a w) (Load a v) t
+    let tells = time_uses_ordered
     (subst (λ xs. IsTimeOf xs p t) (sym front) time)
     (numbered_at_longer j (event p (Load a v) ∷ []) i (event q (Store a w)) does) (numbered_at_last j (event p (Load a v))) refl apart lt in
     let number = count_of-front is_closing j (event p (Load a v) ∷ []) i q (omega arith) in

@@ -5,6 +5,7 @@ ghost use Rattle.journal.specs.declared.event.Event.{Event};
 ghost use Rattle.journal.specs.Prelude.{AddressInRange, AddressesInRange, ProcessorsInRange};
 ghost use Rattle.judge.specs.Sources.Prelude.{AreLatestMarked, AreLatestRows, IsLatestRow, AreSourceStoresOf};
 
+use crate::history::History;
 use crate::sources::readable::Sources;
 use base::MOST_PROCESSORS;
 use journal::{Event, Kind};
@@ -37,27 +38,18 @@ fn row(alloc: Global, sources: &Sources, event: Event) -> Result<Vec<usize>, All
     }
 }
 
-/// Of each event of a history of `processors` processors, at most `MOST_PROCESSORS`, and `addresses` addresses: the
-/// places of the latest stores of its past to its address, by rising processor, where it is a load; no place where
-/// it is none. The only error is running out of memory.
+/// Of each event of the history: the places of the latest stores of its past to its address, by rising processor, where it is a
+/// load; no place where it is none. The only error is running out of memory.
 ///
 /// A load that has no place may answer 0, and any other the value of each of its places. It takes time in the order
 /// of the events times the processors times (the processors and the logarithm of the events), and memory as
 /// `Sources` does, besides the answer.
-pub fn latest(
-    alloc: Global,
-    processors: usize,
-    addresses: usize,
-    events: &[Event],
-) -> Result<Vec<Vec<usize>>, AllocError>
-    requires few { length events.now ≤ most_held + most_processors }
-    requires few_processors { processors ≤ most_processors }
-    requires addresses { AddressesInRange addresses events.now }
-    requires processors { ProcessorsInRange processors events.now }
-    ensures long { IfOk result (λ v. vec_len v ≡ length events.now) }
-    ensures rows { IfOk result (λ v. AreLatestRows events.now v.items) }
+pub fn latest(alloc: Global, history: &History<'_>) -> Result<Vec<Vec<usize>>, AllocError>
+    ensures long { IfOk result (λ v. vec_len v ≡ length history.now.events) }
+    ensures rows { IfOk result (λ v. AreLatestRows history.now.events v.items) }
 {
-    let mut sources = Sources::new(alloc, processors, addresses)?;
+    let events = history.events();
+    let mut sources = Sources::new(alloc, history.sizes().processors, history.addresses())?;
     let mut rows = Vec::with_capacity(alloc, events.len())?;
     for place in 0..events.len() {
         let row = row(alloc, &sources, events[place])?;

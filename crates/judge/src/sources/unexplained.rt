@@ -6,6 +6,7 @@ ghost use Rattle.journal.specs.ExplainedAnswers.{Explained, IsAnswer};
 ghost use Rattle.journal.specs.Prelude.{AddressInRange, AddressesInRange, ProcessorsInRange};
 ghost use Rattle.judge.specs.Sources.Prelude.{IsFirstUnexplained, AreSourceStoresOf};
 
+use crate::history::History;
 use crate::sources::readable::Sources;
 use journal::{Event, Kind};
 use std::alloc::{AllocError, Global};
@@ -24,25 +25,16 @@ fn is_explained(sources: &Sources, front: &[Event], event: Event) -> bool
     }
 }
 
-/// The place of the first load of a history of `processors` processors, at most `MOST_PROCESSORS`, and `addresses`
-/// addresses that answers what it may not: neither the value of a latest store of its past, nor 0 where there is
-/// none. None where each load answers what it may. The only error is running out of memory.
+/// The place of the first load of the history that answers what it may not: neither the value of a latest store of its past, nor
+/// 0 where there is none. None where each load answers what it may. The only error is running out of memory.
 ///
 /// It takes time in the order of the events times the processors times (the processors and the logarithm of the
 /// events), and memory as `Sources` does.
-pub fn first_unexplained(
-    alloc: Global,
-    processors: usize,
-    addresses: usize,
-    events: &[Event],
-) -> Result<Option<usize>, AllocError>
-    requires few { length events.now ≤ most_held + most_processors }
-    requires few_processors { processors ≤ most_processors }
-    requires addresses { AddressesInRange addresses events.now }
-    requires processors { ProcessorsInRange processors events.now }
-    ensures { IfOk result (λ o. MatchOption o (Explained events.now) (IsFirstUnexplained events.now)) }
+pub fn first_unexplained(alloc: Global, history: &History<'_>) -> Result<Option<usize>, AllocError>
+    ensures { IfOk result (λ o. MatchOption o (Explained history.now.events) (IsFirstUnexplained history.now.events)) }
 {
-    let mut sources = Sources::new(alloc, processors, addresses)?;
+    let events = history.events();
+    let mut sources = Sources::new(alloc, history.sizes().processors, history.addresses())?;
     for place in 0..events.len() {
         let front = &events[..place];
         if !is_explained(&sources, front, events[place]) {

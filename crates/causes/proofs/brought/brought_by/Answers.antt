@@ -1,7 +1,7 @@
 use Rattle.std.proofs.Common.{◌≢◌, MatchOption, Option, Some, length, slice_index, subst, refl, ◌∙◌, arith}
 use Rattle.std.specs.Prelude.{None}
 use Rattle.std.proofs.lemmas.Option.{slice_get_read}
-use Rattle.causes.specs.Origins.{IsOriginBrought}
+use Rattle.journal.specs.WordOrigins.{IsOriginBrought}
 use Rattle.causes.specs.Stores.{IsLastStoredUnder, NoneStoredUnder}
 use Rattle.causes.proofs.BroughtStores.{FetchesFromOther, brought_before, brought_last, brought_none, brought_own, origin_brought_fetched_closed}
 use Rattle.causes.proofs.LookedUpIndex.{IsReadClosing, index_closing_read}

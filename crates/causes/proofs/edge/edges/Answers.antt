@@ -1,4 +1,4 @@
-use Rattle.std.proofs.Common.{ℕ, ◌+◌, ◌<◌, List, length, slice_index, slice_index_or, take, subst, sym, refl, arith}
+use Rattle.std.proofs.Common.{◌≡◌, ◌≤◌, ℕ, ◌+◌, ◌<◌, List, length, slice_index, slice_index_or, take, subst, sym, refl, arith}
 use Rattle.std.proofs.lemmas.Bool.{false≢true}
 use Rattle.std.proofs.lemmas.Option.{slice_get-get_or}
 use Rattle.journal.specs.declared.event.Event.{Event}
@@ -7,7 +7,7 @@ use Rattle.journal.specs.DidEvent.{event}
 use Rattle.journal.specs.Events.{count_of, is_arrive, is_depart}
 use Rattle.journal.proofs.Passes.ClockEntry.{entry_zeros_at}
 use Rattle.journal.specs.InRange.{ProcessorsInRange}
-use Rattle.causes.specs.Edges.{EdgeFromOther, EdgeLeadsOn}
+use Rattle.causes.specs.Edges.{AreEdges, EdgeFromOther, EdgeLeadsOn}
 use Rattle.causes.proofs.EdgeLeadsOn.{AreLeadingEdgesBelow, edge_leads_count_within, edge_leads_counts_next, edges_below_all, edges_start, edges_below_next, edges_others, leads, edge_leads_led, edge_one_or_none}
 use Rattle.causes.proofs.edge.edges.Goals as goal
 use Rattle.causes.proofs.edge.edges.Goals.{then-from-to+then-edge_leads_on+in_ok-push, else-from-to, else-from-to-via-then-from-to+else-edge_leads_on, else-from-to-via-else-from-to}
@@ -22,32 +22,39 @@ low : (events : List Event) (place i : ℕ) → i < place → place < length eve
 low events place i lt inside range =
     range i (here events i) (slice_get-get_or events i (event 0 (Load 0 0)) (omega arith))
 
+-- the history's events are those that are gone through
+within_here : (j events : List Event) → events ≡ j → (k : ℕ) → k < length j → k < length events
+within_here j events is k lt = subst (λ (xs : List Event). k < length xs) (sym is) lt
+
+sixteen : (n : ℕ) (events : List Event) → n ≤ 16 → ProcessorsInRange n events → ProcessorsInRange 16 events
+sixteen n events few range i e at = let lt = range i e at in omega arith
+
 pub loop-i-init : goal.loop-i-init
 loop-i-init c = record {
   counts = record { long = refl; each = λ q lt. entry_zeros_at 16 q };
   edges =
-      subst (AreLeadingEdgesBelow c.args.events.now c.args.place 0) (sym c.new-places.ensures.items)
-      (edges_start c.args.events.now c.args.place);
+      subst (AreLeadingEdgesBelow c.events-events.result.now c.args.place 0) (sym c.new-places.ensures.items)
+      (edges_start c.events-events.result.now c.args.place);
 }
 
 pub offset_bounds-arrivals-from : goal.offset_bounds-arrivals-from
 offset_bounds-arrivals-from c =
-    let is = low c.args.events.now c.args.place c.loop-i.i c.loop-i-test.true c.requires.place c.requires.processors in
+    let is = low c.events-events.result.now c.args.place c.loop-i.i c.loop-i-test.true (within_here c.args.history.now.events c.events-events.result.now c.events-events.ensures.value c.args.place c.requires) (sixteen c.args.history.now.sizes.processors c.events-events.result.now c.events-events.ensures.few_processors c.events-events.ensures.processors) in
     omega arith
 
 pub bounds-arrivals-from : goal.bounds-arrivals-from
 bounds-arrivals-from c =
-    low c.args.events.now c.args.place c.loop-i.i c.loop-i-test.true c.requires.place c.requires.processors
+    low c.events-events.result.now c.args.place c.loop-i.i c.loop-i-test.true (within_here c.args.history.now.events c.events-events.result.now c.events-events.ensures.value c.args.place c.requires) (sixteen c.args.history.now.sizes.processors c.events-events.result.now c.events-events.ensures.few_processors c.events-events.ensures.processors)
 
 pub overflow_add-arrivals : goal.overflow_add-arrivals
 overflow_add-arrivals c =
-    let events = c.args.events.now in
+    let events = c.events-events.result.now in
     let i = c.loop-i.i in
     let p = (here events i).processor in
     let lt = c.loop-i-test.true in
-    let inside = c.requires.place in
+    let inside = (within_here c.args.history.now.events c.events-events.result.now c.events-events.ensures.value c.args.place c.requires) in
     let small = c.ranges.place.fits in
-    let is = low events c.args.place i lt inside c.requires.processors in
+    let is = low events c.args.place i lt inside (sixteen c.args.history.now.sizes.processors c.events-events.result.now c.events-events.ensures.few_processors c.events-events.ensures.processors) in
     let count = c.loop-i.invariant.counts.each p is in
     let most = edge_leads_count_within is_arrive events i p (omega arith) in
     let one = c.arrivals_of.ensures in
@@ -56,26 +63,26 @@ overflow_add-arrivals c =
 
 pub offset_bounds-arrivals-from-in-loop-i : goal.offset_bounds-arrivals-from-in-loop-i
 offset_bounds-arrivals-from-in-loop-i c =
-    let is = low c.args.events.now c.args.place c.loop-i.i c.loop-i-test.true c.requires.place c.requires.processors in
+    let is = low c.events-events.result.now c.args.place c.loop-i.i c.loop-i-test.true (within_here c.args.history.now.events c.events-events.result.now c.events-events.ensures.value c.args.place c.requires) (sixteen c.args.history.now.sizes.processors c.events-events.result.now c.events-events.ensures.few_processors c.events-events.ensures.processors) in
     omega arith
 
 pub bounds-arrivals-from-in-loop-i : goal.bounds-arrivals-from-in-loop-i
 bounds-arrivals-from-in-loop-i c =
-    low c.args.events.now c.args.place c.loop-i.i c.loop-i-test.true c.requires.place c.requires.processors
+    low c.events-events.result.now c.args.place c.loop-i.i c.loop-i-test.true (within_here c.args.history.now.events c.events-events.result.now c.events-events.ensures.value c.args.place c.requires) (sixteen c.args.history.now.sizes.processors c.events-events.result.now c.events-events.ensures.few_processors c.events-events.ensures.processors)
 
 pub loop-i-preserved : goal.loop-i-preserved
 loop-i-preserved c =
-    let events = c.args.events.now in
+    let events = c.events-events.result.now in
     let k = c.args.place in
     let i = c.loop-i.i in
     let from = here events i in
     let to = here events k in
     let old = c.loop-i.invariant in
     let lt = c.loop-i-test.true in
-    let inside = c.requires.place in
+    let inside = (within_here c.args.history.now.events c.events-events.result.now c.events-events.ensures.value c.args.place c.requires) in
     let at = slice_get-get_or events i (event 0 (Load 0 0)) (omega arith) in
     let end = slice_get-get_or events k (event 0 (Load 0 0)) inside in
-    let low = c.requires.processors i from at in
+    let low = (sixteen c.args.history.now.sizes.processors c.events-events.result.now c.events-events.ensures.few_processors c.events-events.ensures.processors) i from at in
     let arrived = old.counts.each from.processor low in
     let departed = c.departures_before-departed.ensures in
     let one = c.arrivals_of.ensures in
@@ -109,4 +116,5 @@ pub returns : goal.returns
 returns c =
     let lt = c.loop-i-test.false in
     let top = c.loop-i.auto.i-end in
-    edges_below_all c.args.events.now c.args.place c.loop-i.i c.loop-i.places.items (omega arith) c.loop-i.invariant.edges
+    subst (λ j. AreEdges j c.args.place c.loop-i.places.items) c.events-events.ensures.value
+    (edges_below_all c.events-events.result.now c.args.place c.loop-i.i c.loop-i.places.items (omega arith) c.loop-i.invariant.edges)

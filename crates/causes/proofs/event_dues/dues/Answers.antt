@@ -1,4 +1,4 @@
-use Rattle.std.proofs.Common.{subst, sym}
+use Rattle.std.proofs.Common.{◌∙◌, subst, sym}
 use Rattle.std.specs.Prelude.{IfOk}
 use Rattle.std.specs.Global.{Vec}
 use Rattle.judge.specs.declared.sizes.Sizes.{Sizes as Given}
@@ -10,14 +10,18 @@ use Rattle.causes.proofs.event_dues.dues.Goals as goal
 
 pub all_dues-requires : goal.all_dues-requires
 all_dues-requires c = record {
-  few = c.requires.few;
+  few = c.events.ensures.few;
   within = λ k e at.
-      subst (λ (x : Given). IsEventInSizes (sizes_of x) e) (sym c.in_ok-gaps.ensures.sizes) (c.requires.within k e at);
+      subst (λ (x : Given). IsEventInSizes (sizes_of x) e) (sym (c.in_ok-gaps.ensures.sizes ∙ c.sizes.ensures.value))
+      (c.events.ensures.within k e at);
   start = c.in_ok-gaps.ensures.tells;
 }
 
 pub returns-clause-dues : goal.returns-clause-dues
 returns-clause-dues c =
     subst
-    (λ (x : Given). IfOk c.all_dues.result (λ (v : Vec (Vec Due)). AreAllDues (sizes_of x) c.args.events.now v.items))
-    c.in_ok-gaps.ensures.sizes c.all_dues.ensures.dues
+    (λ j. IfOk c.all_dues.result (λ (v : Vec (Vec Due)). AreAllDues (sizes_of c.args.history.now.sizes) j v.items))
+    c.events.ensures.value
+    (subst
+    (λ (x : Given). IfOk c.all_dues.result (λ (v : Vec (Vec Due)). AreAllDues (sizes_of x) c.events.result.now v.items))
+    (c.in_ok-gaps.ensures.sizes ∙ c.sizes.ensures.value) c.all_dues.ensures.dues)

@@ -10,7 +10,7 @@ returns c = record {
   origins = c.in_ok-origins.ensures.origins;
   long = c.in_ok-loads.ensures.long;
   loads = c.in_ok-loads.ensures.sources;
-  named = subst (λ o. NameOrigins c.args.events.now o c.in_ok-loads.loads.items) c.deref-2.ensures.value
+  named = subst (λ o. NameOrigins c.args.history.now.events o c.in_ok-loads.loads.items) c.deref-2.ensures.value
       c.in_ok-loads.ensures.origins;
   race = c.in_ok-race.ensures;
   incoming_long = c.in_ok-incoming.ensures.long;

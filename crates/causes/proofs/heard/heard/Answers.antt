@@ -70,7 +70,7 @@ last_heard-requires-clause-tells c = λ i a does lt.
     subst (λ n. IsTimeOf (take n events) p (entry items p)) is
     (c.loop-place.invariant.clocks.times p (omega arith)) in
     let tells =
-    time_uses_ordered events second p by i a e.kind (entry items p) time does at c.requires.second.2 c.requires.second.3
+    time_uses_ordered time does at c.requires.second.2 c.requires.second.3
     lt in
     let of = c.of-time.ensures by in
     let one = ap (λ (y : Event). entry items y.processor by) same in

@@ -1,5 +1,7 @@
 use Rattle.std.proofs.Common.{subst, sym, arith}
 use Rattle.std.proofs.Math.Nat.{mul-le-mul_left}
+use Rattle.judge.specs.declared.sizes.Sizes.{Sizes as Given}
+use Rattle.judge.specs.Miscounted.{IsEventInSizes}
 use Rattle.judge.specs.Sizes.{sizes_of}
 use Rattle.causes.specs.OriginSteps.{AreOriginsBefore}
 use Rattle.causes.proofs.OriginSteps.{origins_start}
@@ -7,10 +9,10 @@ use Rattle.causes.proofs.origin.origins.Goals as goal
 
 pub all_origins-requires-clause-words : goal.all_origins-requires-clause-words
 all_origins-requires-clause-words c =
-    let s = sizes_of c.args.sizes in
+    let s = sizes_of c.sizes-sizes.result in
     let words = c.in_ok-words.words in
-    subst (AreOriginsBefore s c.args.events.now 0) (sym c.deref_mut.ensures.value)
-    (origins_start s c.args.events.now words.items (omega (arith, words.ok.0, c.in_ok-words.ensures.long))
+    subst (AreOriginsBefore s c.events-events.result.now 0) (sym c.deref_mut.ensures.value)
+    (origins_start s c.events-events.result.now words.items (omega (arith, words.ok.0, c.in_ok-words.ensures.long))
     c.in_ok-words.ensures.none)
 
 pub all_origins-requires-clause-looked : goal.all_origins-requires-clause-looked
@@ -18,12 +20,17 @@ all_origins-requires-clause-looked c = record {
   index = c.in_ok-index_of.ensures;
   stores = c.in_ok-of.ensures.rows;
   processors = λ k e at.
-      (let low = (c.requires.within k e at).processor in
-      let few = c.requires.sizes.processors in
+      (let low = (c.events-events.ensures.processors k e at) in
+      let few = c.events-events.ensures.few_processors in
       omega arith);
   few =
-      (let words = mul-le-mul_left c.args.sizes.pages c.requires.sizes.words in
-      let pages = c.requires.sizes.pages in
+      (let words = mul-le-mul_left c.sizes-sizes.result.pages c.sizes-sizes.ensures.small.words in
+      let pages = c.sizes-sizes.ensures.small.pages in
       let same = c.in_ok-of.ensures.addresses in
       omega arith);
 }
+
+pub all_origins-requires-clause-within : goal.all_origins-requires-clause-within
+all_origins-requires-clause-within c = λ k e at.
+    subst (λ (x : Given). IsEventInSizes (sizes_of x) e) (sym c.sizes-sizes.ensures.value)
+    (c.events-events.ensures.within k e at)

@@ -4,9 +4,9 @@ use Rattle.journal.specs.declared.event.Event.{Event}
 use Rattle.journal.specs.declared.event.Kind.TheVariants.{Load}
 use Rattle.journal.specs.DidEvent.{event}
 use Rattle.journal.specs.Events.{At}
-use Rattle.journal.specs.Races.{IsFirstRace}
+use Rattle.journal.specs.Races.{IsFirstRace, RaceFree}
 use Rattle.journal.proofs.Order.CountedAndNumbered.{numbered_at_same}
-use Rattle.causes.specs.Heard.{IsHeard}
+use Rattle.causes.specs.Heard.{IsFirstRaceTold, IsHeard}
 use Rattle.causes.proofs.LastHeard.{heard_are_apart}
 use Rattle.causes.proofs.racing.race.Goals as goal
 
@@ -18,11 +18,11 @@ there : (events : List Event) (place : ℕ) → place < length events → At eve
 there events place lt = slice_get-get_or events place (event 0 (Load 0 0)) lt
 
 pub returns-in_default : goal.returns-in_default
-returns-in_default c = rw c.in_default.is at c.in_ok-first.ensures
+returns-in_default c = subst RaceFree c.events-events.ensures.value (rw c.in_default.is at c.in_ok-first.ensures)
 
 pub offset_bounds-events-first : goal.offset_bounds-events-first
 offset_bounds-events-first c =
-    let events = c.args.events.now in
+    let events = c.events-events.result.now in
     let first = c.in-Some.first in
     let race : IsFirstRace events first c.in-Some.second = rw c.in-Some.is at c.in_ok-first.ensures in
     let parts = heard_are_apart events first c.in-Some.second (here events first) race.race (there events first) in
@@ -31,24 +31,24 @@ offset_bounds-events-first c =
 
 pub bounds-events-first : goal.bounds-events-first
 bounds-events-first c =
-    let events = c.args.events.now in
+    let events = c.events-events.result.now in
     let first = c.in-Some.first in
     let race : IsFirstRace events first c.in-Some.second = rw c.in-Some.is at c.in_ok-first.ensures in
     (heard_are_apart events first c.in-Some.second (here events first) race.race (there events first)).within
 
 pub heard-requires-clause-by : goal.heard-requires-clause-by
 heard-requires-clause-by c =
-    let events = c.args.events.now in
+    let events = c.events-events.result.now in
     let first = c.in-Some.first in
     let race : IsFirstRace events first c.in-Some.second = rw c.in-Some.is at c.in_ok-first.ensures in
     let parts = heard_are_apart events first c.in-Some.second (here events first) race.race (there events first) in
-    let lt = c.requires.processors first (here events first) (there events first parts.within) in
-    let few = c.requires.few_processors in
+    let lt = c.events-events.ensures.processors first (here events first) (there events first parts.within) in
+    let few = c.events-events.ensures.few_processors in
     omega arith
 
 pub heard-requires-clause-second : goal.heard-requires-clause-second
 heard-requires-clause-second c =
-    let events = c.args.events.now in
+    let events = c.events-events.result.now in
     let first = c.in-Some.first in
     let race : IsFirstRace events first c.in-Some.second = rw c.in-Some.is at c.in_ok-first.ensures in
     let parts = heard_are_apart events first c.in-Some.second (here events first) race.race (there events first) in
@@ -56,14 +56,15 @@ heard-requires-clause-second c =
 
 pub returns : goal.returns
 returns c =
-    let events = c.args.events.now in
+    let events = c.events-events.result.now in
     let first = c.in-Some.first in
     let second = c.in-Some.second in
     let race : IsFirstRace events first second = rw c.in-Some.is at c.in_ok-first.ensures in
     let parts = heard_are_apart events first second (here events first) race.race (there events first) in
-    record {
+    subst (λ j. IsFirstRaceTold j (record { first = first; second = second; heard = c.in_ok-heard.heard })) c.events-events.ensures.value
+    (record {
       race = race;
       heard = λ e at.
           let same = numbered_at_same events first (here events first) e (there events first parts.within) at in
           subst (λ (x : Event). IsHeard events x.processor second c.in_ok-heard.heard) same c.in_ok-heard.ensures;
-    }
+    })

@@ -1,9 +1,10 @@
-use Rattle.std.proofs.Common.{◌≡◌, ℕ, Option, length, slice_index_or, subst, sym, refl, ◌∙◌, arith}
+use Rattle.std.proofs.Common.{◌≡◌, ℕ, List, Option, ap, length, slice_index_or, subst, sym, refl, ◌∙◌, arith}
 use Rattle.std.specs.Prelude.{None}
 use Rattle.std.proofs.lemmas.Option.{same_Some, slice_get-get_or, slice_get_read}
+use Rattle.journal.specs.declared.event.Event.{Event}
 use Rattle.journal.specs.declared.event.Kind.TheVariants.{Load}
 use Rattle.journal.specs.DidEvent.{event}
-use Rattle.judge.specs.Sources.Latest.{IsLatestRow}
+use Rattle.judge.specs.Sources.Latest.{AreLatestRows, IsLatestRow}
 use Rattle.causes.specs.declared.origin.WordOrigin.{WordOrigin}
 use Rattle.causes.specs.declared.source.Source.{Source}
 use Rattle.causes.specs.Origins.{NameOrigins, NamesOriginAt}
@@ -14,32 +15,32 @@ use Rattle.causes.proofs.source.loads.Goals as goal
 
 pub source_at-source-requires : goal.source_at-source-requires
 source_at-source-requires c =
-    let events = c.args.events.now in
+    let events = c.events-events.result.now in
     let place = c.loop-place.place in
     let at = slice_get-get_or events place (event 0 (Load 0 0)) c.loop-place-test.true in
     let rows = c.args.latest.now in
     let lt = c.loop-place-test.true in
-    let long = c.requires.latest_long in
+    let long = c.requires.latest_long ∙ ap (λ (j : List Event). length j) (sym c.events-events.ensures.value) in
     let read = c.index-latest-place.result in
     let there = slice_get_read rows (length rows) place read refl (omega arith) c.index-latest-place.is in
     let row : IsLatestRow events place c.deref.result.now =
-    subst (IsLatestRow events place) (sym c.deref.ensures.value) (c.requires.latest place read there) in
+    subst (IsLatestRow events place) (sym c.deref.ensures.value) (subst (λ j. AreLatestRows j rows) (sym c.events-events.ensures.value) c.requires.latest place read there) in
     record { row = (place, at, row) }
 
 pub loop-place-preserved : goal.loop-place-preserved
 loop-place-preserved c =
-    let events = c.args.events.now in
+    let events = c.events-events.result.now in
     let place = c.loop-place.place in
     let old = c.loop-place.invariant in
     let at = slice_get-get_or events place (event 0 (Load 0 0)) c.loop-place-test.true in
     let rows = c.args.latest.now in
     let lt = c.loop-place-test.true in
-    let latest_long = c.requires.latest_long in
-    let origins_long = c.requires.origins_long in
+    let latest_long = c.requires.latest_long ∙ ap (λ (j : List Event). length j) (sym c.events-events.ensures.value) in
+    let origins_long = c.requires.origins_long ∙ ap (λ (j : List Event). length j) (sym c.events-events.ensures.value) in
     let read = c.index-latest-place.result in
     let there = slice_get_read rows (length rows) place read refl (omega arith) c.index-latest-place.is in
     let row : IsLatestRow events place c.deref.result.now =
-    subst (IsLatestRow events place) (sym c.deref.ensures.value) (c.requires.latest place read there) in
+    subst (IsLatestRow events place) (sym c.deref.ensures.value) (subst (λ j. AreLatestRows j rows) (sym c.events-events.ensures.value) c.requires.latest place read there) in
     let sources = c.loop-place.sources in
     let long : length sources.items ≡ place = omega (arith, sources.ok.0, old.long) in
     let origin : Option WordOrigin = slice_index_or c.args.origins.now place None in
@@ -60,7 +61,8 @@ loop-place-preserved c =
     }
 
 pub returns-clause-sources : goal.returns-clause-sources
-returns-clause-sources c = c.loop-place.invariant.sources
+returns-clause-sources c = subst (λ j. AreSources j c.loop-place.sources.items) c.events-events.ensures.value c.loop-place.invariant.sources
 
 pub returns-clause-origins : goal.returns-clause-origins
-returns-clause-origins c = c.loop-place.invariant.named
+returns-clause-origins c =
+    subst (λ j. NameOrigins j c.args.origins.now c.loop-place.sources.items) c.events-events.ensures.value c.loop-place.invariant.named

@@ -1,11 +1,12 @@
-use Rattle.std.proofs.Common.{◌≡◌, length, subst, sym, arith}
+use Rattle.std.proofs.Common.{◌≡◌, ap, length, subst, sym, arith}
+use Rattle.judge.specs.declared.sizes.Sizes.{Sizes as Given}
 use Rattle.causes.specs.Waits.{AreWaits}
 use Rattle.causes.proofs.StandingWaits.{cause_waits_rows_next}
 use Rattle.causes.proofs.waiting.waits.Goals as goal
 
 pub loop-by-preserved : goal.loop-by-preserved
 loop-by-preserved c =
-    let events = c.args.events.now in
+    let events = c.events-events.result.now in
     let by = c.loop-by.by in
     let old = c.loop-by.invariant in
     let waits = c.loop-by.waits in
@@ -13,10 +14,12 @@ loop-by-preserved c =
     record {
       long = (let len = c.in_ok-push.ensures.len in let was = old.long in omega arith);
       waits =
-          subst (AreWaits c.args.processors events) (sym c.in_ok-push.ensures.items)
-          (cause_waits_rows_next c.args.processors events waits.items by c.in_ok-wait_of.field-0 long old.waits
+          subst (AreWaits c.sizes-processors.result.processors events) (sym c.in_ok-push.ensures.items)
+          (cause_waits_rows_next c.sizes-processors.result.processors events waits.items by c.in_ok-wait_of.field-0 long old.waits
           c.in_ok-wait_of.ensures);
     }
 
 pub returns-clause-waits : goal.returns-clause-waits
-returns-clause-waits c = c.loop-by.invariant.waits
+returns-clause-waits c =
+    subst (λ n. AreWaits n c.args.history.now.events c.loop-by.waits.items) (ap (λ (s : Given). s.processors) c.sizes-processors.ensures.value)
+    (subst (λ j. AreWaits c.sizes-processors.result.processors j c.loop-by.waits.items) c.events-events.ensures.value c.loop-by.invariant.waits)

@@ -1,16 +1,22 @@
 use Rattle.std.proofs.Common.{subst, sym, arith}
+use Rattle.std.specs.Prelude.{IfOk}
+use Rattle.std.specs.Global.{Vec}
 use Rattle.std.proofs.Math.Nat.{mul-le-mul_left}
+use Rattle.judge.specs.declared.sizes.Sizes.{Sizes as Given}
+use Rattle.judge.specs.Miscounted.{IsEventInSizes}
 use Rattle.judge.specs.Sizes.{sizes_of}
+use Rattle.causes.specs.declared.written.WrittenWord.{WrittenWord}
+use Rattle.causes.specs.Writing.{AreAllWritten}
 use Rattle.causes.specs.OriginSteps.{AreOriginsBefore}
 use Rattle.causes.proofs.OriginSteps.{origins_start}
 use Rattle.causes.proofs.written.written_words.Goals as goal
 
 pub all_written-requires-clause-words : goal.all_written-requires-clause-words
 all_written-requires-clause-words c =
-    let s = sizes_of c.args.sizes in
+    let s = sizes_of c.sizes-sizes.result in
     let words = c.in_ok-words.words in
-    subst (AreOriginsBefore s c.args.events.now 0) (sym c.deref_mut.ensures.value)
-    (origins_start s c.args.events.now words.items (omega (arith, words.ok.0, c.in_ok-words.ensures.long))
+    subst (AreOriginsBefore s c.events-events.result.now 0) (sym c.deref_mut.ensures.value)
+    (origins_start s c.events-events.result.now words.items (omega (arith, words.ok.0, c.in_ok-words.ensures.long))
     c.in_ok-words.ensures.none)
 
 pub all_written-requires-clause-looked : goal.all_written-requires-clause-looked
@@ -18,12 +24,27 @@ all_written-requires-clause-looked c = record {
   index = c.in_ok-index_of.ensures;
   stores = c.in_ok-of.ensures.rows;
   processors = λ k e at.
-      (let low = (c.requires.within k e at).processor in
-      let few = c.requires.sizes.processors in
+      (let low = (c.events-events.ensures.processors k e at) in
+      let few = c.events-events.ensures.few_processors in
       omega arith);
   few =
-      (let words = mul-le-mul_left c.args.sizes.pages c.requires.sizes.words in
-      let pages = c.requires.sizes.pages in
+      (let words = mul-le-mul_left c.sizes-sizes.result.pages c.sizes-sizes.ensures.small.words in
+      let pages = c.sizes-sizes.ensures.small.pages in
       let same = c.in_ok-of.ensures.addresses in
       omega arith);
 }
+
+pub all_written-requires-clause-within : goal.all_written-requires-clause-within
+all_written-requires-clause-within c = λ k e at.
+    subst (λ (x : Given). IsEventInSizes (sizes_of x) e) (sym c.sizes-sizes.ensures.value)
+    (c.events-events.ensures.within k e at)
+
+pub returns-clause-written : goal.returns-clause-written
+returns-clause-written c =
+    let told = c.all_written.result in
+    subst
+    (λ j. IfOk told (λ (v : Vec (Vec WrittenWord)). AreAllWritten (sizes_of c.args.history.now.sizes) j v.items))
+    c.events-events.ensures.value
+    (subst
+    (λ (x : Given). IfOk told (λ (v : Vec (Vec WrittenWord)). AreAllWritten (sizes_of x) c.events-events.result.now v.items))
+    c.sizes-sizes.ensures.value c.all_written.ensures.written)

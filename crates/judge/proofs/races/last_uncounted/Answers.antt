@@ -19,7 +19,7 @@ loop-by-preserved c =
       | in-Some w ↦
           (let here = (c.uncounted.ensures w.in-Some.place).0 w.in-Some.is in
           subst (IsLastUncountedByRaces rows row t p (by + 1)) (sym w.nearest-is)
-          (nearest_race_uncounted_some rows row t p by w.in-Some.place w.later.result c.loop-by.nearest c.loop-by.invariant here
+          (nearest_race_uncounted_some w.later.result c.loop-by.nearest c.loop-by.invariant here
           w.later.ensures.place w.later.ensures.nearest w.later.ensures.one))
       | in_default w ↦
           subst (IsLastUncountedByRaces rows row t p (by + 1)) (sym w.nearest-is)

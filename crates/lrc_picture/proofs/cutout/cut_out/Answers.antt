@@ -19,7 +19,7 @@ drawn_of-requires-clause-lanes c = λ k e has at.
     (let story = c.args.story.now in
     let places = c.in_ok-places.places.items in
     subst (λ (xs : List ℕ). Has xs e.processor) (sym c.deref.ensures.value)
-    (cutout_has_lane c.args.part.now story.processors story.events.now c.in_ok-lanes.lanes.items places k e
+    (cutout_has_lane story.events.now
     c.requires.processors c.in_ok-lanes.ensures.lanes c.in_ok-places.ensures.places
     (subst (λ (xs : List ℕ). Has xs k) c.deref-2.ensures.value has) at))
 
@@ -56,8 +56,7 @@ returns c =
       events = drawn;
       rows = subst (λ (xs : List ℕ). AreRowsOf (length j) xs c.in_ok-rows.rows.items) c.deref-3.ensures.value c.in_ok-rows.ensures;
       within =
-          cutout_can_be_drawn story.processors (vec_len lanes) j lanes.items places.items events.items
-          c.in_ok-incoming.incoming.items (omega (arith, lanes.ok.0)) c.in_ok-lanes.ensures.few c.requires.few_processors
+          cutout_can_be_drawn story.processors (vec_len lanes) (omega (arith, lanes.ok.0)) c.in_ok-lanes.ensures.few c.requires.few_processors
           (let short = c.in_ok-places.ensures.few in omega (arith, places.ok.0)) c.requires.few drawn rows;
       episodes = subst (λ n. All (λ r. r < n) c.in_ok-episodes.episodes.items) c.len-count.ensures c.in_ok-episodes.ensures;
     }

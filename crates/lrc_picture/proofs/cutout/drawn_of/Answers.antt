@@ -35,5 +35,5 @@ loop-row-preserved c =
     record {
       long = (let len = c.in_ok-push.ensures.len in let was = old.long in omega arith);
       each = subst (AreDrawnSoFar lanes events places) (sym c.in_ok-push.ensures.items)
-          (cutout_drawn_next lanes events places drawn.items row k new long (slice_get-get_or places row 0 lt) now old.each);
+          (cutout_drawn_next places drawn.items row long (slice_get-get_or places row 0 lt) now old.each);
     }

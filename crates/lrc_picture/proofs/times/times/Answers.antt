@@ -13,30 +13,30 @@ use Rattle.lrc_picture.proofs.times.times.Goals as goal
 
 pub note-requires-clause-processors : goal.note-requires-clause-processors
 note-requires-clause-processors c =
-    subst (λ n. ProcessorsInRange n c.args.events.now) (sym c.loop-place.invariant.present) c.requires.processors
+    subst (λ n. ProcessorsInRange n c.events-events.result.now) (sym c.loop-place.invariant.present) c.events-events.ensures.processors
 
 pub of-requires : goal.of-requires
 of-requires c =
-    let events = c.args.events.now in
+    let events = c.events-events.result.now in
     let place = c.loop-place.place in
     let e = slice_index_or events place (event 0 (Load 0 0)) in
     let at = slice_get-get_or events place (event 0 (Load 0 0)) c.loop-place-test.true in
-    let low = c.requires.processors place e at in
-    let few = c.requires.few_processors in
+    let low = c.events-events.ensures.processors place e at in
+    let few = c.events-events.ensures.few_processors in
     let long = c.in_ok-note.ensures.clocks.long in
     omega arith
 
 pub loop-place-preserved : goal.loop-place-preserved
 loop-place-preserved c =
-    let events = c.args.events.now in
+    let events = c.events-events.result.now in
     let place = c.loop-place.place in
     let old = c.loop-place.invariant in
     let times = c.loop-place.times in
     let e = slice_index_or events place (event 0 (Load 0 0)) in
     let at = slice_get-get_or events place (event 0 (Load 0 0)) c.loop-place-test.true in
     let long : length times.items ≡ place = omega (arith, times.ok.0, old.long) in
-    let low = c.requires.processors place e at in
-    let few = c.requires.few_processors in
+    let low = c.events-events.ensures.processors place e at in
+    let few = c.events-events.ensures.few_processors in
     let clocks = c.in_ok-note.ensures.clocks in
     let time : IsTimeOf (take (place + 1) events) e.processor (slice_index c.of.result.now) =
     fresh_news_time_same (take (place + 1) events) (InPast (take (place + 1) events) e.processor)
@@ -49,3 +49,7 @@ loop-place-preserved c =
       times = subst (AreTimesAfter events) (sym c.in_ok-push.ensures.items)
           (times_next events times.items place c.of.result.now e long old.times at time);
     }
+
+pub returns-clause-times : goal.returns-clause-times
+returns-clause-times c =
+    subst (λ j. AreTimesAfter j c.loop-place.times.items) c.events-events.ensures.value c.loop-place.invariant.times

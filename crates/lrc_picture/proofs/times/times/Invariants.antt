@@ -6,7 +6,7 @@ use Rattle.lrc_picture.proofs.times.times.Given as goal
 abbrev pub invariant-loop-place : goal.invariant-loop-place
 invariant-loop-place l = record {
   clocks : AreClocks (take l.place l.events) l.clocks;
-  present : l.clocks.present ≡ l.processors;
+  present : l.clocks.present ≡ l.history.sizes.processors;
   long : vec_len l.times ≡ l.place;
   times : AreTimesAfter l.events l.times.items;
 }

@@ -1,14 +1,12 @@
-use Rattle.std.proofs.Common.{◌≡◌, ℕ, ◌<◌, [], ◌∷◌, ◌++◌, List, Option, Some, length, replicate, slice_get, slice_set, vec_len, subst, sym, refl, ap, ◌∙◌}
-use Rattle.std.specs.Prelude.{None}
+use Rattle.std.proofs.Common.{ℕ, [], ◌∷◌, ◌++◌, List, Some, length, replicate, slice_set, subst, sym, ap, ◌∙◌}
 use Rattle.std.specs.Vec.{with_item}
 use Rattle.base.specs.LastWritten.{wrote}
 use Rattle.journal.specs.declared.event.Event.{Event}
-use Rattle.journal.specs.declared.event.Kind.{Kind}
 use Rattle.journal.specs.declared.event.Kind.TheVariants.{Store}
 use Rattle.journal.specs.DidEvent.{did, event}
-use Rattle.journal.specs.FlatMemory.{flat_write, memory_after}
+use Rattle.journal.specs.FlatMemory.{memory_after}
 use Rattle.judge.specs.declared.flat_memory.FlatMemory.{FlatMemory}
-use Rattle.judge.specs.FlatMemory.{IsLastFlatStoreTo, IsMemoryAfter}
+use Rattle.judge.specs.FlatMemory.{IsMemoryAfter}
 use Rattle.judge.proofs.Flattening.{flattened_last_store_others, flattened_last_stores_next, flattened_memory_next, flattened_no_write}
 use Rattle.judge.proofs.flat_memory.FlatMemory.note.Goals as goal
 

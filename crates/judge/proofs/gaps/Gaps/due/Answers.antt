@@ -30,7 +30,7 @@ loop-by-preserved c = record {
       let P : CountedGap → Type 0 =
       λ x. GapCountsAmong s j c.args.processor c.args.page (λ q. q < c.loop-by.by + 1) x.writers x.records x.words in
       subst P (sym c.and-due.ensures.sum)
-      (gap_part_counts_next s j c.args.processor c.args.page c.loop-by.by old.writers old.records old.words now.writers
+      (gap_part_counts_next c.loop-by.by old.writers old.records old.words now.writers
       now.records now.words (c.loop-by.invariant.counts j tells) (c.part.ensures.counts j tells)));
 }
 
@@ -42,5 +42,5 @@ returns c = λ j tells.
     let small = tells.long.sizes.processors in
     let range : ProcessorsInRange c.loop-by.by j =
     λ i e at. (let lt = tells.processors i e at in omega arith) in
-    gap_part_counts_all s j c.args.processor c.args.page c.loop-by.by due.writers due.records due.words range
+    gap_part_counts_all s c.args.processor c.args.page due.writers due.records due.words range
     (c.loop-by.invariant.counts j tells)

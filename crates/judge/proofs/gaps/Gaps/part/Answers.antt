@@ -51,7 +51,7 @@ returns-clause-counts c = λ j tells.
     let p = c.args.processor in
     let t = entry g.clocks.processors.items p in
     let m = entry g.fetched.items (gap_tally_row_index c.args.page p) in
-    counts_part (sizes_of g.sizes) j p c.args.page c.args.by m t _ _ c.writers_of.result c.count-records.result
+    counts_part c.writers_of.result c.count-records.result
     c.count-words.result c.if-by-processor.false (tells.are.fetched c.args.page p c.requires.processor)
     (tells.clocks.times p c.requires.processor) (tells.are.intervals.rows c.args.page c.args.by c.requires.by)
     (tells.are.words.rows c.args.page c.args.by c.requires.by)

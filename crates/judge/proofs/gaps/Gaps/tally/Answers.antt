@@ -34,16 +34,14 @@ stored g j q a v k n intervals words tells lt is page first second = record {
       (λ w r d. not_fetch q a v p m w r d) (tells.are.fetched m p within);
   intervals =
       subst (λ x. IsGapTallyOfValues (GapStoresInPage s after) (λ z. z) (GapStoresInPage s after) x intervals) (sym long)
-      (tally_next (GapStoresInPage s j) (GapStoresInPage s after) (λ z. z) (GapStoresInPage s j) (GapStoresInPage s after) (length j)
-      g.intervals intervals (a / s.words) (a / s.words) q (count_of is_closing j q) lt (pages_next_in_gap s j q a v)
+      (tally_next lt (pages_next_in_gap s j q a v)
       (pages_next_in_gap s j q a v) (λ h. h, λ h. h) (λ z h. stores_bound_in_gap j h.0 q z h.1.0)
       (λ z h. stores_bound_in_gap j h.0 q z h.1.0)
       (subst (λ x. AddsToGapTally g.intervals intervals (gap_tally_row_index x q) (gap_tally_row_index x q) (count_of is_closing j q)) page
       (subst (AddsToGapTally g.intervals intervals (gap_tally_row_index n q) (gap_tally_row_index n q)) is first)) tells.are.intervals);
   words =
       subst (λ x. IsGapTallyOfValues (GapStoresWord s after) (λ z. z.0) (GapStoresAt after) x words) (sym long)
-      (tally_next (GapStoresWord s j) (GapStoresWord s after) (λ z. z.0) (GapStoresAt j) (GapStoresAt after) (length j)
-      g.words words (a / s.words) a q (count_of is_closing j q, a) lt (words_next_in_gap s j q a v)
+      (tally_next lt (words_next_in_gap s j q a v)
       (stores_next_in_gap j q a v) (λ h. h.0, λ h. (h, refl)) (λ z h. stores_bound_in_gap j z.1 q z.0 h.0)
       (λ z h. stores_bound_in_gap j a q z h)
       (subst (λ x. AddsToGapTally g.words words (gap_tally_row_index x q) (gap_tally_row_index a q) (count_of is_closing j q)) page

@@ -1,9 +1,9 @@
-use Rattle.std.proofs.Common.{◌≡◌, ℕ, suc, ◌≤◌, [], ◌∷◌, ◌++◌, List, Some, length, replicate, slice_get, take, subst, sym, ◌∙◌, arith, length-append}
+use Rattle.std.proofs.Common.{◌≡◌, suc, ◌≤◌, [], ◌∷◌, ◌++◌, List, Some, length, replicate, slice_get, take, subst, sym, arith, length-append}
 use Rattle.std.proofs.lemmas.List.{take_all}
 use Rattle.std.proofs.Math.Seq.{take-append_seam}
 use Rattle.journal.specs.declared.event.Event.{Event}
 use Rattle.journal.specs.declared.event.Kind.TheVariants.{Load}
-use Rattle.journal.specs.DidEvent.{did, event}
+use Rattle.journal.specs.DidEvent.{event}
 use Rattle.journal.specs.Sizes.{addresses}
 use Rattle.journal.specs.Races.{RaceFree}
 use Rattle.journal.specs.FlatMemory.{memory_after}

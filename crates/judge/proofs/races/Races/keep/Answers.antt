@@ -1,19 +1,18 @@
-use Rattle.std.proofs.Common.{◌≡◌, ◌<◌, ◌≤◌, ℕ, [], ◌∷◌, ◌++◌, List, Option, Some, length, slice_index, slice_set, vec_len, true, subst, sym, refl, ap, ◌∙◌, arith}
+use Rattle.std.proofs.Common.{◌≡◌, ◌<◌, ℕ, [], ◌∷◌, ◌++◌, List, Some, slice_index, true, subst, sym, refl, arith}
 use Rattle.std.specs.Vec.{with_item}
 use Rattle.std.proofs.lemmas.Bool.{eq-eqb}
 use Rattle.journal.specs.declared.event.Event.{Event}
 use Rattle.journal.specs.declared.event.Kind.{Kind}
 use Rattle.journal.specs.declared.event.Kind.TheVariants.{Load, Store}
-use Rattle.journal.specs.DidEvent.{did, event}
-use Rattle.journal.specs.Events.{address_of, count_of, is_closing}
+use Rattle.journal.specs.DidEvent.{event}
+use Rattle.journal.specs.Events.{count_of, is_closing}
 use Rattle.journal.specs.Pasts.{InPast}
-use Rattle.journal.specs.Times.{IsTimeOf}
 use Rattle.journal.specs.ClockEntry.{entry}
 use Rattle.journal.proofs.Times.Times.{time_equal}
 use Rattle.journal.proofs.Times.PushesCovered.{own_time_entry}
 use Rattle.judge.specs.declared.races.Access.{Access}
 use Rattle.judge.specs.declared.races.Races.{Races}
-use Rattle.judge.specs.NearestRaces.{RaceAccessesAreKept, AreLastRacingAccesses, AreRacesOf, races_with_access_to, races_with_store_to}
+use Rattle.judge.specs.NearestRaces.{RaceAccessesAreKept, AreRacesOf, races_with_access_to, races_with_store_to}
 use Rattle.judge.specs.Sources.Tells.{source_row_of}
 use Rattle.judge.proofs.NearestRaces.{race_accesses_to_one, nearest_race_rows_kept, nearest_race_rows_left, race_stores_to_one}
 use Rattle.judge.proofs.races.Races.keep.Goals as goal
@@ -42,7 +41,7 @@ returns-in-Load-clause-kept c = λ j tells long.
     let few = sixteen_of j s p tells c.requires.processor in
     subst (λ x. RaceAccessesAreKept (j ++ event p x ∷ []) (record s { accesses = with_item s.accesses (source_row_of a p) (Some access) })) (sym c.in-Load.is) (record {
       stores = nearest_race_rows_left j (event p k) races_with_store_to s.stores.items (λ b yes_is. absurd cc) tells.kept.stores;
-      accesses = nearest_race_rows_kept j p a k races_with_access_to s.accesses.items access few (eq-eqb a a refl)
+      accesses = nearest_race_rows_kept p k s.accesses.items access few (eq-eqb a a refl)
           (λ b yes_is. race_accesses_to_one k a b refl yes_is) (sym long) interval tells.kept.accesses;
       stores_long = tells.kept.stores_long;
       accesses_long = tells.kept.accesses_long;
@@ -61,9 +60,9 @@ returns-in-Store-clause-kept c = λ j tells long.
       stores = with_item s.stores (source_row_of a p) (Some access);
       accesses = with_item s.accesses (source_row_of a p) (Some access);
     })) (sym c.in-Store.is) (record {
-      stores = nearest_race_rows_kept j p a k races_with_store_to s.stores.items access few (eq-eqb a a refl)
+      stores = nearest_race_rows_kept p k s.stores.items access few (eq-eqb a a refl)
           (λ b yes_is. race_stores_to_one a c.in-Store.field-1 b yes_is) (sym long) interval tells.kept.stores;
-      accesses = nearest_race_rows_kept j p a k races_with_access_to s.accesses.items access few (eq-eqb a a refl)
+      accesses = nearest_race_rows_kept p k s.accesses.items access few (eq-eqb a a refl)
           (λ b yes_is. race_accesses_to_one k a b refl yes_is) (sym long) interval tells.kept.accesses;
       stores_long = tells.kept.stores_long;
       accesses_long = tells.kept.accesses_long;

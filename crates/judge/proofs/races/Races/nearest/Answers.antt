@@ -1,5 +1,5 @@
-use Rattle.std.proofs.Common.{◌≡◌, ◌≢◌, ℕ, ◌+◌, ◌*◌, ◌<◌, ◌≤◌, ◌↔◌, IsTrue, List, [], ◌∷◌, ◌++◌, Some, length, slice_index, subst, sym, refl, ap, ◌∙◌, arith}
-use Rattle.std.specs.Prelude.{Option, None}
+use Rattle.std.proofs.Common.{◌≡◌, ℕ, ◌*◌, ◌<◌, ◌↔◌, IsTrue, List, [], ◌∷◌, ◌++◌, length, slice_index, subst, sym, refl, arith}
+use Rattle.std.specs.Prelude.{None}
 use Rattle.journal.specs.declared.event.Event.{Event}
 use Rattle.journal.specs.declared.event.Kind.{Kind}
 use Rattle.journal.specs.declared.event.Kind.TheVariants.{Load, Store}
@@ -75,7 +75,7 @@ returns-in-Load c = λ j tells.
     let t = c.of-time.result.now in
     let lt = subst (AddressInRange x.addresses) c.in-Load.is c.requires.address in
     let last = rw c.deref.ensures.value at c.last_uncounted.ensures in
-    nearest_race_is j e (races_with_store_to a) (slice_index t) x.stores.items (a * 16) x.processors c.last_uncounted.result
+    nearest_race_is c.last_uncounted.result
     (load_row j x e a c.in-Load.field-1 t tells c.in-Load.is lt (time_of j x e.processor t tells c.requires.processor c.of-time.ensures))
     last
 
@@ -87,7 +87,7 @@ returns-in-Store c = λ j tells.
     let t = c.of-time.result.now in
     let lt = subst (AddressInRange x.addresses) c.in-Store.is c.requires.address in
     let last = rw c.deref-in-Store.ensures.value at c.last_uncounted-in-Store.ensures in
-    nearest_race_is j e (races_with_access_to a) (slice_index t) x.accesses.items (a * 16) x.processors c.last_uncounted-in-Store.result
+    nearest_race_is c.last_uncounted-in-Store.result
     (store_row j x e a c.in-Store.field-1 t tells c.in-Store.is lt (time_of j x e.processor t tells c.requires.processor c.of-time.ensures))
     last
 

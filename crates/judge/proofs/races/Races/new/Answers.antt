@@ -1,4 +1,4 @@
-use Rattle.std.proofs.Common.{◌≡◌, ℕ, ◌*◌, Option, Some, sym, ap, ◌∙◌, arith}
+use Rattle.std.proofs.Common.{◌≡◌, ℕ, ◌*◌, Option, Some, sym, ap, ◌∙◌}
 use Rattle.std.specs.Prelude.{None, SomeIff}
 use Rattle.std.specs.Result.{result_ok}
 use Rattle.std.proofs.lemmas.Option.{none-some, same_Some}

@@ -1,13 +1,15 @@
 use Rattle.std.proofs.Common.{◌≡◌, take, vec_len}
 use Rattle.judge.specs.Sources.Latest.{AreLatestRows}
+use Rattle.journal.specs.Sizes.{addresses}
+use Rattle.judge.specs.Sizes.{sizes_of}
 use Rattle.judge.specs.Sources.Tells.{AreSourceStoresOf}
 use Rattle.judge.proofs.sources.rows.latest.Given as goal
 
 abbrev pub invariant-loop-place : goal.invariant-loop-place
 invariant-loop-place l = record {
   tells : AreSourceStoresOf (take l.place l.events) l.sources;
-  processors : l.sources.processors ≡ l.processors;
-  addresses : l.sources.addresses ≡ l.addresses;
+  processors : l.sources.processors ≡ l.history.sizes.processors;
+  addresses : l.sources.addresses ≡ addresses (sizes_of l.history.sizes);
   long : vec_len l.rows ≡ l.place;
   rows : AreLatestRows l.events l.rows.items;
 }

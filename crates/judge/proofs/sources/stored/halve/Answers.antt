@@ -1,7 +1,6 @@
-use Rattle.std.proofs.Common.{◌<◌, ◌≤◌, ◌-◌, length, slice_index_or, arith}
-use Rattle.std.proofs.lemmas.Option.{slice_get-get_or, slice_get_within}
+use Rattle.std.proofs.Common.{◌<◌, ◌-◌, length, slice_index_or, arith}
+use Rattle.std.proofs.lemmas.Option.{slice_get-get_or}
 use Rattle.judge.specs.declared.sources.stored.Stored.{Stored}
-use Rattle.judge.specs.Sources.Stored.{IsLastStoredBelow}
 use Rattle.judge.proofs.sources.stored.halve.Goals as goal
 
 pub returns-then-count-eq0 : goal.returns-then-count-eq0

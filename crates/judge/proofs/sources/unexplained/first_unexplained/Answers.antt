@@ -8,7 +8,7 @@ use Rattle.journal.specs.DidEvent.{event}
 use Rattle.journal.specs.Events.{At}
 use Rattle.journal.specs.WellFormed.{Does}
 use Rattle.journal.specs.InRange.{AddressInRange, AddressesInRange, ProcessorsInRange}
-use Rattle.journal.specs.ExplainedAnswers.{IsAnswer}
+use Rattle.journal.specs.ExplainedAnswers.{Explained, IsAnswer}
 use Rattle.journal.proofs.Order.CountedAndNumbered.{numbered_at_same, numbered_at_within}
 use Rattle.judge.specs.Sources.Answers.{IsFirstUnexplained}
 use Rattle.judge.proofs.sources.Answering.{answer_in}
@@ -53,36 +53,37 @@ explained_next j k e at before now m p a v lt does = elim (cases_eq m k) [
 
 pub is_explained-requires-clause-processor : goal.is_explained-requires-clause-processor
 is_explained-requires-clause-processor c =
-    let e = here c.args.events.now c.loop-place.place in
-    let at = slice_get-get_or c.args.events.now c.loop-place.place (event 0 (Load 0 0)) c.loop-place-test.true in
-    let lt = c.requires.processors c.loop-place.place e at in
+    let e = here c.events-events.result.now c.loop-place.place in
+    let at = slice_get-get_or c.events-events.result.now c.loop-place.place (event 0 (Load 0 0)) c.loop-place-test.true in
+    let lt = c.events-events.ensures.processors c.loop-place.place e at in
     let same = c.loop-place.invariant.processors in
     omega arith
 
 pub is_explained-requires-clause-address : goal.is_explained-requires-clause-address
 is_explained-requires-clause-address c =
-    let e = here c.args.events.now c.loop-place.place in
-    let at = slice_get-get_or c.args.events.now c.loop-place.place (event 0 (Load 0 0)) c.loop-place-test.true in
+    let e = here c.events-events.result.now c.loop-place.place in
+    let at = slice_get-get_or c.events-events.result.now c.loop-place.place (event 0 (Load 0 0)) c.loop-place-test.true in
     subst (λ n. AddressInRange n e.kind) (sym c.loop-place.invariant.addresses)
-    (c.requires.addresses c.loop-place.place e at)
+    (c.events-events.ensures.addresses c.loop-place.place e at)
 
 pub note-requires-clause-addresses : goal.note-requires-clause-addresses
 note-requires-clause-addresses c =
-    subst (λ n. AddressesInRange n c.args.events.now) (sym c.loop-place.invariant.addresses) c.requires.addresses
+    subst (λ n. AddressesInRange n c.events-events.result.now) (sym c.loop-place.invariant.addresses) c.events-events.ensures.addresses
 
 pub returns-then-not-is_explained : goal.returns-then-not-is_explained
 returns-then-not-is_explained c =
-    let events = c.args.events.now in
+    let events = c.events-events.result.now in
     let place = c.loop-place.place in
     let e = here events place in
     let at = slice_get-get_or events place (event 0 (Load 0 0)) c.loop-place-test.true in
-    first_wrong events place e.processor e.kind at c.loop-place.invariant.explained
+    subst (λ j. IsFirstUnexplained j place) c.events-events.ensures.value
+    (first_wrong events place e.processor e.kind at c.loop-place.invariant.explained
     (λ all. false≢true
-    (c.if-not-is_explained.ensures.1 (λ a v is. (answer_in events place a v e at).1 (all a v is))))
+    (c.if-not-is_explained.ensures.1 (λ a v is. (answer_in events place a v e at).1 (all a v is)))))
 
 pub loop-place-preserved : goal.loop-place-preserved
 loop-place-preserved c =
-    let events = c.args.events.now in
+    let events = c.events-events.result.now in
     let place = c.loop-place.place in
     let e = here events place in
     let at = slice_get-get_or events place (event 0 (Load 0 0)) c.loop-place-test.true in
@@ -96,11 +97,13 @@ loop-place-preserved c =
     }
 
 pub returns : goal.returns
-returns c = λ k p a v does.
-    let within = numbered_at_within c.args.events.now k (event p (Load a v)) does in
+returns c =
+    subst Explained c.events-events.ensures.value
+    (λ k p a v does.
+    (let within = numbered_at_within c.events-events.result.now k (event p (Load a v)) does in
     let over = c.loop-place-test.false in
-    c.loop-place.invariant.explained k p a v (omega arith) does
+    c.loop-place.invariant.explained k p a v (omega arith) does))
 
 pub note-requires-clause-processors : goal.note-requires-clause-processors
 note-requires-clause-processors c =
-    subst (λ n. ProcessorsInRange n c.args.events.now) (sym c.loop-place.invariant.processors) c.requires.processors
+    subst (λ n. ProcessorsInRange n c.events-events.result.now) (sym c.loop-place.invariant.processors) c.events-events.ensures.processors

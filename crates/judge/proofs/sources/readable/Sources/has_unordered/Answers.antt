@@ -1,9 +1,7 @@
-use Rattle.std.proofs.Common.{◌≡◌, ◌≢◌, ℕ, ◌+◌, ◌<◌, ◌≤◌, inl, inr, List, length, subst, sym, refl, ap, ◌∙◌, arith}
-use Rattle.std.proofs.lemmas.Bool.{cases_eq, cases_lt, false≢true}
-use Rattle.journal.specs.declared.event.Event.{Event}
-use Rattle.journal.specs.declared.event.Kind.TheVariants.{Load, Store}
-use Rattle.journal.specs.DidEvent.{did, event}
-use Rattle.judge.specs.Models.{ModelUnorderedStore}
+use Rattle.std.proofs.Common.{inl, inr, sym, refl, ◌∙◌, arith}
+use Rattle.std.proofs.lemmas.Bool.{cases_eq, false≢true}
+use Rattle.journal.specs.declared.event.Kind.TheVariants.{Store}
+use Rattle.journal.specs.DidEvent.{event}
 use Rattle.judge.proofs.sources.Unordering.{some_unordered, unordered_store_before_load, unordered_apart, unordered_some}
 use Rattle.judge.proofs.sources.readable.Sources.has_unordered.Goals as goal
 use Rattle.judge.proofs.sources.readable.Sources.has_unordered.Goals.{then-by-processor+else-some_stores, else-by-processor}

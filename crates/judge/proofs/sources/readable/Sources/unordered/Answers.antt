@@ -1,4 +1,4 @@
-use Rattle.std.proofs.Common.{◌≡◌, ◌≢◌, ℕ, ◌+◌, ◌<◌, ◌≤◌, ◌⊎◌, ◌↔◌, inl, inr, List, [], ◌∷◌, length, Some, slice_get, subst, sym, refl, ap, ◌∙◌, arith}
+use Rattle.std.proofs.Common.{◌≡◌, ℕ, ◌+◌, ◌<◌, ◌⊎◌, ◌↔◌, inl, inr, List, [], ◌∷◌, length, slice_get, subst, sym, ap, ◌∙◌, arith}
 use Rattle.std.specs.Global.{Vec}
 use Rattle.std.proofs.lemmas.Bool.{cases_eq, cases_lt}
 use Rattle.std.proofs.lemmas.Option.{none-some, slice_get_within}
@@ -9,7 +9,6 @@ use Rattle.journal.specs.DidEvent.{did, event}
 use Rattle.journal.specs.WellFormed.{Does}
 use Rattle.journal.proofs.Order.CountedAndNumbered.{numbered_at_longer, numbered_at_within}
 use Rattle.judge.specs.declared.sources.stored.Stored.{Stored}
-use Rattle.judge.specs.Models.{ModelUnorderedStore}
 use Rattle.judge.specs.Sources.Unordered.{AreUnorderedFrom, IsUnorderedWithin, IsUnorderedAt}
 use Rattle.judge.proofs.sources.Unordering.{unordered_store_before_load, unordered_apart}
 use Rattle.judge.proofs.sources.readable.Sources.unordered.Goals as goal

@@ -1,0 +1,6 @@
+pub mod SetsHeld
+pub mod WithoutLocks
+pub mod NeedingLocks
+pub mod KeptAccesses
+pub mod StorersAndWords
+pub mod TellingLocksets

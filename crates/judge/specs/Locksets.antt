@@ -1,0 +1,6 @@
+pub mod Unlocked
+pub mod Pairs
+pub mod Held
+pub mod Watched
+pub mod Tells
+pub mod Prelude

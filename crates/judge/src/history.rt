@@ -1,0 +1,152 @@
+//! Histories whose numbers are within their sizes.
+ghost use Rattle.std.specs.Prelude.{◌≡◌, ◌↔◌, ◌≤◌, ◌*◌, IfOk, IfSome, IsSome, IsTrue, MatchOption, drop, length};
+ghost use Rattle.base.specs.Prelude.{most_held, most_processors};
+ghost use Rattle.journal.specs.Sizes.{addresses};
+ghost use Rattle.journal.specs.Prelude.{AddressesInRange, IsFirstRace, ProcessorsInRange, RaceFree};
+ghost use Rattle.judge.specs.Prelude.{AreSizesSmall, IsHistoryInSizes, IsHistoryOfJournal, IsHistoryOfSizes, IsSizedHistory};
+ghost use Rattle.judge.specs.Prelude.{most_in_history, sizes_of, whole_history};
+
+use crate::sizes::Sizes;
+use base::MOST_HELD;
+use journal::{Event, Journal, first_race_of};
+use std::alloc::{AllocError, Global};
+use std::marker::Model;
+
+/// A history of a cluster of some sizes: events whose numbers are within them, and no more than a journal holds. It need not be
+/// one that a cluster can make.
+///
+/// If events were cut off before it, an arrival of each processor stands in front for them.
+///
+/// Contracts see a `SizedHistory` (specs/History). What is true of each is said by `events` and `sizes`, so that whoever is
+/// handed a history need not ask for it.
+#[derive(Drop)]
+pub struct History<'a> {
+    sizes: Sizes,
+    /// How many events were cut off.
+    cut: u64,
+    /// How many arrivals in front stand for them.
+    opening: usize,
+    events: &'a [Event],
+}
+
+impl<'a> Model for History<'a> {
+    ghost use Rattle.judge.specs.History.{SizedHistory};
+
+    ghost Value = { SizedHistory };
+
+    ghost use Rattle.judge.specs.HistoryInvariant.{HistoryInvariant, history_seen};
+
+    ghost view = { history_seen };
+
+    ghost invariant = { HistoryInvariant };
+}
+
+/// Whether the numbers of each event are within the sizes, which are small.
+fn are_within(sizes: Sizes, events: &[Event]) -> bool
+    requires { AreSizesSmall (sizes_of sizes) }
+    ensures { IsTrue result ↔ IsHistoryInSizes (sizes_of sizes) events.now }
+{
+    events.iter().all(|event| sizes.have_event(*event))
+}
+
+impl<'a> History<'a> {
+    /// The history of these events, of which nothing was cut off. None if the sizes aren't small, if the events are more than
+    /// `MOST_HELD`, or if one of them names a number past the sizes; else there is one.
+    pub fn new(sizes: Sizes, events: &'a [Event]) -> Option<History<'a>>
+        ensures fits { IsSome result ↔ IsSizedHistory (whole_history sizes events.now) }
+        ensures value { IfSome result (λ h. h ≡ whole_history sizes events.now) }
+    {
+        if !sizes.are_small() || events.len() > MOST_HELD || !are_within(sizes, events) {
+            return None;
+        }
+        Some(History {
+            sizes,
+            cut: 0,
+            opening: 0,
+            events,
+        })
+    }
+
+    /// The history that the journal has, with what stands for events that were cut off. None if the sizes aren't small, or if
+    /// it isn't one of them; else there is one.
+    pub fn of_journal(sizes: Sizes, journal: &'a Journal) -> Option<History<'a>>
+        ensures fits { IsSome result ↔ IsHistoryOfSizes (sizes_of sizes) journal.now }
+        ensures value { IfSome result (IsHistoryOfJournal sizes journal.now) }
+    {
+        let events = journal.history();
+        if !sizes.are_small() || !are_within(sizes, events) {
+            return None;
+        }
+        Some(History {
+            sizes,
+            cut: journal.cut_events(),
+            opening: events.len() - journal.len(),
+            events,
+        })
+    }
+
+    /// The sizes of the cluster.
+    pub fn sizes(&self) -> Sizes
+        ensures value { result ≡ self.now.sizes }
+        ensures small { AreSizesSmall (sizes_of result) }
+    {
+        self.sizes
+    }
+
+    /// How many addresses the cluster has.
+    pub fn addresses(&self) -> usize
+        ensures { result ≡ addresses (sizes_of self.now.sizes) }
+    {
+        self.sizes.pages * self.sizes.words
+    }
+
+    /// How many events were cut off before it.
+    pub fn cut_events(&self) -> u64
+        ensures { result ≡ self.now.cut }
+    {
+        self.cut
+    }
+
+    /// How many arrivals in front stand for what was cut off.
+    pub fn opening(&self) -> usize
+        ensures value { result ≡ self.now.opening }
+        ensures within { result ≤ length self.now.events }
+    {
+        self.opening
+    }
+
+    /// The events in order, with the arrivals in front.
+    pub fn events(&self) -> &'a [Event]
+        ensures value { result.now ≡ self.now.events }
+        ensures few { length result.now ≤ most_in_history }
+        ensures few_processors { self.now.sizes.processors ≤ most_processors }
+        ensures within { IsHistoryInSizes (sizes_of self.now.sizes) result.now }
+        ensures processors { ProcessorsInRange self.now.sizes.processors result.now }
+        ensures addresses { AddressesInRange (addresses (sizes_of self.now.sizes)) result.now }
+    {
+        self.events
+    }
+
+    /// The events that are left, without the arrivals in front.
+    pub fn left(&self) -> &'a [Event]
+        ensures value { result.now ≡ drop self.now.opening self.now.events }
+        ensures few { length result.now ≤ most_held }
+        ensures few_processors { self.now.sizes.processors ≤ most_processors }
+        ensures processors { ProcessorsInRange self.now.sizes.processors result.now }
+    {
+        let events = self.events;
+        &events[self.opening..]
+    }
+    /// The first race, as `journal::first_race_of` answers it. The only error is running out of memory.
+    pub fn first_race(&self, alloc: Global) -> Result<Option<(usize, usize)>, AllocError>
+        ensures { IfOk result (λ o. MatchOption o (RaceFree self.now.events)
+            (λ r. IsFirstRace self.now.events r.0 r.1)) }
+    {
+        first_race_of(
+            alloc,
+            self.sizes.processors,
+            self.addresses(),
+            self.events(),
+        )
+    }
+}
