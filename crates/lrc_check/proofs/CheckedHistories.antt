@@ -1,5 +1,5 @@
 -- What is found of a history, by what its judge tells.
-use Rattle.std.proofs.Common.{◌≡◌, ℕ, ◌+◌, ◌<◌, ◌≤◌, Bool, List, [], ◌∷◌, ◌++◌, Option, Some, length, take, subst, sym, refl, ap, ◌∙◌, take-take, arith}
+use Rattle.std.proofs.Common.{◌≡◌, ℕ, ◌+◌, ◌<◌, ◌≤◌, Bool, true, List, [], ◌∷◌, ◌++◌, Option, Some, length, take, subst, sym, refl, ap, ◌∙◌, take-take, arith}
 use Rattle.std.specs.Prelude.{None, MatchOption}
 use Rattle.std.proofs.lemmas.List.{length-take-le, take_all}
 use Rattle.journal.specs.declared.event.Event.{Event}
@@ -16,7 +16,7 @@ use Rattle.lrc_check.specs.declared.checked.Rules.{Rules}
 use Rattle.lrc_check.specs.declared.checked.TraceVerdict.{TraceVerdict}
 use Rattle.lrc_check.specs.declared.checked.TraceVerdict.TheVariants as verdict
 use Rattle.lrc_check.specs.declared.judging.TraceJudge.{TraceJudge}
-use Rattle.lrc_check.specs.Checked.{IsChecked, IsLie, IsRaceOf, IsCheckVerdictOf, IsCheckedWhole, checked_for_race}
+use Rattle.lrc_check.specs.Checked.{EndsAsAsked, IsChecked, IsLie, IsRaceOf, IsCheckVerdictOf, IsCheckedWhole, checked_for_race}
 use Rattle.lrc_check.specs.Faithful.{IsFaithfulAndCounted}
 use Rattle.lrc_check.specs.Judged.{IsJudgedFaithful, IsJudged}
 use Rattle.lrc_check.proofs.Judged.{judged_race_last}
@@ -30,6 +30,7 @@ checked_faithful r s j race x count same told accepted is = record {
   verdict = subst (λ xs. IsCheckVerdictOf r.model r.lax s xs x.race x.verdict) (sym whole)
       (subst (λ o. IsCheckVerdictOf r.model r.lax s j o x.verdict) (sym same) (verdict_is x.verdict told));
   whole = whole_is x.verdict;
+  ends = ends_is x.verdict told;
 }
   where
     whole : take x.count j ≡ j
@@ -45,6 +46,11 @@ checked_faithful r s j race x count same told accepted is = record {
     whole_is (verdict.Lie y) = tt
     whole_is verdict.Racy = tt
 
+    ends_is : (v : TraceVerdict) → IsJudgedFaithful r.model race j v → EndsAsAsked r.ends_at_race v
+    ends_is (verdict.Faithful traffic unjudged) t = tt
+    ends_is (verdict.Lie y) t = tt
+    ends_is verdict.Racy t = absurd t
+
 -- a lie
 pub checked_lie : (r : Rules) (s : Sizes) (j : List Event) (place : ℕ) (race : Option (ℕ × ℕ)) (x : Lie)
     → place < length j → IsLie r.model r.lax s (take (place + 1) j) x → IsRaceOf (checked_for_race x (take (place + 1) j)) race
@@ -53,15 +59,16 @@ checked_lie r s j place race x lt told is = record {
   within = omega arith;
   verdict = (told, is);
   whole = tt;
+  ends = tt;
 }
 
 -- the second event of the first race, which ends the judging
-pub checked_racy : (r : Rules) (s : Sizes) (j : List Event) (place : ℕ) (race : ℕ × ℕ) (e : Event)
+pub checked_racy : (r : Rules) {s : Sizes} (j : List Event) (place : ℕ) (race : ℕ × ℕ) (e : Event) → r.ends_at_race ≡ true
     → place < length j → take (place + 1) j ≡ take place j ++ e ∷ []
     → IsFaithfulAndCounted r.model r.lax s (take place j) → RaceFree (take place j)
     → IsNearestRace (take (place + 1) j) race.0 race.1
     → IsChecked r s j (record { count = place + 1; race = Some race; verdict = verdict.Racy })
-checked_racy r s j place race e lt next accepted free nearest = record {
+checked_racy r {s} j place race e ends lt next accepted free nearest = record {
   within = omega arith;
   verdict = record {
     first = race.0;
@@ -72,6 +79,7 @@ checked_racy r s j place race e lt next accepted free nearest = record {
     before = subst (IsFaithfulAndCounted r.model r.lax s) (sym front) accepted;
   };
   whole = tt;
+  ends = ends;
 }
   where
     short : length (take place j) ≡ place

@@ -35,7 +35,7 @@ found_lying j (lie.IllFormed x) o is = found_longer j x.place o is
 found_lying j (lie.Unexplained x) o is = is
 found_lying j (lie.Miscounted x) o is = is
 
-found_by : (r : Rules) (s : Sizes) (j : List Event) (o : Option (ℕ × ℕ)) (v : TraceVerdict)
+pub found_by : (r : Rules) (s : Sizes) (j : List Event) (o : Option (ℕ × ℕ)) (v : TraceVerdict)
     → IsCheckVerdictOf r.model r.lax s j o v → IsFoundRace j o
 found_by r s j o (verdict.Faithful traffic unjudged) is = found_nearest j o is.1
 found_by r s j o (verdict.Lie x) is = found_lying j x o (found_nearest (checked_for_race x j) o is.1)

@@ -3,3 +3,4 @@ pub mod LyingTraces
 pub mod Judged
 pub mod CheckedHistories
 pub mod FoundRaces
+pub mod ToldEvents

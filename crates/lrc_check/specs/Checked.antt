@@ -104,8 +104,14 @@ abbrev pub IsCheckedWhole : List Event → ℕ → TraceVerdict → Type 0
 IsCheckedWhole j count (verdict.Faithful traffic unjudged) = count ≡ length j
 IsCheckedWhole j count _ = Unit {0}
 
+-- judging ends with a race only if it is to
+abbrev pub EndsAsAsked : Bool → TraceVerdict → Type 0
+EndsAsAsked ends verdict.Racy = ends ≡ true
+EndsAsAsked ends _ = Unit {0}
+
 -- what is said of a history is true: all is judged, unless the first events are no such memory's
 pub record IsChecked (r : Rules) (s : Sizes) (j : List Event) (x : Checked) : Type 0 where
   pub within : x.count ≤ length j
   pub verdict : IsCheckVerdictOf r.model r.lax s (take x.count j) x.race x.verdict
   pub whole : IsCheckedWhole j x.count x.verdict
+  pub ends : EndsAsAsked r.ends_at_race x.verdict

@@ -3,5 +3,7 @@ pub mod Checked
 pub mod Judged
 pub mod Found
 pub mod Telling
+pub mod Told
+pub mod Unprotected
 pub mod Prelude
 pub mod Traces

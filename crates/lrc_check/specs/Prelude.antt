@@ -4,3 +4,5 @@ pub use Rattle.lrc_check.specs.Checked.{IsChecked, IsLie, IsNextUnexplained, IsR
 pub use Rattle.lrc_check.specs.Found.{CameBeforeOutput, IsFoundOf, IsFaultOfTrace}
 pub use Rattle.lrc_check.specs.Judged.{AreGapsJudged, IsJudgedFaithful, IsJudged}
 pub use Rattle.lrc_check.specs.Telling.{label_mark, labelled_line, told_line}
+pub use Rattle.lrc_check.specs.Told.{AreToldEvents, IsTraceTold, is_lying}
+pub use Rattle.lrc_check.specs.Unprotected.{AreUnprotectedTold, are_locksets_told, is_faithful_verdict}

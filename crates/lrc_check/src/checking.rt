@@ -6,53 +6,36 @@ ghost use Rattle.journal.specs.Prelude.{Race};
 ghost use Rattle.lrc_check.specs.Traces.Prelude.{IsNoTrace};
 ghost use Rattle.judge.specs.Prelude.{AreSizesSmall};
 ghost use Rattle.judge.specs.Prelude.{sizes_of as judged_sizes};
-ghost use Rattle.lrc_check.specs.Traces.Prelude.{IsTrace, bare, trace_sizes_head, trace_sizes_of};
-ghost use Rattle.lrc_script.specs.Prelude.{AreLawfulSizes};
-ghost use Rattle.lrc_check.specs.Prelude.{CameBeforeOutput, IsChecked, IsFoundOf, IsFaultOfTrace};
+ghost use Rattle.lrc_check.specs.Traces.Prelude.{IsTrace, bare, trace_sizes_of};
+ghost use Rattle.lrc_check.specs.Prelude.{AreUnprotectedTold, CameBeforeOutput, IsChecked, IsFoundOf, IsFaultOfTrace};
+ghost use Rattle.lrc_check.specs.Prelude.{are_locksets_told};
 
 use crate::checked::{Checked, Rules};
 use crate::fault::CheckFault;
+use crate::history::{history_of, sizes_for};
 use crate::judging::judge_history;
+use crate::locksets::unprotected_of;
 use crate::text::{Told, text_of};
-use crate::traces::trace::{LabelledTrace, Trace, TraceSizes, read};
+use crate::traces::trace::{LabelledTrace, Trace, read};
 use causes::{RaceApart, race_apart};
+use judge::History;
+use judge::locksets::Unprotected;
 use lrc_report::render::OutFault;
 use std::alloc::{AllocError, Global};
 use std::io::Write;
 
-/// The trace's sizes, as they are judged by.
-fn sizes_for(sizes: TraceSizes) -> judge::Sizes
-    requires { AreLawfulSizes (trace_sizes_head (trace_sizes_of sizes)) }
-    ensures same { judged_sizes result ≡ trace_sizes_of sizes }
-    ensures small { AreSizesSmall (judged_sizes result) }
-{
-    judge::Sizes {
-        processors: sizes.processors,
-        pages: sizes.pages,
-        words: sizes.words,
-        locks: sizes.locks,
-        flags: sizes.flags,
-    }
-}
-
-/// What keeps the accesses of this race of the trace apart; None where no race was found.
+/// What keeps the accesses of this race of the history apart; None where no race was found.
 fn apart_of(
     alloc: Global,
-    trace: &Trace,
+    history: &History<'_>,
     race: Option<(usize, usize)>,
 ) -> Result<Option<RaceApart>, AllocError>
-    requires trace { IsTrace (trace_sizes_of trace.now.sizes) trace.now.events.items }
-    requires race { IfSome race (λ r. Race trace.now.events.items r.0 r.1) }
+    requires { IfSome race (λ r. Race history.now.events r.0 r.1) }
     ensures { IfOk result (λ o. MatchOption race (o ≡ None)
-        (λ r. IfSome o (IsRaceApart trace.now.sizes.locks trace.now.events.items r.0 r.1))) }
+        (λ r. IfSome o (IsRaceApart history.now.sizes.locks history.now.events r.0 r.1))) }
 {
-    let TraceSizes {
-        processors,
-        locks,
-        ..
-    } = trace.sizes;
     match race {
-        Some(race) => Ok(Some(race_apart(alloc, processors, locks, &trace.events, race)?)),
+        Some(race) => Ok(Some(race_apart(alloc, history, race)?)),
         None => Ok(None),
     }
 }
@@ -76,21 +59,39 @@ pub struct JudgedTrace {
     pub found: Checked,
     /// What keeps the race's accesses apart; None where no race was found.
     pub race: Option<RaceApart>,
+    /// Of each address whether somebody forgot its lock, if that was asked for and the trace is faithful and has no race;
+    /// empty otherwise.
+    pub unprotected: Vec<Option<Unprotected>>,
 }
 
-/// Judges the trace. The only error is running out of memory.
-pub fn judge_trace(alloc: Global, trace: &Trace, rules: Rules) -> Result<JudgedTrace, AllocError>
+/// Judges the trace. `locksets` asks for the words of which somebody forgot the lock. The only error is running out of
+/// memory.
+pub fn judge_trace(
+    alloc: Global,
+    trace: &Trace,
+    rules: Rules,
+    locksets: bool,
+) -> Result<JudgedTrace, AllocError>
     requires { IsTrace (trace_sizes_of trace.now.sizes) trace.now.events.items }
     ensures found { IfOk result (λ x. IsChecked rules (trace_sizes_of trace.now.sizes) trace.now.events.items x.found) }
     ensures race { IfOk result (λ x. MatchOption x.found.race (x.race ≡ None)
         (λ r. IfSome x.race (IsRaceApart trace.now.sizes.locks trace.now.events.items r.0 r.1))) }
+    ensures unprotected { IfOk result (λ x. AreUnprotectedTold (are_locksets_told locksets x.found)
+        (trace_sizes_of trace.now.sizes) trace.now.events.items x.unprotected.items) }
 {
-    let found = judge_history(alloc, sizes_for(trace.sizes), &trace.events, rules)?;
-    let race = apart_of(alloc, trace, found.race)?;
-    Ok(JudgedTrace { found, race })
+    let sizes = sizes_for(trace.sizes);
+    let found = judge_history(alloc, sizes, &trace.events, rules)?;
+    let history = history_of(trace.sizes, &trace.events);
+    let race = apart_of(alloc, &history, found.race)?;
+    let unprotected = unprotected_of(alloc, sizes, trace, locksets, &found)?;
+    Ok(JudgedTrace {
+        found,
+        race,
+        unprotected,
+    })
 }
 
-/// Judges the trace, and writes what was found.
+/// Judges the trace, and writes what was found; `locksets` asks for the words of which somebody forgot the lock.
 ///
 /// # Errors
 ///
@@ -99,6 +100,7 @@ pub fn check_trace<W: Write>(
     alloc: Global,
     labelled: &LabelledTrace,
     rules: Rules,
+    locksets: bool,
     out: &mut W,
 ) -> Result<Checked, CheckFault>
     requires { IsTrace (trace_sizes_of labelled.now.trace.sizes) labelled.now.trace.events.items }
@@ -107,14 +109,14 @@ pub fn check_trace<W: Write>(
     ensures early { IfErr result
         (λ fault. CameBeforeOutput fault → Keeps (W.contents out.old) (W.contents out.new)) }
 {
-    let JudgedTrace { found, race } = judge_trace(alloc, &labelled.trace, rules)?;
+    let judged = judge_trace(alloc, &labelled.trace, rules, locksets)?;
     let told = Told {
         events: &labelled.trace.events,
         labels: &labelled.labels,
     };
-    let text = text_of(alloc, told, race.as_ref(), &found, rules)?;
+    let text = text_of(alloc, told, &judged, rules)?;
     write(out, &text)?;
-    Ok(found)
+    Ok(judged.found)
 }
 
 /// Judges the trace that has these bytes, without their labels, as its text, and writes what was found, as `check_trace` does.
@@ -137,5 +139,5 @@ pub fn check<W: Write>(
         (λ fault. CameBeforeOutput fault → Keeps (W.contents out.old) (W.contents out.new)) }
 {
     let labelled = read(alloc, bytes)?;
-    check_trace(alloc, &labelled, rules, out)
+    check_trace(alloc, &labelled, rules, false, out)
 }

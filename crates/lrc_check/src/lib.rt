@@ -8,7 +8,9 @@
 //! **What is proved.** A `TraceJudge` takes an event at a time. It tells a lie as soon as that is read: what stands before it
 //! is faithful, and with it nothing is, however it goes on; and why. It tells the first race as soon as its second event is
 //! read, also if that is the lie. `judge_history` does this of a whole history, `check_trace` of a trace, and `check` of
-//! bytes, or a fault of a line only where they are no trace's.
+//! bytes, or a fault of a line only where they are no trace's. `tell_trace` answers which of a trace's events are told: all of
+//! a faithful one, else those up to the first lie and with it. `judge_trace` also tells, if that is asked for, the words
+//! of which somebody forgot the lock (`AreUnprotectedTold`).
 //!
 //! **What is only tested**, by whole runs of the program `lrc`. The text of what was found, and that no call allocates
 //! without need.
@@ -17,7 +19,10 @@
 mod checked;
 mod checking;
 mod fault;
+mod history;
 mod judging;
+mod locksets;
+mod telling;
 mod text;
 pub mod traces;
 
@@ -25,4 +30,5 @@ pub use checked::{Checked, Lie, Rules, TraceVerdict, Unexplained};
 pub use checking::{JudgedTrace, check, check_trace, judge_trace};
 pub use fault::CheckFault;
 pub use judging::{TraceJudge, judge_history};
+pub use telling::{ToldTrace, tell_trace};
 pub use text::{AnswersTold, answers_told, reason_text};

@@ -2,11 +2,13 @@
 ghost use Rattle.std.specs.Prelude.{◌≡◌, ◌++◌, OnOk};
 ghost use Rattle.lrc_check.specs.Prelude.{label_mark, told_line};
 
-use crate::checked::{Checked, Lie, Rules, TraceVerdict, Unexplained};
+use crate::checked::{Lie, Rules, TraceVerdict, Unexplained};
+use crate::checking::JudgedTrace;
+use crate::locksets::put_unprotected_text;
 use crate::traces::labels::Labels;
 use causes::RaceApart;
 use journal::{Event, Kind, MOST_PROCESSORS, Traffic};
-use judge::{IllFormed, MemoryModel, Miscounted, Permitted, Why};
+use judge::{MemoryModel, Miscounted, Permitted, Why};
 use lrc_prose::numbers::EventNumbers;
 use lrc_prose::racing::RaceStory;
 use lrc_prose::text::Text;
@@ -98,19 +100,6 @@ pub fn reason_text(alloc: Global, why: Why) -> Result<String, AllocError> {
     }
 }
 
-/// Adds why the event is ill formed.
-fn put_ill_formed_text(
-    text: &mut Vec<u8>,
-    alloc: Global,
-    fault: IllFormed,
-) -> Result<(), AllocError> {
-    let why = reason_text(alloc, fault.why)?;
-    text.extend_from_slice(b"because ")?;
-    text.extend_from_slice(why.as_bytes())?;
-    text.push(b'\n')?;
-    Ok(())
-}
-
 /// The places that there are, by processor.
 fn places_of(
     alloc: Global,
@@ -188,7 +177,62 @@ pub fn answers_told(
     Ok(AnswersTold { zero, stores })
 }
 
-/// Adds what the load may answer.
+/// What the load may answer; if `are_told` says so, the stores follow that it may answer.
+fn permitted_text(zero: bool, are_told: bool) -> &'static str {
+    match (zero, are_told) {
+        (_, false) => "it may answer 0 alone",
+        (true, true) => "it may answer 0, or only what was stored by",
+        (false, true) => "it may answer only what was stored by",
+    }
+}
+
+/// What the load may answer, with the numbers of the stores.
+fn unexplained_reason(
+    alloc: Global,
+    events: &[Event],
+    load: &Unexplained,
+) -> Result<String, AllocError> {
+    let AnswersTold { zero, stores } = answers_told(alloc, events, &load.permitted)?;
+    let mut text = String::from_str(alloc, permitted_text(zero, !stores.is_empty()))?;
+    for (index, place) in stores.iter().enumerate() {
+        let front = if index == 0 { " " } else { ", " };
+        let store = format!(in alloc; "{front}event {place}")?;
+        text.push_str(&store)?;
+    }
+    Ok(text)
+}
+
+/// What the fetch has to count.
+fn miscounted_reason(alloc: Global, fetch: Miscounted) -> Result<String, AllocError> {
+    let Miscounted {
+        writers,
+        records,
+        words,
+        ..
+    } = fetch;
+    format!(in alloc;
+        "the fetch has to count {writers} writers, {records} records and {words} words"
+    )
+}
+
+/// Why the event is a lie, in a line. The only error is running out of memory.
+pub(crate) fn lie_reason(alloc: Global, events: &[Event], lie: &Lie) -> Result<String, AllocError> {
+    match lie {
+        Lie::IllFormed(fault) => reason_text(alloc, fault.why),
+        Lie::Unexplained(load) => unexplained_reason(alloc, events, load),
+        Lie::Miscounted(fetch) => miscounted_reason(alloc, *fetch),
+    }
+}
+
+/// Adds a line that says why an event is a lie.
+fn put_reason_text(text: &mut Vec<u8>, reason: &str) -> Result<(), AllocError> {
+    text.extend_from_slice(b"because ")?;
+    text.extend_from_slice(reason.as_bytes())?;
+    text.push(b'\n')?;
+    Ok(())
+}
+
+/// Adds what the load may answer: the stores have a line each.
 fn put_unexplained_text(
     text: &mut Vec<u8>,
     alloc: Global,
@@ -196,32 +240,8 @@ fn put_unexplained_text(
     load: &Unexplained,
 ) -> Result<(), AllocError> {
     let AnswersTold { zero, stores } = answers_told(alloc, told.events, &load.permitted)?;
-    let why: &[u8] = match (zero, stores.is_empty()) {
-        (_, true) => b"because it may answer 0 alone\n",
-        (true, false) => b"because it may answer 0, or only what was stored by\n",
-        (false, false) => b"because it may answer only what was stored by\n",
-    };
-    text.extend_from_slice(why)?;
+    put_reason_text(text, permitted_text(zero, !stores.is_empty()))?;
     put_events_text(text, told, &stores)
-}
-
-/// Adds what the fetch has to count.
-fn put_miscounted_text(
-    text: &mut Vec<u8>,
-    alloc: Global,
-    fetch: Miscounted,
-) -> Result<(), AllocError> {
-    let Miscounted {
-        writers,
-        records,
-        words,
-        ..
-    } = fetch;
-    let line = format!(in alloc;
-        "because the fetch has to count {writers} writers, {records} records and {words} words\n"
-    )?;
-    text.extend_from_slice(line.as_bytes())?;
-    Ok(())
 }
 
 /// The sentences on the race: what keeps its accesses apart, and what would have ordered them.
@@ -275,9 +295,8 @@ fn put_lie_text(
     text.extend_from_slice(line.as_bytes())?;
     put_event_text(text, told, place)?;
     match lie {
-        Lie::IllFormed(fault) => put_ill_formed_text(text, alloc, *fault),
         Lie::Unexplained(load) => put_unexplained_text(text, alloc, told, load),
-        Lie::Miscounted(fetch) => put_miscounted_text(text, alloc, *fetch),
+        _ => put_reason_text(text, &lie_reason(alloc, told.events, lie)?),
     }
 }
 
@@ -342,16 +361,16 @@ fn opening(alloc: Global, count: usize, model: MemoryModel) -> Result<Vec<u8>, A
     Ok(text)
 }
 
-/// The text of what was found of this trace, and of its race, if one was found. The only error is running out of memory.
+/// The text of what was found of this trace. The only error is running out of memory.
 pub(crate) fn text_of(
     alloc: Global,
     told: Told<'_>,
-    race: Option<&RaceApart>,
-    found: &Checked,
+    judged: &JudgedTrace,
     rules: Rules,
 ) -> Result<Vec<u8>, AllocError> {
-    let mut text = opening(alloc, found.count, rules.model)?;
-    match &found.verdict {
+    let race = judged.race.as_ref();
+    let mut text = opening(alloc, judged.found.count, rules.model)?;
+    match &judged.found.verdict {
         TraceVerdict::Faithful { traffic, unjudged } => {
             text.extend_from_slice(b"faithful\n")?;
             put_unjudged_text(&mut text, rules)?;
@@ -360,6 +379,7 @@ pub(crate) fn text_of(
                 text.extend_from_slice(b"verdict race-free\n")?;
             }
             put_race_text(&mut text, alloc, told, race)?;
+            put_unprotected_text(&mut text, alloc, told, &judged.unprotected)?;
             put_traffic_text(&mut text, alloc, *traffic)?;
         }
         TraceVerdict::Lie(lie) => {

@@ -9,6 +9,7 @@ use crate::values::{Members, numbers_value};
 use crate::writing::{put_line, write_text};
 use causes::RaceApart;
 use journal::Traffic;
+use judge::locksets::Unprotected;
 use judge::{IllFormed, MemoryModel, Miscounted};
 use lrc_check::traces::trace::LabelledTrace;
 use lrc_check::{
@@ -164,6 +165,45 @@ fn end_of(alloc: Global, rules: Rules, judged: &JudgedTrace) -> Result<Members, 
     Ok(members)
 }
 
+/// The word at this address of which somebody forgot the lock.
+fn unprotected_of(
+    alloc: Global,
+    trace: &LabelledTrace,
+    address: usize,
+    word: Unprotected,
+) -> Result<Members, AllocError> {
+    let Unprotected {
+        unguarded,
+        guarded,
+        lock,
+    } = word;
+    let mut members = Members::telling(alloc, "unprotected")?;
+    members.put_number("address", address)?;
+    members.put("first", told_value(alloc, trace, unguarded.0)?)?;
+    members.put("second", told_value(alloc, trace, unguarded.1)?)?;
+    members.put(
+        "guarded",
+        told_values(alloc, trace, &[guarded.0, guarded.1])?,
+    )?;
+    members.put_number("lock", lock)?;
+    Ok(members)
+}
+
+/// Adds a line for each word of which somebody forgot the lock.
+fn put_unprotected(
+    text: &mut String,
+    alloc: Global,
+    trace: &LabelledTrace,
+    words: &[Option<Unprotected>],
+) -> Result<(), AllocError> {
+    for (address, word) in words.iter().enumerate() {
+        if let Some(word) = word {
+            put_line(text, alloc, unprotected_of(alloc, trace, address, *word)?)?;
+        }
+    }
+    Ok(())
+}
+
 /// The lines of what was found.
 fn text_of(
     alloc: Global,
@@ -178,12 +218,13 @@ fn text_of(
     if let TraceVerdict::Lie(lie) = &judged.found.verdict {
         put_line(&mut text, alloc, lie_of(alloc, trace, lie)?)?;
     }
+    put_unprotected(&mut text, alloc, trace, &judged.unprotected)?;
     put_line(&mut text, alloc, end_of(alloc, rules, judged)?)?;
     Ok(text)
 }
 
 /// Writes what was found of the trace, and flushes the writer: an object a line. First `race`, if there is one, then `lie`, if
-/// there is one, and at the end `end`.
+/// there is one, then `unprotected` for each word of which somebody forgot the lock, and at the end `end`.
 ///
 /// # Errors
 ///

@@ -16,7 +16,7 @@ use std::alloc::{AllocError, Global};
 use std::io::Write;
 
 /// A schedule whose last event races with the one at a place.
-fn race_of(alloc: Global, racy: &RacyEvents) -> Result<Members, AllocError> {
+pub fn race_of(alloc: Global, racy: &RacyEvents) -> Result<Members, AllocError> {
     let mut members = Members::telling(alloc, "race")?;
     members.put("events", events_value(alloc, &racy.events)?)?;
     members.put_number("first", racy.first)?;
@@ -76,12 +76,22 @@ fn replies_of(alloc: Global, replies: &[Vec<u32>], shown: usize) -> Result<Value
     Ok(Value::Array(values))
 }
 
+/// Adds what a run shows, of runs that show these addresses.
+pub fn put_result(
+    members: &mut Members,
+    alloc: Global,
+    shown: &[usize],
+    replies: &[Vec<u32>],
+) -> Result<(), AllocError> {
+    let (_, words) = outcome_parts(replies, 0, shown.len());
+    members.put("words", words_of(alloc, shown, words)?)?;
+    members.put("replies", replies_of(alloc, replies, shown.len())?)
+}
+
 /// An outcome of runs that show these addresses.
 fn outcome_of(alloc: Global, shown: &[usize], replies: &[Vec<u32>]) -> Result<Members, AllocError> {
-    let (_, words) = outcome_parts(replies, 0, shown.len());
     let mut members = Members::telling(alloc, "outcome")?;
-    members.put("words", words_of(alloc, shown, words)?)?;
-    members.put("replies", replies_of(alloc, replies, shown.len())?)?;
+    put_result(&mut members, alloc, shown, replies)?;
     Ok(members)
 }
 

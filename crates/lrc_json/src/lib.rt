@@ -13,6 +13,7 @@ mod explored;
 mod fault;
 mod outcomes;
 mod sampled;
+mod showing;
 mod values;
 mod writing;
 
@@ -20,3 +21,4 @@ pub use checked::write_checked;
 pub use explored::write_explored;
 pub use fault::JsonFault;
 pub use sampled::write_sampled;
+pub use showing::write_showing;

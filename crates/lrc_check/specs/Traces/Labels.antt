@@ -1,5 +1,6 @@
 -- The labels of lines: what stands on a line behind two spaces in a row is the logger's own.
-use Rattle.std.specs.Prelude.{ℕ, ◌+◌, suc, ◌==◌, ◌&&◌, if◌then◌else◌, List, [], ◌∷◌, drop, map, slice_index, slice_index_or, take}
+use Rattle.std.specs.Prelude.{ℕ, ◌≡◌, ◌+◌, suc, ◌==◌, ◌&&◌, Some, if◌then◌else◌, List, [], ◌∷◌, drop, length, map, nat_le, slice_get, slice_index, slice_index_or, take}
+use Rattle.std.specs.Global.{Vec}
 use Rattle.std.specs.List.{join_with_byte}
 use Rattle.lrc_script.specs.LineReading.{parts_of_line}
 
@@ -33,6 +34,15 @@ bare bytes = by_lines bare_line bytes
 abbrev pub labels_of : List ℕ → List ℕ
 labels_of bytes = by_lines line_label bytes
 
+-- a byte of a label as it is shown among other words: one that is no printable sign of ASCII is 63, a question mark
+abbrev pub shown_label_byte : ℕ → ℕ
+shown_label_byte b = if nat_le 32 b && nat_le b 126 then b else 63
+
 -- of these labels that of the event at a place, behind the line of the sizes
 abbrev pub event_label : List ℕ → ℕ → List ℕ
 event_label labels place = slice_index_or (parts_of_line 10 labels) (place + 1) []
+
+-- these are the labels of the first n events as they are shown among other words
+pub record AreShownLabels (labels : List ℕ) (n : ℕ) (shown : Vec (Vec ℕ)) : Type 0 where
+  pub long : length shown.items ≡ n
+  pub each : (k : ℕ) (v : Vec ℕ) → slice_get shown.items k ≡ Some v → v.items ≡ map shown_label_byte (event_label labels k)

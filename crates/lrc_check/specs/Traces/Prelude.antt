@@ -8,5 +8,5 @@ pub use Rattle.lrc_check.specs.Traces.Lines.{TraceLineGivesKind, HasBadTraceLine
 pub use Rattle.lrc_check.specs.Traces.Faults.{BeginsTraceText, TraceEventSays, TraceHeadSays, IsTraceFault, IsTraceFaultAt, IsTraceFaultBehind, IsHeadFault, IsTraceFaultPast}
 pub use Rattle.lrc_check.specs.Traces.Faults.{TraceHasNoSizes, TraceLineHasSizes, IsLastingFault, IsNoTraceEvent, TraceLineSays, TraceRefuses, fault_from}
 pub use Rattle.lrc_check.specs.Traces.Laws.{BareLaw, CutRefusedLaw, OneTraceLaw, PrintedLaw, WellFormedTraceLaw}
-pub use Rattle.lrc_check.specs.Traces.Labels.{bare, bare_line, event_label, label_at, labels_of, line_label}
+pub use Rattle.lrc_check.specs.Traces.Labels.{AreShownLabels, bare, bare_line, event_label, label_at, labels_of, line_label, shown_label_byte}
 pub use Rattle.lrc_check.specs.Traces.Fed.{BeginsTrace, IsReadOf, StaysFault, TextRead, labels_with, text_with}

@@ -1,7 +1,7 @@
 //! The labels of a trace's lines: what stands on a line behind two spaces in a row is the logger's own.
-ghost use Rattle.std.specs.Prelude.{◌≡◌, ℕ, ◌+◌, ◌<◌, ◌≤◌, ◌^◌, [], ◌∷◌, ◌++◌, MatchOption, OnOk, length, slice_index_or};
+ghost use Rattle.std.specs.Prelude.{◌≡◌, ℕ, ◌+◌, ◌<◌, ◌≤◌, ◌^◌, [], ◌∷◌, ◌++◌, IfOk, MatchOption, OnOk, length, map, slice_index_or};
 ghost use Rattle.lrc_script.specs.Prelude.{parts_of_line};
-ghost use Rattle.lrc_check.specs.Traces.Prelude.{bare_line, event_label, label_at, line_label};
+ghost use Rattle.lrc_check.specs.Traces.Prelude.{AreShownLabels, bare_line, event_label, label_at, line_label, shown_label_byte};
 
 use lrc_script::line::split_line;
 use std::alloc::{AllocError, Global};
@@ -52,6 +52,24 @@ fn first_line(lines: &[u8]) -> &[u8]
     }
 }
 
+/// A byte of a label as it is shown among other words: one that is no printable sign of ASCII as `?`.
+fn shown_byte(byte: u8) -> u8
+    ensures { result ≡ shown_label_byte byte }
+{
+    if b' ' <= byte && byte <= b'~' {
+        byte
+    } else {
+        b'?'
+    }
+}
+
+/// A label as it is shown among other words.
+fn shown_label(alloc: Global, label: &[u8]) -> Result<Vec<u8>, AllocError>
+    ensures { IfOk result (λ v. v.items ≡ map shown_label_byte label.now) }
+{
+    label.iter().map(|byte| shown_byte(*byte)).collect(alloc)
+}
+
 /// The labels of a trace's lines. They are kept as a text that has of each line its label, so a line without one takes one
 /// byte. Contracts see that text.
 #[derive(Drop)]
@@ -95,5 +113,19 @@ impl Labels {
             behind = behind_line(behind);
         }
         first_line(behind)
+    }
+
+    /// The labels of the first so many events, as they are shown among other words. It takes time in the order of the lines. The
+    /// only error is running out of memory.
+    pub(crate) fn shown(&self, alloc: Global, count: usize) -> Result<Vec<Vec<u8>>, AllocError>
+        ensures { IfOk result (AreShownLabels self.now count) }
+    {
+        let mut shown = Vec::new(alloc);
+        let mut behind = behind_line(&self.lines);
+        for _ in 0..count {
+            shown.push(shown_label(alloc, first_line(behind))?)?;
+            behind = behind_line(behind);
+        }
+        Ok(shown)
     }
 }

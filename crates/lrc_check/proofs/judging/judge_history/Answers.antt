@@ -47,7 +47,7 @@ returns-in-Some c =
     let nearest = checked_race_read judge.model judge.lax (sizes_of judge.sizes) events place c.read.new.self c.in_ok-lie.lie
     c.in-Some.race lt free c.in_ok-lie.ensures.judged (sym c.race-so_far.ensures ∙ c.in-Some.is) in
     subst (IsChecked r (sizes_of t) events) (sym c.ended.ensures)
-    (checked_racy r (sizes_of t) events place c.in-Some.race (here events place) lt (next_events events place lt)
+    (checked_racy r events place c.in-Some.race (here events place) c.if-ends.true lt (next_events events place lt)
     (checked_accepted_by r t (take place events) judge old.model old.lax old.sizes old.judged) free nearest)
 
 pub returns-in-Some-lie : goal.returns-in-Some-lie

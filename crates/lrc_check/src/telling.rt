@@ -1,0 +1,76 @@
+//! What of a trace is told: how far, and what is said of it.
+ghost use Rattle.std.specs.Prelude.{◌≡◌, IfOk, is_some};
+ghost use Rattle.lrc_check.specs.Traces.Prelude.{IsTrace, trace_sizes_of};
+ghost use Rattle.lrc_check.specs.Prelude.{IsTraceTold, is_lying};
+
+use crate::checked::{Rules, TraceVerdict};
+use crate::checking::judge_trace;
+use crate::history::history_of;
+use crate::text::{Told, lie_reason, text_of};
+use crate::traces::trace::LabelledTrace;
+use journal::Event;
+use judge::{History, MemoryModel};
+use std::alloc::{AllocError, Global};
+
+/// What of a trace is told: its events up to the first lie and with it, or all if there is none.
+#[derive(Drop)]
+pub struct ToldTrace<'a> {
+    pub history: History<'a>,
+    /// Their labels, as they are shown among other words: a byte that is no printable sign of ASCII as `?`.
+    pub labels: Vec<Vec<u8>>,
+    /// Why the last of them is a lie, as the verdict says it; None if it is none.
+    pub lie: Option<String>,
+    /// The places of the two accesses of the first race, the nearest one; None if no race was found.
+    pub race: Option<(usize, usize)>,
+    /// The text that `check` writes of the trace.
+    pub verdict: Vec<u8>,
+}
+
+/// Why the event that ended the judging is a lie; None if it ended otherwise.
+fn lie_of(
+    alloc: Global,
+    events: &[Event],
+    verdict: &TraceVerdict,
+) -> Result<Option<String>, AllocError>
+    ensures { IfOk result (λ lie. is_some lie ≡ is_lying verdict.now) }
+{
+    match verdict {
+        TraceVerdict::Lie(lie) => Ok(Some(lie_reason(alloc, events, lie)?)),
+        _ => Ok(None),
+    }
+}
+
+/// What is told of the trace, which is judged by the model, lax or not. The only error is running out of memory.
+pub fn tell_trace(
+    alloc: Global,
+    labelled: &LabelledTrace,
+    model: MemoryModel,
+    lax: bool,
+) -> Result<ToldTrace<'_>, AllocError>
+    requires { IsTrace (trace_sizes_of labelled.now.trace.sizes) labelled.now.trace.events.items }
+    ensures { IfOk result
+        (IsTraceTold model lax (trace_sizes_of labelled.now.trace.sizes) labelled.now.trace.events.items labelled.now.labels) }
+{
+    let rules = Rules {
+        model,
+        lax,
+        ends_at_race: false,
+    };
+    let judged = judge_trace(alloc, &labelled.trace, rules, false)?;
+    let events: &[Event] = &labelled.trace.events;
+    let told = Told {
+        events,
+        labels: &labelled.labels,
+    };
+    let verdict = text_of(alloc, told, &judged, rules)?;
+    let lie = lie_of(alloc, events, &judged.found.verdict)?;
+    let count = judged.found.count;
+    let labels = labelled.labels.shown(alloc, count)?;
+    Ok(ToldTrace {
+        history: history_of(labelled.trace.sizes, &events[..count]),
+        labels,
+        lie,
+        race: judged.found.race,
+        verdict,
+    })
+}
