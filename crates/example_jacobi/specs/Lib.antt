@@ -1,3 +1,3 @@
-pub mod Workers
+pub mod Rows
 pub mod Runs
 pub mod Prelude

@@ -1,3 +1,3 @@
 -- The words that contracts name, passed on from one place. Declares nothing.
-pub use Rattle.example_jacobi.specs.Workers.{IsAtWork, IsSameWorker, MayStore, Works}
-pub use Rattle.example_jacobi.specs.Runs.{AreAtWork, IsRun, plate}
+pub use Rattle.example_jacobi.specs.Rows.{HasCooled, KeepsToRows, MayStore}
+pub use Rattle.example_jacobi.specs.Runs.{IsRun, plate}

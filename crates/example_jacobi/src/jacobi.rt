@@ -1,26 +1,28 @@
 //! What each processor does: heats, sweeps, adds up.
-ghost use Rattle.std.specs.Prelude.{◌≡◌, ◌+◌, ◌*◌, ◌/◌, ◌%◌, ◌<◌, IfOk, sum};
-ghost use Rattle.example_jacobi.specs.Prelude.{IsAtWork, IsSameWorker, Works};
+ghost use Rattle.std.specs.Prelude.{◌≡◌, ◌+◌, ◌*◌, ◌/◌, ◌%◌, ◌<◌, ◌≤◌, IfSome, OnOk, sum};
+ghost use Rattle.seats.specs.Prelude.{seat_deeds};
+ghost use Rattle.example_jacobi.specs.Prelude.{HasCooled, KeepsToRows};
 
-use crate::running::JacobiFault;
-use crate::worker::Worker;
-use cluster::{BookLock, Cluster, Processor, Refused};
-use std::sync::Wait;
+use seats::{Program, Seat, SeatFault, Sitting};
 
 /// Processors.
 pub(crate) const PROCESSORS: usize = 4;
 /// Rows that a processor owns: it alone stores to them.
-const OWN_ROWS: usize = 3;
+pub(crate) const OWN_ROWS: usize = 3;
 /// Rows of a grid. The first and the last are border, as are the first and the last word of each row.
 pub(crate) const ROWS: usize = 14;
 /// Words of a row. It lies in a page of its own, so no store makes others' rows stale.
 pub(crate) const COLUMNS: usize = 8;
+/// A page for each row of both grids, and one for the total.
+pub(crate) const PAGES: usize = 2 * ROWS + 1;
 /// What the upper border is heated to.
 pub(crate) const HOT: u32 = 1_000_000;
 /// Sweeps.
 pub(crate) const SWEEPS: usize = 10;
 /// The address of the total, behind both grids.
 pub(crate) const TOTAL: usize = 224;
+/// The lock that guards the total.
+pub(crate) const LOCK: usize = 0;
 
 /// The address of a word of grid 0 or 1.
 fn address(grid: usize, row: usize, column: usize) -> usize
@@ -40,93 +42,123 @@ pub(crate) fn mean(words: [u32; 4]) -> u32
     (sum / 4) as u32
 }
 
-impl<'a, R: Wait> Worker<'a, R> {
-    /// Heats the upper border of both grids.
-    fn heat(&mut self) -> Result<(), Refused>
-        requires { self.old.processor.number ≡ 0 }
-        ensures { IsSameWorker self.old self.new }
-    {
-        for column in 0..COLUMNS {
-            self.store(address(0, 0, column), HOT)?;
-            self.store(address(1, 0, column), HOT)?;
-        }
-        Ok(())
-    }
+/// The plate, which four processors cool.
+pub(crate) struct Plate;
 
-    /// Makes its rows of one grid, the border's words aside, from the other.
-    fn sweep(&mut self, from: usize) -> Result<(), Refused>
-        requires { (from < 2) × (self.old.processor.number < 4) }
-        ensures { IsSameWorker self.old self.new }
-    {
-        let first = 1 + self.processor.number() * OWN_ROWS;
-        for cell in 0..OWN_ROWS * (COLUMNS - 2) {
-            let row = first + cell / (COLUMNS - 2);
-            let column = 1 + cell % (COLUMNS - 2);
-            let above = self.load(address(from, row - 1, column))?;
-            let below = self.load(address(from, row + 1, column))?;
-            let left = self.load(address(from, row, column - 1))?;
-            let right = self.load(address(from, row, column + 1))?;
-            self.store(
-                address(1 - from, row, column),
-                mean([above, below, left, right]),
-            )?;
-        }
-        Ok(())
-    }
+impl Program for Plate {
+    /// The total, as this processor loaded it at last.
+    type Answer = u32;
 
-    /// The sum of its rows, modulo 2^32.
-    fn own_sum(&mut self, grid: usize) -> Result<u32, Refused>
-        requires { (grid < 2) × (self.old.processor.number < 4) }
-        ensures { IsSameWorker self.old self.new }
-    {
-        let first = address(grid, 1 + self.processor.number() * OWN_ROWS, 0);
-        let mut sum = 0_u32;
-        for address in first..first + OWN_ROWS * COLUMNS {
-            sum = sum.wrapping_add(self.load(address)?);
-        }
-        Ok(sum)
-    }
+    ghost did = { HasCooled };
 
-    /// All of its part. They meet after each sweep, so whatever one loads of a row was stored in an earlier sweep.
-    fn cool(&mut self) -> Result<(), JacobiFault>
-        requires { self.old.processor.number < 4 }
-        ensures { IsSameWorker self.old self.new }
-    {
-        if self.processor.number() == 0 {
-            self.heat()?;
-        }
-        self.meet()?;
-        for count in 0..SWEEPS {
-            self.sweep(count % 2)?;
-            self.meet()?;
-        }
-        let sum = self.own_sum(SWEEPS % 2)?;
-        self.add(TOTAL, sum)?;
-        self.meet()?;
-        // So that its copy of the total is valid.
-        self.load(TOTAL)?;
-        Ok(())
+    /// All of a processor's part. They meet after each sweep, so whatever one loads of a row was stored in an earlier sweep.
+    fn work<S: Sitting>(&self, seat: &mut Seat<'_, S>) -> Result<u32, SeatFault> {
+        heat(seat)?;
+        seat.barrier()?;
+        cool(seat)?;
+        let sum = own_sum(seat)?;
+        add(seat, sum)?;
+        seat.barrier()?;
+        seat.load(TOTAL)
     }
 }
 
-/// Does the processor's part, and gives the processor back. Whoever waits for one that went no further is told.
-pub(crate) fn work<R: Wait>(
-    rt: &R,
-    cluster: &Cluster<BookLock>,
-    processor: Processor<BookLock>,
-) -> Result<Processor<BookLock>, JacobiFault>
-    requires at_work { IsAtWork cluster.now processor }
-    requires number { processor.number < 4 }
-    ensures { IfOk result (λ worked. Works cluster.now processor worked) }
+/// Heats the upper border of both grids, on the first processor.
+fn heat<S: Sitting>(seat: &mut Seat<'_, S>) -> Result<(), SeatFault>
+    requires own { KeepsToRows S.at.number (seat_deeds seat.old) }
+    ensures { OnOk result (KeepsToRows S.at.number (seat_deeds seat.new)) }
 {
-    let mut worker = Worker {
-        rt,
-        cluster,
-        processor,
+    if seat.number() != 0 {
+        return Ok(());
+    }
+    for column in 0..COLUMNS {
+        seat.store(address(0, 0, column), HOT)?;
+        seat.store(address(1, 0, column), HOT)?;
+    }
+    Ok(())
+}
+
+/// Sweeps again and again, from one grid to the other and back.
+fn cool<S: Sitting>(seat: &mut Seat<'_, S>) -> Result<(), SeatFault>
+    requires own { KeepsToRows S.at.number (seat_deeds seat.old) }
+    ensures { OnOk result (KeepsToRows S.at.number (seat_deeds seat.new)) }
+{
+    for count in 0..SWEEPS {
+        sweep(seat, count % 2)?;
+        seat.barrier()?;
+    }
+    Ok(())
+}
+
+/// The first row that the processor owns, if it owns some.
+fn first_row(number: usize) -> Option<usize>
+    ensures { IfSome result (λ row. (row ≡ 1 + number * 3) × (number < 4)) }
+{
+    if number < PROCESSORS {
+        Some(1 + number * OWN_ROWS)
+    } else {
+        None
+    }
+}
+
+/// Makes the processor's rows of one grid, the border's words aside, from the other.
+fn sweep<S: Sitting>(seat: &mut Seat<'_, S>, from: usize) -> Result<(), SeatFault>
+    requires grid { from < 2 }
+    requires own { KeepsToRows S.at.number (seat_deeds seat.old) }
+    ensures { OnOk result (KeepsToRows S.at.number (seat_deeds seat.new)) }
+{
+    let Some(first) = first_row(seat.number()) else {
+        return Ok(());
     };
-    let cooled = worker.cool();
-    cluster.end(worker.processor.number());
-    cooled?;
-    let Worker { processor, .. } = worker;
-    Ok(processor)
+    for cell in 0..OWN_ROWS * (COLUMNS - 2) {
+        let (row, column) = (first + cell / (COLUMNS - 2), 1 + cell % (COLUMNS - 2));
+        let words = around(seat, from, row, column)?;
+        seat.store(address(1 - from, row, column), mean(words))?;
+    }
+    Ok(())
+}
+
+/// The words above, below, left and right.
+fn around<S: Sitting>(
+    seat: &mut Seat<'_, S>,
+    from: usize,
+    row: usize,
+    column: usize,
+) -> Result<[u32; 4], SeatFault>
+    requires place { (from < 2) × (1 ≤ row) × (row < 13) × (1 ≤ column) × (column < 7) }
+    requires own { KeepsToRows S.at.number (seat_deeds seat.old) }
+    ensures { OnOk result (KeepsToRows S.at.number (seat_deeds seat.new)) }
+{
+    let above = seat.load(address(from, row - 1, column))?;
+    let below = seat.load(address(from, row + 1, column))?;
+    let left = seat.load(address(from, row, column - 1))?;
+    let right = seat.load(address(from, row, column + 1))?;
+    Ok([above, below, left, right])
+}
+
+/// The sum of the processor's rows after the last sweep, modulo 2^32.
+fn own_sum<S: Sitting>(seat: &mut Seat<'_, S>) -> Result<u32, SeatFault>
+    requires own { KeepsToRows S.at.number (seat_deeds seat.old) }
+    ensures { OnOk result (KeepsToRows S.at.number (seat_deeds seat.new)) }
+{
+    let mut sum = 0_u32;
+    let Some(row) = first_row(seat.number()) else {
+        return Ok(sum);
+    };
+    let first = address(SWEEPS % 2, row, 0);
+    for address in first..first + OWN_ROWS * COLUMNS {
+        sum = sum.wrapping_add(seat.load(address)?);
+    }
+    Ok(sum)
+}
+
+/// Adds to the total, under the lock.
+fn add<S: Sitting>(seat: &mut Seat<'_, S>, sum: u32) -> Result<(), SeatFault>
+    requires own { KeepsToRows S.at.number (seat_deeds seat.old) }
+    ensures { OnOk result (KeepsToRows S.at.number (seat_deeds seat.new)) }
+{
+    seat.lock(LOCK)?;
+    let total = seat.load(TOTAL)?;
+    seat.store(TOTAL, total.wrapping_add(sum))?;
+    seat.unlock(LOCK)
 }

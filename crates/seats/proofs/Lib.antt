@@ -6,3 +6,8 @@ mod Layouts
 mod SeatCalls
 mod SeatClosings
 mod Seats
+mod ProgramRuns
+mod Kept
+pub mod Tenures
+pub mod KeptByPrograms
+pub mod KeptTotals

@@ -104,9 +104,9 @@ meets_at s h p q n k well member lt =
     }
 
 -- what was accessed in an earlier phase happens before
-pub earlier : (s : Sizes) (h : List Event) (i k p q a b : ℕ) → WellFormed s h → AccessAt h i p a → AccessAt h k q b
+pub earlier : {s : Sizes} {h : List Event} {i k p q a b : ℕ} → WellFormed s h → AccessAt h i p a → AccessAt h k q b
     → count_of is_depart (take i h) p < count_of is_depart (take k h) q → HappensBefore h i k
-earlier s h i k p q a b well x y lt =
+earlier {s = s} {h = h} {i = i} {k = k} {p = p} {q = q} {a = a} well x y lt =
     let n = count_of is_depart (take i h) p in
     let m = meets_at s h p q n k well (well i (event p x.kind) x.does).processor lt in
     on (on (own_edge h i m.arrival p x.kind Arrive (behind m) x.does m.arrives) (record {
@@ -155,9 +155,9 @@ holds_still h i p l holds (suc d) long =
     ]
 
 -- what was accessed under the lock happens before what is accessed under it later by another
-pub under_lock : (s : Sizes) (h : List Event) (i k p q a b l : ℕ) → WellFormed s h → AccessAt h i p a → AccessAt h k q b
+pub under_lock : {s : Sizes} {h : List Event} {i k p q a b l : ℕ} → WellFormed s h → AccessAt h i p a → AccessAt h k q b
     → i < k → p ≢ q → Holds (take i h) p l → Holds (take k h) q l → HappensBefore h i k
-under_lock s h i k p q a b l well x y lt apart mine theirs = elim (cases_order theirs.place i) [
+under_lock {s = s} {h = h} {i = i} {k = k} {p = p} {q = q} {a = a} {l = l} well x y lt apart mine theirs = elim (cases_order theirs.place i) [
   | inl is ↦ absurd (other_kind h i p q a x (Acquire l) refl (subst (λ r. Does h r q (Acquire l)) is taken))
   | inr order ↦ elim order [
     | inl before ↦ absurd (apart (holds_alone s (take i h) (well_formed_take s h i well) p q l mine (both before)))

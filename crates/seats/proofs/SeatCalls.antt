@@ -5,7 +5,7 @@ use Rattle.std.specs.Result.{result_err}
 use Rattle.std.proofs.lemmas.List.{map-append}
 use Rattle.journal.specs.declared.event.Event.{Event}
 use Rattle.journal.specs.declared.event.Kind.{Kind}
-use Rattle.journal.specs.declared.event.Kind.TheVariants.{Load, Store, Fetch}
+use Rattle.journal.specs.declared.event.Kind.TheVariants.{Load, Fetch}
 use Rattle.journal.specs.DidEvent.{event}
 use Rattle.journal.specs.Events.{events_of}
 use Rattle.journal.specs.Sizes.{addresses}
@@ -13,14 +13,14 @@ use Rattle.book.specs.declared.refused.Refused.{Refused}
 use Rattle.book.specs.declared.refused.Refused.TheVariants.{OutOfRange, Invalid, Waiting, BlockFull}
 use Rattle.cluster.specs.Copies.PageReplica.{Copied}
 use Rattle.cluster.specs.Copies.Local.{Local, calls, local_noted}
-use Rattle.cluster.specs.Accesses.{StoreAccessDone, FetchDone}
+use Rattle.cluster.specs.Accesses.{FetchDone}
 use Rattle.cluster.specs.Calls.{IsCall, IsSameProcessorOfCall, IsHandingCall}
 use Rattle.cluster.specs.Covers.{HasCoverage, IsAllowed}
 use Rattle.cluster.specs.Refusals.{access_refusal, first_refusal_due, refusal_has_valid, refusal_block_full, refusal_is_waiting}
 use Rattle.seats.specs.declared.accesses.WordAccess.{WordAccess}
 use Rattle.seats.specs.declared.accesses.WordAccess.TheVariants as access
 use Rattle.seats.specs.Deeds.{deeds, is_deed}
-use Rattle.seats.specs.SeatCalls.{AccessesBy, AccessesInside, AccessesPage, CallsBesides, CallsInside, FetchesBy, IsFetchIfAny, IsUndone, access_kind, seat_access_refusal}
+use Rattle.seats.specs.SeatCalls.{AccessesBy, AccessesInside, AccessesPage, CallsBesides, CallsInside, FetchesBy, IsFetchIfAny, IsUndone, access_kind}
 use Rattle.seats.specs.Sitting.{seat_deeds}
 use Rattle.seats.proofs.Deeds.{deeds-append}
 
@@ -144,10 +144,6 @@ pub inside_load : (m n : Local) (a : ℕ) (r : Result ℕ Refused) → OnErr r (
 inside_load m n a (Ok v) err ok covers = inside_own m n (Load a v) m.copies m.stored ok covers
 inside_load m n a (Err e) err ok covers = inside_same m n err covers
 
--- a store
-pub inside_store : (m n : Local) (a w : ℕ) → StoreAccessDone m a w n → HasCoverage n → CallsInside m n (Store a w ∷ [])
-inside_store m n a w done covers = inside_own m n (Store a w) _ _ done.after covers
-
 -- a fetch
 pub inside_fetch : {A : Type 0} (m n : Local) (page : ℕ) (r : Result A Refused) → OnErr r (n ≡ m)
     → OnOk r (FetchDone m page n) → HasCoverage n → FetchesBy m n page r
@@ -200,9 +196,9 @@ accesses_plain m n page a x (Ok v) inside = accesses_page m n page [] (access_ki
 accesses_plain m n page a x (Err e) inside = accesses_page m n page [] [] (inl refl) inside
 
 -- one after a fetch
-pub accesses_fetched : {A : Type 0} (l m n : Local) (page a : ℕ) (x : WordAccess) (f : Result A Refused) {b : A} (r : Result ℕ Refused)
+pub accesses_fetched : {A : Type 0} (l m n : Local) (page a : ℕ) (x : WordAccess) {f : Result A Refused} {b : A} (r : Result ℕ Refused)
     → f ≡ Ok b → FetchesBy l m page f → AccessesInside m n x a r → AccessesBy l n page x a r
-accesses_fetched {A} l m n page a x f r is fetches inside =
+accesses_fetched {A} l m n page a x r is fetches inside =
     by r (subst (λ (y : Result A Refused). FetchesBy l m page y) is fetches) inside
   where
     by : (r : Result ℕ Refused) → (writers records words : ℕ) × CallsInside l m (Fetch writers page records words ∷ [])
@@ -227,15 +223,3 @@ access_page m a page is =
     by false true true full e = absurd (cc)
     by false true false true e = absurd (cc)
     by false true false false e = absurd (cc)
-
--- what a processor that doesn't wait is refused at once
-pub refused_past : (m : Local) (a : ℕ) (e : Refused) → refusal_is_waiting m ≡ false → seat_access_refusal m a ≡ Some e
-    → access_refusal m a ≡ Some e
-refused_past m a e idle is = by (nat_le (addresses m.sizes) a) (refusal_is_waiting m) idle is
-  where
-    by : (past waits : Bool) → waits ≡ false → first_refusal_due ((waits, Waiting) ∷ (past, OutOfRange) ∷ []) ≡ Some e
-        → first_refusal_due ((past, OutOfRange) ∷ (not (refusal_has_valid m (a / m.sizes.words)), Invalid (a / m.sizes.words))
-        ∷ (refusal_is_waiting m, Waiting) ∷ (refusal_block_full m, BlockFull) ∷ []) ≡ Some e
-    by past true i e = absurd (cc)
-    by true false i e = e
-    by false false i e = absurd (cc)

@@ -1,7 +1,10 @@
 pub mod Deeds
 pub mod Guards
+pub mod Kept
 pub mod Laws
 pub mod Prelude
+pub mod ProgramRuns
 pub mod SeatCalls
 pub mod Sitting
 pub mod Tables
+pub mod Tenures

@@ -1,7 +1,12 @@
 -- The words that contracts name, passed on from one place. Declares nothing.
+pub use Rattle.seats.specs.Kept.{may_seat_access}
+pub use Rattle.seats.specs.Guards.{may_access}
 pub use Rattle.seats.specs.Laws.{PhaseGuardLaw, TableGuardLaw}
 pub use Rattle.seats.specs.Tables.{IsPut, NoneOpen, guard_in, guard_put, is_between, next_table}
 pub use Rattle.cluster.specs.Covers.{IsAllowed}
+pub use Rattle.seats.specs.ProgramRuns.{AreThreadsSeated, HasRoomForWorkers, HaveAllJoined, HaveAllWorked, IsNobody, IsProgramRun}
+pub use Rattle.seats.specs.ProgramRuns.{IsThreadWork, seat_of_processor}
 pub use Rattle.seats.specs.Sitting.{HasWorked, IsSitting, new_seat, seat_deeds}
 pub use Rattle.seats.specs.SeatCalls.{AccessesBy, AccessesInside, AccessesPage, FetchesBy, HasDone, HasTaken, IsLeftUndone, IsUndone}
 pub use Rattle.seats.specs.SeatCalls.{StaysSeated, WaitsStill, closing_deeds, seat_access_refusal}
+pub use Rattle.seats.specs.Tenures.{KeptFact, KeptLaw}

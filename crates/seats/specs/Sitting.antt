@@ -6,11 +6,14 @@ use Rattle.cluster.specs.Copies.Local.{Local, calls, new_local}
 use Rattle.cluster.specs.Clusters.{SharedCluster}
 use Rattle.cluster.specs.Covers.{HasCoverage, IsAllowed}
 use Rattle.seats.specs.Deeds.{deeds}
+use Rattle.seats.specs.Guards.{KeepsTo}
+use Rattle.seats.specs.Tables.{GuardTables, guards_of}
 
--- the cluster, and the processor's number there
+-- the cluster, the processor's number there, and the layout that it keeps to
 pub record SeatId : Type 0 where
   pub cluster : SharedCluster
   pub number : ℕ
+  pub layout : GuardTables
 
 -- what a processor did, as its program sees it
 abbrev pub seat_deeds : Local → List Kind
@@ -28,6 +31,7 @@ abbrev pub no_seat : SeatId
 no_seat = record {
   cluster = record { lock = no_lock; sizes = record { processors = 0; pages = 0; words = 0; locks = 0; flags = 0 } };
   number = 0;
+  layout = record { tables = []; round = 0 };
 }
 
 -- this processor sits there, beside its own cluster: whatever book the lock has covers it, there is one, and it cut
@@ -45,7 +49,9 @@ pub record IsSitting (id : SeatId) (c : SharedCluster) (m : Local) : Type 0 wher
 abbrev pub new_seat : SeatId → Local
 new_seat id = new_local id.cluster.lock id.number id.cluster.sizes
 
--- whoever sits there has done what a program says of its processor's number, what it did, and the answer
+-- whoever sits there has kept to the layout, and has done what a program says of its processor's number, what it did, and
+-- the answer
 pub record HasWorked {X : Type 0} (did : ℕ → List Kind → X → Type 0) (id : SeatId) (m : Local) (x : X) : Type 0 where
   pub sits : IsSitting id id.cluster m
+  pub kept : KeepsTo (guards_of id.layout) id.number (seat_deeds m)
   pub done : did id.number (seat_deeds m) x

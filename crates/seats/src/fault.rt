@@ -14,12 +14,35 @@ pub enum SeatFault {
     /// more memory, no room in the journal or no entry into the book.
     #[error("{0}")]
     Refused(Refused),
+    /// The layout doesn't let the processor access this address in its phase, with the locks that it holds.
+    #[error("the layout doesn't allow this access of address {0}")]
+    NotAllowed(usize),
     /// Each processor waits, and what it waits for has come for none.
     #[error("all processors wait for one another")]
     Stuck,
     /// Each other processor has ended, or waits for what hasn't come.
     #[error("nobody is left who could end the wait")]
     Deserted,
+    /// The processor's thread couldn't be started. Only [`run`](crate::run) answers this.
+    #[error("no thread could be started")]
+    NoThread,
+}
+
+impl SeatFault {
+    /// Whether it is that a wait was in vain: then the reason is mostly another processor's fault.
+    pub fn is_of_waiting(self) -> bool {
+        matches!(self, SeatFault::Stuck | SeatFault::Deserted)
+    }
+}
+
+/// The fault of one processor.
+#[derive(Clone, Copy, Debug, PartialEq, Eq, Error)]
+#[error("processor {processor}: {fault}")]
+pub struct ProcessorFault {
+    /// Its number; 0 if the fault is of no processor alone, as refused memory before any thread was started.
+    pub processor: usize,
+    /// What it is.
+    pub fault: SeatFault,
 }
 
 impl From<Refused> for SeatFault {
@@ -35,5 +58,25 @@ impl From<AllocError> for SeatFault {
 
     fn from(error: AllocError) -> SeatFault {
         SeatFault::Refused(Refused::from(error))
+    }
+}
+
+/// A fault of no processor alone.
+impl From<Refused> for ProcessorFault {
+    ghost from_gives = { λ e f. f ≡ record { processor = 0; fault = fault.Refused e } };
+
+    fn from(refused: Refused) -> ProcessorFault {
+        ProcessorFault {
+            processor: 0,
+            fault: SeatFault::Refused(refused),
+        }
+    }
+}
+
+impl From<AllocError> for ProcessorFault {
+    ghost from_gives = { λ _ f. f ≡ record { processor = 0; fault = fault.Refused NoMemory } };
+
+    fn from(error: AllocError) -> ProcessorFault {
+        ProcessorFault::from(Refused::from(error))
     }
 }

@@ -1,5 +1,5 @@
 //! Laws, as contracts of functions that do nothing: the check proves each by its name.
-ghost use Rattle.seats.specs.Prelude.{PhaseGuardLaw, TableGuardLaw};
+ghost use Rattle.seats.specs.Prelude.{KeptFact, KeptLaw, PhaseGuardLaw, TableGuardLaw};
 
 /// If each processor keeps to the guards in what it does, then no two accesses of a word race, but of one that was open
 /// to all.
@@ -10,4 +10,15 @@ pub fn guarded_law()
 /// If each processor keeps to a layout in what it does, and no word of it is open to all, then no two accesses race.
 pub fn table_law()
     ensures { TableGuardLaw }
+{}
+
+/// A fact that a lock keeps: of the words under it, and of what was loaded and stored there.
+pub trait LockKeeps {
+    ghost fact: { KeptFact };
+}
+
+/// If the fact holds at first, and each processor's accesses from an acquire of the lock to the release preserve it, then it
+/// holds at the end, of one flat memory and of all accesses to the lock's words.
+pub fn kept_law<K: LockKeeps>()
+    ensures { KeptLaw K.fact }
 {}

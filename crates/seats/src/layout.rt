@@ -1,5 +1,5 @@
 //! Layouts: who may access which words in which phase.
-ghost use Rattle.std.specs.Prelude.{◌≡◌, ◌≢◌, ◌+◌, ◌<◌, ℕ, IfOk, IfNone, Some, length, max, replicate, slice_get};
+ghost use Rattle.std.specs.Prelude.{◌≡◌, ◌≢◌, ◌+◌, ◌<◌, ◌∷◌, [], ℕ, IfOk, IfNone, Some, length, max, replicate, slice_get};
 ghost use Rattle.seats.specs.Prelude.{IsPut, NoneOpen, guard_in, guard_put, is_between, next_table};
 ghost use Rattle.seats.specs.declared.guard.Guard.TheVariants.{Of, Open};
 
@@ -59,6 +59,15 @@ impl Layout {
             tables,
             round: before,
         })
+    }
+
+    /// A layout that lets all access each of this many addresses in each phase. The only error is running out of memory.
+    pub fn open(alloc: Global, addresses: usize) -> Result<Layout, AllocError>
+        ensures { IfOk result (λ l. l ≡ record { tables = replicate addresses Open ∷ []; round = 0 }) }
+    {
+        let mut tables = Vec::with_capacity(alloc, 1)?;
+        tables.push(vec![in alloc; Guard::Open; addresses]?)?;
+        Ok(Layout { tables, round: 0 })
     }
 
     /// Gives the addresses from `from` up to before `to` this guard in the table. It does nothing past the end of either.

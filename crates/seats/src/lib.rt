@@ -2,7 +2,8 @@
 //! program has no race.
 //!
 //! A [`Seat`] is seen by contracts as its processor. Which processor of which cluster that is, its type says
-//! ([`Sitting`]), so no call has a premise. A thread's work is a [`Program`], which [`sit`] lets work on a processor.
+//! ([`Sitting`]), so no call has a premise. A thread's work is a [`Program`]. [`run`] makes a cluster and lets it work there,
+//! with a thread for each processor; [`sit`] lets it work on one.
 //!
 //! A [`Guard`] says who may access a word in a phase, that is, between two departures from the barrier: who holds a lock,
 //! one processor, or all, who then may only load it. Whether a processor keeps to the guards hangs on its own calls
@@ -12,9 +13,14 @@
 //! that it accesses; what a fault leaves; the faults that come at once. No clause says which others come, nor when `Stuck`
 //! and `Deserted` do: they are what the cluster answers.
 //!
+//! A seat keeps to a [`Layout`]: an access that it doesn't allow is barred. What [`run`] answers is the whole history of its
+//! cluster, in which each processor kept to the layout and did what the program says of it; nothing in it races if no word of
+//! the layout is open to all. Which fault it tells if some don't come to their ends is only tested.
+//!
 //! `guarded_law`: in a well formed history of processors of which each keeps to the guards, two
 //! accesses race only if the word was open to all in some phase. A [`Layout`] has guards as plain data, by tables that are
 //! used in turn; each of its calls does what it says. `table_law`: who keeps to a layout with no open word has no race.
+//! `kept_law`: what each tenure of a lock, from the acquire to the release, preserves of the words under it holds at the end.
 #![tactic(auto)]
 
 mod accesses;
@@ -24,14 +30,16 @@ mod guard;
 pub mod laws;
 mod layout;
 mod program;
+mod running;
 mod seat;
 mod sitting;
 #[cfg(test)]
 mod tests;
 
-pub use fault::SeatFault;
+pub use fault::{ProcessorFault, SeatFault};
 pub use guard::Guard;
 pub use layout::Layout;
 pub use program::{Program, sit};
+pub use running::{ProgramRun, run};
 pub use seat::Seat;
 pub use sitting::Sitting;

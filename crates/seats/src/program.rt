@@ -5,6 +5,7 @@ ghost use Rattle.cluster.specs.Prelude.{HasCoverage};
 ghost use Rattle.seats.specs.Prelude.{HasWorked, IsAllowed, IsSitting, new_seat, seat_deeds};
 
 use crate::fault::SeatFault;
+use crate::layout::Layout;
 use crate::seat::Seat;
 use crate::sitting::{Placed, Placing, Sitting};
 use cluster::{BookLock, Cluster, Processor};
@@ -25,22 +26,23 @@ pub trait Program: Sync {
         ensures { IfOk result (λ x. did S.at.number (seat_deeds seat.new) x) };
 }
 
-/// Lets the program work on the seat of this processor, which has made no call yet, and gives the processor back with the
-/// answer. Whoever waits for a processor whose work has ended is told.
+/// Lets the program work on the seat of this processor, which has made no call yet, under the layout, and gives the processor
+/// back with the answer. Whoever waits for a processor whose work has ended is told.
 pub fn sit<P: Program, R: Wait>(
     rt: &R,
     cluster: &Cluster<BookLock>,
     processor: Processor<BookLock>,
+    layout: &Layout,
     program: &P,
 ) -> Result<(Processor<BookLock>, P::Answer), SeatFault>
-    requires new { processor ≡ new_seat (record { cluster = cluster.now; number = processor.number }) }
+    requires new { processor ≡ new_seat (record { cluster = cluster.now; number = processor.number; layout = layout.now }) }
     requires covers { HasCoverage processor }
     requires allowed { IsAllowed processor }
     ensures { IfOk result (λ r. HasWorked P.did
-        (record { cluster = cluster.now; number = processor.number }) r.0 r.1) }
+        (record { cluster = cluster.now; number = processor.number; layout = layout.now }) r.0 r.1) }
 {
     let number = processor.number();
-    let worked = sit_at::<Brand, P, R>(rt, cluster, processor, program);
+    let worked = sit_at::<Brand, P, R>(rt, cluster, processor, layout, program);
     cluster.end(number);
     worked
 }
@@ -50,16 +52,17 @@ fn sit_at<J: Placing, P: Program, R: Wait>(
     rt: &R,
     cluster: &Cluster<BookLock>,
     processor: Processor<BookLock>,
+    layout: &Layout,
     program: &P,
 ) -> Result<(Processor<BookLock>, P::Answer), SeatFault>
-    requires at { J.at ≡ record { cluster = cluster.now; number = processor.number } }
+    requires at { J.at ≡ record { cluster = cluster.now; number = processor.number; layout = layout.now } }
     requires new { processor ≡ new_seat J.at }
     requires covers { HasCoverage processor }
     requires allowed { IsAllowed processor }
     ensures { IfOk result (λ r. HasWorked P.did J.at r.0 r.1) }
 {
     let handle = Placed::<J, R>::by(rt);
-    work(&handle, cluster, processor, program)
+    work(&handle, cluster, processor, layout, program)
 }
 
 /// The same with the seat's own handle.
@@ -67,13 +70,15 @@ fn work<S: Sitting, P: Program>(
     rt: &S,
     cluster: &Cluster<BookLock>,
     processor: Processor<BookLock>,
+    layout: &Layout,
     program: &P,
 ) -> Result<(Processor<BookLock>, P::Answer), SeatFault>
     requires sits { IsSitting S.at cluster.now processor }
     requires new { processor ≡ new_seat S.at }
+    requires layout { layout.now ≡ S.at.layout }
     ensures { IfOk result (λ r. HasWorked P.did S.at r.0 r.1) }
 {
-    let mut seat = Seat::new(rt, cluster, processor);
+    let mut seat = Seat::new(rt, cluster, processor, layout);
     let answer = program.work(&mut seat)?;
     Ok((seat.into_processor(), answer))
 }

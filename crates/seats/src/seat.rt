@@ -1,14 +1,18 @@
 //! Seats.
-ghost use Rattle.std.specs.Prelude.{◌≡◌, ◌/◌, ◌∷◌, [], Err, IfOk, OnErr, OnOk, Some, false, slice_index_or};
+ghost use Rattle.std.specs.Prelude.{◌≡◌, ◌/◌, ◌∷◌, [], Err, IfOk, OnErr, OnOk, Some, false, true, slice_index_or};
 ghost use Rattle.book.specs.declared.refused.Refused.{Refused as ARefusal};
 ghost use Rattle.journal.specs.declared.event.Kind.TheVariants as kind;
 ghost use Rattle.cluster.specs.Prelude.{arrive_refusal, ask_refusal, flag_refusal, release_refusal};
-ghost use Rattle.seats.specs.Prelude.{AccessesPage, HasDone, IsLeftUndone, IsSitting, seat_access_refusal};
+ghost use Rattle.seats.specs.Prelude.{AccessesPage, HasDone, IsLeftUndone, IsSitting, may_seat_access, new_seat, seat_access_refusal, seat_deeds};
+ghost use Rattle.seats.specs.Guards.{KeepsTo};
+ghost use Rattle.seats.specs.Tables.{guards_of};
 ghost use Rattle.seats.specs.declared.fault.SeatFault.TheVariants as fault;
 
 use crate::accesses::{WordAccess, access_word};
 use crate::closings::pass;
 use crate::fault::SeatFault;
+use crate::guard::Guard;
+use crate::layout::Layout;
 use crate::sitting::Sitting;
 use cluster::{BookLock, Cluster, Processor};
 use journal::Closing;
@@ -24,33 +28,44 @@ pub struct Seat<'a, S: Sitting> {
     rt: &'a S,
     cluster: &'a Cluster<BookLock>,
     processor: Processor<BookLock>,
+    layout: &'a Layout,
+    /// The table of its phase.
+    table: usize,
 }
 
 impl<'a, S: Sitting> Model for Seat<'a, S> {
+    ghost use Rattle.std.specs.Prelude.{◌≡◌};
     ghost use Rattle.cluster.specs.Copies.Local.{Local};
     ghost use Rattle.seats.specs.Sitting.{IsSitting};
+    ghost use Rattle.seats.specs.Kept.{IsKeptSeat};
 
     ghost Value = { Local };
 
     ghost view = { λ s. s.processor };
 
-    ghost invariant = { λ s. IsSitting S.at s.cluster.now s.processor };
+    ghost invariant = { λ s. IsSitting S.at s.cluster.now s.processor × (s.layout.now ≡ S.at.layout)
+        × IsKeptSeat S.at s.table s.processor };
 }
 
 impl<'a, S: Sitting> Seat<'a, S> {
-    /// The seat of this processor, beside its cluster.
+    /// The seat of this new processor, beside its cluster, under the layout.
     pub(crate) fn new(
         rt: &'a S,
         cluster: &'a Cluster<BookLock>,
         processor: Processor<BookLock>,
+        layout: &'a Layout,
     ) -> Seat<'a, S>
-        requires { IsSitting S.at cluster.now processor }
+        requires sits { IsSitting S.at cluster.now processor }
+        requires new { processor ≡ new_seat S.at }
+        requires layout { layout.now ≡ S.at.layout }
         ensures { result ≡ processor }
     {
         Seat {
             rt,
             cluster,
             processor,
+            layout,
+            table: 0,
         }
     }
 
@@ -58,13 +73,29 @@ impl<'a, S: Sitting> Seat<'a, S> {
     pub(crate) fn into_processor(self) -> Processor<BookLock>
         ensures is { result ≡ self.entry }
         ensures sits { IsSitting S.at S.at.cluster result }
+        ensures kept { KeepsTo (guards_of S.at.layout) S.at.number (seat_deeds result) }
     {
         let Seat {
             rt: _,
             cluster: _,
             processor,
+            layout: _,
+            table: _,
         } = self;
         processor
+    }
+
+    /// Whether the layout lets it access the address now.
+    fn may_access(&self, address: usize, stores: bool) -> bool
+        ensures { result ≡ may_seat_access S.at self.now address stores }
+    {
+        match self.layout.guard(self.table, address) {
+            Some(Guard::Under(lock)) => self.processor.holds(lock),
+            Some(Guard::Of(owner)) => owner == self.processor.number(),
+            Some(Guard::Shared) => !stores,
+            Some(Guard::Open) => true,
+            None => false,
+        }
     }
 
     /// The processor's number, from 0.
@@ -84,16 +115,22 @@ impl<'a, S: Sitting> Seat<'a, S> {
 
     /// The word at the address. Before the load stands at most a fetch of the address's page.
     ///
-    /// The first of these that applies, with nothing done: refused as [`Waiting`](cluster::Refused::Waiting) if an earlier
-    /// call left it waiting, [`OutOfRange`](cluster::Refused::OutOfRange) past the last address. After any other fault that
-    /// fetch alone was made, if any.
+    /// The first of these that applies, with nothing done: [`NotAllowed`](SeatFault::NotAllowed) exactly if the layout doesn't
+    /// let it; refused as [`Waiting`](cluster::Refused::Waiting) if an earlier call left it waiting,
+    /// [`OutOfRange`](cluster::Refused::OutOfRange) past the last address. After any other fault that fetch alone was made, if
+    /// any.
     pub fn load(&mut self, address: usize) -> Result<u32, SeatFault>
         ensures ok { IfOk result (λ v. AccessesPage self.old self.new (address / self.old.sizes.words)
             (kind.Load address v ∷ [])) }
         ensures err { OnErr result (AccessesPage self.old self.new (address / self.old.sizes.words) []) }
-        ensures outside { (e : ARefusal) → seat_access_refusal self.old address ≡ Some e
-            → (result ≡ Err (fault.Refused e)) × (self.new ≡ self.old) }
+        ensures barred { may_seat_access S.at self.old address false ≡ false
+            → (result ≡ Err (fault.NotAllowed address)) × (self.new ≡ self.old) }
+        ensures outside { (e : ARefusal) → may_seat_access S.at self.old address false ≡ true
+            → seat_access_refusal self.old address ≡ Some e → (result ≡ Err (fault.Refused e)) × (self.new ≡ self.old) }
     {
+        if !self.may_access(address, false) {
+            return Err(SeatFault::NotAllowed(address));
+        }
         match access_word(
             self.rt,
             self.cluster,
@@ -112,9 +149,14 @@ impl<'a, S: Sitting> Seat<'a, S> {
         ensures ok { OnOk result (AccessesPage self.old self.new (address / self.old.sizes.words)
             (kind.Store address word ∷ [])) }
         ensures err { OnErr result (AccessesPage self.old self.new (address / self.old.sizes.words) []) }
-        ensures outside { (e : ARefusal) → seat_access_refusal self.old address ≡ Some e
-            → (result ≡ Err (fault.Refused e)) × (self.new ≡ self.old) }
+        ensures barred { may_seat_access S.at self.old address true ≡ false
+            → (result ≡ Err (fault.NotAllowed address)) × (self.new ≡ self.old) }
+        ensures outside { (e : ARefusal) → may_seat_access S.at self.old address true ≡ true
+            → seat_access_refusal self.old address ≡ Some e → (result ≡ Err (fault.Refused e)) × (self.new ≡ self.old) }
     {
+        if !self.may_access(address, true) {
+            return Err(SeatFault::NotAllowed(address));
+        }
         match access_word(
             self.rt,
             self.cluster,
@@ -171,7 +213,9 @@ impl<'a, S: Sitting> Seat<'a, S> {
         ensures outside { (e : ARefusal) → arrive_refusal self.old ≡ Some e
             → (result ≡ Err (fault.Refused e)) × (self.new ≡ self.old) }
     {
-        pass(self.rt, self.cluster, &mut self.processor, Closing::Arrive)
+        pass(self.rt, self.cluster, &mut self.processor, Closing::Arrive)?;
+        self.table = self.layout.next(self.table);
+        Ok(())
     }
 
     /// Sets the flag, which stays set. The first of these that applies, with nothing done: refused as

@@ -1,7 +1,10 @@
-//! A layout of its own tables, used in turn.
+//! A layout of its own tables, used in turn; programs on threads.
 
-use crate::{Guard, Layout};
-use std::alloc::AllocError;
+use crate::{Guard, Layout, ProcessorFault, Program, Seat, SeatFault, Sitting, run};
+use cluster::Refused;
+use std::alloc::{AllocError, Global};
+use std::sync::Wait;
+use std::thread::Threads;
 
 #[test]
 fn tables_come_in_turn(rt: HostRuntime) -> Result<(), AllocError> {
@@ -20,5 +23,158 @@ fn tables_come_in_turn(rt: HostRuntime) -> Result<(), AllocError> {
     );
     assert!(rt; layout.next(2) == 1, "the round again");
     assert!(rt; layout.first_open() == Some(1), "an open word");
+    Ok(())
+}
+
+/// What the processors of a test do.
+enum Errand {
+    /// Each stores its number in a page of its own, meets the others, and answers what its neighbour stored.
+    Meet,
+    /// Each acquires a lock of its own, meets the others, and then wants its neighbour's.
+    Cross,
+    /// All but the last one meet. The last one wants a lock that isn't there.
+    Leave,
+    /// Each stores to a word of its own, then to one under lock 0, and after the barrier to its neighbour's; the first loads
+    /// a word that is shared.
+    Keep,
+    /// Each stores to the word under lock 0 without it.
+    Forget,
+}
+
+impl Program for Errand {
+    type Answer = u32;
+
+    ghost did = { λ processor deeds answer. Unit {0} };
+
+    fn work<S: Sitting>(&self, seat: &mut Seat<'_, S>) -> Result<u32, SeatFault> {
+        let number = seat.number();
+        match self {
+            Errand::Meet => {
+                seat.store(number.wrapping_mul(64), u32::try_from(number).unwrap_or(0))?;
+                seat.barrier()?;
+                seat.load((number ^ 1).wrapping_mul(64))
+            }
+            Errand::Cross => {
+                seat.lock(number)?;
+                seat.barrier()?;
+                seat.lock(number ^ 1)?;
+                Ok(0)
+            }
+            Errand::Leave => {
+                if number == 1 {
+                    seat.lock(32)?;
+                }
+                seat.barrier()?;
+                Ok(0)
+            }
+            Errand::Keep => {
+                seat.store(number, 1)?;
+                seat.lock(0)?;
+                seat.store(2, 2)?;
+                seat.unlock(0)?;
+                seat.barrier()?;
+                seat.store(number ^ 1, 3)?;
+                seat.load(3)
+            }
+            Errand::Forget => {
+                seat.lock(0)?;
+                seat.store(2, 1)?;
+                seat.unlock(0)?;
+                seat.store(2, 1)?;
+                Ok(0)
+            }
+        }
+    }
+}
+
+/// Two tables in turn: words 0 and 1 of the processors and then of their neighbours, word 2 under lock 0, word 3 shared.
+fn two_phases(alloc: Global) -> Result<Layout, AllocError> {
+    let mut layout = Layout::new(alloc, 64, 0, 2)?;
+    for table in 0..2 {
+        layout.put(table, table ^ 1, (table ^ 1).wrapping_add(1), Guard::Of(1));
+        layout.put(table, 2, 3, Guard::Under(0));
+        layout.put(table, 3, 4, Guard::Shared);
+    }
+    Ok(layout)
+}
+
+/// The fault of a run of two processors under the layout.
+fn fault_of<R: Threads + Wait + Sync>(
+    rt: &R,
+    alloc: Global,
+    layout: &Layout,
+    errand: &Errand,
+) -> Option<ProcessorFault> {
+    run(rt, alloc, 2, 1, 64, 2, 0, layout, errand).err()
+}
+
+#[test]
+fn all_work_on_threads(rt: HostRuntime) -> Result<(), ProcessorFault> {
+    let layout = Layout::open(rt.alloc(), 4096)?;
+    let ran = run(&rt, rt.alloc(), 16, 64, 64, 32, 32, &layout, &Errand::Meet)?;
+    let wanted = [1, 0, 3, 2, 5, 4, 7, 6, 9, 8, 11, 10, 13, 12, 15, 14];
+    assert!(rt;
+        ran.answers.as_slice() == wanted.as_slice(),
+        "what each neighbour stored"
+    );
+    assert!(rt; ran.journal.len() >= 16 * 4, "all calls");
+    Ok(())
+}
+
+#[test]
+fn least_fault_is_told(rt: HostRuntime) -> Result<(), AllocError> {
+    let alloc = rt.alloc();
+    let layout = Layout::open(alloc, 64)?;
+    let stuck = ProcessorFault {
+        processor: 0,
+        fault: SeatFault::Stuck,
+    };
+    assert!(rt;
+        fault_of(&rt, alloc, &layout, &Errand::Cross) == Some(stuck),
+        "all wait"
+    );
+    let left = ProcessorFault {
+        processor: 1,
+        fault: SeatFault::Refused(Refused::BadLock),
+    };
+    assert!(rt;
+        fault_of(&rt, alloc, &layout, &Errand::Leave) == Some(left),
+        "a wait in vain comes after"
+    );
+    let none = run(&rt, alloc, 17, 1, 1, 0, 0, &layout, &Errand::Meet).err();
+    let bad = ProcessorFault {
+        processor: 0,
+        fault: SeatFault::Refused(Refused::BadSize),
+    };
+    assert!(rt; none == Some(bad), "too many");
+    Ok(())
+}
+
+#[test]
+fn seats_keep_to_layouts(rt: HostRuntime) -> Result<(), AllocError> {
+    let alloc = rt.alloc();
+    let layout = two_phases(alloc)?;
+    assert!(rt; layout.first_open().is_none(), "no open word");
+    assert!(rt;
+        fault_of(&rt, alloc, &layout, &Errand::Keep).is_none(),
+        "all that is allowed"
+    );
+    let barred = ProcessorFault {
+        processor: 0,
+        fault: SeatFault::NotAllowed(2),
+    };
+    assert!(rt;
+        fault_of(&rt, alloc, &layout, &Errand::Forget) == Some(barred),
+        "a store without its lock"
+    );
+    let beyond = ProcessorFault {
+        processor: 0,
+        fault: SeatFault::NotAllowed(0),
+    };
+    let none = Layout::open(alloc, 0)?;
+    assert!(rt;
+        fault_of(&rt, alloc, &none, &Errand::Keep) == Some(beyond),
+        "a word without a guard"
+    );
     Ok(())
 }

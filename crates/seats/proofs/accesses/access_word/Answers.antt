@@ -19,7 +19,7 @@ returns-in_ok-fetch-in-Err-Invalid-clause-done g c =
     let refused = sym c.access_once.ensures.refused ∙ ap result_err (c.in-Err-Invalid.is ∙ ap Err c.in-Err-Invalid.field-0-is) in
     subst (λ k. AccessesBy m c.access_roomy.new.processor k c.args.access c.args.address c.access_roomy.result)
     (access_page m c.args.address page refused)
-    (accesses_fetched m fresh c.access_roomy.new.processor page c.args.address c.args.access c.fetch.result
+    (accesses_fetched m fresh c.access_roomy.new.processor page c.args.address c.args.access
     c.access_roomy.result c.in_ok-fetch-in-Err-Invalid.was
     (fetches_after m stale fresh page c.fetch.result c.in-Err-Invalid.ensures.done c.fetch.ensures)
     c.access_roomy.ensures)

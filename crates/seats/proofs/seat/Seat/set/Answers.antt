@@ -1,7 +1,13 @@
 use Rattle.journal.specs.declared.event.Kind.TheVariants.{Set}
+use Rattle.seats.proofs.Kept.{kept_set}
 use Rattle.seats.proofs.Seats.{sits_after_pass}
 use Rattle.seats.proofs.seat.Seat.set.Goals as goal
 
 pub invariant_of-self : goal.invariant_of-self
-invariant_of-self g c = sits_after_pass _ c.pass.new.processor _ (Set c.args.flag) c.pass.result c.self.invariant
-    c.pass.ensures.ok c.pass.ensures.err
+invariant_of-self g c =
+    let was = c.self.invariant in (
+      sits_after_pass _ c.pass.new.processor _ (Set c.args.flag) c.pass.result was.0 c.pass.ensures.ok c.pass.ensures.err,
+      was.1,
+      kept_set g.S.Sitting.at _ c.pass.new.processor c.args.flag c.pass.result was.2 c.pass.ensures.ok
+          c.pass.ensures.err,
+    )

@@ -1,0 +1,5 @@
+use Rattle.seats.proofs.Tenures.{kept_law}
+use Rattle.seats.proofs.laws.kept_law.Goals as goal
+
+pub returns : goal.returns
+returns g c = kept_law g.K.LockKeeps.fact

@@ -1,0 +1,79 @@
+-- Runs of a program: a thread for each processor of a cluster of its own.
+use Rattle.std.specs.Prelude.{ℕ, ◌≡◌, ◌≤◌, Option, Some, None, List, [], Result, Ok, Err, length, slice_get, vec_capacity}
+use Rattle.journal.specs.declared.event.Event.{Event}
+use Rattle.journal.specs.declared.event.Kind.{Kind}
+use Rattle.journal.specs.Events.{events_of}
+use Rattle.journal.specs.Log.{Log}
+use Rattle.journal.specs.Races.{RaceFree}
+use Rattle.journal.specs.Sizes.{Sizes}
+use Rattle.cluster.specs.Clusters.{shared_cluster}
+use Rattle.cluster.specs.Copies.Local.{Local}
+use Rattle.cluster.specs.FaithfulJournals.{IsFaithful, IsJournalOf}
+use Rattle.seats.specs.Deeds.{deeds}
+use Rattle.seats.specs.Laws.{AllKeepTo}
+use Rattle.seats.specs.Sitting.{HasWorked, SeatId}
+use Rattle.seats.specs.Tables.{GuardTables, NoneOpen, guards_of}
+use Rattle.seats.specs.declared.running.threads.Workers.{Workers}
+use Rattle.seats.specs.declared.fault.SeatFault.{SeatFault}
+use Rattle.seats.specs.declared.fault.SeatFault.TheVariants.{NoThread}
+
+-- the seat of this processor, under this layout
+abbrev pub seat_of_processor : GuardTables → Local → SeatId
+seat_of_processor g m = record { cluster = shared_cluster m.lock m.sizes; number = m.number; layout = g }
+
+-- what a thread is started with
+pub record SeatErrand : Type 0 where
+  pub processor : Local
+  pub layout : GuardTables
+
+-- what a thread that was started so, or couldn't be started, gives back
+abbrev pub IsThreadWork : {X : Type 0} → (ℕ → List Kind → X → Type 0) → Option SeatErrand → Result (Local × X) SeatFault → Type 0
+IsThreadWork did (Some e) (Ok r) = HasWorked did (seat_of_processor e.layout e.processor) r.0 r.1
+IsThreadWork did (Some e) (Err fault) = Unit {0}
+IsThreadWork did None (Ok r) = ⊥
+IsThreadWork did None (Err fault) = fault ≡ NoThread
+
+-- a thread for each of these processors, under this layout, or None if it couldn't be started
+pub record AreThreadsSeated (g : GuardTables) (ms : List Local) (threads : List (Option SeatErrand)) : Type 0 where
+  pub all : length threads ≡ length ms
+  pub each : (p : ℕ) (e : SeatErrand) → slice_get threads p ≡ Some (Some e)
+      → (slice_get ms p ≡ Some e.processor) × (e.layout ≡ g)
+
+-- nobody has come to an end yet, or faulted
+pub record IsNobody {X : Type 0} (w : Workers X) : Type 0 where
+  pub processors_none : w.processors.items ≡ []
+  pub answers_none : w.answers.items ≡ []
+  pub fault_none : w.fault ≡ None
+
+-- there is room for as many
+pub record HasRoomForWorkers {X : Type 0} (w : Workers X) (count : ℕ) : Type 0 where
+  pub processors_fit : count ≤ vec_capacity w.processors
+  pub answers_fit : count ≤ vec_capacity w.answers
+
+-- each of these threads was started, and gave back its processor, which has worked, and an answer
+pub record HaveAllJoined {X : Type 0} (did : ℕ → List Kind → X → Type 0) (threads : List (Option SeatErrand)) (worked : List Local)
+    (answers : List X) : Type 0 where
+  pub worked_all : length worked ≡ length threads
+  pub answered_all : length answers ≡ length threads
+  pub each : (p : ℕ) (n : Local) (x : X) → slice_get worked p ≡ Some n → slice_get answers p ≡ Some x
+      → (e : SeatErrand) × (slice_get threads p ≡ Some (Some e)) × HasWorked did (seat_of_processor e.layout e.processor) n x
+
+-- each of these processors has worked under this layout, and answered so
+pub record HaveAllWorked {X : Type 0} (g : GuardTables) (did : ℕ → List Kind → X → Type 0) (ms worked : List Local)
+    (answers : List X) : Type 0 where
+  pub worked_all : length worked ≡ length ms
+  pub answered_all : length answers ≡ length ms
+  pub each : (p : ℕ) (m n : Local) (x : X) → slice_get ms p ≡ Some m → slice_get worked p ≡ Some n
+      → slice_get answers p ≡ Some x → HasWorked did (seat_of_processor g m) n x
+
+-- the journal has the whole history of a cluster of these sizes, which is faithful; each processor kept to the layout, so that
+-- nothing races if no word is open to all, and did what the program says of its number, what it did, and its answer
+pub record IsProgramRun {X : Type 0} (g : GuardTables) (did : ℕ → List Kind → X → Type 0) (s : Sizes) (answers : List X)
+    (j : Log) : Type 0 where
+  pub history : List Event
+  pub journal : IsJournalOf s [] history j
+  pub faithful : IsFaithful s history
+  pub kept : AllKeepTo (guards_of g) history
+  pub race_free : NoneOpen g → RaceFree history
+  pub all : length answers ≡ s.processors
+  pub done : (p : ℕ) (x : X) → slice_get answers p ≡ Some x → did p (deeds (events_of history p)) x
