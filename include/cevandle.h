@@ -2,7 +2,7 @@
  *
  * No call keeps anything between two calls, waits, starts a thread, or writes but where its last arguments point. What a call
  * reads and what it writes must not overlap. Memory comes from the program's malloc, and is given back before the call returns.
- * Each call answers a cevandle_code; unless that is CEVANDLE_DONE, nothing was written.
+ * Each call answers a cevandle_code; unless that is CEVANDLE_DONE, nothing was written, but the fault of a script.
  */
 #ifndef CEVANDLE_H
 #define CEVANDLE_H
@@ -22,7 +22,8 @@ enum cevandle_code {
     CEVANDLE_BAD_ROOM = 3,   /* the memory has not just a word for each address */
     CEVANDLE_TOO_MANY = 4,   /* there are more than CEVANDLE_MOST_EVENTS events */
     CEVANDLE_BAD_EVENT = 5,  /* an event's kind is none of cevandle_kind, or a number of it is out of range */
-    CEVANDLE_NO_MEMORY = 6,  /* malloc refused */
+    CEVANDLE_BAD_SCRIPT = 8, /* the text is no lawful script's: see cevandle_script_fault */
+    CEVANDLE_NO_MEMORY = 6,  /* malloc refused; of a script, maybe at a line before the one with a fault */
     CEVANDLE_NULL = 7        /* a pointer is null: looked at before all others */
 };
 
@@ -129,12 +130,81 @@ typedef struct cevandle_verdict {
     uint64_t unjudged; /* loads of a faithful history: under CEVANDLE_RACE_FREE those from race.second on */
 } cevandle_verdict;
 
+/* What is wrong with a script's line: docs/SCRIPTS.md has each. Of several faults of one line the first one in this order is
+ * told, but for UNEVEN, which is told of a text without any other. */
+enum cevandle_script_fault_kind {
+    CEVANDLE_SCRIPT_TRUNCATED = 1,    /* the text ends where a line has to be, or its last line has no line feed */
+    CEVANDLE_SCRIPT_BAD_LINE = 2,     /* a word, or the number of words, that isn't allowed there */
+    CEVANDLE_SCRIPT_BAD_NUMBER = 3,
+    CEVANDLE_SCRIPT_BAD_SIZE = 4,     /* of the cluster line */
+    CEVANDLE_SCRIPT_OUT_OF_RANGE = 5, /* an address */
+    CEVANDLE_SCRIPT_BAD_LOCK = 6,
+    CEVANDLE_SCRIPT_BAD_FLAG = 7,
+    CEVANDLE_SCRIPT_ALREADY_HELD = 8, /* an acquire of a lock that the section holds */
+    CEVANDLE_SCRIPT_NOT_HELD = 9,     /* a release of a lock that it doesn't hold */
+    CEVANDLE_SCRIPT_TOO_LONG = 10,    /* instruction 10,001 of a section, or address 65 of the show line */
+    CEVANDLE_SCRIPT_UNEVEN = 11       /* a section has another number of barriers than section 0 */
+};
+
+/* The first line of a text that keeps it from being a lawful script's. */
+typedef struct cevandle_script_fault {
+    uint64_t line; /* from 1 */
+    uint64_t kind; /* a cevandle_script_fault_kind */
+} cevandle_script_fault;
+
+/* Whether a script races. */
+enum cevandle_racing {
+    CEVANDLE_NEVER_RACES = 0,   /* no two accesses race, whatever the order */
+    CEVANDLE_RACES = 1,         /* some order races */
+    CEVANDLE_RACES_UNKNOWN = 2  /* no race was met, and the search was given up */
+};
+
+/* Whether it can hang. */
+enum cevandle_hanging {
+    CEVANDLE_NEVER_HANGS = 0,   /* whatever the order, each processor gets to its end */
+    CEVANDLE_HANGS = 1,         /* some order can't go on */
+    CEVANDLE_HANGS_UNKNOWN = 2  /* no hang was met, and the search was given up, or ended with a race */
+};
+
+/* An access of a schedule on one flat memory; CEVANDLE_NONE in each field where there is none. */
+typedef struct cevandle_access {
+    uint64_t place; /* in the schedule, from 0 */
+    uint64_t processor;
+    uint64_t kind;  /* CEVANDLE_LOAD or CEVANDLE_STORE */
+    uint64_t address;
+    uint64_t value; /* the word answered or stored */
+} cevandle_access;
+
+/* Two accesses of a schedule that race. */
+typedef struct cevandle_conflict {
+    cevandle_access first, second;
+} cevandle_conflict;
+
+/* What a processor waits for: the kind of the event that would end its wait, and the lock or the flag. It is CEVANDLE_ACQUIRE,
+ * CEVANDLE_AWAIT, or CEVANDLE_DEPART, with the number CEVANDLE_NONE; CEVANDLE_NONE twice where it doesn't wait. */
+typedef struct cevandle_wait {
+    uint64_t kind, number;
+} cevandle_wait;
+
+/* What is found of all schedules of a script on one flat memory: docs/SCRIPTS.md, "Every schedule". */
+typedef struct cevandle_exploration {
+    uint64_t verdict;  /* a cevandle_racing */
+    uint64_t hangs;    /* a cevandle_hanging */
+    uint64_t states;   /* how many were found */
+    uint64_t outcomes; /* how many different results of whole runs were met */
+    uint64_t are_all;  /* 1 if whole runs have no others, else 0 */
+    cevandle_conflict race;  /* with CEVANDLE_RACES: of some schedule the first race, with which it ends */
+    cevandle_wait waits[16]; /* with CEVANDLE_HANGS: what each processor waits for at the end of some schedule */
+} cevandle_exploration;
+
 /* What the library has: as the calls below, but no pointer may be null. A caller without this header calls these. */
 uint32_t cevandle_judge_nonnull(cevandle_sizes sizes, cevandle_rules rules, const cevandle_event *events, size_t count,
                                 cevandle_verdict *verdict);
 uint32_t cevandle_first_race_nonnull(cevandle_sizes sizes, const cevandle_event *events, size_t count, cevandle_race *race);
 uint32_t cevandle_replay_nonnull(cevandle_sizes sizes, const cevandle_event *events, size_t count, uint32_t *memory,
                                  size_t room, uint32_t *replays);
+uint32_t cevandle_explore_nonnull(const uint8_t *script, size_t length, size_t most, cevandle_exploration *found,
+                                  cevandle_script_fault *fault);
 
 /* Stands in for an array of no items, which may be null. */
 static const cevandle_event cevandle_no_events[1] = {{0, 0, 0, 0, 0, 0, 0}};
@@ -174,6 +244,22 @@ static inline uint32_t cevandle_replay(cevandle_sizes sizes, const cevandle_even
         return CEVANDLE_NULL;
     }
     return cevandle_replay_nonnull(sizes, events == NULL ? cevandle_no_events : events, count, memory, room, replays);
+}
+
+/* Looks at all schedules of the script with this text, of `length` bytes: whether it can race, and whether it can hang. The
+ * search ends with the first race, and is given up once more than `most` states are found, or more than fit: those that have
+ * 2^27 words together. A million states take some 1 GB, and no search takes more than 2. `script` may be null if length is 0.
+ * Answers BAD_SCRIPT, NO_MEMORY or NULL, else DONE. With BAD_SCRIPT `fault` has the fault, unless it is null; it is written
+ * with no other code. */
+static inline uint32_t cevandle_explore(const char *script, size_t length, size_t most, cevandle_exploration *found,
+                                        cevandle_script_fault *fault)
+{
+    cevandle_script_fault unwanted = {0, 0};
+    if ((script == NULL && length != 0) || found == NULL) {
+        return CEVANDLE_NULL;
+    }
+    return cevandle_explore_nonnull((const uint8_t *)(script == NULL ? "" : script), length, most, found,
+                                    fault == NULL ? &unwanted : fault);
 }
 
 #ifdef __cplusplus

@@ -1,24 +1,9 @@
 /* Calls the library from C: each verdict and each reason why an event is a lie, each refusal, races, replays, and a long
- * history. `calls memory` instead has memory refused, by a limit of the shell that runs it. Each trial that fails is a line; the last
- * line is `N passed, M failed`. */
-#include "cevandle.h"
+ * history. `calls limits` instead goes to the limits, `calls memory` has memory refused, by a limit of the shell that runs it.
+ * Each trial that fails is a line; the last line is `N passed, M failed`. */
+#include "trials.h"
 
-#include <inttypes.h>
-#include <stdio.h>
 #include <stdlib.h>
-#include <string.h>
-
-static int passed, failed;
-
-static void count(const char *what, int held)
-{
-    if (held) {
-        passed++;
-    } else {
-        failed++;
-        printf("c_library: %s\n", what);
-    }
-}
 
 static const cevandle_sizes SIZES = {2, 2, 2, 1, 1};
 
@@ -44,7 +29,7 @@ static cevandle_rules rules(uint32_t model, uint32_t lax, uint32_t ends_at_race)
 static cevandle_verdict judged(const char *what, cevandle_rules by_rules, const cevandle_event *events, size_t length)
 {
     cevandle_verdict found;
-    memset(&found, 0xAA, sizeof found);
+    fill(&found, sizeof found);
     count(what, cevandle_judge(SIZES, by_rules, events, length, &found) == CEVANDLE_DONE);
     return found;
 }
@@ -148,23 +133,12 @@ static void reasons(void)
     lie("not set", model, CEVANDLE_NOT_SET, e, 2);
 }
 
-static int is_filled(const void *at, size_t bytes)
-{
-    const unsigned char *byte = at;
-    for (size_t i = 0; i < bytes; i++) {
-        if (byte[i] != 0xAA) {
-            return 0;
-        }
-    }
-    return 1;
-}
-
 /* A call of the judge has to answer this code, and to write nothing. */
 static void refuses(const char *what, uint32_t code, cevandle_sizes sizes, cevandle_rules by_rules,
                     const cevandle_event *events, size_t length)
 {
     cevandle_verdict found;
-    memset(&found, 0xAA, sizeof found);
+    fill(&found, sizeof found);
     count(what, cevandle_judge(sizes, by_rules, events, length, &found) == code && is_filled(&found, sizeof found));
 }
 
@@ -190,9 +164,6 @@ static void refusals(cevandle_event *many)
     refuses("too many", CEVANDLE_TOO_MANY, SIZES, any, many, CEVANDLE_MOST_EVENTS + 1);
     refuses("no events", CEVANDLE_NULL, SIZES, any, NULL, 1);
     count("nowhere to write", cevandle_judge(SIZES, any, bad, 1, NULL) == CEVANDLE_NULL);
-    const cevandle_sizes greatest = {16, 64, 64, 32, 32};
-    cevandle_verdict found;
-    count("the greatest sizes", cevandle_judge(greatest, any, NULL, 0, &found) == CEVANDLE_DONE);
 }
 
 static void races(cevandle_event *many)
@@ -219,11 +190,11 @@ static void races(cevandle_event *many)
         {"race: a bad flag", CEVANDLE_BAD_EVENT, SIZES, by(0, CEVANDLE_SET, 1, 0)},
     };
     for (size_t i = 0; i < sizeof rows / sizeof rows[0]; i++) {
-        memset(&race, 0xAA, sizeof race);
+        fill(&race, sizeof race);
         count(rows[i].what, cevandle_first_race(rows[i].sizes, &rows[i].event, 1, &race) == rows[i].code
                                 && is_filled(&race, sizeof race));
     }
-    memset(&race, 0xAA, sizeof race);
+    fill(&race, sizeof race);
     count("race: too many", cevandle_first_race(SIZES, many, CEVANDLE_MOST_EVENTS + 1, &race) == CEVANDLE_TOO_MANY
                                 && is_filled(&race, sizeof race));
     count("race: null", cevandle_first_race(SIZES, NULL, 1, &race) == CEVANDLE_NULL
@@ -290,12 +261,65 @@ static void long_histories(cevandle_event *events)
                             && found.lie.why == CEVANDLE_UNEXPLAINED && found.lie.stores[0] == length - 7);
 }
 
+static const cevandle_sizes GREATEST = {16, 64, 64, 32, 32};
+
+/* As many events as there may be: sixteen processors pass the last lock on, and each adds 1 to the last word. */
+static void fill_with_turns(cevandle_event *events)
+{
+    size_t length = 0;
+    for (uint32_t turn = 0; length + 5 <= CEVANDLE_MOST_EVENTS; turn++) {
+        const uint32_t who = 15 - turn % 16;
+        events[length++] = by(who, CEVANDLE_ASK, 31, 0);
+        events[length++] = by(who, CEVANDLE_ACQUIRE, 31, 0);
+        events[length++] = by(who, CEVANDLE_LOAD, 4095, turn);
+        events[length++] = by(who, CEVANDLE_STORE, 4095, turn + 1);
+        events[length++] = by(who, CEVANDLE_RELEASE, 31, 0);
+    }
+    while (length < CEVANDLE_MOST_EVENTS) {
+        events[length++] = by(15, CEVANDLE_SET, 31, 0);
+    }
+}
+
+/* No more than what there may be is refused: at the greatest sizes, of as many events as there may be. */
+static void at_the_limits(cevandle_event *many)
+{
+    static uint32_t memory[4096];
+    cevandle_verdict found;
+    cevandle_race race;
+    uint32_t does = 0;
+    fill_with_turns(many);
+    for (uint32_t model = 0; model < 4; model++) {
+        count("the most events",
+              cevandle_judge(GREATEST, rules(model, 1, 1), many, CEVANDLE_MOST_EVENTS, &found) == CEVANDLE_DONE
+                  && found.verdict == CEVANDLE_FAITHFUL && found.judged == CEVANDLE_MOST_EVENTS
+                  && found.race.second == CEVANDLE_NONE && found.unjudged == 0);
+    }
+    count("their races",
+          cevandle_first_race(GREATEST, many, CEVANDLE_MOST_EVENTS, &race) == CEVANDLE_DONE && race.second == CEVANDLE_NONE);
+    count("their replay", cevandle_replay(GREATEST, many, CEVANDLE_MOST_EVENTS, memory, 4096, &does) == CEVANDLE_DONE
+                              && does == 1 && memory[4095] == CEVANDLE_MOST_EVENTS / 5);
+    for (size_t i = 0; i < CEVANDLE_MOST_EVENTS; i++) {
+        many[i] = fetch(15, 63, UINT32_MAX, UINT32_MAX, UINT32_MAX);
+    }
+    const uint64_t sum = (uint64_t)CEVANDLE_MOST_EVENTS * UINT32_MAX;
+    count("the greatest counts",
+          cevandle_judge(GREATEST, rules(0, 1, 0), many, CEVANDLE_MOST_EVENTS, &found) == CEVANDLE_DONE
+              && found.verdict == CEVANDLE_FAITHFUL && found.traffic.records == sum && found.traffic.words == sum
+              && found.traffic.messages == 2 * sum);
+    count("the last page", cevandle_first_race(GREATEST, many, 1, &race) == CEVANDLE_DONE && race.second == CEVANDLE_NONE);
+    const cevandle_sizes none = {0, 0, 0, 0, 0};
+    count("no sizes", cevandle_judge(none, rules(3, 0, 0), many, 1, &found) == CEVANDLE_DONE
+                          && found.lie.why == CEVANDLE_NO_SUCH_PROCESSOR);
+    count("no memory", cevandle_first_race(none, NULL, 0, &race) == CEVANDLE_DONE && race.second == CEVANDLE_NONE
+                           && cevandle_replay(none, NULL, 0, memory, 0, &does) == CEVANDLE_DONE && does == 1);
+}
+
 /* Where there is room for the events that are handed in, and not for a copy. */
-static void memory_refused(const cevandle_event *many)
+static void memory_refused(cevandle_event *many)
 {
     cevandle_race race;
     uint32_t memory[4] = {8, 8, 8, 8}, does = 7;
-    memset(&race, 0xAA, sizeof race);
+    fill(&race, sizeof race);
     refuses("memory", CEVANDLE_NO_MEMORY, SIZES, rules(0, 0, 0), many, CEVANDLE_MOST_EVENTS);
     count("race: memory", cevandle_first_race(SIZES, many, CEVANDLE_MOST_EVENTS, &race) == CEVANDLE_NO_MEMORY
                               && is_filled(&race, sizeof race));
@@ -309,11 +333,10 @@ int main(int words, char **word)
     if (many == NULL) {
         return 1;
     }
-    if (words == 2 && strcmp(word[1], "memory") == 0) {
-        memory_refused(many);
+    if (words == 2) {
+        (strcmp(word[1], "memory") == 0 ? memory_refused : at_the_limits)(many);
         free(many);
-        printf("%d passed, %d failed\n", passed, failed);
-        return failed != 0;
+        return counted();
     }
     faithful_histories();
     loads();
@@ -323,6 +346,5 @@ int main(int words, char **word)
     replays(many);
     long_histories(many);
     free(many);
-    printf("%d passed, %d failed\n", passed, failed);
-    return failed != 0;
+    return counted();
 }

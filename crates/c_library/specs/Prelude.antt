@@ -6,3 +6,7 @@ pub use Rattle.c_library.specs.Told.{told_of, told_race, told_traffic, told_unex
 pub use Rattle.c_library.specs.Judging.{IsJudgeFault, IsToldOf}
 pub use Rattle.c_library.specs.Histories.{AreEventsWithin, IsEventWithin, IsHistoryFault, IsHistoryIn, IsRaceTold}
 pub use Rattle.c_library.specs.Histories.{IsReplayTold, IsReplayed}
+pub use Rattle.c_library.specs.ToldExploration.{awaited_by, hanging_number, kind_number, number_named, racing_number, told_access}
+pub use Rattle.c_library.specs.ToldExploration.{told_conflict, told_exploration, told_wait, told_waits, value_named}
+pub use Rattle.c_library.specs.Exploring.{IsExplorationTold, IsExploreFault, IsScriptFaultTold, IsScriptText, IsUnexplored}
+pub use Rattle.c_library.specs.Exploring.{script_fault_number, told_script_fault}

@@ -18,6 +18,8 @@ pub enum CallFault {
     TooMany,
     /// An event has a kind that there isn't, or names a number that is to be within the sizes and isn't.
     BadEvent,
+    /// The text is no lawful script's.
+    BadScript,
     /// A growth was refused.
     NoMemory,
 }
@@ -33,6 +35,7 @@ impl CallFault {
             CallFault::BadRoom => 3,
             CallFault::TooMany => 4,
             CallFault::BadEvent => 5,
+            CallFault::BadScript => 8,
             CallFault::NoMemory => 6,
         }
     }

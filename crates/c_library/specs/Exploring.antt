@@ -1,0 +1,81 @@
+-- What is answered of a text whose schedules are to be looked at.
+use Rattle.std.specs.Prelude.{ℕ, ◌≡◌, ◌≢◌, ◌⊎◌, List}
+use Rattle.lrc_script.specs.declared.fault.ScriptFault.{ScriptFault}
+use Rattle.lrc_script.specs.declared.fault.ScriptFault.TheVariants as script_fault
+use Rattle.lrc_script.specs.Lawful.{IsLawful}
+use Rattle.lrc_script.specs.LineFaults.{IsFault}
+use Rattle.lrc_script.specs.Plan.{Plan}
+use Rattle.lrc_script.specs.Text.{text}
+use Rattle.explore.specs.declared.explored.Explored.{Explored}
+use Rattle.explore.specs.Explored.{IsExplored}
+use Rattle.c_library.specs.declared.call_fault.CallFault.{CallFault}
+use Rattle.c_library.specs.declared.call_fault.CallFault.TheVariants.{BadScript, NoMemory}
+use Rattle.c_library.specs.declared.told_exploration.ToldExploration.{ToldExploration}
+use Rattle.c_library.specs.declared.unexplored.ToldScriptFault.{ToldScriptFault}
+use Rattle.c_library.specs.declared.unexplored.Unexplored.{Unexplored}
+use Rattle.c_library.specs.declared.unexplored.Unexplored.TheVariants as unexplored
+use Rattle.c_library.specs.ToldExploration.{told_exploration}
+
+-- the bytes are the text of this lawful script
+pub record IsScriptText (bytes : List ℕ) (s : Plan) : Type 0 where
+  pub lawful : IsLawful s
+  pub is : bytes ≡ text s
+
+-- they are the text of one, and this is what is told of its schedules, if so many states were asked for
+pub record IsExplorationTold (bytes : List ℕ) (most : ℕ) (told : ToldExploration) : Type 0 where
+  pub script : Plan
+  pub text : IsScriptText bytes script
+  pub found : Explored
+  pub explored : IsExplored script most found
+  pub is : told ≡ told_exploration found
+
+-- they are the text of none
+abbrev pub HasNoScript : List ℕ → Type 0
+HasNoScript bytes = (s : Plan) → ¬ IsScriptText bytes s
+
+-- a fault's number: its place in the order of the tests of a line, from 1
+abbrev pub script_fault_number : ScriptFault → ℕ
+script_fault_number script_fault.Truncated = 1
+script_fault_number script_fault.BadLine = 2
+script_fault_number script_fault.BadNumber = 3
+script_fault_number script_fault.BadSize = 4
+script_fault_number script_fault.OutOfRange = 5
+script_fault_number script_fault.BadLock = 6
+script_fault_number script_fault.BadFlag = 7
+script_fault_number script_fault.AlreadyHeld = 8
+script_fault_number script_fault.NotHeld = 9
+script_fault_number script_fault.TooLong = 10
+script_fault_number script_fault.Uneven = 11
+script_fault_number script_fault.NoMemory = 12
+
+-- the fault of a line, as C is told it
+abbrev pub told_script_fault : ℕ → ScriptFault → ToldScriptFault
+told_script_fault line fault = record { line = line; kind = script_fault_number fault }
+
+-- the text is no lawful script's, since this line of it has this fault
+pub record IsScriptFault (bytes : List ℕ) (line : ℕ) (fault : ScriptFault) : Type 0 where
+  pub none : HasNoScript bytes
+  pub is : IsFault bytes line fault
+  pub no_memory : fault ≢ script_fault.NoMemory
+
+-- the text is no lawful script's, and this is what is told of its fault
+pub record IsScriptFaultTold (bytes : List ℕ) (told : ToldScriptFault) : Type 0 where
+  pub line : ℕ
+  pub fault : ScriptFault
+  pub due : IsScriptFault bytes line fault
+  pub is : told ≡ told_script_fault line fault
+
+-- memory may have run out at a line before which there is no fault, or when the whole script was read
+abbrev pub MayLackMemory : List ℕ → Type 0
+MayLackMemory bytes = ((line : ℕ) × IsFault bytes line script_fault.NoMemory) ⊎ ((s : Plan) × IsScriptText bytes s)
+
+-- why the schedules of a text weren't looked at
+abbrev pub IsUnexplored : List ℕ → Unexplored → Type 0
+IsUnexplored bytes (unexplored.NoScript line fault) = IsScriptFault bytes line fault
+IsUnexplored bytes unexplored.NoMemory = MayLackMemory bytes
+
+-- the fault of the call is that of the first thing that is so
+abbrev pub IsExploreFault : List ℕ → CallFault → Type 0
+IsExploreFault bytes BadScript = HasNoScript bytes
+IsExploreFault bytes NoMemory = MayLackMemory bytes
+IsExploreFault bytes _ = ⊥
