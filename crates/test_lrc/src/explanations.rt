@@ -9,12 +9,8 @@
 //! - that each event has its mark, its label and its title in a picture's file, each hand-over its arrow, each load that
 //!   answers a store its edge, each stale load its stroke, each complete episode its bar, the first race its frames and each
 //!   processor that waits its cross; that the legend has what occurs; that the file is one element, closed at its end; that memory isn't refused needlessly, and that each refusal is answered.
-ghost use Rattle.std.specs.Prelude.{ℕ, ◌<◌, ◌≤◌, IsTrue, length};
-ghost use Rattle.base.specs.Prelude.{most_held, most_processors};
-ghost use Rattle.journal.specs.declared.event.Event.{Event};
-ghost use Rattle.journal.specs.Events.{At};
-ghost use Rattle.journal.specs.Prelude.{AddressInRange, AddressesInRange, ProcessorsInRange};
-ghost use Rattle.judge.specs.Prelude.{AreSizesSmall, IsEventInSizes, sizes_of};
+ghost use Rattle.std.specs.Prelude.{◌≡◌, IfOk};
+ghost use Rattle.judge.specs.Prelude.{whole_history};
 
 mod answers;
 mod edges;
@@ -26,15 +22,17 @@ mod texts;
 mod waits;
 mod ways;
 
-use journal::{Event, Kind, MOST_HELD, MOST_PROCESSORS};
-use judge::Sizes;
+use base::{MOST_FLAGS, MOST_LOCKS};
+use journal::{Event, Kind};
+use judge::{History, Sizes};
 use std::alloc::{AllocError, Global};
+use std::test::Fail;
 
 /// An event's processor, and what it did.
 type Row = (usize, Kind);
 
 /// The events of these rows.
-fn events_of(alloc: Global, rows: &[Row]) -> Result<Vec<Event>, AllocError> {
+fn some_events(alloc: Global, rows: &[Row]) -> Result<Vec<Event>, AllocError> {
     let mut events = Vec::with_capacity(alloc, rows.len())?;
     for (processor, kind) in rows {
         events.push(Event {
@@ -45,56 +43,33 @@ fn events_of(alloc: Global, rows: &[Row]) -> Result<Vec<Event>, AllocError> {
     Ok(events)
 }
 
-/// The history of these rows; if memory is refused once, it is asked for again.
-fn history(alloc: Global, rows: &[Row]) -> Result<Vec<Event>, AllocError> {
-    match events_of(alloc, rows) {
+/// The same; if memory is refused once, it is asked for again.
+fn events_of(alloc: Global, rows: &[Row]) -> Result<Vec<Event>, AllocError> {
+    match some_events(alloc, rows) {
         Ok(events) => Ok(events),
-        Err(_) => events_of(alloc, rows),
+        Err(_) => some_events(alloc, rows),
     }
 }
 
-/// Whether a history of these sizes can have the event.
-fn is_in_range(event: Event, processors: usize, addresses: usize) -> bool
-    ensures processor { IsTrue result → event.processor < processors }
-    ensures address { IsTrue result → AddressInRange addresses event.kind }
-{
-    let in_range = match event.kind {
-        Kind::Load(address, _) | Kind::Store(address, _) => address < addresses,
-        _ => true,
-    };
-    in_range && event.processor < processors
+/// The sizes of a cluster of so many processors, with a page of so many words, and all the locks and flags that there may be.
+fn one_page(processors: usize, words: usize) -> Sizes {
+    Sizes {
+        processors,
+        pages: 1,
+        words,
+        locks: MOST_LOCKS,
+        flags: MOST_FLAGS,
+    }
 }
 
-/// Whether it can have all of them.
-fn are_in_range(events: &[Event], processors: usize, addresses: usize) -> bool
-    ensures few { IsTrue result → length events.now ≤ most_held }
-    ensures few_processors { IsTrue result → processors ≤ most_processors }
-    ensures processors { IsTrue result → ProcessorsInRange processors events.now }
-    ensures addresses { IsTrue result → AddressesInRange addresses events.now }
+/// The history of these events, if they are of these sizes.
+fn history_of(sizes: Sizes, events: &[Event]) -> Result<History<'_>, Fail>
+    ensures { IfOk result (λ h. h ≡ whole_history sizes events.now) }
 {
-    for event in events {
-        if !is_in_range(*event, processors, addresses) {
-            return false;
-        }
+    match History::new(sizes, events) {
+        Some(history) => Ok(history),
+        None => Err(Fail::from("events out of range")),
     }
-    events.len() <= MOST_HELD && processors <= MOST_PROCESSORS
-}
-
-/// Whether a history of these sizes can have all of the events.
-fn are_within(events: &[Event], sizes: Sizes) -> bool
-    ensures small { IsTrue result → AreSizesSmall (sizes_of sizes) }
-    ensures few { IsTrue result → length events.now ≤ most_held }
-    ensures within { IsTrue result → (k : ℕ) (e : Event) → At events.now k e → IsEventInSizes (sizes_of sizes) e }
-{
-    if !sizes.are_small() {
-        return false;
-    }
-    for event in events {
-        if !sizes.have_event(*event) {
-            return false;
-        }
-    }
-    events.len() <= MOST_HELD
 }
 
 /// The processor asks for a lock, gets it and gives it back.

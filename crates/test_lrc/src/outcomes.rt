@@ -23,7 +23,7 @@ use std::alloc::Global;
 use std::sync::Wait;
 use std::test::Fail;
 
-/// A script of five states: a store, the closing barrier and a load.
+/// A script of two states: a store, the closing barrier and a load are one step.
 fn script_of(alloc: Global) -> Result<Script, Fail>
     ensures { IfOk result (λ s. IsLawful (plan_of s)) }
 {
@@ -50,7 +50,7 @@ fn says_states(rt: HostRuntime) -> Result<(), Fail> {
     let script = script_of(alloc)?;
     let mut last = Last(0);
     explore(alloc, &script, 1000, &mut last)?;
-    assert_eq!(rt; last.0, 5);
+    assert_eq!(rt; last.0, 2);
     Ok(())
 }
 

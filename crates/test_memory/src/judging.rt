@@ -4,7 +4,8 @@
 //! that is are the cluster's, and exactly whether its fetches count what they bring.
 //!
 //! **What is only tested** here: that the words of judge's specs mean what they are to mean, by histories worked by
-//! hand; and that histories of 2^20 events are judged in a test's time, by all that `lrc check` asks of them (`big`).
+//! hand; and that histories of 2^20 events are judged in a test's time, by all that `lrc check` asks of them (`big`); which
+//! events are within sizes, and what a cut journal's history has in front (`within`).
 
 #[cfg(test)]
 mod big;
@@ -13,5 +14,7 @@ mod callers;
 mod counts;
 #[cfg(test)]
 mod tests;
+#[cfg(test)]
+mod within;
 
 pub use self::callers::{is_counted, is_well_formed};

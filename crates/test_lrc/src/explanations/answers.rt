@@ -1,11 +1,11 @@
 //! Histories worked by hand: of each event the places of the latest stores of its past to its address.
-ghost use Rattle.std.specs.Prelude.{◌<◌, ◌≤◌, length};
-ghost use Rattle.base.specs.Prelude.{most_held, most_processors};
-ghost use Rattle.journal.specs.Prelude.{AddressInRange, AddressesInRange, ProcessorsInRange};
+ghost use Rattle.std.specs.Prelude.{◌<◌};
+ghost use Rattle.journal.specs.Prelude.{AddressInRange};
 ghost use Rattle.judge.specs.Sources.Prelude.{AreSourceStoresOf};
 
-use super::{Row, are_in_range, history};
+use super::{Row, events_of, history_of, one_page};
 use journal::{Event, Kind, MOST_PROCESSORS};
+use judge::History;
 use judge::sources::{Sources, first_unexplained, latest};
 use std::alloc::{AllocError, Global};
 use std::process::Abort;
@@ -19,11 +19,11 @@ fn tells<R: Abort + AllocGlobal>(
     rows: &[Row],
     want: &[&[usize]],
 ) -> Result<(), Fail> {
-    let events = history(rt.alloc(), rows)?;
-    assert!(rt; are_in_range(&events, sizes.0, sizes.1));
-    let stores = match latest(rt.alloc(), sizes.0, sizes.1, &events) {
+    let events = events_of(rt.alloc(), rows)?;
+    let history = history_of(one_page(sizes.0, sizes.1), &events)?;
+    let stores = match latest(rt.alloc(), &history) {
         Ok(stores) => stores,
-        Err(_) => latest(rt.alloc(), sizes.0, sizes.1, &events)?,
+        Err(_) => latest(rt.alloc(), &history)?,
     };
     assert!(rt; want.len() <= stores.len());
     let first = stores.len() - want.len();
@@ -45,11 +45,11 @@ fn is_refused<R: Abort + AllocGlobal>(
     rows: &[Row],
     want: Option<usize>,
 ) -> Result<(), Fail> {
-    let events = history(rt.alloc(), rows)?;
-    assert!(rt; are_in_range(&events, sizes.0, sizes.1));
-    let found = match first_unexplained(rt.alloc(), sizes.0, sizes.1, &events) {
+    let events = events_of(rt.alloc(), rows)?;
+    let history = history_of(one_page(sizes.0, sizes.1), &events)?;
+    let found = match first_unexplained(rt.alloc(), &history) {
         Ok(found) => found,
-        Err(_) => first_unexplained(rt.alloc(), sizes.0, sizes.1, &events)?,
+        Err(_) => first_unexplained(rt.alloc(), &history)?,
     };
     assert!(rt; found == want);
     Ok(())
@@ -92,18 +92,9 @@ fn wrong_replies(rt: HostRuntime) -> Result<(), Fail> {
 
 /// Whether each load of the history may answer its value and no other one below 10, by sources that take it an event at
 /// a time.
-fn only_these(
-    alloc: Global,
-    processors: usize,
-    addresses: usize,
-    events: &[Event],
-) -> Result<bool, AllocError>
-    requires few { length events.now ≤ most_held }
-    requires few_processors { processors ≤ most_processors }
-    requires processors { ProcessorsInRange processors events.now }
-    requires addresses { AddressesInRange addresses events.now }
-{
-    let mut sources = Sources::new(alloc, processors, addresses)?;
+fn only_these(alloc: Global, history: &History<'_>) -> Result<bool, AllocError> {
+    let events = history.events();
+    let mut sources = Sources::new(alloc, history.sizes().processors, history.addresses())?;
     for place in 0..events.len() {
         if !answers_only(&sources, &events[..place], events[place]) {
             return Ok(false);
@@ -148,11 +139,11 @@ fn message(rt: HostRuntime) -> Result<(), Fail> {
         (0, Kind::Load(0, 8)),
     ];
     tells(&rt, (2, 1), &late, &[&[0], &[4]])?;
-    let events = history(rt.alloc(), &late)?;
-    assert!(rt; are_in_range(&events, 2, 1));
-    let found = match only_these(rt.alloc(), 2, 1, &events) {
+    let events = events_of(rt.alloc(), &late)?;
+    let history = history_of(one_page(2, 1), &events)?;
+    let found = match only_these(rt.alloc(), &history) {
         Ok(found) => found,
-        Err(_) => only_these(rt.alloc(), 2, 1, &events)?,
+        Err(_) => only_these(rt.alloc(), &history)?,
     };
     assert!(rt; found);
     Ok(())

@@ -1,6 +1,6 @@
 //! Histories worked by hand: which events of other processors have an edge to an event.
 
-use super::{Row, are_in_range, history};
+use super::{Row, events_of, history_of, one_page};
 use causes::edges;
 use journal::{Kind, MOST_PROCESSORS};
 use std::process::Abort;
@@ -13,12 +13,12 @@ fn leads<R: Abort + AllocGlobal>(
     place: usize,
     want: &[usize],
 ) -> Result<(), Fail> {
-    let events = history(rt.alloc(), rows)?;
-    assert!(rt; are_in_range(&events, MOST_PROCESSORS, 2));
-    assert!(rt; place < events.len());
-    let found = match edges(rt.alloc(), &events, place) {
+    let events = events_of(rt.alloc(), rows)?;
+    let history = history_of(one_page(MOST_PROCESSORS, 2), &events)?;
+    assert!(rt; place < history.events().len());
+    let found = match edges(rt.alloc(), &history, place) {
         Ok(found) => found,
-        Err(_) => edges(rt.alloc(), &events, place)?,
+        Err(_) => edges(rt.alloc(), &history, place)?,
     };
     assert!(rt; found.as_slice() == want);
     Ok(())

@@ -1,6 +1,6 @@
 //! Histories worked by hand: where each load's value comes from, and what keeps the first race apart.
 
-use super::{Row, are_within, history};
+use super::{Row, events_of, history_of};
 use causes::{FirstRace, Source, explain};
 use journal::Kind;
 use judge::Sizes;
@@ -24,7 +24,7 @@ fn tells<R: Abort + AllocGlobal>(
     want: &[Option<Source>],
     race: Option<FirstRace>,
 ) -> Result<(), Fail> {
-    let events = history(rt.alloc(), rows)?;
+    let events = events_of(rt.alloc(), rows)?;
     let sizes = Sizes {
         processors,
         pages: 1,
@@ -32,10 +32,10 @@ fn tells<R: Abort + AllocGlobal>(
         locks: 4,
         flags: 4,
     };
-    assert!(rt; are_within(&events, sizes));
-    let told = match explain(rt.alloc(), sizes, &events) {
+    let history = history_of(sizes, &events)?;
+    let told = match explain(rt.alloc(), &history) {
         Ok(told) => told,
-        Err(_) => explain(rt.alloc(), sizes, &events)?,
+        Err(_) => explain(rt.alloc(), &history)?,
     };
     assert!(rt; told.race == race);
     assert!(rt; told.loads.len() == events.len());

@@ -1,6 +1,6 @@
 //! Histories worked by hand: of which events a processor first hears at an event.
 
-use super::{Row, are_in_range, history, round};
+use super::{Row, events_of, history_of, one_page, round};
 use causes::incoming;
 use journal::{Kind, MOST_PROCESSORS};
 use std::process::Abort;
@@ -12,11 +12,11 @@ fn brings<R: Abort + AllocGlobal>(
     rows: &[Row],
     wants: &[(usize, &[usize])],
 ) -> Result<(), Fail> {
-    let events = history(rt.alloc(), rows)?;
-    assert!(rt; are_in_range(&events, MOST_PROCESSORS, 2));
-    let found = match incoming(rt.alloc(), MOST_PROCESSORS, &events) {
+    let events = events_of(rt.alloc(), rows)?;
+    let history = history_of(one_page(MOST_PROCESSORS, 2), &events)?;
+    let found = match incoming(rt.alloc(), &history) {
         Ok(found) => found,
-        Err(_) => incoming(rt.alloc(), MOST_PROCESSORS, &events)?,
+        Err(_) => incoming(rt.alloc(), &history)?,
     };
     let full = found.iter().filter(|row| !row.is_empty()).count();
     assert!(rt; full == wants.len());
@@ -97,10 +97,10 @@ fn goes_round(rt: HostRuntime) -> Result<(), Fail> {
         Ok(events) => events,
         Err(_) => round(rt.alloc(), times)?,
     };
-    assert!(rt; are_in_range(&events, MOST_PROCESSORS, 2));
-    let found = match incoming(rt.alloc(), MOST_PROCESSORS, &events) {
+    let history = history_of(one_page(MOST_PROCESSORS, 2), &events)?;
+    let found = match incoming(rt.alloc(), &history) {
         Ok(found) => found,
-        Err(_) => incoming(rt.alloc(), MOST_PROCESSORS, &events)?,
+        Err(_) => incoming(rt.alloc(), &history)?,
     };
     assert!(rt; found.len() == events.len());
     for time in 0..times {

@@ -4,11 +4,11 @@ ghost use Rattle.base.specs.Prelude.{most_held, most_processors};
 ghost use Rattle.journal.specs.Prelude.{ProcessorsInRange};
 ghost use Rattle.lrc_picture.specs.Prelude.{ArePlaces};
 
-use super::{Row, history};
+use super::{Row, events_of};
 use causes::Part;
 use journal::{Event, Kind, MOST_HELD, MOST_PROCESSORS};
 use lrc_picture::picture::render;
-use lrc_picture::story::{Details, Story};
+use lrc_picture::story::{Details, Story, Subject};
 use std::alloc::{AllocError, Global};
 use std::process::Abort;
 use std::test::Fail;
@@ -154,8 +154,9 @@ fn picture<R: Abort + AllocGlobal>(rt: &R, case: &Case<'_>) -> Result<Vec<u8>, F
         Ok(lists) => lists,
         Err(_) => lists_of(alloc, case)?,
     };
-    let events = history(alloc, case.events)?;
+    let events = events_of(alloc, case.events)?;
     let story = Story {
+        subject: Subject::Run,
         name: Some("a/<b>.lrc"),
         processors: case.processors,
         events: &events,

@@ -1,6 +1,6 @@
 //! Histories worked by hand: which records a copy comes to lack.
 
-use super::{Row, are_within, history};
+use super::{Row, events_of, history_of};
 use causes::{Due, dues};
 use journal::Kind;
 use judge::Sizes;
@@ -26,7 +26,7 @@ fn owes<R: Abort + AllocGlobal>(
     rows: &[Row],
     wants: &[WantedDues<'_>],
 ) -> Result<(), Fail> {
-    let events = history(rt.alloc(), rows)?;
+    let events = events_of(rt.alloc(), rows)?;
     let sizes = Sizes {
         processors: 3,
         pages: 4,
@@ -34,10 +34,10 @@ fn owes<R: Abort + AllocGlobal>(
         locks: 1,
         flags: 1,
     };
-    assert!(rt; are_within(&events, sizes));
-    let found = match dues(rt.alloc(), sizes, &events) {
+    let history = history_of(sizes, &events)?;
+    let found = match dues(rt.alloc(), &history) {
         Ok(found) => found,
-        Err(_) => dues(rt.alloc(), sizes, &events)?,
+        Err(_) => dues(rt.alloc(), &history)?,
     };
     assert!(rt; found.len() == events.len());
     let full = found.iter().filter(|row| !row.is_empty()).count();

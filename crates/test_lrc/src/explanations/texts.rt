@@ -5,8 +5,10 @@ ghost use Rattle.base.specs.Prelude.{most_processors};
 mod cases;
 
 use cases::{CASES, Case};
+use causes::Part;
 use conformance::{Ended, Halt};
 use journal::{Event, Journal, Kind, MOST_HELD, MOST_PROCESSORS, Traffic};
+use judge::{History, Sizes};
 use lrc_explain::{ExplainFault, Extent, render};
 use lrc_report::Report;
 use std::alloc::Global;
@@ -80,18 +82,39 @@ fn run_of(alloc: Global, case: Case) -> Result<Ended, Fail> {
     ended(alloc, journal_of(alloc, case)?, case.racy)
 }
 
+/// The sizes of a cluster of so many processors with pages of so many words, as many locks, and no flags.
+fn sizes_of(processors: usize, pages: usize, words: usize, locks: usize) -> Sizes {
+    Sizes {
+        processors,
+        pages,
+        words,
+        locks,
+        flags: 0,
+    }
+}
+
+/// The run's journal.
+fn journal_in(ended: &Ended) -> &Journal {
+    match ended {
+        Ended::Whole(report) => &report.journal,
+        Ended::Halted(halt) => &halt.journal,
+    }
+}
+
+/// The history of the run, if it is of these sizes.
+fn history_in(sizes: Sizes, run: &Ended) -> Result<History<'_>, Fail> {
+    match History::of_journal(sizes, journal_in(run)) {
+        Some(history) => Ok(history),
+        None => Err(Fail::from("journal out of range")),
+    }
+}
+
 /// Whether the case has its text.
 fn has_text(alloc: Global, case: Case) -> Result<bool, Fail> {
     let run = run_of(alloc, case)?;
+    let history = history_in(sizes_of(case.processors, 1, case.addresses, 1), &run)?;
     let mut out = Vec::new(alloc);
-    let answer = render(
-        alloc,
-        case.processors,
-        None,
-        &Extent::whole(),
-        &run,
-        &mut out,
-    );
+    let answer = render(alloc, &history, &Extent::whole(), &run, &mut out);
     Ok(answer.is_ok() && out.as_slice() == case.text.as_bytes())
 }
 
@@ -122,52 +145,57 @@ impl Write for Counts {
     }
 }
 
-/// What a run answers by this writer, if it is told as one of so many processors, and the writes that it takes.
+/// What a run of these sizes answers by this writer, told with its pages or without, and the writes that it takes.
 fn answer_of(
     alloc: Global,
-    case: Case,
-    processors: usize,
+    sizes: Sizes,
+    pages: bool,
     fails: bool,
 ) -> Result<(Result<(), ExplainFault>, u32), Fail> {
-    let run = run_of(alloc, case)?;
+    let run = run_of(alloc, CASES[0])?;
+    let history = history_in(sizes, &run)?;
+    let extent = Extent {
+        part: Part::whole(),
+        pages,
+        state: pages,
+    };
     let mut out = Counts { writes: 0, fails };
-    let answer = render(alloc, processors, None, &Extent::whole(), &run, &mut out);
+    let answer = render(alloc, &history, &extent, &run, &mut out);
     Ok((answer, out.writes))
 }
 
-/// Addresses that aren't pages of so many words, and pages that are too many, aren't written.
+/// A text is one write, also one that fails, with pages and without.
 #[test]
-fn pages(rt: HostRuntime) -> Result<(), Fail> {
+fn writes(rt: HostRuntime) -> Result<(), Fail> {
     let alloc = rt.alloc();
-    let run = run_of(alloc, CASES[0])?;
-    let range = Err(ExplainFault::OutOfRange);
-    for (words, want) in [(0, range), (3, range), (2, Ok(())), (1, Ok(()))] {
-        let mut out = Counts {
-            writes: 0,
-            fails: false,
-        };
-        let writes = u32::from(want.is_ok());
-        assert!(&rt; render(alloc, 2, Some(words), &Extent::whole(), &run, &mut out) == want);
-        assert!(&rt; out.writes == writes);
+    let output = Err(ExplainFault::Output);
+    for (pages, words) in [(1, 2), (2, 1)] {
+        let sizes = sizes_of(2, pages, words, 1);
+        for are_told in [false, true] {
+            assert!(&rt; answer_of(alloc, sizes, are_told, false)? == (Ok(()), 1));
+            assert!(&rt; answer_of(alloc, sizes, are_told, true)? == (output, 1));
+        }
     }
     Ok(())
 }
 
-/// A text is one write, also one that fails; and a journal with a processor too many isn't written.
+/// A journal with a processor or a lock too many, or of sizes that are too large, is no history of these sizes.
 #[test]
-fn writes(rt: HostRuntime) -> Result<(), Fail> {
-    let alloc = rt.alloc();
-    let case = CASES[0];
-    let output = Err(ExplainFault::Output);
-    let range = Err(ExplainFault::OutOfRange);
+fn ranges(rt: HostRuntime) -> Result<(), Fail> {
+    let run = run_of(rt.alloc(), CASES[0])?;
+    let journal = journal_in(&run);
     let wants = [
-        (2, false, (Ok(()), 1)),
-        (2, true, (output, 1)),
-        (1, false, (range, 0)),
-        (17, false, (range, 0)),
+        (sizes_of(2, 1, 2, 1), true),
+        (sizes_of(16, 64, 64, 32), true),
+        (sizes_of(1, 1, 2, 1), false),
+        (sizes_of(17, 1, 2, 1), false),
+        (sizes_of(2, 65, 2, 1), false),
+        (sizes_of(2, 1, 65, 1), false),
+        (sizes_of(2, 1, 2, 0), false),
+        (sizes_of(2, 1, 2, 33), false),
     ];
-    for (processors, fails, want) in wants {
-        assert!(&rt; answer_of(alloc, case, processors, fails)? == want);
+    for (sizes, fits) in wants {
+        assert!(&rt; History::of_journal(sizes, journal).is_some() == fits);
     }
     Ok(())
 }

@@ -1,6 +1,6 @@
 //! Histories worked by hand: what each processor waits for at the end.
 
-use super::{Row, history};
+use super::{Row, events_of, history_of, one_page};
 use causes::{Wait, waits};
 use journal::Kind;
 use std::process::Abort;
@@ -35,10 +35,11 @@ fn is_wanted(wait: &Wait, want: Want<'_>) -> bool {
 
 /// What each processor is wanted to wait for at the end.
 fn waiting<R: Abort + AllocGlobal>(rt: &R, rows: &[Row], wants: &[Want<'_>]) -> Result<(), Fail> {
-    let events = history(rt.alloc(), rows)?;
-    let found = match waits(rt.alloc(), wants.len(), &events) {
+    let events = events_of(rt.alloc(), rows)?;
+    let history = history_of(one_page(wants.len(), 2), &events)?;
+    let found = match waits(rt.alloc(), &history) {
         Ok(found) => found,
-        Err(_) => waits(rt.alloc(), wants.len(), &events)?,
+        Err(_) => waits(rt.alloc(), &history)?,
     };
     assert!(rt; found.len() == wants.len());
     for (processor, want) in wants.iter().enumerate() {

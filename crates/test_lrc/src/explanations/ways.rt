@@ -1,6 +1,6 @@
 //! Histories worked by hand: the way from one event to another.
 
-use super::{Row, are_in_range, history, round};
+use super::{Row, events_of, history_of, one_page, round};
 use causes::{Ways, way};
 use journal::{Kind, MOST_PROCESSORS};
 use std::process::Abort;
@@ -24,14 +24,14 @@ fn leading<R: Abort + AllocGlobal>(
     rows: &[Row],
     wants: &[WantedWay<'_>],
 ) -> Result<(), Fail> {
-    let events = history(rt.alloc(), rows)?;
-    assert!(rt; are_in_range(&events, MOST_PROCESSORS, 2));
+    let events = events_of(rt.alloc(), rows)?;
+    let history = history_of(one_page(MOST_PROCESSORS, 2), &events)?;
     for (from, to, want) in wants {
-        assert!(rt; *from < events.len());
-        assert!(rt; *to < events.len());
-        let found = match way(rt.alloc(), MOST_PROCESSORS, &events, *from, *to) {
+        assert!(rt; *from < history.events().len());
+        assert!(rt; *to < history.events().len());
+        let found = match way(rt.alloc(), &history, *from, *to) {
             Ok(found) => found,
-            Err(_) => way(rt.alloc(), MOST_PROCESSORS, &events, *from, *to)?,
+            Err(_) => way(rt.alloc(), &history, *from, *to)?,
         };
         assert!(rt; are_wanted(&found, *want));
     }
@@ -126,12 +126,13 @@ fn ways(rt: HostRuntime) -> Result<(), Fail> {
 fn many_ways(rt: HostRuntime) -> Result<(), Fail> {
     let times = 43_690;
     let events = round(rt.alloc(), times)?;
-    assert!(rt; are_in_range(&events, MOST_PROCESSORS, 2));
-    let ways = Ways::new(rt.alloc(), MOST_PROCESSORS, &events)?;
+    let history = history_of(one_page(MOST_PROCESSORS, 2), &events)?;
+    let events = history.events();
+    let ways = Ways::new(rt.alloc(), &history)?;
     for time in 0..times - 15 {
         let (from, to) = (3 * time, 3 * time + 47);
         assert!(rt; to < events.len());
-        match ways.way(rt.alloc(), &events, from, to)? {
+        match ways.way(rt.alloc(), events, from, to)? {
             Some(places) => {
                 assert!(rt; places.first() == Some(&from));
                 assert!(rt; places.last() == Some(&to));

@@ -147,10 +147,7 @@ fn stale(alloc: Global) -> Result<Vec<Replica>, AllocError>
 fn fetch_first(replicas: &mut [Replica]) -> MissingCounts
     requires { IsStale replicas.old }
 {
-    let replica = &mut replicas[0];
-    let counts = replica.counts();
-    replica.fetch();
-    counts
+    replicas[0].fetch()
 }
 
 #[test]

@@ -12,23 +12,23 @@ here events place = slice_index_or events place (event 0 (Load 0 0))
 
 pub answers_only-requires-clause-processor : goal.answers_only-requires-clause-processor
 answers_only-requires-clause-processor c =
-    let e = here c.args.events.now c.loop-place.place in
-    let at = slice_get-get_or c.args.events.now c.loop-place.place (event 0 (Load 0 0)) c.loop-place-test.true in
-    let lt = c.requires.processors c.loop-place.place e at in
+    let e = here c.events-events.result.now c.loop-place.place in
+    let at = slice_get-get_or c.events-events.result.now c.loop-place.place (event 0 (Load 0 0)) c.loop-place-test.true in
+    let lt = c.events-events.ensures.processors c.loop-place.place e at in
     let same = c.loop-place.invariant.processors in
     omega arith
 
 pub answers_only-requires-clause-address : goal.answers_only-requires-clause-address
 answers_only-requires-clause-address c =
-    let e = here c.args.events.now c.loop-place.place in
-    let at = slice_get-get_or c.args.events.now c.loop-place.place (event 0 (Load 0 0)) c.loop-place-test.true in
+    let e = here c.events-events.result.now c.loop-place.place in
+    let at = slice_get-get_or c.events-events.result.now c.loop-place.place (event 0 (Load 0 0)) c.loop-place-test.true in
     subst (λ n. AddressInRange n e.kind) (sym c.loop-place.invariant.addresses)
-    (c.requires.addresses c.loop-place.place e at)
+    (c.events-events.ensures.addresses c.loop-place.place e at)
 
 pub note-requires-clause-processors : goal.note-requires-clause-processors
 note-requires-clause-processors c =
-    subst (λ n. ProcessorsInRange n c.args.events.now) (sym c.loop-place.invariant.processors) c.requires.processors
+    subst (λ n. ProcessorsInRange n c.events-events.result.now) (sym c.loop-place.invariant.processors) c.events-events.ensures.processors
 
 pub note-requires-clause-addresses : goal.note-requires-clause-addresses
 note-requires-clause-addresses c =
-    subst (λ n. AddressesInRange n c.args.events.now) (sym c.loop-place.invariant.addresses) c.requires.addresses
+    subst (λ n. AddressesInRange n c.events-events.result.now) (sym c.loop-place.invariant.addresses) c.events-events.ensures.addresses

@@ -5,17 +5,8 @@ use Rattle.cluster.specs.Copies.Counts.{AreCountable}
 use Rattle.cluster.proofs.copies.Steps.{step_item_at}
 use Rattle.test_memory.proofs.parts.copies.fetch_first.Goals as goal
 
-pub counts-counts-requires-clause-fit : goal.counts-counts-requires-clause-fit
-counts-counts-requires-clause-fit c =
-    let copy : Copied = c.index-replicas-0.result in
-    let one = c.requires.one in
-    let at : slice_get c.args.replicas.now 0 ≡ Some copy =
-    step_item_at c.args.replicas.now 0 copy (omega arith) c.index-replicas-0.is
-    in
-    subst (λ (x : Copied). AllFitPage (length x.page.words) x.missing) c.index-replicas-0.is (c.requires.fits 0 copy at)
-
-pub counts-counts-requires-clause-few : goal.counts-counts-requires-clause-few
-counts-counts-requires-clause-few c =
+pub fetch-requires-clause-few : goal.fetch-requires-clause-few
+fetch-requires-clause-few c =
     let copy : Copied = c.index-replicas-0.result in
     let one = c.requires.one in
     let at : slice_get c.args.replicas.now 0 ≡ Some copy =
