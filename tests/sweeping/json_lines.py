@@ -90,9 +90,23 @@ def why(lie):
         "because it may answer 0 alone"]
 
 
+def word_line(word):
+    """The line of a word of which somebody forgot the lock."""
+    def made(event):
+        return f"event {event['place']} by p{event['processor']}"
+
+    one, other = word["guarded"]
+    expect({event_of(it).numbers[0] for it in (word["first"], word["second"], one, other)} == {word["address"]},
+           f"all are accesses of the word: {word}")
+    return (f"unprotected {word['address']}: {made(word['first'])} and {made(word['second'])} hold no lock in common; "
+            f"events {one['place']} and {other['place']} hold lock {word['lock']}")
+
+
 def check_text(objects):
     """The text of `check`, but for the sentences on a race."""
     *others, end = objects
+    words = [it for it in others if it["told"] == "unprotected"]
+    others = [it for it in others if it not in words]
     by = {it["told"]: it for it in others}
     expect(end["told"] == "end" and list(by) == [it for it in ("race", "lie") if it in by] and len(by) == len(others),
            f"first comes the race, then the lie, then the end: {objects}")
@@ -104,7 +118,8 @@ def check_text(objects):
     if end.get("faithful"):
         yield from ["faithful", *["unjudged counts order"] * end["lax"],
                     *[f"unjudged {end['unjudged']} loads"] * (end["model"] == "race-free" and end["racy"]),
-                    *(race or ["verdict race-free"]), "traffic {messages} {records} {words}".format(**end["traffic"])]
+                    *(race or ["verdict race-free"]), *map(word_line, words),
+                    "traffic {messages} {records} {words}".format(**end["traffic"])]
         return
     yield from race
     if "lie" in by:

@@ -53,7 +53,7 @@ class Case:
 
     def check(self, events, rules):
         text = verdicts.text_of(self.script, events)
-        objects, printed = self.both(text, "check", *rules.words())
+        objects, printed = self.both(text, "check", "--locksets", *rules.words())
         bare = "".join(line + "\n" for line in printed.splitlines() if not line.startswith(INDENT))
         json_lines.expect_same(json_lines.check_text(objects), bare)
         expect(objects[-1]["lax"] == rules.is_lax and objects[-1]["model"] == rules.model, f"{rules}: {objects[-1]}")

@@ -1,4 +1,4 @@
-"""The sweep of states: what `explain --state` says at each event of drawn scripts, and of parts of them."""
+"""The sweep of states: what `explain --state` says of each event of drawn scripts, and of the state at it; and of parts."""
 import random
 from functools import partial
 
@@ -7,18 +7,32 @@ import reports
 import turns
 from flaw import expect
 from found import Found
+from notes import Notes, told_notes
 from of_schedules import by_turns
 from states import States, told_states
 
 # By which seeds turns are taken, beside those by rising number.
 SEEDS = (None, 0)
 WIDTH = 100
+# What has to be said of some event, and by which words that is known.
+SAID = {"stores": " stored it", "no stores": "no store to", "as late": " is as late", "applied first": " applied it first",
+        "brought before": " had brought it before", "overwritten": " overwrote it", "later stores": " is overwritten by ",
+        "unordered": " is not ordered before ", "releases": "'s release, ", "sets": "'s set, ", "more sets": ", and p",
+        "arrivals": "after the arrival", "fetches": ", of p", "stale": " goes stale: ", "waits": "waits: "}
 
 
 def explained(program, script, seed, *words):
     """What the program answers to `explain --state`."""
     seeds = () if seed is None else ("--seed", str(seed))
     return program.call(script.text(), "explain", "--state", *seeds, *words)
+
+
+def check_notes(notes, wanted, answer):
+    """The answer says this of these events."""
+    told = told_notes(answer.output)
+    expect([number for number, _ in told] == [number for number, _ in wanted], "of just these events something is told")
+    for (number, note), (_, want) in zip(told, wanted):
+        notes.check(number, want, note)
 
 
 def check_states(wanted, answer):
@@ -55,15 +69,27 @@ class Case:
         events = reports.read(by_turns(self.program, self.script, seed)).events
         states = States(self.script, events)
         wanted = [(place, states.text(place)) for place in range(len(events))]
+        notes = Notes(self.script, events)
+        said = list(enumerate(notes.all()))
         answer = explained(self.program, self.script, seed)
-        check = partial(check_states, wanted)
+        check, check_said = partial(check_states, wanted), partial(check_notes, notes, said)
         check(answer)
+        check_said(answer)
         words, has = draw_part(self.draws, self.script, len(events))
         part = [(place, text) for place, text in wanted if has(place, events[place].processor)]
-        check_states(part, explained(self.program, self.script, seed, *words))
+        part_answer = explained(self.program, self.script, seed, *words)
+        check_states(part, part_answer)
+        check_notes(notes, [(place, note) for place, note in said if has(place, events[place].processor)], part_answer)
         self.note(wanted, part)
+        self.note_said([it for _, note in said for it in note])
         if self.is_turning:
             self.found.turn("states", turns.STATES, answer, check)
+            self.found.turn("notes", turns.NOTES, answer, check_said)
+
+    def note_said(self, said):
+        """Takes note of what is said of the events."""
+        for name, words in SAID.items():
+            self.found.seen["notes", name] += sum(words in it for it in said)
 
     def note(self, wanted, part):
         """Takes note of what the states have."""

@@ -1,9 +1,12 @@
 """The sweep of traces: journals of drawn scripts, as they are and falsified."""
 import random
+import re
+from dataclasses import replace
 from functools import partial
 
 import checks
 import drawing
+import locksets
 import reports
 import turns
 import verdicts
@@ -20,6 +23,28 @@ AS_IT_IS, FLAT = "journals", "all replies of one flat memory"
 
 def check_verdict(wanted, answer):
     expect(answer == wanted, f"the program answers {wanted}where it answers {answer}")
+
+
+# An event's line of `explain`: its number, and two spaces before what it did.
+TOLD = re.compile(r" *([0-9]+)  ")
+
+
+def check_told(answer, told):
+    """A trace told has a line for each event that `check` judged, and behind them what that prints."""
+    ends = (told.status, told.errors) == (answer.status, answer.errors)
+    expect(ends, f"it is told with {answer}where it is with {told}")
+    if not answer.output:
+        return expect(not told.output, f"nothing is told where it is {told}")
+    expect(told.output.endswith("\n\n" + answer.output), f"what is told ends with {answer}where it is {told}")
+    lines = told.output[:-len(answer.output)].split("\n")
+    numbers = [int(it[1]) for it in map(TOLD.match, lines) if it]
+    count = int(answer.output.split()[1])
+    expect(numbers == list(range(count)), f"{count} events are told, where it is {numbers}")
+
+
+def events_of(answer):
+    """What `explain` says of the events: what stands before the first empty line."""
+    return answer.output.split("\n\n")[0]
 
 
 def falsified_ways(draws, script, events):
@@ -56,6 +81,41 @@ class Case:
         if self.is_turning:
             self.found.turn("traces", turns.TRACES, answer, check)
 
+    def try_told(self, events, rules):
+        """Compares what `explain --trace` says of a trace with what `check` does."""
+        text = verdicts.text_of(self.script, events)
+        answer = self.program.call(text, "check", *rules.words())
+        check_told(answer, self.program.call(text, "explain", "--trace", *rules.words()))
+        self.found.seen["told", {0: "faithful", 2: "no trace", 6: "a lie"}[answer.status]] += 1
+
+    def try_as_run(self, seed, events):
+        """A journal by turns is told as a trace as the run itself is."""
+        words = () if seed is None else ("--seed", str(seed))
+        run = self.program.call(self.script.text(), "explain", *words)
+        text = verdicts.text_of(self.script, events)
+        trace = self.program.call(text, "explain", "--trace", "--model", verdicts.LAZY_RELEASE)
+        expect(events_of(trace) == events_of(run), f"the events are told as {run}where they are as {trace}")
+
+    def try_locksets(self, sort, text, events):
+        """With --locksets the words are told of which somebody forgot the lock, and without it the same is printed but them."""
+        plain, answer = (self.program.call(text, "check", "--lax", *words) for words in ((), ("--locksets",)))
+        check = partial(locksets.check_answer, events, plain)
+        told = check(answer)
+        self.found.seen["locksets", sort, "no race-free trace" if told is None else "told" if told else "nothing told"] += 1
+        if self.is_turning and told:
+            self.found.turn("locksets", turns.LOCKSETS, answer, check)
+
+    def sweep_locksets(self, name, events, draws):
+        """The words of a journal, and of what is left where one section forgets its lock."""
+        script, spare = self.script, self.script.locks
+        traces = [("journals", script, events), ("a lock forgotten", script, locksets.forgetful(draws, events)),
+                  ("and ordered by accident", replace(script, locks=spare + 1),
+                   locksets.forgetful(draws, events, spare, script.processors))]
+        for sort, sizes, trace in traces:
+            if trace is not None:
+                text = verdicts.text_of(sizes, trace)
+                self.found.trial(f"{name}, {sort}, locksets", text, self.try_locksets, sort, text, trace)
+
     def other_rules(self):
         """Another model at each call, each second one lax, and each third one to end with a race."""
         self.number += 1
@@ -66,6 +126,8 @@ class Case:
         for rules in (verdicts.Rules(), verdicts.Rules(is_lax=True), self.other_rules()):
             shown = verdicts.text_of(self.script, events)
             self.found.trial(f"{name}, {way}", shown, self.try_trace, way, events, rules, change)
+        if not rules.ends_at_race:
+            self.found.trial(f"{name}, {way}, told", shown, self.try_told, events, rules)
 
     def faithful(self, call, *arguments):
         """The report of a run, whose journal is faithful, and has the report's verdict and traffic."""
@@ -82,8 +144,10 @@ class Case:
         report = self.found.trial(name, self.script.text(), self.faithful, by_turns, seed)
         if report is not None:
             note(self.found, "traces", report)
+            self.found.trial(f"{name}, told", self.script.text(), self.try_as_run, seed, report.events)
             self.try_both(name, AS_IT_IS, report.events)
             draws = random.Random(f"{name}, falsified")
+            self.sweep_locksets(name, report.events, random.Random(f"{name}, forgotten"))
             for way, trace in falsified_ways(draws, self.script, report.events):
                 self.try_both(name, way, trace, ways.first_difference(report.events, trace))
 

@@ -5,6 +5,7 @@ import turns
 import verdicts
 import ways
 from of_schedules import name_of
+from of_states import SAID
 from of_traces import AS_IT_IS, FLAT
 
 SORTS = [(name, has_cuts) for name in drawing.DRAWINGS for has_cuts in (False, True)]
@@ -26,11 +27,16 @@ WANTED = {
     FLAT: ("unexplained",),
 }
 TURNS = {"texts": turns.TEXTS, "reports": turns.REPORTS, "cut reports": turns.REPORTS, "states": turns.STATES,
-         "traces": turns.TRACES}
+         "notes": turns.NOTES, "traces": turns.TRACES, "locksets": turns.LOCKSETS}
 STATES = ("runs", "events", "in parts", "records", "notices", "stale", "dirty")
 # Of JSON what has to be told.
 JSON = (("result", ("race-free", "racy")), ("search", ("race-free", "racy", "undecided")),
         ("trace", ("race", "form", "answer", "count")))
+TOLD = ("faithful", "no trace", "a lie")
+# Of --locksets, of a journal and of one of which a section forgets its lock.
+LOCKSETS = [("journals", "nothing told"), ("journals", "no race-free trace"), *(
+    (sort, what) for sort in ("a lock forgotten", "and ordered by accident")
+    for what in ("told", "nothing told", "no race-free trace"))]
 COUNTED = ("reports", "racy", "cut", "events", "fetches")
 
 
@@ -64,11 +70,14 @@ def lines(seen):
     for sort in SORTS:
         yield f"{name_of(sort)}: {counts(seen, sort, of=('scripts', *COUNTED, 'on threads'))}"
     yield f"states: {counts(seen, 'states', of=('scripts', *STATES))}"
+    yield f"notes: {counts(seen, 'notes', of=SAID)}"
     yield f"traces: {counts(seen, 'traces', of=('scripts', *COUNTED, 'on threads'))}"
     for way in WANTED:
         yield line_of_way(seen, way)
     for model in verdicts.MODELS:
         yield f"traces under {model}: {counts(seen, 'model', model, of=OF_MODELS)}"
+    yield f"traces told: {counts(seen, 'told', of=TOLD)}"
+    yield "locksets: " + "; ".join(f"{sort}: {seen['locksets', sort, what]} {what}" for sort, what in LOCKSETS)
     yield f"JSON: {seen['json', 'scripts']} scripts; " + "; ".join(
         f"{what}: {counts(seen, 'json', what, of=kinds)}" for what, kinds in JSON)
     yield from lines_of_turns(seen)
@@ -86,10 +95,13 @@ def wanted():
     for sort in SORTS:
         yield from wanted_of_sort(sort)
     yield from (("states", what) for what in STATES)
+    yield from (("notes", what) for what in SAID)
     for way in (AS_IT_IS, *(name for name, _, _ in ways.WAYS), FLAT):
         yield from (("traces", way, verdict) for verdict in WANTED[way])
     yield from (("model", model, kind) for model in verdicts.MODELS for kind in OF_MODELS
                 if model != verdicts.LAZY_RELEASE or kind == "racy")
+    yield from (("told", what) for what in TOLD)
+    yield from (("locksets", *it) for it in LOCKSETS)
     yield from (("json", what, kind) for what, kinds in JSON for kind in kinds)
     for kind, all_turns in TURNS.items():
         yield from (("turned", kind, name) for name, turn in all_turns

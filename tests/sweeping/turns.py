@@ -106,6 +106,16 @@ STATES = (("a timestamp", one_more("timestamp ")), ("an interval", one_more("int
           ("what is applied", one_more("applies p[0-9]+:")),
           ("a stale copy", replaced("copies: all valid", "copies: page 0 stale")),
           ("an event's line left out", replaced("^ *[0-9]+  .*\n", "")))
+NOTES = (("a store", one_more("(?<=  )event ")), ("who stored", one_more("event [0-9]+: p")),
+         ("a store that is as late", replaced("; event [0-9]+'s store by p[0-9]+ is as late[^;\\n]*", "")),
+         ("by which fetch", one_more(": the fetch at ")), ("a release", one_more("'s release, event ")),
+         ("a set", one_more("'s set, event ")), ("a set left out", replaced("p[0-9]+'s set, event [0-9]+, and ", "")),
+         ("arrivals", one_more("after the arrivals of p")), ("a way", one_more(", by [a-z]+ at ")),
+         ("records that stale copies lack", one_more("goes stale: ")), ("whose records a fetch brings", one_more(", of p")),
+         ("who holds a lock", replaced("waits: p[0-9]+ holds", "waits: p99 holds")))
+LOCKSETS = (("the word", one_more("^unprotected ")), ("a bare access", one_more("^unprotected [0-9]+: event ")),
+            ("a guarded access", one_more("; events ")), ("the lock", one_more(" hold lock ")),
+            ("no word told", replaced("^unprotected .*\\n", "")))
 TRACES = (("the verdict", other_verdict), ("the place", one_more("^unfaithful ")),
           ("the reason", replaced("^because .*$", "because nobody has stored it")),
           ("a due count", one_more("has to count ")), ("the messages", one_more("^traffic ")),
