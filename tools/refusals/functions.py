@@ -116,3 +116,9 @@ def functions_of(text):
 def around(functions, at):
     """The functions that a place lies in, the outermost first."""
     return [it for it in functions if it.begin <= at <= it.end]
+
+
+def outline(text):
+    """What a crate above may see of a source file: its tokens, without the bodies of functions that aren't const."""
+    bodies = [(it.body, it.end) for it in functions_of(text) if not re.search(r"\bconst(\s+unsafe)?\s*$", text[:it.begin])]
+    return [word for at, word in tokens(text) if not any(body < at < end for body, end in bodies)]

@@ -9,7 +9,7 @@ from pathlib import Path, PurePosixPath
 
 from .functions import around, functions_of
 from .told import Told
-from .toolchain import JOBS, edits_of, rt, rtlib
+from .toolchain import JOBS, edits_of, linked, rt, rtlib
 
 REFUSED, AMISS = "refused", "amiss"
 
@@ -113,7 +113,7 @@ def check(crate, texts, seed):
     try:
         for _ in range(2):
             shutil.rmtree(f"{room}/kept", ignore_errors=True)
-            rt.linked(seed, f"{room}/kept")
+            linked(seed, f"{room}/kept")
             ran = rt.checked(crate, texts, JOBS, f"{room}/kept")
             # (most likely for memory: once more)
             if ran.returncode != -signal.SIGKILL:

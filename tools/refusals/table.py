@@ -1,7 +1,8 @@
 """tests/edits.tsv: what the refusals of each crate rest on, and what it was when it landed.
 
-A row `CRATE - SUM` has the sum of all that a crate's refusals rest on; a row `CRATE/EDIT FUNCTION GOAL` the goal that
-refused an edit. The parts are parted by tabs.
+A row `CRATE KIT SUM` has the toolchain, and the sum of all else that a crate's refusals rest on; a row `CRATE/EDIT FUNCTION
+GOAL` the goal that refused an edit. The parts are parted by tabs. A crate's refusals rest on all of its own files, and of
+the crates below on what can be seen above them: neither a function's body nor the proof of its goals.
 """
 import datetime
 import hashlib
@@ -9,6 +10,7 @@ import subprocess
 import zlib
 from pathlib import Path
 
+from .functions import outline
 from .toolchain import ROOT, rt
 
 FILE = "tests/edits.tsv"
@@ -17,6 +19,8 @@ CHANGE = 12
 # One crate in so many is tried whatever changed.
 SHARE = 8
 PARTS = ("src", "specs", "proofs")
+# The files that have the proof of one function's goals.
+OF_GOALS = ("Answers.antt", "Invariants.antt", "Proof.antt")
 # The tool decides what counts as a refusal.
 TOOL = [Path("tools/edits"), *sorted(it.relative_to(ROOT) for it in (ROOT / "tools/refusals").glob("*.py"))]
 
@@ -33,15 +37,35 @@ def add_files(made, files):
         made.update(repr((str(path.relative_to(ROOT)), path.read_bytes())).encode())
 
 
+def files_of(crate):
+    """A crate's files."""
+    return [path for part in PARTS for path in Path(crate.folder, part).rglob("*") if path.is_file()]
+
+
+def add_seen_above(made, crate):
+    """Adds what a crate above can see of a crate."""
+    files = [path for path in files_of(crate) if path.name not in OF_GOALS]
+    add_files(made, [path for path in files if path.suffix != ".rt"])
+    for path in sorted(path for path in files if path.suffix == ".rt"):
+        made.update(repr((str(path.relative_to(ROOT)), outline(path.read_text(encoding="utf-8")))).encode())
+
+
+def kit():
+    """The toolchain: its name, and a sum of what it was made of."""
+    folder = Path(rt.KIT)
+    name = (folder / "KIT-ID").read_text(encoding="utf-8").split()[0]
+    return f"{name}-{hashlib.sha256((folder / 'WHAT').read_bytes()).hexdigest()[:8]}"
+
+
 def sum_of(crate):
-    """A sum of all that the refusals of a crate's edits rest on."""
-    kit = Path(rt.KIT)
-    made = hashlib.sha256(b"".join((kit / it).read_bytes() for it in ("KIT-ID", "WHAT")))
+    """A sum of all that the refusals of a crate's edits rest on, besides the toolchain."""
+    made = hashlib.sha256()
     add_files(made, [ROOT / "HANDLES", *(ROOT / it for it in TOOL)])
     for it in [*crate.below(), crate]:
         made.update(line_of(it.name).encode())
-        add_files(made, [path for part in PARTS for path in Path(it.folder, part).rglob("*") if path.is_file()])
-    add_files(made, Path(crate.folder, "must-fail").glob("*.edit"))
+    for it in crate.below():
+        add_seen_above(made, it)
+    add_files(made, [*files_of(crate), *Path(crate.folder, "must-fail").glob("*.edit")])
     return made.hexdigest()[:32]
 
 
@@ -91,16 +115,30 @@ def rows_of_crate(all_rows, name):
 
 def changed(sums, landed, now, today=None):
     """The crates that the gate tries, by the file's rows as they had landed, each with no names of edits, which stands for
-    all; and the faults of the others' rows now. `sums`: each crate with its sum."""
+    all; and the faults of the others' rows now. `sums`: each crate with the toolchain and its sum."""
     tried, faults, names = {}, [], {crate.name for crate in sums}
-    for crate, total in sums.items():
+    for crate, rest in sums.items():
         name = crate.name
-        if landed.get(name, ("", ""))[1] != total or is_in_turn(name, today):
+        if landed.get(name) != rest or is_in_turn(name, today):
             tried[crate] = []
         elif rows_of_crate(landed, name) != rows_of_crate(now, name):
             faults.append(f"{name}: its rows in {FILE} are no longer what they were, though nothing else changed")
     gone = sorted(key for key in now if key.partition("/")[0] not in names)
     return tried, faults + [f"{FILE} has a row of {key}, which has no edits" for key in gone]
+
+
+def differences(seen, said, is_whole):
+    """How what was seen of a crate differs from what the file says. Where the file was written with another toolchain, which
+    may name another goal, each edit has only to have a row. `is_whole`: whether all of its edits were tried."""
+    name = next(iter(seen)).partition("/")[0]
+    if not said:
+        return [f"{FILE} has no row of {name}: tools/edits --write {name} adds them"]
+    if said.get(name, ("",))[0] != seen[name][0]:
+        said = {key: seen.get(key, row) if "/" in key else (seen[name][0], row[1]) for key, row in said.items()}
+    if not is_whole:
+        said = {key: row for key, row in said.items() if key in seen}
+    return [f"{key}: {FILE} says {' '.join(said.get(key, ['nothing']))}, and not {' '.join(seen.get(key, ['nothing']))}"
+            for key in sorted(seen.keys() | said.keys()) if seen.get(key) != said.get(key)]
 
 
 def write(known, seen):

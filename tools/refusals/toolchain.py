@@ -4,6 +4,7 @@ import importlib.util
 import os
 import shutil
 import sys
+import tempfile
 from pathlib import Path
 
 ROOT = Path(__file__).resolve().parent.parent.parent
@@ -30,7 +31,8 @@ def crates():
     os.chdir(ROOT)
     # (its guard has to begin before any thread)
     rtlib.guarded()
-    rt.share_work(False)
+    if hasattr(rt, "share_work"):
+        rt.share_work(False)
     found = {crate.name: crate for crate in rtlib.crates_below(str(ROOT))}
     for crate in found.values():
         crate.out = sys.stderr
@@ -45,7 +47,33 @@ def edits_of(crate):
 def build_below(crate):
     """Builds the libraries that a crate stands on, over what is kept of them, here or in another copy of the repository;
     likewise takes up what is kept of the crate."""
-    rt.adopt(crate, is_alone=False)
+    if hasattr(rt, "adopt"):
+        rt.adopt(crate, is_alone=False)
     for below in crate.below():
         if below.build_rlib(JOBS, anew=False):
             sys.exit(f"edits: the library {below.name} did not build, so nothing above it was tried")
+
+
+# Older kits lack what follows.
+
+
+def linked(old, new):
+    """Makes a copy of a folder of kept work, over which another check may go on."""
+    if hasattr(rt, "linked"):
+        rt.linked(old, new)
+    else:
+        shutil.copytree(old, new)
+
+
+def seeded(crate, kept):
+    """A new folder, in whose folder `seed` stands what a check of the crate as it stands keeps, begun with what is kept there, or
+    with nothing; None where that check fails."""
+    if hasattr(rt, "seeded"):
+        return rt.seeded(crate, JOBS, kept)
+    room = tempfile.mkdtemp(prefix="edits-")
+    if kept:
+        linked(kept, f"{room}/seed")
+    if not rt.checked(crate, {}, JOBS, f"{room}/seed").returncode:
+        return room
+    shutil.rmtree(room)
+    return None
