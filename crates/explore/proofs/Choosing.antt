@@ -1,6 +1,6 @@
 -- One free event of several, the asks for one lock, or all of them.
 use Rattle.std.proofs.Common.{ℕ, zero, suc, ◌≡◌, ◌+◌, ◌<◌, ◌≤◌, inl, inr, Bool, List, [], length, replicate, Option, Some, refl, sym, ap, subst, ◌∙◌, get_or-set_other, get_or-set_same, arith}
-use Rattle.std.specs.Prelude.{None, ◌==◌, if◌then◌else◌, slice_get, slice_index, slice_index_or, slice_set}
+use Rattle.std.specs.Prelude.{None, slice_get, slice_index_or, slice_set}
 use Rattle.std.proofs.lemmas.Bool.{cases_eq, eq-eqb, ne_eqb}
 use Rattle.std.specs.Global.{Vec}
 use Rattle.std.proofs.lemmas.Option.{none-some, same_Some}
@@ -9,13 +9,13 @@ use Rattle.journal.specs.declared.event.Kind.TheVariants.{Ask}
 use Rattle.lrc_script.specs.Plan.{Plan}
 use Rattle.explore.specs.declared.prefixes.script_call.ScriptCall.{ScriptCall}
 use Rattle.explore.specs.declared.prefixes.script_call.ScriptCall.TheVariants.{Call}
-use Rattle.explore.specs.Free.{AreAskEnds, AreAskEndsOfAll, AreAsksSmall, AreAmongNexts, IsAskAt, IsAskSmall, IsAskedByAll, IsChoice, IsFree, IsFreeOf, ask_end_after}
+use Rattle.explore.specs.Free.{AreAskEnds, AreAsksSmall, AreAmongNexts, IsAskAt, IsAskSmall, IsChoice, IsFree, IsFreeOf, ask_end_after}
 use Rattle.explore.specs.Guarded.{AreGuarded}
 use Rattle.explore.specs.Machines.{AreLawfulMachineSteps, IsProperMachineStep}
 use Rattle.explore.proofs.Machines.{machine_row_proper, machine_row_steps}
 
 -- what is free where some words are said to be guarded is so where they are
-choosing_free_of : (rows : List (Vec ScriptCall)) (words : List Bool) (k : Kind) → AreGuarded rows words → IsFreeOf words k → IsFree rows k
+pub choosing_free_of : (rows : List (Vec ScriptCall)) (words : List Bool) (k : Kind) → AreGuarded rows words → IsFreeOf words k → IsFree rows k
 choosing_free_of rows words k are free = record { no_ask = free.no_ask; guarded = λ w at. are w (free.guarded w at) }
 
 pub choosing_one : (rows : List (Vec ScriptCall)) (words : List Bool) (done : List ℕ) (nexts chosen : List (Option Kind)) (p : ℕ)
@@ -92,12 +92,12 @@ ends_more row n step old new at is was i l lt asks = elim (cases_eq i n) [
 ]
 
 -- one more row
-pub rows_ends : (rows : List (Vec ScriptCall)) (n : ℕ) (row : Vec ScriptCall) (ends : List (List ℕ)) (own : List ℕ)
+pub rows_ends : {row : Vec ScriptCall} (rows : List (Vec ScriptCall)) (n : ℕ) (ends : List (List ℕ)) (own : List ℕ)
     → slice_get rows n ≡ Some row → n < length ends → AreAskEnds row.items own
     → ((p : ℕ) (r : Vec ScriptCall) → p < n → slice_get rows p ≡ Some r → AreAskEnds r.items (slice_index_or ends p []))
     → (p : ℕ) (r : Vec ScriptCall) → p < n + 1 → slice_get rows p ≡ Some r
     → AreAskEnds r.items (slice_index_or (slice_set ends n own) p [])
-rows_ends rows n row ends own at within mine was p r lt there = elim (cases_eq p n) [
+rows_ends {row} rows n ends own at within mine was p r lt there = elim (cases_eq p n) [
   | inl same ↦
       (let one = same_Some row r (sym at ∙ ap (slice_get rows) (sym same) ∙ there) in
       let put : slice_index_or (slice_set ends n own) p [] ≡ own =

@@ -1,6 +1,6 @@
 -- What is found, with a state more.
 -- A state that is there stays at its place; a new one comes from an earlier one, and what it comes to is known.
-use Rattle.std.proofs.Common.{ℕ, zero, suc, ◌≡◌, ◌<◌, ◌≤◌, inl, inr, List, [], ◌∷◌, ◌++◌, Option, Some, length, slice_get, refl, sym, ap, subst, ◌∙◌, length-append, arith}
+use Rattle.std.proofs.Common.{ℕ, zero, suc, ◌≡◌, ◌<◌, ◌≤◌, inl, inr, List, [], ◌∷◌, ◌++◌, Option, Some, length, slice_get, append_assoc, refl, sym, ap, subst, ◌∙◌, length-append, arith}
 use Rattle.std.specs.Prelude.{None}
 use Rattle.std.proofs.lemmas.Option.{same_Some, none-some, slice_get_within}
 use Rattle.base.proofs.SlicesAndCounts.{slice_push_cases, slice_get-append_left, slice_get-last}
@@ -8,11 +8,14 @@ use Rattle.journal.specs.declared.event.Event.{Event}
 use Rattle.journal.specs.declared.event.Kind.{Kind}
 use Rattle.journal.specs.DidEvent.{did, event}
 use Rattle.lrc_script.specs.Plan.{Plan}
-use Rattle.explore.specs.Prefixes.Beginnings.{IsFlatBeginning}
+use Rattle.std.specs.Global.{Vec}
+use Rattle.explore.specs.declared.prefixes.script_call.ScriptCall.{ScriptCall}
 use Rattle.explore.specs.declared.states.States.{States}
 use Rattle.explore.specs.declared.states.Origin.{Origin}
 use Rattle.explore.specs.declared.flat_state.FlatState.{FlatState}
-use Rattle.explore.specs.Found.{AreFound, FoundComesFrom, FoundStaysPossible, FoundStateAdded, IsFoundStateFollowed, IsFoundState, KeepsFound, WasPushedToFound, WasFoundBefore, states_found}
+use Rattle.explore.specs.Found.{AreFound, FoundComesFrom, FoundStateAdded, IsFoundState, KeepsFound, WasPushedToFound, WasFoundBefore, states_found}
+use Rattle.explore.specs.Followed.{IsFoundStateFollowed, MayFollowFound}
+use Rattle.explore.specs.FreeRun.{AreFree, IsFoundSoon}
 use Rattle.explore.specs.Machines.{Knows}
 use Rattle.explore.proofs.Likes.{knows_like}
 
@@ -121,39 +124,63 @@ module _ (s : Plan) (x y : States) (m : FlatState) (was : WasFoundBefore x y m) 
     knows = knows_like s g m was.state was.like knows;
   }
 
--- what a state comes to is found
-pub followed : (s : Plan) (x y : States) (place p : ℕ) (k : Kind) (f m : FlatState) → AreFound s x
-    → slice_get (states_found x) place ≡ Some f → FoundStaysPossible s f p k
-    → ((g : List Event) → Knows s g f → IsFlatBeginning s (did g p k) → Knows s (did g p k) m)
-    → FoundStateAdded x y m (Some (record { from = place; event = event p k })) → IsFoundStateFollowed s x y place p k
-followed s x y place p k f m old at goes steps (inl was) = record {
-  keeps = followed_there_keeps s x y m was;
-  found = followed_there_found s x y m was old;
-  known = λ h g here knows.
-      let same = same_Some h f (sym here ∙ at) in
-      let mine = subst (Knows s g) same knows in
-      followed_there_known s x y m was (did g p k) (steps g mine (goes g mine));
-  few = (let same = ap (λ (ms : List FlatState). length ms) was.states in omega (arith, same));
+-- what is found soon stays so
+pub followed_soon_kept : (s : Plan) (rows : List (Vec ScriptCall)) (old new : List FlatState) (g : List Event) → KeepsFound old new
+    → IsFoundSoon s rows old g → IsFoundSoon s rows new g
+followed_soon_kept s rows old new g keeps soon = record {
+  more = soon.more;
+  free = soon.free;
+  found = followed_known_kept s old new (g ++ soon.more) keeps soon.found;
 }
-followed s x y place p k f m old at goes steps (inr pushed) = record {
-  keeps = followed_pushed_keeps s x y m _ pushed;
-  found =
-      (let first = old.known place f at in
-      followed_pushed_found s x y m _ pushed old (did first.0 p k) (steps first.0 first.1 (goes first.0 first.1))
-      (record {
-        earlier = slice_get_within (states_found x) place f at;
-        after = λ h g here knows.
-            let mine = subst (Knows s g) (same_Some h f (sym here ∙ at)) knows in
-            steps g mine (goes g mine);
-      }));
-  known = λ h g here knows.
-      let mine = subst (Knows s g) (same_Some h f (sym here ∙ at)) knows in
-      followed_pushed_known s x y m _ pushed (did g p k) (steps g mine (goes g mine));
-  few = (
-      let more = ap (λ (ms : List FlatState). length ms) pushed.states in
-      let one = length-append (states_found x) (m ∷ []) in
-      omega (arith, more, one));
-}
+
+-- the machine m is what f comes to by p's event, and then by free ones, and that is how it was noted
+pub record CameFreely (s : Plan) (rows : List (Vec ScriptCall)) (place p : ℕ) (k : Kind) (f m : FlatState) (o : Origin) : Type 0 where
+  pub more : List Event
+  pub free : AreFree rows more
+  pub from : o.from ≡ place
+  pub events : o.events.items ≡ event p k ∷ more
+  pub knows : (g : List Event) → Knows s g f → Knows s (did g p k ++ more) m
+
+-- so what it comes to is found soon
+module _ {s : Plan} {rows : List (Vec ScriptCall)} {x : States} {place p : ℕ} {k : Kind} {f m : FlatState} {o : Origin}
+    (may : MayFollowFound s rows x place p k) (at : slice_get (states_found x) place ≡ Some f)
+    (came : CameFreely s rows place p k f m o) (y : States) where
+  followed_soon : ((g : List Event) → Knows s g m → IsFoundState s (states_found y) g) → (h : FlatState) (g : List Event)
+      → slice_get (states_found x) place ≡ Some h → Knows s g h → IsFoundSoon s rows (states_found y) (did g p k)
+  followed_soon known h g here knows = record {
+    more = came.more;
+    free = came.free;
+    found = known (did g p k ++ came.more) (came.knows g (subst (Knows s g) (same_Some h f (sym here ∙ at)) knows));
+  }
+
+  followed_origin : FoundComesFrom s (states_found x) (length (states_found x)) m (Some o)
+  followed_origin = record {
+    earlier = subst (λ n. n < length (states_found x)) (sym came.from) may.within;
+    after = λ h g here knows.
+        let there = subst (λ n. slice_get (states_found x) n ≡ Some h) came.from here in
+        let mine = subst (Knows s g) (same_Some h f (sym there ∙ at)) knows in
+        subst (λ es. Knows s (g ++ es) m) (sym came.events)
+        (subst (λ es. Knows s es m) (append_assoc g (event p k ∷ []) came.more) (came.knows g mine));
+  }
+
+  pub followed : FoundStateAdded x y m (Some o) → IsFoundStateFollowed s rows x y place p k
+  followed (inl was) = record {
+    keeps = followed_there_keeps s x y m was;
+    found = followed_there_found s x y m was may.found;
+    known = followed_soon (followed_there_known s x y m was);
+    few = (let same = ap (λ (ms : List FlatState). length ms) was.states in omega (arith, same));
+  }
+  followed (inr pushed) = record {
+    keeps = followed_pushed_keeps s x y m _ pushed;
+    found =
+        (let first = may.found.known place f at in
+        followed_pushed_found s x y m _ pushed may.found (did first.0 p k ++ came.more) (came.knows first.0 first.1) followed_origin);
+    known = followed_soon (followed_pushed_known s x y m _ pushed);
+    few = (
+        let longer = ap (λ (ms : List FlatState). length ms) pushed.states in
+        let one = length-append (states_found x) (m ∷ []) in
+        omega (arith, longer, one));
+  }
 
 -- one state is added to none
 pub followed_first_few : (x y : States) (m : FlatState) (o : Option Origin) → states_found x ≡ [] → FoundStateAdded x y m o

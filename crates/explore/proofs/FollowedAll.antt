@@ -1,6 +1,8 @@
 -- What is found after a state, an event at a time.
 use Rattle.std.proofs.Common.{ℕ, ◌≡◌, ◌≢◌, ◌+◌, ◌<◌, inl, inr, List, Option, Some, length, slice_get, slice_index_or, sym, ap, subst, ◌∙◌, arith}
 use Rattle.std.specs.Prelude.{None}
+use Rattle.std.specs.Global.{Vec}
+use Rattle.explore.specs.declared.prefixes.script_call.ScriptCall.{ScriptCall}
 use Rattle.std.proofs.lemmas.Bool.{cases_eq}
 use Rattle.std.proofs.lemmas.Option.{same_Some, slice_get_within}
 use Rattle.journal.specs.declared.event.Kind.{Kind}
@@ -8,14 +10,15 @@ use Rattle.journal.specs.DidEvent.{did}
 use Rattle.lrc_script.specs.Plan.{Plan}
 use Rattle.explore.specs.declared.states.States.{States}
 use Rattle.explore.specs.declared.flat_state.FlatState.{FlatState}
-use Rattle.explore.specs.Followed.{AreFollowed, MayFollowAll}
-use Rattle.explore.specs.Found.{FoundStaysPossible, IsFoundStateFollowed, IsFoundState, KeepsFound, states_found}
-use Rattle.explore.specs.Machines.{IsMachineStep}
-use Rattle.explore.proofs.Followed.{followed_known_kept}
+use Rattle.explore.specs.Followed.{AreFollowed, IsFoundStateFollowed, MayFollowAll, MayFollowFound}
+use Rattle.explore.specs.FreeRun.{IsFoundSoon}
+use Rattle.explore.specs.Found.{FoundStaysPossible, KeepsFound, states_found}
+use Rattle.explore.proofs.Followed.{followed_soon_kept}
 use Rattle.explore.proofs.Machines.{machine_next_within, machine_some_at}
 
-module _ (s : Plan) (x y : States) (place : ℕ) (nexts : List (Option Kind)) (may : MayFollowAll s x place nexts) where
-  pub none_followed : AreFollowed s x x place nexts 0
+module _ (s : Plan) (rows : List (Vec ScriptCall)) (x y : States) (place : ℕ) (nexts : List (Option Kind))
+    (may : MayFollowAll s rows x place nexts) where
+  pub none_followed : AreFollowed s rows x x place nexts 0
   none_followed = record {
     keeps = λ k m at. at;
     found = may.found;
@@ -31,7 +34,7 @@ module _ (s : Plan) (x y : States) (place : ℕ) (nexts : List (Option Kind)) (m
       let same = same_Some f.0 m (sym (keeps place f.0 f.1) ∙ at) in
       subst (λ z. slice_get (states_found x) place ≡ Some z) same f.1
 
-  module _ (n : ℕ) (old : AreFollowed s x y place nexts n) where
+  module _ (n : ℕ) (old : AreFollowed s rows x y place nexts n) where
     pub followed_all_within : place < length (states_found y)
     followed_all_within =
         let f = machine_some_at (states_found x) place may.within in
@@ -42,26 +45,24 @@ module _ (s : Plan) (x y : States) (place : ℕ) (nexts : List (Option Kind)) (m
       pub followed_all_goes_on : (m : FlatState) → slice_get (states_found y) place ≡ Some m → FoundStaysPossible s m n k
       followed_all_goes_on m at = may.next m (followed_all_still_at old.keeps m at) n k here
 
-      pub followed_all_may_step : (m : FlatState) → slice_get (states_found y) place ≡ Some m → IsMachineStep m n k
-      followed_all_may_step m at =
-          let g = old.found.known place m at in
-          record {
-            plan = s;
-            lawful = may.lawful;
-            events = g.0;
-            knows = g.1;
-            next = followed_all_goes_on m at g.0 g.1;
-          }
-
       pub followed_all_small : n < 16
       followed_all_small =
           let f = machine_some_at (states_found y) place followed_all_within in
           let g = old.found.known place f.0 f.1 in
           let within = machine_next_within s g.0 n k (followed_all_goes_on f.0 f.1 g.0 g.1) in
-          let most = may.lawful.but_uneven.sizes.most_processors in
+          let most = may.lawful.lawful.but_uneven.sizes.most_processors in
           omega arith
 
-      pub one_followed : (z : States) → IsFoundStateFollowed s y z place n k → AreFollowed s x z place nexts (n + 1)
+      pub followed_all_may : MayFollowFound s rows y place n k
+      followed_all_may = record {
+        lawful = may.lawful;
+        found = old.found;
+        within = followed_all_within;
+        small = followed_all_small;
+        next = followed_all_goes_on;
+      }
+
+      pub one_followed : (z : States) → IsFoundStateFollowed s rows y z place n k → AreFollowed s rows x z place nexts (n + 1)
       one_followed z followed = record {
         keeps = λ i m at. followed.keeps i m (old.keeps i m at);
         found = followed.found;
@@ -69,15 +70,15 @@ module _ (s : Plan) (x y : States) (place : ℕ) (nexts : List (Option Kind)) (m
           | inl is ↦
               (let same = same_Some k j (sym here ∙ ap (λ q. slice_index_or nexts q None) (sym is) ∙ told) in
               let known = followed.known m g (old.keeps place m at) knows in
-              subst (λ q. IsFoundState s (states_found z) (did g q j)) (sym is)
-              (subst (λ i. IsFoundState s (states_found z) (did g n i)) same known))
-          | inr isnt ↦ followed_known_kept s (states_found y) (states_found z) _ followed.keeps (old.known m g p j (omega arith) at knows told)
+              subst (λ q. IsFoundSoon s rows (states_found z) (did g q j)) (sym is)
+              (subst (λ i. IsFoundSoon s rows (states_found z) (did g n i)) same known))
+          | inr isnt ↦ followed_soon_kept s rows (states_found y) (states_found z) _ followed.keeps (old.known m g p j (omega arith) at knows told)
         ];
         few = (let one = followed.few in let before = old.few in omega (arith, one, before));
       }
 
     -- a processor that may do nothing
-    pub nobody_followed : ((k : Kind) → slice_index_or nexts n None ≢ Some k) → AreFollowed s x y place nexts (n + 1)
+    pub nobody_followed : ((k : Kind) → slice_index_or nexts n None ≢ Some k) → AreFollowed s rows x y place nexts (n + 1)
     nobody_followed none = record {
       keeps = old.keeps;
       found = old.found;

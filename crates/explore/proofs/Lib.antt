@@ -9,11 +9,13 @@ pub mod Likes
 pub mod Machines
 pub mod Clones
 pub mod Equals
+pub mod FreeRuns
 pub mod Followed
 pub mod FollowedAll
 pub mod FirstRaces
 pub mod Choosing
 pub mod Searched
+pub mod UntilSearched
 pub mod locksets
 pub mod reduced
 pub mod Determined

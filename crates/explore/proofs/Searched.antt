@@ -31,15 +31,17 @@ use Rattle.explore.specs.Explored.{AreAllOutcomesExplored, AreExploredOutcomes, 
 use Rattle.explore.specs.Followed.{AreFollowed}
 use Rattle.explore.specs.Free.{IsChoice}
 use Rattle.explore.specs.Found.{AreFound, IsFoundState, KeepsFound, states_found}
+use Rattle.explore.specs.FreeRun.{IsFoundSoon}
 use Rattle.explore.specs.Machines.{AreLawfulMachineSteps, Knows, machine_rows}
 use Rattle.explore.specs.Nexts.{AreNexts, AreNextInConflict}
 use Rattle.explore.specs.Outcomes.{AreOutcomeReplies}
 use Rattle.explore.specs.Searched.{AreAsksFollowed, AreSearchOutcomesShown, StateHangs, IsAmongSearched, SearchFollowsFree, SearchFollowsWhole, IsSearchReduced, SearchOutcomesNoted, IsSearchHangingOpen, IsSearchVerdictOpen, IsSearchQuiet, SearchedUpTo, IsShownBySearch, HasMoreToSearch, MayNoteState, NoStateHangs}
-use Rattle.explore.proofs.Followed.{followed_known_kept}
+use Rattle.explore.proofs.Followed.{followed_soon_kept}
 use Rattle.explore.proofs.Machines.{machine_some_at}
 use Rattle.explore.proofs.reduced.Ends.{EndsInConflict, EndsShowing, reduced_ends_conflict_lasts, follows_ends, reduced_ends_hang_lasts, reduced_ends_shows_last}
 use Rattle.explore.proofs.reduced.Later.{later_ask}
-use Rattle.explore.proofs.reduced.Reaching.{ReachingFollowsAll, FollowsAsks, ReachingFollowsOne, reached}
+use Rattle.explore.proofs.reduced.Reaching.{FollowsAsks, IsReached, IsReachingLasting, ReachingFollowsAll, ReachingFollowsOne, reached}
+use Rattle.explore.proofs.reduced.Soon.{soon_followed, soon_now, soon_reached}
 
 -- a state of the first ones was there before
 pub search_was_at : (old new : List FlatState) (place : ℕ) (m : FlatState) → KeepsFound old new → place < length old
@@ -104,20 +106,20 @@ module _ (s : Plan) (old new : List FlatState) (n : ℕ) (keeps : KeepsFound old
 
   search_reduced_kept : (rows : List (Vec ScriptCall)) → IsSearchReduced s rows old n → IsSearchReduced s rows new n
   search_reduced_kept rows reduced place m lt at = elim (reduced place m lt (search_was_at old new place m keeps (omega arith) at)) [
-    | inl whole ↦ inl (λ g p k knows next. followed_known_kept s old new (did g p k) keeps (whole g p k knows next))
+    | inl whole ↦ inl (λ g p k knows next. followed_soon_kept s rows old new (did g p k) keeps (whole g p k knows next))
     | inr some ↦ inr (elim some [
       | inl one ↦ inl (record {
         processor = one.processor;
         kind = one.kind;
         free = one.free;
         next = one.next;
-        known = λ g knows. followed_known_kept s old new (did g one.processor one.kind) keeps (one.known g knows);
+        known = λ g knows. followed_soon_kept s rows old new (did g one.processor one.kind) keeps (one.known g knows);
       })
       | inr asks ↦ inr (record {
         lock = asks.lock;
         processor = asks.processor;
         next = asks.next;
-        known = λ g p knows next. followed_known_kept s old new (did g p (Ask asks.lock)) keeps (asks.known g p knows next);
+        known = λ g p knows next. followed_soon_kept s rows old new (did g p (Ask asks.lock)) keeps (asks.known g p knows next);
         others = asks.others;
       })
     ])
@@ -365,12 +367,12 @@ module _ (s : Plan) (x : Search) (steps : List (Vec ScriptCall)) (n : ℕ) (f : 
   }
 
 -- a state more was looked at
-pub looked : (s : Plan) (x z : Search) (steps : List (Vec ScriptCall)) (n : ℕ) (done : List ℕ) (nexts chosen : List (Option Kind))
-    → HasMoreToSearch s x steps n → ((m : FlatState) → slice_get (states_found x.found) n ≡ Some m → m.done ≡ done)
+pub looked : {s : Plan} {x : Search} {steps : List (Vec ScriptCall)} {n : ℕ} (z : Search) (done : List ℕ)
+    (nexts chosen : List (Option Kind)) → HasMoreToSearch s x steps n → ((m : FlatState) → slice_get (states_found x.found) n ≡ Some m → m.done ≡ done)
     → ((m : FlatState) → slice_get (states_found x.found) n ≡ Some m → AreNexts s m nexts)
     → ((p q : ℕ) (a b : Kind) → ¬ AreNextInConflict nexts p q a b) → IsChoice steps done nexts chosen
-    → AreFollowed s x.found z.found n chosen (length chosen) → SearchOutcomesNoted s z (n + 1) → SearchedUpTo s z steps (n + 1)
-looked s x z steps n done nexts chosen may has_done are none choice followed noted =
+    → AreFollowed s steps x.found z.found n chosen (length chosen) → SearchOutcomesNoted s z (n + 1) → SearchedUpTo s z steps (n + 1)
+looked {s} {x} {steps} {n} z done nexts chosen may has_done are none choice followed noted =
     let old = states_found x.found in
     let new = states_found z.found in
     let f = machine_some_at old n may.more in
@@ -396,15 +398,15 @@ looked s x z steps n done nexts chosen may has_done are none choice followed not
   where
     -- an event that was chosen is followed
     known : (m : FlatState) (g : List Event) (p : ℕ) (k : Kind) → slice_get (states_found x.found) n ≡ Some m → Knows s g m
-        → slice_index_or chosen p None ≡ Some k → IsFoundState s (states_found z.found) (did g p k)
+        → slice_index_or chosen p None ≡ Some k → IsFoundSoon s steps (states_found z.found) (did g p k)
     known m g p k here knows told = elim (cases_lt p (length chosen)) [
       | inl less ↦ followed.known m g p k less here knows told
       | inr over ↦ absurd (none-some k (sym (get_or_past chosen p None over) ∙ told))
     ]
 
     now : (m : FlatState) → slice_get (states_found x.found) n ≡ Some m
-        → SearchFollowsWhole s (states_found z.found) m
-        ⊎ (SearchFollowsFree s steps (states_found z.found) m ⊎ AreAsksFollowed s (states_found z.found) m)
+        → SearchFollowsWhole s steps (states_found z.found) m
+        ⊎ (SearchFollowsFree s steps (states_found z.found) m ⊎ AreAsksFollowed s steps (states_found z.found) m)
     now m here = elim choice [
       | inl all ↦ inl (λ g p k knows next.
           known m g p k here knows (ap (λ os. slice_index_or os p None) all ∙ (are m here g knows p k).1 next))
@@ -437,8 +439,9 @@ looked s x z steps n done nexts chosen may has_done are none choice followed not
 module _ (s : Plan) (x : Search) (steps : List (Vec ScriptCall)) (lawful : AreLawfulMachineSteps s steps)
     (searched : SearchedUpTo s x steps (length (states_found x.found))) where
   search_followed_of : (h : List Event) → IsFoundState s (states_found x.found) h
-      → ReachingFollowsAll s (IsFoundState s (states_found x.found)) h
-      ⊎ (ReachingFollowsOne s steps (IsFoundState s (states_found x.found)) h ⊎ FollowsAsks s (IsFoundState s (states_found x.found)) h)
+      → ReachingFollowsAll s (IsFoundSoon s steps (states_found x.found)) h
+      ⊎ (ReachingFollowsOne s steps (IsFoundSoon s steps (states_found x.found)) h
+      ⊎ FollowsAsks s (IsFoundSoon s steps (states_found x.found)) h)
   search_followed_of h known =
       let within = slice_get_within (states_found x.found) known.place known.state known.at in
       elim (searched.closed known.place known.state within known.at) [
@@ -461,10 +464,18 @@ module _ (s : Plan) (x : Search) (steps : List (Vec ScriptCall)) (lawful : AreLa
         ])
       ]
 
+  -- a state that was found has what lasts, if some prefix has it
+  pub search_reached : (T : List Event → Type 0) → IsReachingLasting s steps T → (g : List Event) → IsFlatBeginning s g → T g
+      → IsReached (IsFoundState s (states_found x.found)) T
+  search_reached T lasting g begins has =
+      soon_reached s steps (states_found x.found) T lasting
+      (reached s steps lawful (IsFoundSoon s steps (states_found x.found)) T lasting
+      (soon_followed s steps (states_found x.found) search_followed_of)
+      (soon_now s steps (states_found x.found) [] searched.found.first) g begins has)
+
   pub searched_none_hangs : NoStateHangs s (states_found x.found) (length (states_found x.found)) → (g : List Event) → ¬ IsHangingBeginning s g
   searched_none_hangs none g hang =
-      let r = reached s steps lawful (IsFoundState s (states_found x.found)) (IsHangingBeginning s) (reduced_ends_hang_lasts s steps) search_followed_of
-      searched.found.first g hang.beginning hang in
+      let r = search_reached (IsHangingBeginning s) (reduced_ends_hang_lasts s steps) g hang.beginning hang in
       let known = r.found in
       none known.place known.state r.events (slice_get_within (states_found x.found) known.place known.state known.at) known.at
       known.knows r.has
@@ -472,8 +483,7 @@ module _ (s : Plan) (x : Search) (steps : List (Vec ScriptCall)) (lawful : AreLa
   pub searched_no_neighbours : HasNoNeighbours s
   searched_no_neighbours g p q a b first second apart conflict =
       let begins = ((beginning_next s g p a).0 first).0 in
-      let r = reached s steps lawful (IsFoundState s (states_found x.found)) (EndsInConflict s) (reduced_ends_conflict_lasts s steps lawful) search_followed_of
-      searched.found.first g begins
+      let r = search_reached (EndsInConflict s) (reduced_ends_conflict_lasts s steps lawful) g begins
       (record { p = p; q = q; a = a; b = b; first = first; second = second; apart = apart; conflict = conflict }) in
       let known = r.found in
       let c = r.has in
@@ -483,9 +493,8 @@ module _ (s : Plan) (x : Search) (steps : List (Vec ScriptCall)) (lawful : AreLa
 
   pub searched_all_outcomes : AreAllOutcomesExplored s (map explored_outcome x.outcomes.keys)
   searched_all_outcomes replies outcome =
-      let r = reached s steps lawful (IsFoundState s (states_found x.found)) (EndsShowing s replies)
-      (reduced_ends_shows_last s steps replies lawful.lawful.but_uneven.one_each) search_followed_of searched.found.first outcome.0
-      outcome.1.beginning (record { follows = outcome.1.follows; are = outcome.2 }) in
+      let r = search_reached (EndsShowing s replies)
+      (reduced_ends_shows_last s steps replies lawful.lawful.but_uneven.one_each) outcome.0 outcome.1.beginning (record { follows = outcome.1.follows; are = outcome.2 }) in
       let known = r.found in
       (searched.noted.shown.each replies).1 (record {
         place = known.place;

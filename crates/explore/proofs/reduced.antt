@@ -3,3 +3,4 @@ pub mod Swapping
 pub mod Reaching
 pub mod Later
 pub mod Ends
+pub mod Soon

@@ -1,5 +1,5 @@
 -- What a search keeps of the states that it has found.
-use Rattle.std.specs.Prelude.{ℕ, ◌≡◌, ◌+◌, ◌<◌, ◌≤◌, ◌⊎◌, Option, Some, None, List, [], ◌∷◌, ◌++◌, length, slice_get}
+use Rattle.std.specs.Prelude.{ℕ, ◌≡◌, ◌<◌, ◌⊎◌, Option, Some, None, List, [], ◌∷◌, ◌++◌, length, slice_get}
 use Rattle.journal.specs.declared.event.Event.{Event}
 use Rattle.journal.specs.declared.event.Kind.{Kind}
 use Rattle.journal.specs.DidEvent.{did}
@@ -21,11 +21,11 @@ pub record IsFoundState (s : Plan) (states : List FlatState) (g : List Event) : 
   pub at : slice_get states place ≡ Some state
   pub knows : Knows s g state
 
--- the state m comes from an earlier one by an event
+-- the state m comes from an earlier one by some events
 pub record IsOriginOfFound (s : Plan) (states : List FlatState) (place : ℕ) (m : FlatState) (o : Origin) : Type 0 where
   pub earlier : o.from < place
   pub after : (f : FlatState) (g : List Event) → slice_get states o.from ≡ Some f → Knows s g f
-      → Knows s (g ++ o.event ∷ []) m
+      → Knows s (g ++ o.events.items) m
 
 -- the state m is the first one, or comes from an earlier one
 abbrev pub FoundComesFrom : Plan → List FlatState → ℕ → FlatState → Option Origin → Type 0
@@ -64,11 +64,3 @@ KeepsFound old new = (place : ℕ) (m : FlatState) → slice_get old place ≡ S
 -- whatever events come to m, p may do this next
 abbrev pub FoundStaysPossible : Plan → FlatState → ℕ → Kind → Type 0
 FoundStaysPossible s m p k = (g : List Event) → Knows s g m → IsFlatBeginning s (did g p k)
-
--- what the state at this place comes to by p's event is found
-pub record IsFoundStateFollowed (s : Plan) (x y : States) (place p : ℕ) (k : Kind) : Type 0 where
-  pub keeps : KeepsFound (states_found x) (states_found y)
-  pub found : AreFound s y
-  pub known : (m : FlatState) (g : List Event) → slice_get (states_found x) place ≡ Some m → Knows s g m
-      → IsFoundState s (states_found y) (did g p k)
-  pub few : length (states_found y) ≤ length (states_found x) + 1

@@ -9,9 +9,12 @@ pub mod Users
 pub mod Free
 pub mod Found
 pub mod Nexts
+pub mod FreeRun
 pub mod Followed
 pub mod States
 pub mod Racing
 pub mod Searched
+pub mod Until
+pub mod UntilSearched
 pub mod Prelude
 pub mod Prefixes

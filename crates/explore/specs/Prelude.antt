@@ -2,3 +2,4 @@
 pub use Rattle.explore.specs.Outcomes.{IsOutcome}
 pub use Rattle.explore.specs.Room.{states_that_fit}
 pub use Rattle.explore.specs.Explored.{IsExplored}
+pub use Rattle.explore.specs.Until.{IsExploredUntil, IsShowing, is_showing_settled}

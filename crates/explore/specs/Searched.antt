@@ -20,16 +20,17 @@ use Rattle.explore.specs.declared.explored.Verdict.{Verdict}
 use Rattle.explore.specs.declared.explored.Verdict.TheVariants as verdict
 use Rattle.explore.specs.Explored.{explored_outcome}
 use Rattle.explore.specs.Free.{IsFree}
-use Rattle.explore.specs.Found.{AreFound, IsFoundState, FoundStaysPossible, states_found}
+use Rattle.explore.specs.Found.{AreFound, FoundStaysPossible, states_found}
+use Rattle.explore.specs.FreeRun.{IsFoundSoon}
 use Rattle.explore.specs.Machines.{AreLawfulMachineSteps, Knows}
 use Rattle.explore.specs.Nexts.{IsOverNext}
 use Rattle.explore.specs.Racing.{AreRacing}
 use Rattle.explore.specs.Outcomes.{AreOutcomeReplies}
 
--- all that may come next after the state m is among the states
-abbrev pub SearchFollowsWhole : Plan → List FlatState → FlatState → Type 0
-SearchFollowsWhole s states m = (g : List Event) (p : ℕ) (k : Kind) → Knows s g m → IsFlatBeginning s (did g p k)
-    → IsFoundState s states (did g p k)
+-- all that may come next after the state m is found soon
+abbrev pub SearchFollowsWhole : Plan → List (Vec ScriptCall) → List FlatState → FlatState → Type 0
+SearchFollowsWhole s rows states m = (g : List Event) (p : ℕ) (k : Kind) → Knows s g m → IsFlatBeginning s (did g p k)
+    → IsFoundSoon s rows states (did g p k)
 
 -- or what one free event makes of it
 pub record SearchFollowsFree (s : Plan) (rows : List (Vec ScriptCall)) (states : List FlatState) (m : FlatState) : Type 0 where
@@ -37,22 +38,22 @@ pub record SearchFollowsFree (s : Plan) (rows : List (Vec ScriptCall)) (states :
   pub kind : Kind
   pub free : IsFree rows kind
   pub next : FoundStaysPossible s m processor kind
-  pub known : (g : List Event) → Knows s g m → IsFoundState s states (did g processor kind)
+  pub known : (g : List Event) → Knows s g m → IsFoundSoon s rows states (did g processor kind)
 
 -- or what the asks for one lock make of it, if nobody else will ask for it
-pub record AreAsksFollowed (s : Plan) (states : List FlatState) (m : FlatState) : Type 0 where
+pub record AreAsksFollowed (s : Plan) (rows : List (Vec ScriptCall)) (states : List FlatState) (m : FlatState) : Type 0 where
   pub lock : ℕ
   pub processor : ℕ
   pub next : FoundStaysPossible s m processor (Ask lock)
   pub known : (g : List Event) (p : ℕ) → Knows s g m → IsFlatBeginning s (did g p (Ask lock))
-      → IsFoundState s states (did g p (Ask lock))
+      → IsFoundSoon s rows states (did g p (Ask lock))
   pub others : (g more : List Event) (p : ℕ) → Knows s g m → IsFlatBeginning s (did (g ++ more) p (Ask lock))
       → IsFlatBeginning s (did g p (Ask lock))
 
 -- of each of the first n states
 abbrev pub IsSearchReduced : Plan → List (Vec ScriptCall) → List FlatState → ℕ → Type 0
 IsSearchReduced s rows states n = (place : ℕ) (m : FlatState) → place < n → slice_get states place ≡ Some m
-    → SearchFollowsWhole s states m ⊎ (SearchFollowsFree s rows states m ⊎ AreAsksFollowed s states m)
+    → SearchFollowsWhole s rows states m ⊎ (SearchFollowsFree s rows states m ⊎ AreAsksFollowed s rows states m)
 
 -- and no two next events conflict
 abbrev pub IsSearchQuiet : Plan → List FlatState → ℕ → Type 0

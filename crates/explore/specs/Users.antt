@@ -1,5 +1,5 @@
 -- Who accesses a word in a phase, as a walk through the steps notes it.
-use Rattle.std.specs.Prelude.{ℕ, ◌≡◌, ◌<◌, ◌^◌, ◌⊎◌, Bool, false, IsTrue, Option, Some, List, length, slice_get, slice_index_or}
+use Rattle.std.specs.Prelude.{ℕ, ◌≡◌, ◌<◌, ◌^◌, ◌⊎◌, Bool, false, IsTrue, Some, List, length, slice_get, slice_index_or}
 use Rattle.std.specs.Global.{Vec}
 use Rattle.std.specs.BTreeMap.{get}
 use Rattle.std.specs.Ordering.{nat_cmp}

@@ -1,6 +1,6 @@
 //! A script's run on one flat memory, an event at a time.
 ghost use Rattle.std.specs.Prelude.{◌≡◌, ◌↔◌, ℕ, ◌+◌, ◌<◌, ◌≤◌, ◌++◌, [], ◌∷◌, List, Some, None, IfOk, OnOk, IsTrue};
-ghost use Rattle.std.specs.Prelude.{length, replicate, slice_index, slice_index_or};
+ghost use Rattle.std.specs.Prelude.{length, replicate, slice_get, slice_index, slice_index_or};
 ghost use Rattle.base.specs.Prelude.{most_processors, wrote};
 ghost use Rattle.journal.specs.declared.event.Event.{Event as AnEvent};
 ghost use Rattle.journal.specs.declared.event.Kind.{Kind as AKind};
@@ -12,6 +12,7 @@ ghost use Rattle.explore.specs.Prefixes.Prelude.{IsFlatBeginning};
 ghost use Rattle.explore.specs.Machines.{AreLawfulMachineSteps, MachineStepReads, SameMachineState, IsMachineRunning, IsMachineStep, Knows};
 ghost use Rattle.explore.specs.Machines.{machine_rows, machine_last_or};
 ghost use Rattle.explore.specs.Outcomes.{AreOutcomeReplies, outcome_replies_in};
+ghost use Rattle.explore.specs.Until.{HasFinalWords};
 ghost use Rattle.explore.specs.Waiting.{AreAwaited};
 
 use crate::prefixes::ScriptCall;
@@ -73,6 +74,13 @@ fn write(memory: &mut [u32], kind: Kind)
     if let Kind::Store(address, value) = kind {
         memory[address] = value;
     }
+}
+
+/// Whether the memory has this word at the address.
+fn has_word(memory: &[u32], address: usize, word: u32) -> bool
+    ensures { IsTrue result ↔ (slice_get memory.now address ≡ Some word) }
+{
+    address < memory.len() && memory[address] == word
 }
 
 /// No replies, of so many processors.
@@ -171,6 +179,18 @@ impl FlatState {
     {
         for processor in 0..steps.len() {
             if (self.done[processor] as usize) < steps[processor].len() {
+                return false;
+            }
+        }
+        true
+    }
+
+    /// Whether the memory has each of these words at its address.
+    pub fn has_words(&self, words: &[(usize, u32)]) -> bool
+        ensures { IsTrue result ↔ HasFinalWords self.now.memory.items words.now }
+    {
+        for (address, word) in words {
+            if !has_word(&self.memory, *address, *word) {
                 return false;
             }
         }

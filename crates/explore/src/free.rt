@@ -23,7 +23,7 @@ fn is_word_guarded(guarded: &[bool], address: usize) -> bool
 
 /// Whether the event commutes with all that other processors may do: it is no ask, and accesses no word but one that is said
 /// to be guarded.
-fn is_free(guarded: &[bool], kind: Kind) -> bool
+pub fn is_free(guarded: &[bool], kind: Kind) -> bool
     ensures { IsTrue result → IsFreeOf guarded.now kind }
 {
     match kind {

@@ -1,12 +1,13 @@
 //! All schedules of a script on one flat memory: whether it races, whether it can hang, and what it can show.
 //!
 //! **What contracts see.** `IsExplored` is what an answer says: no prefix races, or here is a race; this is a hang, or
-//! there is none; these are outcomes of whole runs, each once, and all of them or some. An answer is open only if there are
-//! more states than were to be looked at (`states_to_look_at`). Inside, a `FlatState` knows events (`Knows`), so two machines
+//! there is none; these are outcomes of whole runs, each once, and all of them or some. `IsExploredUntil` says the same of
+//! whether a run ends with some words (`EndsWithWords`). An answer is open only if there are more states than were to be
+//! looked at (`states_to_look_at`). Inside, a `FlatState` knows events (`Knows`), so two machines
 //! that are found equal go on alike; `States` has the states, each once, with where it comes from (`AreFound`); `Search` has
 //! looked at the first of them (`VisitedUpTo`).
 //!
-//! **What is proved.** `explore` answers what `IsExplored` says. `guarded_words` says of a word only if it is so that no two
+//! **What is proved.** `explore` answers what `IsExplored` says, and `explore_until` what `IsExploredUntil` says. `guarded_words` says of a word only if it is so that no two
 //! accesses of it race; `to_follow` leaves out only what may as well come later (`proofs/reduced`). `Waiting` tells exactly
 //! whether an event may follow.
 #![tactic(auto)]
@@ -14,6 +15,7 @@
 mod explored;
 mod flat_state;
 mod free;
+mod free_run;
 mod guarded;
 mod neighbours;
 pub mod prefixes;
@@ -21,12 +23,16 @@ mod progress;
 mod racing;
 mod room;
 mod search;
+mod showing;
 mod states;
 mod text_facts;
+mod until;
 mod wait;
 mod waiting;
 
 pub use explored::{Explored, Hang, Hanging, RacyEvents, ScriptOutcome, Verdict};
 pub use progress::{Progress, Silent};
 pub use search::explore;
+pub use showing::{ExploredUntil, Showing, ShownRun};
+pub use until::explore_until;
 pub use waiting::Waiting;

@@ -1,6 +1,9 @@
 //! Two next events that conflict, as a history whose last event is the first one that races.
-ghost use Rattle.std.specs.Prelude.{◌≡◌, ℕ, IfOk};
-ghost use Rattle.journal.specs.Prelude.{Race};
+ghost use Rattle.std.specs.Prelude.{◌≡◌, IfOk, MatchOption};
+ghost use Rattle.journal.specs.Prelude.{RaceFree};
+ghost use Rattle.causes.specs.Prelude.{IsFirstRaceTold};
+ghost use Rattle.conformance.specs.Follows.{plan_sizes};
+ghost use Rattle.judge.specs.Prelude.{sizes_of as judged_sizes};
 ghost use Rattle.lrc_script.specs.Prelude.{IsLawful, Plan, plan_of};
 ghost use Rattle.explore.specs.Prefixes.Prelude.{IsFlatBeginning};
 ghost use Rattle.explore.specs.Explored.{IsExploredRacy};
@@ -10,8 +13,9 @@ use crate::explored::RacyEvents;
 use crate::neighbours::Neighbours;
 use crate::prefixes::ScriptCall;
 use crate::states::States;
-use causes::race;
+use causes::{FirstRace, race};
 use journal::Event;
+use judge::{History, Sizes};
 use lrc_script::script::Script;
 use std::alloc::{AllocError, Global};
 
@@ -43,20 +47,54 @@ fn racing_events(
     Ok(events)
 }
 
+/// The sizes of the script's memory.
+fn sizes_of(script: &Script) -> Sizes
+    ensures { judged_sizes result ≡ plan_sizes (plan_of script.now) }
+{
+    Sizes {
+        processors: script.processors,
+        pages: script.pages,
+        words: script.words,
+        locks: script.locks,
+        flags: script.flags,
+    }
+}
+
+/// The first race of these events, if they have one. The only error is running out of memory.
+pub fn race_in(
+    alloc: Global,
+    script: &Script,
+    events: &[Event],
+) -> Result<Option<FirstRace>, AllocError>
+    requires lawful { IsLawful (plan_of script.now) }
+    requires begins { IsFlatBeginning (plan_of script.now) events.now }
+    ensures { IfOk result (λ o. MatchOption o (RaceFree events.now) (IsFirstRaceTold events.now)) }
+{
+    let history = History::new(sizes_of(script), events).unwrap();
+    race(alloc, &history)
+}
+
+/// The events up to their first race, which this is.
+pub fn cut_behind(events: Vec<Event>, race: FirstRace) -> RacyEvents
+    requires { IsFirstRaceTold events.items race }
+    ensures { (s : Plan) → IsFlatBeginning s events.items → IsExploredRacy s result }
+{
+    let mut events = events;
+    events.truncate(race.second + 1);
+    RacyEvents {
+        events,
+        first: race.first,
+    }
+}
+
 /// The events up to the first one that races.
 fn up_to_race(alloc: Global, script: &Script, events: Vec<Event>) -> Result<RacyEvents, AllocError>
     requires lawful { IsLawful (plan_of script.now) }
     requires racing { IsRacingBeginning (plan_of script.now) events.items }
     ensures { IfOk result (IsExploredRacy (plan_of script.now)) }
 {
-    let mut events = events;
-    let addresses = script.pages * script.words;
-    let found = race(alloc, script.processors, addresses, &events)?.unwrap();
-    events.truncate(found.second + 1);
-    Ok(RacyEvents {
-        events,
-        first: found.first,
-    })
+    let race = race_in(alloc, script, &events)?.unwrap();
+    Ok(cut_behind(events, race))
 }
 
 /// A history in which the two events that conflict race, up to its first race. The only error is running out of memory.

@@ -8,7 +8,7 @@ ghost use Rattle.explore.specs.declared.prefixes.script_call.ScriptCall.{ScriptC
 ghost use Rattle.explore.specs.Prefixes.Prelude.{IsFlatRaceFree};
 ghost use Rattle.explore.specs.Free.{AreTextFacts};
 ghost use Rattle.explore.specs.Explored.{IsExplored, IsExploredHang, IsExploredHanging, IsExploredVerdict, explored_outcome};
-ghost use Rattle.explore.specs.Found.{AreFound, states_found};
+ghost use Rattle.explore.specs.Found.{AreFound, KeepsFound, states_found};
 ghost use Rattle.explore.specs.Machines.{AreLawfulMachineSteps};
 ghost use Rattle.explore.specs.Racing.{AreRacing};
 ghost use Rattle.explore.specs.Room.{states_to_look_at};
@@ -34,7 +34,7 @@ use std::mem;
 /// What a search has found so far.
 #[derive(Drop)]
 pub struct Search {
-    found: States,
+    pub(crate) found: States,
     /// What the whole runs among them show.
     outcomes: IndexSet<ScriptOutcome>,
     /// The place of a state that hangs.
@@ -54,7 +54,7 @@ fn add_outcome(
 }
 
 /// Whether more states were found than were to be looked at.
-fn is_past(states: usize, most: usize) -> bool
+pub(crate) fn is_past(states: usize, most: usize) -> bool
     ensures { IsTrue result ↔ (most < states) }
 {
     states > most
@@ -82,7 +82,7 @@ fn search_outcomes_listed(
 
 impl Search {
     /// The first state alone. The only error is running out of memory.
-    fn new(alloc: Global, script: &Script) -> Result<Search, AllocError>
+    pub(crate) fn new(alloc: Global, script: &Script) -> Result<Search, AllocError>
         requires { IsLawful (plan_of script.now) }
         ensures searched { IfOk result (λ x. (rows : List (AVec AStep)) → SearchedUpTo (plan_of script.now) x rows 0) }
         ensures few { IfOk result (λ x. length (states_found x.found) ≤ 1) }
@@ -111,7 +111,7 @@ impl Search {
 
     /// Looks at the state at this place: the two events that conflict, if there are such; else what comes next is
     /// found, by one event that is free, by the asks for one lock, or by all, and what there is to note is noted.
-    fn look_at(
+    pub(crate) fn look_at(
         &mut self,
         steps: &[Vec<ScriptCall>],
         facts: &TextFacts,
@@ -121,8 +121,9 @@ impl Search {
         requires unvisited { (s : Plan) × HasMoreToSearch s self.old steps.now place }
         ensures looked { IfOk result (λ o. (s : Plan) → HasMoreToSearch s self.old steps.now place
             → IsSearchedAt s self.new steps.now place o) }
-        ensures few { IfOk result (λ _. (s : Plan) → HasMoreToSearch s self.old steps.now place
-            → length (states_found self.new.found) ≤ length (states_found self.old.found) + most_processors) }
+        ensures found { IfOk result (λ _. (s : Plan) → HasMoreToSearch s self.old steps.now place
+            → KeepsFound (states_found self.old.found) (states_found self.new.found)
+            × (length (states_found self.new.found) ≤ length (states_found self.old.found) + most_processors)) }
     {
         let state = self.found.at(place);
         let nexts = nexts_of(state, steps);
@@ -137,7 +138,7 @@ impl Search {
         if is_over(&nexts) {
             self.note_end(steps, place)?;
         }
-        self.found.follow_all(place, &followed)?;
+        self.found.follow_all(steps, facts, place, &followed)?;
         Ok(None)
     }
 
@@ -290,9 +291,9 @@ fn search_steps<P: Progress>(
 /// A state is what each processor has done, with the replies to its loads, the words, and who waits for what. If some
 /// processor may do next what commutes with all that others may do, that alone is followed (`to_follow`), and if all who
 /// have yet to ask for a lock may do so next, these asks: persistent sets (Godefroid, Partial-order methods for the
-/// verification of concurrent systems, 1996). Two accesses that conflict
-/// and may both come next make a race; if no state that was found has such, no run races, on one flat memory or on the
-/// real one.
+/// verification of concurrent systems, 1996). A state between events that are followed alone is passed over (`go_freely`).
+/// Two accesses that conflict and may both come next make a race; if no state that was found has such, no run races, on one
+/// flat memory or on the real one.
 pub fn explore<P: Progress>(
     alloc: Global,
     script: &Script,

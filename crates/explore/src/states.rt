@@ -1,33 +1,45 @@
 //! The states that a search has found, and where each was found first.
-ghost use Rattle.std.specs.Prelude.{◌≡◌, ℕ, ◌<◌, ◌≤◌, [], List, Some, IfOk, OnOk, length, option_copied, slice_get};
-ghost use Rattle.base.specs.Prelude.{most_processors};
-ghost use Rattle.journal.specs.declared.event.Event.{Event as AnEvent};
+ghost use Rattle.std.specs.Prelude.{◌≡◌, ◌<◌, ◌≤◌, ◌++◌, [], Some, IfOk, OnOk, length, reverse, slice_get};
 ghost use Rattle.lrc_script.specs.Prelude.{Plan};
 ghost use Rattle.explore.specs.declared.flat_state.FlatState.{FlatState as AMachine};
-ghost use Rattle.explore.specs.Found.{AreFound, FoundStaysPossible, FoundStateAdded, IsFoundStateFollowed, states_found};
-ghost use Rattle.explore.specs.Followed.{AreFollowed, MayFollowAll};
+ghost use Rattle.explore.specs.Found.{AreFound, FoundStateAdded, states_found};
+ghost use Rattle.explore.specs.Followed.{AreFollowed, IsFoundStateFollowed, MayFollowFound, MayFollowAll};
+ghost use Rattle.explore.specs.Free.{AreTextFacts};
 ghost use Rattle.explore.specs.States.{HasStates};
-ghost use Rattle.explore.specs.Machines.{SameMachineState, IsMachineStep, Knows};
+ghost use Rattle.explore.specs.Machines.{Knows};
 
 use crate::flat_state::FlatState;
+use crate::free_run::go_freely;
+use crate::prefixes::ScriptCall;
+use crate::text_facts::TextFacts;
 use indexmap::IndexSet;
 use journal::{Event, Kind};
 use std::alloc::{AllocError, Global};
 
-/// Where a state was found first: it is what an earlier state comes to by this event.
-#[derive(Clone, Copy)]
+/// Where a state was found first: it is what an earlier state comes to by these events.
+#[derive(Drop)]
 pub struct Origin {
     /// The place of the earlier state.
     pub from: usize,
-    pub event: Event,
+    pub events: Vec<Event>,
 }
 
 /// States, each once, in the order in which they were found.
 #[derive(Drop)]
 pub struct States {
+    alloc: Global,
     states: IndexSet<FlatState>,
     /// Of each state where it comes from; the first one comes from nowhere.
     origins: Vec<Option<Origin>>,
+}
+
+/// Adds these events, the last one first.
+fn push_backwards(alloc: Global, events: &mut Vec<Event>, more: &[Event]) -> Result<(), AllocError>
+    ensures { OnOk result (events.new.items ≡ events.old.items ++ reverse more.now) }
+{
+    let mut back = Vec::from_slice(alloc, more)?;
+    back.reverse();
+    events.extend_from_slice(&back)
 }
 
 impl States {
@@ -37,6 +49,7 @@ impl States {
         ensures few { IfOk result (λ x. length (states_found x) ≤ 1) }
     {
         let mut found = States {
+            alloc,
             states: IndexSet::new(alloc),
             origins: Vec::new(alloc),
         };
@@ -71,31 +84,52 @@ impl States {
         Ok(())
     }
 
-    /// Adds what the state at this place comes to by the processor's event. The only error is running out of memory,
-    /// after which this may be of no use.
-    pub fn follow(&mut self, place: usize, processor: usize, kind: Kind) -> Result<(), AllocError>
-        requires place { place < length (states_found self.old) }
-        requires step { (m : AMachine) → slice_get (states_found self.old) place ≡ Some m → IsMachineStep m processor kind }
-        ensures { OnOk result ((s : Plan) → AreFound s self.old → processor < most_processors
-            → ((m : AMachine) → slice_get (states_found self.old) place ≡ Some m → FoundStaysPossible s m processor kind)
-            → IsFoundStateFollowed s self.old self.new place processor kind) }
+    /// Adds what the state at this place comes to by the event, and then by free ones (`go_freely`). The only error is running
+    /// out of memory, after which this may be of no use.
+    pub fn follow(
+        &mut self,
+        steps: &[Vec<ScriptCall>],
+        facts: &TextFacts,
+        place: usize,
+        event: Event,
+    ) -> Result<(), AllocError>
+        requires facts { AreTextFacts steps.now facts.now }
+        requires may { (s : Plan) × MayFollowFound s steps.now self.old place event.processor event.kind }
+        ensures { OnOk result ((s : Plan) → MayFollowFound s steps.now self.old place event.processor event.kind
+            → IsFoundStateFollowed s steps.now self.old self.new place event.processor event.kind) }
     {
         let mut state = self.at(place).copy()?;
-        state.step(processor, kind)?;
-        let event = Event { processor, kind };
-        self.add(state, Some(Origin { from: place, event }))
+        state.step(event.processor, event.kind)?;
+        let mut events = Vec::new(self.alloc);
+        events.push(event)?;
+        go_freely(&mut state, &mut events, steps, facts)?;
+        self.add(
+            state,
+            Some(Origin {
+                from: place,
+                events,
+            }),
+        )
     }
 
-    /// Adds what the state at this place comes to by each of these events, one of each processor. The only error is
-    /// running out of memory, after which this may be of no use.
-    pub fn follow_all(&mut self, place: usize, nexts: &[Option<Kind>]) -> Result<(), AllocError>
-        requires { (s : Plan) × MayFollowAll s self.old place nexts.now }
-        ensures { OnOk result ((s : Plan) → MayFollowAll s self.old place nexts.now
-            → AreFollowed s self.old self.new place nexts.now (length nexts.now)) }
+    /// Adds what the state at this place comes to by each of these events, one of each processor, as `follow` does. The only
+    /// error is running out of memory, after which this may be of no use.
+    pub fn follow_all(
+        &mut self,
+        steps: &[Vec<ScriptCall>],
+        facts: &TextFacts,
+        place: usize,
+        nexts: &[Option<Kind>],
+    ) -> Result<(), AllocError>
+        requires facts { AreTextFacts steps.now facts.now }
+        requires may { (s : Plan) × MayFollowAll s steps.now self.old place nexts.now }
+        ensures { OnOk result ((s : Plan) → MayFollowAll s steps.now self.old place nexts.now
+            → AreFollowed s steps.now self.old self.new place nexts.now (length nexts.now)) }
     {
         for processor in 0..nexts.len() {
             if let Some(kind) = nexts[processor] {
-                self.follow(place, processor, kind)?;
+                let event = Event { processor, kind };
+                self.follow(steps, facts, place, event)?;
             }
         }
         Ok(())
@@ -110,8 +144,8 @@ impl States {
     {
         let mut events = Vec::new(alloc);
         let mut place = place;
-        while let Some(origin) = self.origins[place] {
-            events.push(origin.event)?;
+        while let Some(origin) = &self.origins[place] {
+            push_backwards(alloc, &mut events, &origin.events)?;
             place = origin.from;
         }
         events.reverse();

@@ -57,7 +57,7 @@ pub fn end_of(wait: Option<WaitCode>) -> Option<Kind>
 }
 
 /// A processor, by its number.
-#[derive(Clone, Copy, PartialEq, Eq, Hash)]
+#[derive(Clone, Copy, PartialEq, Eq)]
 pub struct Seat(u8);
 
 impl Seat {

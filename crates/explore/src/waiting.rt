@@ -17,7 +17,8 @@ use base::{MOST_FLAGS, MOST_LOCKS, MOST_PROCESSORS};
 use journal::Kind;
 use std::alloc::{AllocError, Global};
 
-/// What the processors of a cluster wait for, and what of it has come.
+/// What the processors of a cluster wait for, and what of it has come. Which calls each has made tells all but the order of
+/// the asks, so that alone is hashed.
 #[derive(Drop, PartialEq, Eq)]
 #[derive_where(Hash)]
 pub struct Waiting {
@@ -25,10 +26,13 @@ pub struct Waiting {
     #[derive_where(skip(Hash))]
     waits: [Option<WaitCode>; MOST_PROCESSORS],
     /// How often each has arrived at the barrier. It has departed as often, unless it waits there.
+    #[derive_where(skip(Hash))]
     arrivals: [u32; MOST_PROCESSORS],
     /// Who holds each lock.
+    #[derive_where(skip(Hash))]
     holders: [Option<Seat>; MOST_LOCKS],
     /// Which flags are set.
+    #[derive_where(skip(Hash))]
     flags: [bool; MOST_FLAGS],
     /// Who waits for a lock, in the order of their asks.
     asked: Vec<usize>,

@@ -5,7 +5,10 @@ use lrc_commands::checking::check_program;
 use lrc_commands::explaining::explain_program;
 use lrc_commands::exploring::explore_program;
 use lrc_commands::sampling::sample_program;
-use lrc_options::options::{ExplainOptions, ExploreOptions, SampleOptions, TraceOptions};
+use lrc_commands::telling::tell_program;
+use lrc_options::options::{
+    ExplainOptions, ExploreOptions, SampleOptions, TellOptions, TraceOptions,
+};
 use lrc_program::fault::ProgramFault;
 use lrc_program::file_named;
 use lrc_program::program::say;
@@ -53,6 +56,21 @@ pub(crate) fn explain_file<R: Wait>(rt: &HostRuntime, handle: &R, options: &Expl
                 &mut out,
                 &mut err,
             ),
+            Err(error) => say(alloc, Some(path), ProgramFault::from(error), &mut err),
+        },
+    };
+    say_reason(alloc, out.reason(), &mut err);
+    status
+}
+
+/// Tells the trace of the file, or of standard input if no file or `-` is given.
+pub(crate) fn tell_file(rt: &HostRuntime, options: &TellOptions) -> u8 {
+    let alloc = rt.alloc();
+    let (mut out, mut err) = (KeepsReason::new(rt.stdout()), rt.stderr());
+    let status = match file_named(&options.file) {
+        None => tell_program(alloc, options, &mut rt.stdin(), &mut out, &mut err),
+        Some(path) => match File::open(rt, path) {
+            Ok(mut source) => tell_program(alloc, options, &mut source, &mut out, &mut err),
             Err(error) => say(alloc, Some(path), ProgramFault::from(error), &mut err),
         },
     };

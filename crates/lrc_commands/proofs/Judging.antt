@@ -1,5 +1,5 @@
 -- A trace that was read and judged.
-use Rattle.std.proofs.Common.{◌≡◌, ◌≢◌, ◌∙◌, ℕ, suc, Bool, List, [], ◌++◌, ◌≤◌, Option, Some, None, Result, Ok, Err, IfOk, length, take, drop, refl, sym, ap, subst, append_assoc, append-nil, take-append-drop, arith}
+use Rattle.std.proofs.Common.{◌≡◌, ◌≢◌, ◌∙◌, ℕ, suc, Bool, true, false, List, [], ◌++◌, ◌≤◌, Option, Some, None, Result, Ok, Err, IfOk, length, take, drop, refl, sym, ap, subst, append_assoc, append-nil, take-append-drop, arith}
 use Rattle.std.proofs.lemmas.List.{take_all}
 use Rattle.std.specs.Prelude.{IfErr, IfSome}
 use Rattle.std.specs.Io.KnownBytes.{Consumes, IsAtEnd}
@@ -11,6 +11,7 @@ use Rattle.lrc_check.specs.declared.checked.Rules.{Rules}
 use Rattle.lrc_check.specs.declared.checked.TraceVerdict.{TraceVerdict}
 use Rattle.lrc_check.specs.declared.checked.TraceVerdict.TheVariants as verdict
 use Rattle.lrc_check.specs.Faithful.{IsFaithfulAndCounted}
+use Rattle.lrc_check.specs.Told.{AreToldEvents}
 use Rattle.lrc_check.specs.Checked.{IsLie, IsCheckVerdictOf, IsCheckedWhole, checked_lie_place}
 use Rattle.lrc_check.specs.declared.traces.fault.TraceFault.{TraceFault}
 use Rattle.lrc_check.specs.declared.traces.fault.TraceFault.TheVariants.{NoMemory}
@@ -20,7 +21,7 @@ use Rattle.lrc_check.specs.Traces.Labels.{bare}
 use Rattle.lrc_check.specs.Traces.Lawful.{IsNoTrace, IsTrace}
 use Rattle.lrc_check.specs.Traces.Text.{trace_text}
 use Rattle.lrc_commands.specs.declared.checking.Judgement.{Judgement}
-use Rattle.lrc_commands.specs.JudgedTraces.{HasTraceText, IsJudgedAs, IsNoTraceOf, IsTraceReadSoFar, judgement_in}
+use Rattle.lrc_commands.specs.JudgedTraces.{HasTraceText, IsJudgedAs, IsNoTraceOf, IsToldAs, IsTraceReadSoFar, judgement_in}
 
 -- nothing was read yet
 pub judged_fed_none : (source : Option (List ℕ)) (x : TextRead) → IsReadOf [] x → IsTraceReadSoFar source source (Ok x)
@@ -131,3 +132,28 @@ pub judged_by : (r : Rules) (m : MemoryModel) (lax : Bool) (source : Option (Lis
 judged_by r m lax source a b model same is judged =
     subst (IsJudgedAs m lax source) (sym is)
     (subst (λ x. IsJudgedAs x lax source a) model (subst (λ y. IsJudgedAs r.model y source a) same judged))
+
+-- what was told of the trace that the source had is said of the source
+pub told_as : (lies : Bool) (m : MemoryModel) (lax : Bool) (source : Option (List ℕ)) {s : Sizes} {es : List Event} (told : List Event)
+    → IsTrace s es → HasTraceText source s es → AreToldEvents lies m lax s es told → IsToldAs lies m lax source
+told_as true m lax source {s} {es} told trace text is = record {
+  sizes = s;
+  events = es;
+  trace = trace;
+  text_is = text;
+  unfaithful = λ faithful. is.1.never (drop (suc is.0) es)
+      (subst (IsFaithfulAndCounted m lax s) (sym (take-append-drop (suc is.0) es)) faithful);
+}
+told_as false m lax source {s} {es} told trace text is = record {
+  sizes = s;
+  events = es;
+  trace = trace;
+  text_is = text;
+  faithful = is.0;
+}
+
+-- and so by the model that was asked for
+pub told_by : (a b : Bool) (m asked : MemoryModel) (lax : Bool) (source : Option (List ℕ)) → b ≡ a → m ≡ asked
+    → IsToldAs a m lax source → IsToldAs b asked lax source
+told_by a b m asked lax source is model told =
+    subst (λ lies. IsToldAs lies asked lax source) (sym is) (subst (λ x. IsToldAs a x lax source) model told)

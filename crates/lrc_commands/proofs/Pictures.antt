@@ -1,19 +1,18 @@
--- What is drawn of a history behind some arrivals: its own events, each in range since the whole history is, with the
--- places of its hand-overs. Places are counted from the arrivals' end, so each lies below the number of the events.
-use Rattle.std.proofs.Common.{◌≡◌, ℕ, ◌-◌, ◌+◌, ◌<◌, ◌≤◌, List, Some, length, slice_get, slice_index_or, refl, ap, subst, ◌∙◌, arith, length-append}
+-- What is drawn of a history: the events that are left, with the places of its hand-overs. Places are counted from the first of
+-- these, so each lies below their number.
+use Rattle.std.proofs.Common.{◌≡◌, ℕ, ◌-◌, ◌<◌, ◌≤◌, List, Some, drop, length, slice_get, slice_index_or, refl, ap, subst, sym, ◌∙◌, arith, length-drop}
 use Rattle.std.specs.Prelude.{All}
 use Rattle.std.specs.Global.{Vec}
 use Rattle.std.proofs.lemmas.Option.{slice_get-get_or}
 use Rattle.base.specs.Limits.{most_held, most_processors}
 use Rattle.base.specs.InOrderOnce.{Has}
-use Rattle.base.proofs.SlicesAndCounts.{slice_get-append_right}
 use Rattle.journal.specs.declared.event.Event.{Event}
 use Rattle.journal.specs.InRange.{ProcessorsInRange}
 use Rattle.journal.proofs.Order.CountedAndNumbered.{numbered_at_within}
+use Rattle.judge.specs.History.{SizedHistory}
 use Rattle.lrc_picture.specs.Arrows.{ArePlaces}
 use Rattle.lrc_picture.specs.Layout.{CanBeDrawn}
 use Rattle.causes.specs.HandOvers.{AreAllHandOvers}
-use Rattle.lrc_commands.specs.Explained.{IsExplainedBehind}
 
 -- all items have it where each does
 all_of : {A : Type 0} (P : A → Type 0) (xs : List A) → ((x : A) → Has xs x → P x) → All P xs
@@ -34,20 +33,14 @@ picture_hand_overs_within j rows are = record {
 abbrev pub AreBelow : ℕ → List (Vec ℕ) → Type 0
 AreBelow n rows = (k : ℕ) (places : Vec ℕ) → slice_get rows k ≡ Some places → All (λ i. i < n) places.items
 
--- the events can be drawn
-pub drawn : (n opening : ℕ) (events history : List Event) (rows : List (Vec ℕ)) → IsExplainedBehind opening events history
-    → length history ≤ most_held → n ≤ most_processors → ProcessorsInRange n history
-    → ArePlaces (length history - opening) rows → CanBeDrawn n events rows
-drawn n opening events history rows behind few few_processors within places = record {
-  few = omega (arith, long);
-  few_processors = few_processors;
-  processors = λ k e at. within (length behind.front + k) e
-      (ap (λ l. slice_get l (length behind.front + k)) behind.whole ∙ slice_get-append_right behind.front events k ∙ at);
-  places = subst (λ m. ArePlaces m rows) same places;
+-- the events that are left can be drawn
+pub left_drawn : {n : ℕ} {left : List Event} {rows : List (Vec ℕ)} (h : SizedHistory) → left ≡ drop h.opening h.events
+    → n ≡ h.sizes.processors → length left ≤ most_held → h.sizes.processors ≤ most_processors
+    → ProcessorsInRange h.sizes.processors left → ArePlaces (length h.events - h.opening) rows → CanBeDrawn n left rows
+left_drawn {n} {left} {rows} h is same few few_processors processors places = record {
+  few = few;
+  few_processors = omega arith;
+  processors = subst (λ k. ProcessorsInRange k left) (sym same) processors;
+  places = subst (λ k. ArePlaces k rows) (sym (ap (λ (xs : List Event). length xs) is ∙ length-drop h.opening h.events))
+      places;
 }
-  where
-    long : length history ≡ opening + length events
-    long = ap length behind.whole ∙ length-append behind.front events ∙ ap (λ m. m + length events) behind.long
-
-    same : length history - opening ≡ length events
-    same = omega (arith, long)

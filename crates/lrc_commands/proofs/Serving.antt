@@ -1,22 +1,19 @@
 -- A script that was read and then studied.
-use Rattle.std.proofs.Common.{◌≡◌, ◌∙◌, ℕ, Bool, true, List, subst, Option, Some, None, Result, Ok, Err, OnOk, refl}
+use Rattle.std.proofs.Common.{◌≡◌, ◌∙◌, ℕ, Bool, true, List, subst, Option, Some, None, Result, Ok, Err, OnOk}
 use Rattle.std.specs.Prelude.{IfErr, IfOk, is_some, option_map, string_bytes}
 use Rattle.std.proofs.lemmas.Option.{none-some, same_Some}
 use Rattle.conformance.specs.declared.ended.Ended.{Ended}
 use Rattle.conformance.specs.declared.schedule.DrawnRun.{DrawnRun}
 use Rattle.conformance.specs.ByTurns.{IsEndByTurns, turn_orders}
 use Rattle.conformance.specs.Schedules.{IsScheduleText, scheduled}
-use Rattle.std.specs.Io.KnownBytes.{Keeps}
 use Rattle.lrc_script.specs.Plan.{Plan}
-use Rattle.lrc_explain.specs.declared.fault.ExplainFault.{ExplainFault}
-use Rattle.lrc_explain.specs.declared.fault.ExplainFault.TheVariants as explain
-use Rattle.lrc_explain.specs.Texts.{ExplainUnwritten}
 use Rattle.lrc_program.specs.Served.{IsNoScript, IsScriptRead}
 use Rattle.lrc_options.specs.declared.options.ExplainOptions.{ExplainOptions}
+use Rattle.lrc_options.specs.declared.options.ExploreOptions.{ExploreOptions}
 use Rattle.lrc_commands.specs.declared.fault.StudyFault.{StudyFault}
 use Rattle.lrc_commands.specs.Explained.{IsEndAsked, IsExplained, IsRunExplained}
 use Rattle.lrc_commands.specs.Sampled.{IsSampleWritten, IsSampled}
-use Rattle.lrc_commands.specs.Searched.{IsSearchWritten, SearchWritten}
+use Rattle.lrc_commands.specs.Searched.{IsSearchAsked, SearchWritten}
 use Rattle.lrc_commands.specs.Statuses.{IsInputsStatus}
 
 -- it ended by a schedule's turns
@@ -54,28 +51,15 @@ serves_explanation picture o script source old new (Ok line) read told =
     record { script = script; read = read; run = told }
 serves_explanation picture o script source old new (Err fault) read told = tt
 
--- its schedules were looked at
-pub serves_search : (most : ℕ) (json : Bool) (script : Plan) (source old new : Option (List ℕ)) (result : Result Bool StudyFault)
-    → IsScriptRead source script → IfOk result (λ decided. IsSearchWritten most decided json script old new)
-    → IfOk result (λ decided. SearchWritten most decided json source old new)
-serves_search most json script source old new (Ok x) read written =
-    record { script = script; read = read; search = written }
-serves_search most json script source old new (Err fault) read written = tt
+-- what the options ask for was looked for
+pub serves_search : (o : ExploreOptions) (script : Plan) (source old new : Option (List ℕ)) (result : Result Bool StudyFault)
+    → IsScriptRead source script → IfOk result (λ decided. IsSearchAsked o.until.items o.most decided o.json script old new)
+    → IfOk result (λ decided. SearchWritten o decided source old new)
+serves_search o script source old new (Ok x) read written = record { script = script; read = read; search = written }
+serves_search o script source old new (Err fault) read written = tt
 
 -- a fault on the way isn't the input's
 pub serves_no_input : {A : Type 0} (source : Option (List ℕ)) (result : Result A StudyFault)
     → IfErr result (λ fault. IsInputsStatus fault → ⊥) → IfErr result (λ fault. IsInputsStatus fault → IsNoScript source)
 serves_no_input source (Ok x) none = tt
 serves_no_input source (Err fault) none = λ its. absurd (none its)
-
--- what stays the same is kept
-pub kept : (old new : Option (List ℕ)) → new ≡ old → Keeps old new
-kept None new same = tt
-kept (Some xs) new same = rw same refl
-
--- a run that isn't told, but for a failed output, leaves what was written
-pub serves_untold : (fault : ExplainFault) (old new : Option (List ℕ)) → (fault ≡ explain.Output → ⊥)
-    → ExplainUnwritten old new fault → Keeps old new
-serves_untold explain.Output old new other unwritten = absurd (other refl)
-serves_untold explain.NoMemory old new other unwritten = kept old new unwritten
-serves_untold explain.OutOfRange old new other unwritten = kept old new unwritten

@@ -1,6 +1,5 @@
 -- What the program does with a script that is explained.
-use Rattle.std.specs.Prelude.{ℕ, ◌≡◌, ◌++◌, ⊤, Bool, true, false, List, Option, Some, is_some, length, option_map, string_bytes}
-use Rattle.journal.specs.declared.event.Event.{Event}
+use Rattle.std.specs.Prelude.{ℕ, ◌≡◌, ⊤, Bool, true, false, List, Option, Some, is_some, option_map, string_bytes}
 use Rattle.lrc_script.specs.Plan.{Plan}
 use Rattle.conformance.specs.declared.ended.Ended.{Ended}
 use Rattle.conformance.specs.declared.ended.Ended.TheVariants.{Halted, Whole}
@@ -39,9 +38,3 @@ pub record IsExplained (picture halted : Bool) (o : ExplainOptions) (source old 
   pub script : Plan
   pub read : IsScriptRead source script
   pub run : IsRunExplained picture halted o script old new
-
--- a history is these events behind so many others
-pub record IsExplainedBehind (opening : ℕ) (events history : List Event) : Type 0 where
-  pub front : List Event
-  pub long : length front ≡ opening
-  pub whole : history ≡ front ++ events

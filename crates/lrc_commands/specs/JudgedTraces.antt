@@ -1,5 +1,5 @@
 -- What the program does with a trace.
-use Rattle.std.specs.Prelude.{◌≡◌, ◌≢◌, ℕ, Bool, List, Option, Result, Ok, Err, IfSome}
+use Rattle.std.specs.Prelude.{◌≡◌, ◌≢◌, ℕ, Bool, true, false, List, Option, Result, Ok, Err, IfSome}
 use Rattle.std.specs.Io.KnownBytes.{Consumes}
 use Rattle.journal.specs.declared.event.Event.{Event}
 use Rattle.journal.specs.Sizes.{Sizes}
@@ -52,6 +52,11 @@ pub record IsUnfaithfulTrace (m : MemoryModel) (lax : Bool) (source : Option (Li
   pub trace : IsTrace sizes events
   pub text_is : HasTraceText source sizes events
   pub unfaithful : ¬ IsFaithfulAndCounted m lax sizes events
+
+-- the one or the other, by whether it lies
+abbrev pub IsToldAs : Bool → MemoryModel → Bool → Option (List ℕ) → Type 0
+IsToldAs true m lax source = IsUnfaithfulTrace m lax source
+IsToldAs false m lax source = IsFaithfulTrace m lax source
 
 -- the source had the text of a trace that races
 pub record IsRacyTrace (source : Option (List ℕ)) : Type 0 where

@@ -1,10 +1,14 @@
 -- What the program does with a script whose schedules are all looked at.
-use Rattle.std.specs.Prelude.{ℕ, ◌≡◌, Bool, true, false, List, Option}
+use Rattle.std.specs.Prelude.{ℕ, ◌≡◌, Bool, true, false, List, [], ◌∷◌, Option}
 use Rattle.std.specs.Io.KnownBytes.{Appends}
 use Rattle.lrc_script.specs.Plan.{Plan}
 use Rattle.explore.specs.Explored.{IsExplored, is_settled}
+use Rattle.explore.specs.Until.{IsExploredUntil, is_showing_settled}
 use Rattle.explore.specs.declared.explored.Explored.{Explored}
+use Rattle.explore.specs.declared.showing.ExploredUntil.{ExploredUntil}
+use Rattle.lrc_explore.specs.Showings.{AreWordsShown, ShowingWritten}
 use Rattle.lrc_explore.specs.Texts.{ExploreWritten}
+use Rattle.lrc_options.specs.declared.options.ExploreOptions.{ExploreOptions}
 use Rattle.lrc_program.specs.Served.{IsScriptRead}
 
 -- the text of what was found was written; or JSON, of which no more is said
@@ -19,8 +23,28 @@ pub record IsSearchWritten (most : ℕ) (decided json : Bool) (script : Plan) (o
   pub decided_is : is_settled explored ≡ decided
   pub written : IsSearchAnswer json old new explored
 
--- so were those of the script that the source had
-pub record SearchWritten (most : ℕ) (decided json : Bool) (source old new : Option (List ℕ)) : Type 0 where
+-- the text of whether a run ends with some words was written; or JSON, of which no more is said
+abbrev pub IsShowingAnswer : Bool → Option (List ℕ) → Option (List ℕ) → ExploredUntil → Type 0
+IsShowingAnswer true old new explored = (json : List ℕ) × Appends old new json
+IsShowingAnswer false old new explored = ShowingWritten old new explored
+
+-- a run of the script that ends with these words, which it shows, was looked for, in that many states at most, and what was
+-- found was written
+pub record IsShowingAsked (words : List (ℕ × ℕ)) (most : ℕ) (decided json : Bool) (script : Plan) (old new : Option (List ℕ))
+    : Type 0 where
+  pub explored : ExploredUntil
+  pub is : IsExploredUntil script words most explored
+  pub shown : AreWordsShown script.shown words
+  pub decided_is : is_showing_settled explored.showing ≡ decided
+  pub written : IsShowingAnswer json old new explored
+
+-- such a run, if words are given; else all schedules
+abbrev pub IsSearchAsked : List (ℕ × ℕ) → ℕ → Bool → Bool → Plan → Option (List ℕ) → Option (List ℕ) → Type 0
+IsSearchAsked [] most decided json script old new = IsSearchWritten most decided json script old new
+IsSearchAsked (word ∷ words) most decided json script old new = IsShowingAsked (word ∷ words) most decided json script old new
+
+-- what the options ask for was looked for in the script that the source had
+pub record SearchWritten (o : ExploreOptions) (decided : Bool) (source old new : Option (List ℕ)) : Type 0 where
   pub script : Plan
   pub read : IsScriptRead source script
-  pub search : IsSearchWritten most decided json script old new
+  pub search : IsSearchAsked o.until.items o.most decided o.json script old new

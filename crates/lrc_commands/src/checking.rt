@@ -25,7 +25,7 @@ const MOST_READ: usize = (1 << 27) + 128;
 const PIECE: usize = 1 << 16;
 
 /// The exit status of a trace that isn't faithful.
-const UNFAITHFUL: u8 = 6;
+pub(crate) const UNFAITHFUL: u8 = 6;
 
 /// The exit status of a trace whose judging ended with its race.
 const RACY: u8 = 8;
@@ -116,7 +116,10 @@ fn room(alloc: Global, size: usize) -> Result<Vec<u8>, AllocError>
 }
 
 /// Reads a trace, so that its text is never there as a whole.
-fn read_trace<S: Read>(alloc: Global, source: &mut S) -> Result<LabelledTrace, StudyFault>
+pub(crate) fn read_trace<S: Read>(
+    alloc: Global,
+    source: &mut S,
+) -> Result<LabelledTrace, StudyFault>
     ensures trace { IfOk result (λ t. IsTrace (trace_sizes_of t.trace.sizes) t.trace.events.items) }
     ensures text { IfOk result (λ t. HasTraceText (S.remaining source.old) (trace_sizes_of t.trace.sizes) t.trace.events.items) }
     ensures refused { IfErr result (λ fault. IsInputsStatus fault → IsNoTraceOf (S.remaining source.old)) }
@@ -137,7 +140,7 @@ fn judgement_of(found: &Checked) -> Judgement
 }
 
 /// The model that is asked for.
-fn model_for(model: TraceModel) -> MemoryModel
+pub(crate) fn model_for(model: TraceModel) -> MemoryModel
     ensures { result ≡ judged_model model }
 {
     match model {
@@ -165,6 +168,7 @@ fn told_as_json<W: Write>(
     alloc: Global,
     labelled: &LabelledTrace,
     rules: Rules,
+    locksets: bool,
     out: &mut W,
 ) -> Result<Checked, StudyFault>
     requires { IsTrace (trace_sizes_of labelled.now.trace.sizes) labelled.now.trace.events.items }
@@ -173,15 +177,15 @@ fn told_as_json<W: Write>(
     ensures early { IfErr result
         (λ fault. IsStatusBeforeAnswer fault → Keeps (W.contents out.old) (W.contents out.new)) }
 {
-    let judged = judge_trace(alloc, &labelled.trace, rules)?;
+    let judged = judge_trace(alloc, &labelled.trace, rules, locksets)?;
     write_checked(alloc, labelled, rules, &judged, out)?;
     Ok(judged.found)
 }
 
-/// Judges a trace, and writes what was found as text or as JSON.
+/// Judges a trace by the rules that the options ask for, and writes what was found as text or as JSON.
 fn told_trace<W: Write>(
     alloc: Global,
-    json: bool,
+    options: &TraceOptions,
     labelled: &LabelledTrace,
     rules: Rules,
     out: &mut W,
@@ -192,10 +196,10 @@ fn told_trace<W: Write>(
     ensures early { IfErr result
         (λ fault. IsStatusBeforeAnswer fault → Keeps (W.contents out.old) (W.contents out.new)) }
 {
-    if json {
-        return told_as_json(alloc, labelled, rules, out);
+    if options.json {
+        return told_as_json(alloc, labelled, rules, options.locksets, out);
     }
-    Ok(check_trace(alloc, labelled, rules, out)?)
+    Ok(check_trace(alloc, labelled, rules, options.locksets, out)?)
 }
 
 /// Reads a trace, judges it and writes what was found: how judging ended.
@@ -213,7 +217,7 @@ fn check_source<S: Read, W: Write>(
 {
     let labelled = read_trace(alloc, source)?;
     let rules = rules_of(options);
-    let found = told_trace(alloc, options.json, &labelled, rules, out)?;
+    let found = told_trace(alloc, options, &labelled, rules, out)?;
     Ok(judgement_of(&found))
 }
 

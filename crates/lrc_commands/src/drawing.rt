@@ -1,64 +1,21 @@
-//! The picture of a run.
-ghost use Rattle.std.specs.Prelude.{ℕ, ◌-◌, ◌<◌, ◌≤◌, All, IfErr, IfOk, IsTrue, OnOk, length};
+//! The picture of a run or of a trace.
+ghost use Rattle.std.specs.Prelude.{ℕ, ◌-◌, ◌<◌, ◌≤◌, All, IfErr, IfOk, OnOk, length};
 ghost use Rattle.std.specs.Io.KnownBytes.{Keeps};
-ghost use Rattle.base.specs.Prelude.{most_held, most_processors};
-ghost use Rattle.journal.specs.Prelude.{ProcessorsInRange};
 ghost use Rattle.lrc_picture.specs.Prelude.{ArePlaces, CanBeDrawn};
-ghost use Rattle.lrc_commands.specs.Prelude.{IsStatusBeforeAnswer, IsExplainedBehind, IsInputsStatus};
+ghost use Rattle.lrc_commands.specs.Prelude.{IsStatusBeforeAnswer, IsInputsStatus};
 
 use crate::fault::StudyFault;
 use causes::{Part, hand_overs};
-use conformance::Ended;
-use journal::{Event, Journal, Kind, MOST_HELD, MOST_PROCESSORS};
-use judge::Sizes;
-use lrc_explain::{Sketch, sketch_run};
+use journal::Journal;
+use judge::History;
+use lrc_check::ToldTrace;
+use lrc_explain::{Sketch, ToldHistory, sketch_run, sketch_trace};
 use lrc_picture::changes::changes;
 use lrc_picture::page::{RunState, render_page};
-use lrc_picture::panel::StartMemory;
 use lrc_picture::picture::render;
-use lrc_picture::story::{Details, Story};
-use lrc_script::script::Script;
+use lrc_picture::story::{Details, Story, Subject};
 use std::alloc::{AllocError, Global};
 use std::io::Write;
-
-/// How many arrivals stand for what was cut off of a journal of so many processors: one of each, since each had arrived
-/// and none gone on.
-fn opening_of(processors: usize, journal: &Journal) -> usize {
-    if journal.cut_events() == 0 {
-        0
-    } else {
-        processors
-    }
-}
-
-/// The events of the journal behind so many arrivals, one of each processor.
-fn history_of(alloc: Global, opening: usize, journal: &Journal) -> Result<Vec<Event>, AllocError>
-    ensures { IfOk result (λ v. IsExplainedBehind opening journal.now.events v.items) }
-{
-    let mut history = Vec::new(alloc);
-    for processor in 0..opening {
-        history.push(Event {
-            processor,
-            kind: Kind::Arrive,
-        })?;
-    }
-    history.extend_from_slice(journal.events())?;
-    Ok(history)
-}
-
-/// Whether these are so few events of so few processors as a cluster has, and all of them by these processors.
-fn are_in_range(events: &[Event], processors: usize) -> bool
-    ensures few { IsTrue result → length events.now ≤ most_held }
-    ensures few_processors { IsTrue result → processors ≤ most_processors }
-    ensures processors { IsTrue result → ProcessorsInRange processors events.now }
-{
-    for event in events {
-        if event.processor >= processors {
-            return false;
-        }
-    }
-    events.len() <= MOST_HELD && processors <= MOST_PROCESSORS
-}
 
 /// Adds the place, counted from `opening` on, unless it stands before that.
 fn add_place(left: &mut Vec<usize>, place: usize, opening: usize) -> Result<(), AllocError>
@@ -100,22 +57,13 @@ fn rows_from(
     Ok(left)
 }
 
-/// For each event of the history behind so many the places, counted from there, of the other processors' events by which its
-/// processor gets its news: of a lock the last release alone.
-fn arrows_of(
-    alloc: Global,
-    processors: usize,
-    opening: usize,
-    history: &[Event],
-) -> Result<Vec<Vec<usize>>, AllocError>
-    requires opening { opening ≤ length history.now }
-    requires few { length history.now ≤ most_held }
-    requires few_processors { processors ≤ most_processors }
-    requires processors { ProcessorsInRange processors history.now }
-    ensures { IfOk result (λ v. ArePlaces (length history.now - opening) v.items) }
+/// For each event that is left of the history the places, counted from the first of these, of the other processors' events by
+/// which its processor gets its news: of a lock the last release alone.
+fn arrows_of(alloc: Global, history: &History<'_>) -> Result<Vec<Vec<usize>>, AllocError>
+    ensures { IfOk result (λ v. ArePlaces (length history.now.events - history.now.opening) v.items) }
 {
-    let rows = hand_overs(alloc, processors, history)?;
-    rows_from(alloc, &rows, opening)
+    let rows = hand_overs(alloc, history)?;
+    rows_from(alloc, &rows, history.opening())
 }
 
 /// What the picture tells besides events and arrows.
@@ -132,7 +80,7 @@ fn details_of(sketch: &Sketch) -> Details<'_> {
 /// How a run is drawn.
 #[derive(Clone, Copy)]
 pub(crate) struct Drawing<'a> {
-    /// The name of the script's file, where it has one.
+    /// The name of the file, where there is one.
     pub name: Option<&'a str>,
     /// What of the run is drawn.
     pub part: Part,
@@ -140,26 +88,26 @@ pub(crate) struct Drawing<'a> {
     pub is_page: bool,
 }
 
-/// The sizes of the script's memory.
-fn sizes_of(script: &Script) -> Sizes {
-    Sizes {
-        processors: script.processors,
-        pages: script.pages,
-        words: script.words,
-        locks: script.locks,
-        flags: script.flags,
-    }
+/// A history that is drawn, and what is told of it.
+#[derive(Clone, Copy)]
+struct DrawnHistory<'a> {
+    subject: Subject,
+    history: &'a History<'a>,
+    /// The places of the first race; None where there is none.
+    race: Option<(usize, usize)>,
+    /// Whether the run can't go on.
+    halted: bool,
+    /// The words of the memory before the first event.
+    words: &'a [u32],
+    sketch: &'a Sketch,
 }
 
-/// Draws the story of the journal, as a picture or as a page. The history is the journal's events behind the arrivals that stand
-/// for what was cut off.
+/// Draws the story of the history, as a picture or as a page that steps through it.
 fn draw_story<W: Write>(
     alloc: Global,
     drawing: &Drawing<'_>,
-    script: &Script,
     story: &Story<'_>,
-    journal: &Journal,
-    history: &[Event],
+    drawn: &DrawnHistory<'_>,
     out: &mut W,
 ) -> Result<(), StudyFault>
     requires drawn { CanBeDrawn story.now.processors story.now.events.now story.now.incoming.now }
@@ -171,32 +119,50 @@ fn draw_story<W: Write>(
         render(alloc, story, &drawing.part, out)?;
         return Ok(());
     }
-    let sizes = sizes_of(script);
-    let is_cut = journal.cut_events() > 0;
-    let Some(changes) = changes(alloc, sizes, is_cut, history)? else {
-        return Err(StudyFault::Untold);
-    };
+    let changes = changes(alloc, drawn.history)?;
     let state = RunState {
-        start: StartMemory {
-            sizes,
-            words: journal.base(),
-            is_cut,
-        },
-        history,
-        opening: opening_of(script.processors, journal),
+        history: drawn.history,
+        words: drawn.words,
         changes: &changes,
     };
     render_page(alloc, story, &drawing.part, &state, out)?;
     Ok(())
 }
 
-/// Draws the run of a script with this journal, of which this is told.
-fn draw_journal<W: Write>(
+/// Draws the history.
+fn draw_history<W: Write>(
     alloc: Global,
     drawing: &Drawing<'_>,
-    script: &Script,
+    drawn: &DrawnHistory<'_>,
+    out: &mut W,
+) -> Result<(), StudyFault>
+    ensures runs { IfErr result (λ fault. IsInputsStatus fault → ⊥) }
+    ensures early { IfErr result
+        (λ fault. IsStatusBeforeAnswer fault → Keeps (W.contents out.old) (W.contents out.new)) }
+{
+    let history = drawn.history;
+    let arrows = arrows_of(alloc, history)?;
+    let story = Story {
+        subject: drawn.subject,
+        name: drawing.name,
+        processors: history.sizes().processors,
+        events: history.left(),
+        incoming: &arrows,
+        first: history.cut_events(),
+        race: drawn.race,
+        halted: drawn.halted,
+        details: details_of(drawn.sketch),
+    };
+    draw_story(alloc, drawing, &story, drawn, out)
+}
+
+/// Draws the run of a script with this journal and its history. The only faults are running out of memory and that of the
+/// output.
+pub(crate) fn draw<W: Write>(
+    alloc: Global,
+    drawing: &Drawing<'_>,
     journal: &Journal,
-    sketch: &Sketch,
+    history: &History<'_>,
     halted: bool,
     out: &mut W,
 ) -> Result<(), StudyFault>
@@ -204,43 +170,50 @@ fn draw_journal<W: Write>(
     ensures early { IfErr result
         (λ fault. IsStatusBeforeAnswer fault → Keeps (W.contents out.old) (W.contents out.new)) }
 {
-    let processors = script.processors;
-    let opening = opening_of(processors, journal);
-    let history = history_of(alloc, opening, journal)?;
-    if !are_in_range(&history, processors) {
-        return Err(StudyFault::Untold);
-    }
-    let arrows = arrows_of(alloc, processors, opening, &history)?;
-    let story = Story {
-        name: drawing.name,
-        processors,
-        events: journal.events(),
-        incoming: &arrows,
-        first: journal.cut_events(),
+    let sketch = sketch_run(alloc, history)?;
+    let drawn = DrawnHistory {
+        subject: Subject::Run,
+        history,
         race: journal.first_race()?,
         halted,
-        details: details_of(sketch),
+        words: journal.base(),
+        sketch: &sketch,
     };
-    draw_story(alloc, drawing, script, &story, journal, &history, out)
+    draw_history(alloc, drawing, &drawn, out)
 }
 
-/// Draws how a run of the script ended. The only faults are running out of memory, that of the output, and a journal that
-/// isn't one of the script.
-pub(crate) fn draw<W: Write>(
+/// Of what the picture of the trace is.
+fn subject_of(told: &ToldTrace<'_>) -> Subject {
+    if told.lie.is_some() {
+        Subject::LyingTrace
+    } else {
+        Subject::FaithfulTrace
+    }
+}
+
+/// Draws what is told of a trace, and of its pages, if these are told; the history is what is told. The only faults are running
+/// out of memory and that of the output.
+pub(crate) fn draw_trace<W: Write>(
     alloc: Global,
     drawing: &Drawing<'_>,
-    script: &Script,
-    ended: &Ended,
+    told: &ToldTrace<'_>,
+    history: &ToldHistory<'_>,
+    pages: bool,
     out: &mut W,
 ) -> Result<(), StudyFault>
     ensures runs { IfErr result (λ fault. IsInputsStatus fault → ⊥) }
     ensures early { IfErr result
         (λ fault. IsStatusBeforeAnswer fault → Keeps (W.contents out.old) (W.contents out.new)) }
 {
-    let sketch = sketch_run(alloc, script.processors, script.words, ended)?;
-    let (journal, halted) = match ended {
-        Ended::Whole(report) => (&report.journal, false),
-        Ended::Halted(halt) => (&halt.journal, true),
+    let sketch = sketch_trace(alloc, history, pages)?;
+    let words = vec![in alloc; 0; history.history.addresses()]?;
+    let drawn = DrawnHistory {
+        subject: subject_of(told),
+        history: history.history,
+        race: told.race,
+        halted: false,
+        words: &words,
+        sketch: &sketch,
     };
-    draw_journal(alloc, drawing, script, journal, &sketch, halted, out)
+    draw_history(alloc, drawing, &drawn, out)
 }

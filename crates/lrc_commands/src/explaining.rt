@@ -11,8 +11,10 @@ use crate::fault::{HALTED, StudyFault};
 use crate::locks::lock_of;
 use causes::Part;
 use conformance::{Cause, Ended, RunFault, Runs, Schedule};
+use journal::Journal;
+use judge::{History, Sizes};
 use lrc_explain::{Extent, render};
-use lrc_options::options::ExplainOptions;
+use lrc_options::options::{ExplainOptions, ShowOptions};
 use lrc_program::fault::ProgramFault;
 use lrc_program::program::{read_script, say_line};
 use lrc_script::script::Script;
@@ -36,20 +38,49 @@ fn halt_line(alloc: Global, file: Option<&str>, ended: &Ended) -> Result<Option<
     }
 }
 
-/// The part of the run that is told or drawn.
-fn part_of(options: &ExplainOptions) -> Part {
+/// The part of the history that is told or drawn.
+fn part_of(showing: &ShowOptions) -> Part {
     Part {
-        first: options.events.first,
-        end: options.events.end,
-        processors: options.processors,
+        first: showing.events.first,
+        end: showing.events.end,
+        processors: showing.processors,
     }
 }
 
-/// How much of the run is told.
-fn extent_of(options: &ExplainOptions) -> Extent {
+/// How much of the history is told, with its pages or without.
+pub(crate) fn extent_of(showing: &ShowOptions, pages: bool) -> Extent {
     Extent {
-        part: part_of(options),
-        state: options.state,
+        part: part_of(showing),
+        pages,
+        state: showing.state,
+    }
+}
+
+/// How the history of the file of this name is drawn.
+pub(crate) fn drawing_of<'a>(name: Option<&'a str>, showing: &ShowOptions) -> Drawing<'a> {
+    Drawing {
+        name,
+        part: part_of(showing),
+        is_page: showing.page,
+    }
+}
+
+/// The sizes of the script's memory.
+fn sizes_of(script: &Script) -> Sizes {
+    Sizes {
+        processors: script.processors,
+        pages: script.pages,
+        words: script.words,
+        locks: script.locks,
+        flags: script.flags,
+    }
+}
+
+/// The journal of the run, and whether the run can't go on.
+fn journal_of(ended: &Ended) -> (&Journal, bool) {
+    match ended {
+        Ended::Whole(report) => (&report.journal, false),
+        Ended::Halted(halt) => (&halt.journal, true),
     }
 }
 
@@ -61,28 +92,22 @@ fn print_end<W: Write>(
     ended: &Ended,
     out: &mut W,
 ) -> Result<(), StudyFault>
-    ensures told { OnOk result (ExplainedWritten options.now.picture
+    ensures told { OnOk result (ExplainedWritten options.now.showing.picture
         (W.contents out.old) (W.contents out.new) ended.now) }
     ensures runs { IfErr result (λ fault. IsInputsStatus fault → ⊥) }
     ensures early { IfErr result
         (λ fault. IsStatusBeforeAnswer fault → Keeps (W.contents out.old) (W.contents out.new)) }
 {
-    if options.picture {
-        let drawing = Drawing {
-            name: options.file.as_deref(),
-            part: part_of(options),
-            is_page: options.page,
-        };
-        return draw(alloc, &drawing, script, ended, out);
+    let (journal, halted) = journal_of(ended);
+    let Some(history) = History::of_journal(sizes_of(script), journal) else {
+        return Err(StudyFault::Untold);
+    };
+    if options.showing.picture {
+        let drawing = drawing_of(options.file.as_deref(), &options.showing);
+        return draw(alloc, &drawing, journal, &history, halted, out);
     }
-    render(
-        alloc,
-        script.processors,
-        Some(script.words),
-        &extent_of(options),
-        ended,
-        out,
-    )?;
+    let extent = extent_of(&options.showing, true);
+    render(alloc, &history, &extent, ended, out)?;
     Ok(())
 }
 
@@ -119,7 +144,7 @@ fn print_run<T: Runs, R: Wait, W: Write>(
     out: &mut W,
 ) -> Result<Option<String>, StudyFault>
     requires { IsLawful (plan_of script.now) }
-    ensures told { IfOk result (λ line. IsRunExplained options.now.picture (is_some line)
+    ensures told { IfOk result (λ line. IsRunExplained options.now.showing.picture (is_some line)
         options.now (plan_of script.now) (W.contents out.old) (W.contents out.new)) }
     ensures runs { IfErr result (λ fault. IsInputsStatus fault → ⊥) }
     ensures early { IfErr result
@@ -141,7 +166,7 @@ fn explain_script<T: Runs, R: Wait, S: Read, W: Write>(
     refused: &mut Vec<u8>,
     out: &mut W,
 ) -> Result<Option<String>, StudyFault>
-    ensures explained { IfOk result (λ line. IsExplained options.now.picture (is_some line)
+    ensures explained { IfOk result (λ line. IsExplained options.now.showing.picture (is_some line)
         options.now (S.remaining source.old) (W.contents out.old) (W.contents out.new)) }
     ensures refused { IfErr result (λ fault. IsInputsStatus fault → IsNoScript (S.remaining source.old)) }
     ensures early { IfErr result
@@ -164,11 +189,11 @@ pub fn explain_program<T: Runs, R: Wait, S: Read, W: Write, E: Write>(
     err: &mut E,
 ) -> u8
     // The script that was read was run by turns to its end, and the run was told whole.
-    ensures whole { result ≡ 0 → IsExplained options.now.picture false
+    ensures whole { result ≡ 0 → IsExplained options.now.showing.picture false
         options.now
         (S.remaining source.old) (W.contents out.old) (W.contents out.new) }
     // It was run so as far as it goes, and can't go on; so far it was told whole.
-    ensures halted { result ≡ 3 → IsExplained options.now.picture true
+    ensures halted { result ≡ 3 → IsExplained options.now.showing.picture true
         options.now
         (S.remaining source.old) (W.contents out.old) (W.contents out.new) }
     // What is refused as a script is none.

@@ -3,12 +3,13 @@ ghost use Rattle.std.specs.Prelude.{◌≡◌, ◌≢◌, IfErr, IfOk, OnOk, fal
 ghost use Rattle.std.specs.Io.KnownBytes.{Keeps};
 ghost use Rattle.lrc_script.specs.Prelude.{IsLawful, plan_of};
 ghost use Rattle.lrc_program.specs.Prelude.{IsNoScript};
-ghost use Rattle.lrc_commands.specs.Prelude.{IsStatusBeforeAnswer, IsInputsStatus, IsSearchAnswer, IsSearchWritten, SearchWritten};
+ghost use Rattle.lrc_commands.specs.Prelude.{IsStatusBeforeAnswer, IsInputsStatus, IsSearchAnswer, IsSearchAsked, IsSearchWritten, SearchWritten};
+ghost use Rattle.lrc_commands.specs.Prelude.{IsShowingAnswer, IsShowingAsked};
 
 use crate::fault::StudyFault;
-use explore::{Explored, Progress, explore};
-use lrc_explore::render;
-use lrc_json::write_explored;
+use explore::{Explored, ExploredUntil, Progress, explore, explore_until};
+use lrc_explore::{render, render_showing, unshown_address};
+use lrc_json::{write_explored, write_showing};
 use lrc_options::options::ExploreOptions;
 use lrc_program::program::read_script;
 use lrc_script::script::Script;
@@ -37,6 +38,25 @@ fn write_search<W: Write>(
     Ok(render(alloc, script, explored, out)?)
 }
 
+/// Writes whether a run of a script ends with words that were asked for, as text or as JSON.
+fn write_answer<W: Write>(
+    alloc: Global,
+    json: bool,
+    script: &Script,
+    explored: &ExploredUntil,
+    out: &mut W,
+) -> Result<(), StudyFault>
+    ensures written { OnOk result (IsShowingAnswer json (W.contents out.old) (W.contents out.new) explored.now) }
+    ensures runs { IfErr result (λ fault. IsInputsStatus fault → ⊥) }
+    ensures early { IfErr result
+        (λ fault. IsStatusBeforeAnswer fault → Keeps (W.contents out.old) (W.contents out.new)) }
+{
+    if json {
+        return Ok(write_showing(alloc, script, explored, out)?);
+    }
+    Ok(render_showing(alloc, script, explored, out)?)
+}
+
 /// Looks at all schedules of a script, and writes what was found. Answers whether nothing is open.
 fn print_search<W: Write, P: Progress>(
     alloc: Global,
@@ -57,7 +77,59 @@ fn print_search<W: Write, P: Progress>(
     Ok(explored.is_settled())
 }
 
-/// Reads a script, looks at all its schedules, and writes what was found.
+/// Looks for a run of a script that ends with the words that the options give, and writes what was found. Answers whether
+/// nothing is open.
+fn print_showing<W: Write, P: Progress>(
+    alloc: Global,
+    options: &ExploreOptions,
+    script: &Script,
+    out: &mut W,
+    progress: &mut P,
+) -> Result<bool, StudyFault>
+    requires { IsLawful (plan_of script.now) }
+    ensures written { IfOk result (λ decided. IsShowingAsked options.now.until.items options.now.most decided options.now.json
+        (plan_of script.now) (W.contents out.old) (W.contents out.new)) }
+    ensures runs { IfErr result (λ fault. IsInputsStatus fault → ⊥) }
+    ensures early { IfErr result
+        (λ fault. IsStatusBeforeAnswer fault → Keeps (W.contents out.old) (W.contents out.new)) }
+{
+    if let Some(address) = unshown_address(&script.shown, &options.until) {
+        return Err(StudyFault::Unshown(address));
+    }
+    let explored = explore_until(
+        alloc,
+        script,
+        &options.until,
+        options.most as usize,
+        progress,
+    )?;
+    write_answer(alloc, options.json, script, &explored, out)?;
+    Ok(explored.is_settled())
+}
+
+/// Looks for what the options ask for, and writes what was found. Answers whether nothing is open.
+fn print_asked<W: Write, P: Progress>(
+    alloc: Global,
+    options: &ExploreOptions,
+    script: &Script,
+    out: &mut W,
+    progress: &mut P,
+) -> Result<bool, StudyFault>
+    requires { IsLawful (plan_of script.now) }
+    ensures written { IfOk result (λ decided. IsSearchAsked options.now.until.items options.now.most decided options.now.json
+        (plan_of script.now) (W.contents out.old) (W.contents out.new)) }
+    ensures runs { IfErr result (λ fault. IsInputsStatus fault → ⊥) }
+    ensures early { IfErr result
+        (λ fault. IsStatusBeforeAnswer fault → Keeps (W.contents out.old) (W.contents out.new)) }
+{
+    if options.until.is_empty() {
+        print_search(alloc, options, script, out, progress)
+    } else {
+        print_showing(alloc, options, script, out, progress)
+    }
+}
+
+/// Reads a script, looks for what the options ask for, and writes what was found.
 fn explore_script<S: Read, W: Write, P: Progress>(
     alloc: Global,
     options: &ExploreOptions,
@@ -66,18 +138,18 @@ fn explore_script<S: Read, W: Write, P: Progress>(
     out: &mut W,
     progress: &mut P,
 ) -> Result<bool, StudyFault>
-    ensures searched { IfOk result (λ decided. SearchWritten options.now.most decided options.now.json
+    ensures searched { IfOk result (λ decided. SearchWritten options.now decided
         (S.remaining source.old) (W.contents out.old) (W.contents out.new)) }
     ensures refused { IfErr result (λ fault. IsInputsStatus fault → IsNoScript (S.remaining source.old)) }
     ensures early { IfErr result
         (λ fault. IsStatusBeforeAnswer fault → Keeps (W.contents out.old) (W.contents out.new)) }
 {
     let script = read_script(alloc, source, refused)?;
-    print_search(alloc, options, &script, out, progress)
+    print_asked(alloc, options, &script, out, progress)
 }
 
-/// Looks at all schedules of the script of `source`, and writes what was found to `out`, or one line to `err`; answers the
-/// exit status. The file that the options name isn't opened here. `progress` is told now and then how many states were found.
+/// Looks at all schedules of the script of `source`, or for a run that ends with the words that the options give, and writes
+/// what was found to `out`, or why nothing was to `err`; answers the exit status. The file that the options name isn't opened here. `progress` is told now and then how many states were found.
 pub fn explore_program<S: Read, W: Write, E: Write, P: Progress>(
     alloc: Global,
     options: &ExploreOptions,
@@ -86,11 +158,11 @@ pub fn explore_program<S: Read, W: Write, E: Write, P: Progress>(
     err: &mut E,
     progress: &mut P,
 ) -> u8
-    // All schedules of the script that was read were looked at, and what was found was written, whole.
-    ensures decided { result ≡ 0 → SearchWritten options.now.most true options.now.json (S.remaining source.old)
+    // What the options ask for was looked for in the script that was read, to its end, and what was found was written, whole.
+    ensures decided { result ≡ 0 → SearchWritten options.now true (S.remaining source.old)
         (W.contents out.old) (W.contents out.new) }
     // The search was given up after as many states as the options say, or as fit, and what it had found was written.
-    ensures undecided { result ≡ 7 → SearchWritten options.now.most false options.now.json (S.remaining source.old)
+    ensures undecided { result ≡ 7 → SearchWritten options.now false (S.remaining source.old)
         (W.contents out.old) (W.contents out.new) }
     // What is refused as a script is none.
     ensures refused { result ≡ 2 → IsNoScript (S.remaining source.old) }

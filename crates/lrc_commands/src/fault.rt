@@ -37,8 +37,10 @@ pub enum StudyFault {
     Trace(usize, TraceFault),
     /// There are more bytes than any trace has.
     Long,
-    /// A run's journal isn't one of the script's processors, or isn't there if the run can't go on. That doesn't come
-    /// of runs on a cluster.
+    /// The word at this address is asked for, and the script doesn't show it.
+    Unshown(usize),
+    /// A run's journal isn't one of the script's sizes, or isn't there if the run can't go on. That doesn't come of runs on a
+    /// cluster.
     Untold,
 }
 
@@ -50,12 +52,15 @@ impl StudyFault {
             StudyFault::Program(fault) => fault.lines(alloc, file, script),
             StudyFault::Trace(line, fault) => format!(in alloc; "lrc: line {line}: {fault}\n"),
             StudyFault::Long => String::from_str(alloc, "lrc: trace too long\n"),
+            StudyFault::Unshown(address) => format!(in alloc;
+                "lrc: until: address {address} isn't shown\n  add {address} to the last line of the script, show ADDRESS ..\n"
+            ),
             StudyFault::Untold => String::from_str(alloc, "lrc: no journal of the run\n"),
         }
     }
 
-    /// The exit status: 2 for a trace that is refused, 4 for one that is too long and for a run without its journal, else
-    /// that of a run.
+    /// The exit status: 2 for a trace that is refused, 4 for one that is too long and for a run without its journal, 5 for a
+    /// word that isn't shown, else that of a run.
     fn status(self) -> u8
         ensures { result ≡ study_status_of self }
     {
@@ -63,6 +68,7 @@ impl StudyFault {
             StudyFault::Program(fault) => fault.status(),
             StudyFault::Trace(..) => 2,
             StudyFault::Long | StudyFault::Untold => 4,
+            StudyFault::Unshown(_) => 5,
         }
     }
 
@@ -155,7 +161,6 @@ impl From<ExplainFault> for StudyFault {
         match fault {
             ExplainFault::Output => StudyFault::Program(ProgramFault::Output),
             ExplainFault::NoMemory => StudyFault::Program(ProgramFault::NoMemory),
-            ExplainFault::OutOfRange => StudyFault::Untold,
         }
     }
 }

@@ -1,5 +1,5 @@
-//! What the program `lrc` does with a trace, and with a script beside running it: it judges a trace, samples a script's
-//! runs, explains one of them, and looks at all its schedules.
+//! What the program `lrc` does with a trace, and with a script beside running it: it judges a trace or tells it, samples a
+//! script's runs, explains one of them, and looks at all its schedules.
 //!
 //! These are the commands that study a script or a trace. They stand apart from `lrc_program`, which has `run` and `step`,
 //! so that a program with these two alone stands on fewer crates.
@@ -8,12 +8,13 @@
 //! (`contents`). Scripts are run by whatever has the contract `Runs`.
 //!
 //! **What is proved.** `check_program` judges a trace: it answers 0 only if the source had the text of a faithful one,
-//! 6 only if it had one that isn't faithful, 2 only if it had none. `sample_program` answers 0 only if all that the
+//! 6 only if it had one that isn't faithful, 2 only if it had none; `tell_program` answers so of a trace that it tells.
+//! `sample_program` answers 0 only if all that the
 //! source had is a script's text, it was run by as many seeds as were asked for and with that lock, and the text of what
 //! that came to was written, and nothing else (`IsSampled`). `explain_program` answers 0 only if a run of the source's
 //! script came to its end and was told, 3 only if one that can't go on was told so far (`IsExplained`). `explore_program`
-//! answers 0 only if all schedules of the source's script were looked at, 7 only if that was given up, and what was found
-//! was written (`SearchWritten`). These answer 2 only if the source had no script's text. Each fault has its status
+//! answers 0 only if all schedules of the source's script were looked at, or a run with the words that were given was looked
+//! for, 7 only if that was given up, and what was found was written (`SearchWritten`). These answer 2 only if the source had no script's text. Each fault has its status
 //! (`study_status_of`).
 //!
 //! **What is only tested**, by whole runs of the program. The texts of faults, which fault is met, that `explain` uses the
@@ -28,3 +29,4 @@ pub mod exploring;
 pub mod fault;
 mod locks;
 pub mod sampling;
+pub mod telling;

@@ -27,13 +27,13 @@ more : (old a b x new : List ℕ) → x ≡ old ++ a → new ≡ x ++ b → new 
 more old a b x new ex en = en ∙ ap (λ t. t ++ b) ex ∙ append_assoc old a b
 
 -- four texts, added one after the other
-pub lines_added_four : (old a b c d x y z new : List ℕ) → x ≡ old ++ a → y ≡ x ++ b → z ≡ y ++ c → new ≡ z ++ d
+pub lines_added_four : {x y z new : List ℕ} (old a b c d : List ℕ) → x ≡ old ++ a → y ≡ x ++ b → z ≡ y ++ c → new ≡ z ++ d
     → new ≡ old ++ (((a ++ b) ++ c) ++ d)
-lines_added_four old a b c d x y z new ex ey ez en =
+lines_added_four {x} {y} {z} {new} old a b c d ex ey ez en =
     more old ((a ++ b) ++ c) d z new (more old (a ++ b) c y z (more old a b x y ex ey) ez) en
 
 -- and five
-pub lines_added_five : (old a b c d e x y z w new : List ℕ) → x ≡ old ++ a → y ≡ x ++ b → z ≡ y ++ c → w ≡ z ++ d → new ≡ w ++ e
+pub lines_added_five : {x y z w new : List ℕ} (old a b c d e : List ℕ) → x ≡ old ++ a → y ≡ x ++ b → z ≡ y ++ c → w ≡ z ++ d → new ≡ w ++ e
     → new ≡ old ++ ((((a ++ b) ++ c) ++ d) ++ e)
-lines_added_five old a b c d e x y z w new ex ey ez ew en =
-    more old (((a ++ b) ++ c) ++ d) e w new (lines_added_four old a b c d x y z w ex ey ez ew) en
+lines_added_five {w = w} {new = new} old a b c d e ex ey ez ew en =
+    more old (((a ++ b) ++ c) ++ d) e w new (lines_added_four old a b c d ex ey ez ew) en

@@ -1,3 +1,4 @@
 pub mod Texts
+pub mod Showings
 pub mod Prelude
 pub mod Schedules

@@ -81,6 +81,17 @@ fn put_outcome(
     text.extend_from_slice(b"\n")
 }
 
+/// The line of an outcome of runs that show these addresses. The only error is running out of memory.
+pub fn outcome_text(
+    alloc: Global,
+    shown: &[usize],
+    outcome: &ScriptOutcome,
+) -> Result<Vec<u8>, AllocError> {
+    let mut text = Vec::new(alloc);
+    put_outcome(&mut text, shown, &outcome.replies)?;
+    Ok(text)
+}
+
 /// A line for each outcome, of runs that show these addresses. The only error is running out of memory.
 pub fn outcomes_text(
     alloc: Global,

@@ -18,7 +18,7 @@ use std::alloc::{AllocError, Global};
 use std::io::Write;
 
 /// Adds how many states were found.
-fn put_states(text: &mut Vec<u8>, states: usize) -> Result<(), AllocError>
+pub fn put_states(text: &mut Vec<u8>, states: usize) -> Result<(), AllocError>
     ensures { OnOk result (text.new.items ≡ text.old.items ++ explore_text_states_line states) }
 {
     put_number(text, b"states ", states as u64)?;
@@ -82,7 +82,7 @@ fn put_count(text: &mut Vec<u8>, outcomes: usize, are_all: bool) -> Result<(), A
 }
 
 /// Adds the events of a schedule that races, and the lines of the two that race: the one at this place and the last one.
-fn put_race(text: &mut Vec<u8>, events: &[Event], first: usize) -> Result<(), AllocError>
+pub fn put_race(text: &mut Vec<u8>, events: &[Event], first: usize) -> Result<(), AllocError>
     ensures { OnOk result (text.new.items ≡ text.old.items ++ explore_text_racy_lines events.now first) }
 {
     let last = events.len().saturating_sub(1);
@@ -173,7 +173,7 @@ fn text_of(alloc: Global, shown: &[usize], explored: &Explored) -> Result<Vec<u8
 }
 
 /// Writes the text and flushes the writer.
-fn write_text<W: Write>(text: &[u8], out: &mut W) -> Result<(), ExploreFault>
+pub fn write_text<W: Write>(text: &[u8], out: &mut W) -> Result<(), ExploreFault>
     ensures written { OnOk result (Appends (W.contents out.old) (W.contents out.new) text.now) }
     ensures fault { IfErr result (λ e. e ≡ Output) }
 {

@@ -1,2 +1,3 @@
 pub mod OptionRules
 pub mod WrittenProcessors
+pub mod FinalWords

@@ -1,11 +1,14 @@
 -- What the getters of clap's matches read, by the rows.
-use Rattle.std.proofs.Common.{◌≡◌, ◌⊎◌, ◌∙◌, ◌<◌, ◌≤◌, ◌^◌, ℕ, Bool, true, false, List, Option, Some, None, Result, Ok, Err, [], ◌∷◌, inl, inr, refl, subst, sym, ap, ap₂, codes}
-use Rattle.std.specs.Prelude.{◌||◌, IfErr, IfOk, OnOk, is_some, option_map}
+use Rattle.std.proofs.Common.{◌≡◌, ◌⊎◌, ◌∙◌, ◌<◌, ◌≤◌, ◌^◌, ℕ, Bool, true, false, List, Option, Some, None, Result, Ok, Err, [], ◌∷◌, inl, inr, refl, subst, sym, ap, ap₂, codes, cond, map}
+use Rattle.std.specs.Prelude.{◌||◌, IfErr, IfOk, OnOk, find, is_some, option_and_then, option_map}
 use Rattle.std.specs.Option.{option_map_or}
 use Rattle.std.specs.Str.{bytes_eq}
 use Rattle.std.specs.Str.Parse.{IsNumeral, ParsesUnsigned, without_leading_plus}
 use Rattle.std.proofs.lemmas.Option.{same_Some}
-use Rattle.clap.specs.Words.{App, FailsBy, fault_of, HasKind, IsAmong, Kinds, Row, Rule, Text, ReadsOne, first_of, first_value, one_of, one_text, rows_of, subcommand_of, with_rule}
+use Rattle.clap.specs.Facts.{Entry}
+use Rattle.clap.specs.Walk.{row_of}
+use Rattle.clap.specs.declared.parser.matches.MatchedArg.{MatchedArg}
+use Rattle.clap.specs.Words.{App, FailsBy, fault_of, HasKind, IsAmong, Kinds, Row, Rule, Text, ReadsOne, first_of, first_value, matched_of, one_of, one_text, rows_of, subcommand_of, with_rule}
 use Rattle.clap.specs.declared.builder.command.Command.{Command}
 use Rattle.clap.specs.declared.parser.matches.Found.{Found}
 use Rattle.clap.specs.declared.error.Error.{Error}
@@ -16,7 +19,8 @@ use Rattle.clap.specs.declared.error.kind.ErrorKind.TheVariants.{OutOfMemory}
 use Rattle.lrc_options.specs.declared.options.Asked.{Asked}
 use Rattle.lrc_options.specs.declared.options.TraceModel.{TraceModel}
 use Rattle.lrc_options.specs.declared.options.TraceModel.TheVariants.{RaceFree}
-use Rattle.lrc_options.specs.OptionRules.{option_model_given, option_named_model, IsCommand, IsOptionNumberRead, IsNumberOption, IsSeedOption, IsFlagOption, IsRefusedCommandLine, IsOptionUnanswered, OptionTakesNames, AreAskedOptionsOf, AreGivenOptions, flagged_rules, has_both_options, lrc_rules, option_number, most_seed_option}
+use Rattle.lrc_options.specs.Clashes.{do_options_clash, option_source}
+use Rattle.lrc_options.specs.OptionRules.{option_model_given, option_named_model, IsCommand, IsOptionNumberRead, IsNumberOption, IsSeedOption, IsFlagOption, IsRefusedCommandLine, IsOptionUnanswered, OptionTakesNames, AreAskedOptionsOf, AreGivenOptions, flagged_rules, lrc_rules, option_number, most_seed_option}
 
 -- a text that is a number is read as that
 option_number_reads : {E : Type 0} (t : Text) (G : List ℕ → Result ℕ E → Type 0) (r : Option ℕ) → ReadsOne G t r
@@ -189,21 +193,21 @@ pub options_out_of_memory : (locks models : ValueParser) (words : List Text) (e 
     → kind_of e ≡ OutOfMemory → IsRefusedCommandLine words e
 options_out_of_memory locks models words e are models_are is = record { locks = locks; locks_are = are; models = models; models_are = models_are; kind = inl (inl is) }
 
--- and so do a seed beside a schedule, and a text that can't be read
+-- and so do options that exclude each other, and a text that can't be read
 pub options_refused_by : (locks models : ValueParser) (words : List Text) (name : Text) (rows : List Row) (e : Error)
     → OptionTakesNames (codes "array" ∷ codes "ticket" ∷ []) locks
     → OptionTakesNames (codes "race-free" ∷ codes "happens-before" ∷ codes "lazy-release" ∷ codes "sequential" ∷ []) models
     → subcommand_of (lrc_rules locks models) words ≡ Some (name, rows)
-    → IsOptionUnanswered rows e → IsRefusedCommandLine words e
-options_refused_by locks models words name rows e are models_are command (inl memory) =
-    options_out_of_memory locks models words e are models_are memory
-options_refused_by locks models words name rows e are models_are command (inr (inl both)) = record {
+    → IsOptionUnanswered name rows e → IsRefusedCommandLine words e
+options_refused_by locks models words name rows e are models_are command (inl clash) = record {
   locks = locks;
   locks_are = are;
   models = models;
   models_are = models_are;
-  kind = inr (inl (record { name = name; rows = rows; command = command; both = both.0; kind = both.1 }));
+  kind = inr (inl (record { name = name; rows = rows; command = command; clash = clash.0; kind = clash.1 }));
 }
+options_refused_by locks models words name rows e are models_are command (inr (inl memory)) =
+    options_out_of_memory locks models words e are models_are memory
 options_refused_by locks models words name rows e are models_are command (inr (inr bad)) = record {
   locks = locks;
   locks_are = are;
@@ -217,9 +221,9 @@ pub options_given_by : (locks models : ValueParser) (words : List Text) (name : 
     → OptionTakesNames (codes "array" ∷ codes "ticket" ∷ []) locks
     → OptionTakesNames (codes "race-free" ∷ codes "happens-before" ∷ codes "lazy-release" ∷ codes "sequential" ∷ []) models
     → fault_of (lrc_rules locks models) words ≡ []
-    → subcommand_of (lrc_rules locks models) words ≡ Some (name, rows) → OnOk result (has_both_options rows ≡ false)
+    → subcommand_of (lrc_rules locks models) words ≡ Some (name, rows) → OnOk result (do_options_clash name rows ≡ false)
     → IfOk result (AreAskedOptionsOf name rows) → IfOk result (AreGivenOptions words)
-options_given_by locks models words name rows (Ok asked) are models_are none command one told = record {
+options_given_by locks models words name rows (Ok asked) are models_are none command apart told = record {
   locks = locks;
   locks_are = are;
   models = models;
@@ -228,7 +232,20 @@ options_given_by locks models words name rows (Ok asked) are models_are none com
   name = name;
   rows = rows;
   command = command;
-  one = one;
+  apart = apart;
   asked = told;
 }
-options_given_by locks models words name rows (Err e) are models_are none command one told = tt
+options_given_by locks models words name rows (Err e) are models_are none command apart told = tt
+
+-- `value_source`, by the rows
+pub option_source_read : (f : Found) (id : Text) → option_and_then (λ (a : MatchedArg). a.source) (matched_of f id) ≡ option_source id (rows_of f)
+option_source_read f id = go f.entries.items
+  where
+    go : (xs : List Entry) → option_and_then (λ (a : MatchedArg). a.source) (option_map (λ e. e.1) (find (λ e. bytes_eq e.0.now id) xs))
+        ≡ option_and_then (λ (r : Row). r.source) (find (λ r. bytes_eq r.id id) (map row_of xs))
+    go [] = refl
+    go (e ∷ es) = elim (bytes_eq e.0.now id) as (λ b. option_and_then (λ (a : MatchedArg). a.source) (option_map (λ e. e.1) (cond b (Some e) (find (λ e. bytes_eq e.0.now id) es)))
+        ≡ option_and_then (λ (r : Row). r.source) (cond b (Some (row_of e)) (find (λ r. bytes_eq r.id id) (map row_of es)))) [
+          | true ↦ refl
+          | false ↦ go es
+        ]

@@ -1,2 +1,4 @@
 pub mod Ranges
+pub mod Clashes
+pub mod FinalWords
 pub mod OptionRules

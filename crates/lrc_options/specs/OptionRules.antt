@@ -1,5 +1,5 @@
 -- What the program's words give.
-use Rattle.std.specs.Prelude.{ℕ, ◌≡◌, ◌||◌, ◌<◌, ◌≤◌, ◌-◌, ◌^◌, ◌⊎◌, ◌&&◌, Bool, true, false, List, [], ◌∷◌, Option, Some, None, IfSome, codes, cond, is_some, map, option_map, replicate, string_bytes}
+use Rattle.std.specs.Prelude.{ℕ, ◌≡◌, ◌||◌, ◌<◌, ◌≤◌, ◌-◌, ◌^◌, ◌⊎◌, Bool, true, false, List, [], ◌∷◌, Option, Some, None, IfSome, codes, cond, map, option_map, replicate, string_bytes}
 use Rattle.std.specs.Option.{option_map_or}
 use Rattle.std.specs.Str.{bytes_eq}
 use Rattle.std.specs.Str.Parse.{IsNumeral, digits_value, without_leading_plus}
@@ -15,17 +15,21 @@ use Rattle.clap.specs.declared.error.Error.{Error}
 use Rattle.clap.specs.declared.error.kind.ErrorKind.TheVariants.{ArgumentConflict, OutOfMemory, ValueValidation}
 use Rattle.base.specs.Limits.{most_processors}
 use Rattle.lrc_script.specs.LineReading.{parts_of_line}
+use Rattle.lrc_options.specs.Clashes.{do_options_clash, is_option_in_words}
+use Rattle.lrc_options.specs.FinalWords.{AreFinalWordsWritten}
 use Rattle.lrc_options.specs.Ranges.{AreProcessorsWritten, IsRangeWritten}
 use Rattle.lrc_options.specs.declared.ranges.EventRange.{EventRange}
 use Rattle.lrc_options.specs.declared.options.Asked.{Asked}
-use Rattle.lrc_options.specs.declared.options.Asked.TheVariants.{Explain, Explore, Sample, Script, Trace}
+use Rattle.lrc_options.specs.declared.options.Asked.TheVariants.{Explain, Explore, Sample, Script, Tell, Trace}
 use Rattle.lrc_options.specs.declared.options.ExplainOptions.{ExplainOptions}
 use Rattle.lrc_options.specs.declared.options.ExploreOptions.{ExploreOptions}
 use Rattle.lrc_options.specs.declared.options.Options.{Options}
 use Rattle.lrc_options.specs.declared.options.SampleOptions.{SampleOptions}
+use Rattle.lrc_options.specs.declared.options.TellOptions.{TellOptions}
 use Rattle.lrc_options.specs.declared.options.TraceModel.{TraceModel}
 use Rattle.lrc_options.specs.declared.options.TraceModel.TheVariants.{HappensBefore, LazyRelease, RaceFree, Sequential}
 use Rattle.lrc_options.specs.declared.options.TraceOptions.{TraceOptions}
+use Rattle.lrc_options.specs.declared.options.ShowOptions.{ShowOptions}
 
 -- the limits and the default of `--tries`, the limit of `--seed`, `--seeds` and `--most`, and the defaults of the latter two
 abbrev pub most_tries_option : ℕ
@@ -94,6 +98,9 @@ events_rule = option_rule (codes "events")
 abbrev pub processors_rule : Rule
 processors_rule = option_rule (codes "processors")
 
+abbrev pub until_rule : Rule
+until_rule = option_rule (codes "until")
+
 abbrev pub json_rule : Rule
 json_rule = flag_rule (codes "json")
 
@@ -121,10 +128,24 @@ run_rules locks = flagged_rules (codes "run") tries_rule locks journal_rule
 abbrev pub step_rules : ValueParser → App
 step_rules locks = with_rule (flagged_rules (codes "step") seed_rule locks journal_rule) schedule_rule
 
--- `lrc explain`
-abbrev pub explain_rules : ValueParser → App
-explain_rules locks = with_rule (with_rule (with_rule (with_rule (with_rule
+-- a command whose options say how a trace is judged: its model, of those that this parser lets through
+abbrev pub lax_rule : Rule
+lax_rule = flag_rule (codes "lax")
+
+abbrev pub judged_rules : App → ValueParser → App
+judged_rules a models = with_rule (with_rule a (model_rule models)) lax_rule
+
+-- `lrc explain` of a script
+abbrev pub told_rules : ValueParser → App
+told_rules locks = with_rule (with_rule (with_rule (with_rule (with_rule
     (flagged_rules (codes "explain") seed_rule locks svg_rule) html_rule) schedule_rule) state_rule) events_rule) processors_rule
+
+-- `lrc explain`
+abbrev pub traced_rule : Rule
+traced_rule = flag_rule (codes "trace")
+
+abbrev pub explain_rules : ValueParser → ValueParser → App
+explain_rules locks models = judged_rules (with_rule (told_rules locks) traced_rule) models
 
 -- `lrc sample`
 abbrev pub sample_rules : ValueParser → App
@@ -132,18 +153,18 @@ sample_rules locks = flagged_rules (codes "sample") seeds_rule locks json_rule
 
 -- `lrc explore`
 abbrev pub explore_rules : App
-explore_rules = with_rule (with_rule (file_rules (codes "explore")) most_rule) json_rule
+explore_rules = with_rule (with_rule (with_rule (file_rules (codes "explore")) most_rule) until_rule) json_rule
 
 -- `lrc check`
-abbrev pub lax_rule : Rule
-lax_rule = flag_rule (codes "lax")
-
 abbrev pub race_is_error_rule : Rule
 race_is_error_rule = flag_rule (codes "race-is-error")
 
+abbrev pub locksets_rule : Rule
+locksets_rule = flag_rule (codes "locksets")
+
 abbrev pub check_rules : ValueParser → App
-check_rules models =
-    with_rule (with_rule (with_rule (with_rule (file_rules (codes "check")) (model_rule models)) lax_rule) race_is_error_rule) json_rule
+check_rules models = with_rule (with_rule (with_rule (judged_rules (file_rules (codes "check")) models) race_is_error_rule)
+    locksets_rule) json_rule
 
 -- `lrc` without its commands: it wants one, and has a version
 abbrev pub bare_rules : App
@@ -152,7 +173,7 @@ bare_rules = on_top (λ s. record s { subcommand_required = true; has_version = 
 -- `lrc` with all its commands
 abbrev pub lrc_rules : ValueParser → ValueParser → App
 lrc_rules locks models = with_subcommand (with_subcommand (with_subcommand (with_subcommand (with_subcommand (with_subcommand bare_rules
-    (run_rules locks).top) (step_rules locks).top) (explain_rules locks).top) (sample_rules locks).top) explore_rules.top)
+    (run_rules locks).top) (step_rules locks).top) (explain_rules locks models).top) (sample_rules locks).top) explore_rules.top)
     (check_rules models).top
 
 -- the parser takes these names and no others
@@ -219,6 +240,7 @@ pub record AreTraceOptionsOf (rows : List Row) (o : TraceOptions) : Type 0 where
   pub model : o.model ≡ option_model_given rows
   pub lax : IsFlagOption (one_of (codes "lax") rows) o.lax
   pub race_is_error : IsFlagOption (one_of (codes "race-is-error") rows) o.race_is_error
+  pub locksets : IsFlagOption (one_of (codes "locksets") rows) o.locksets
   pub json : IsFlagOption (one_of (codes "json") rows) o.json
 
 -- whether the ticket lock is asked for
@@ -232,10 +254,16 @@ pub record AreSampleOptionsOf (rows : List Row) (o : SampleOptions) : Type 0 whe
   pub ticket : o.ticket ≡ ticket_option rows
   pub json : IsFlagOption (one_of (codes "json") rows) o.json
 
+-- the words that are given, or none
+abbrev pub AreFinalWordsGiven : Option Text → List (ℕ × ℕ) → Type 0
+AreFinalWordsGiven None words = words ≡ []
+AreFinalWordsGiven (Some t) words = AreFinalWordsWritten (parts_of_line 44 t) words
+
 -- the options that the rows of `explore` give
 pub record AreExploreOptionsOf (rows : List Row) (o : ExploreOptions) : Type 0 where
   pub file : option_map (λ f. string_bytes f) o.file ≡ first_of (codes "FILE") rows
   pub most : IsNumberOption 0 most_seed_option default_most_option (one_of (codes "most") rows) o.most
+  pub until : AreFinalWordsGiven (first_of (codes "until") rows) o.until.items
   pub json : IsFlagOption (one_of (codes "json") rows) o.json
 
 -- the events that are given, or all
@@ -248,21 +276,39 @@ abbrev pub AreProcessorsGiven : Option Text → List Bool → Type 0
 AreProcessorsGiven None marks = marks ≡ replicate most_processors true
 AreProcessorsGiven (Some t) marks = AreProcessorsWritten (parts_of_line 44 t) marks
 
+-- what the rows of `explain` say that is shown of a history, and how
+pub record AreShowOptionsGiven (rows : List Row) (v : ShowOptions) : Type 0 where
+  pub picture : IsOneOfFlags (one_of (codes "svg") rows) (one_of (codes "html") rows) v.picture
+  pub page : IsFlagOption (one_of (codes "html") rows) v.page
+  pub state : IsFlagOption (one_of (codes "state") rows) v.state
+  pub events : AreEventsGiven (first_of (codes "events") rows) v.events
+  pub processors : AreProcessorsGiven (first_of (codes "processors") rows) v.processors
+
 -- the options that the rows of `explain` give
 pub record AreExplainOptionsOf (rows : List Row) (o : ExplainOptions) : Type 0 where
   pub file : option_map (λ f. string_bytes f) o.file ≡ first_of (codes "FILE") rows
   pub seed : IsSeedOption (one_of (codes "seed") rows) o.seed
   pub schedule : option_map (λ t. string_bytes t) o.schedule ≡ first_of (codes "schedule") rows
   pub ticket : o.ticket ≡ ticket_option rows
-  pub picture : IsOneOfFlags (one_of (codes "svg") rows) (one_of (codes "html") rows) o.picture
-  pub page : IsFlagOption (one_of (codes "html") rows) o.page
-  pub state : IsFlagOption (one_of (codes "state") rows) o.state
-  pub events : AreEventsGiven (first_of (codes "events") rows) o.events
-  pub processors : AreProcessorsGiven (first_of (codes "processors") rows) o.processors
+  pub showing : AreShowOptionsGiven rows o.showing
+
+-- those that the rows of `explain --trace` give
+pub record AreTellOptionsOf (rows : List Row) (o : TellOptions) : Type 0 where
+  pub file : option_map (λ f. string_bytes f) o.file ≡ first_of (codes "FILE") rows
+  pub model : o.model ≡ option_model_given rows
+  pub lax : IsFlagOption (one_of (codes "lax") rows) o.lax
+  pub showing : AreShowOptionsGiven rows o.showing
+
+-- a run of a script is to be explained, or with `--trace` a trace is to be told
+abbrev pub IsExplanationAsked : List Row → Asked → Type 0
+IsExplanationAsked rows (Explain o) = (is_option_in_words (codes "trace") rows ≡ false) × AreExplainOptionsOf rows o
+IsExplanationAsked rows (Tell o) = (is_option_in_words (codes "trace") rows ≡ true) × AreTellOptionsOf rows o
+IsExplanationAsked rows _ = ⊥
 
 -- what a command's name and its rows ask for
 abbrev pub AreAskedOptionsOf : Text → List Row → Asked → Type 0
-AreAskedOptionsOf name rows (Explain o) = (bytes_eq name (codes "explain") ≡ true) × AreExplainOptionsOf rows o
+AreAskedOptionsOf name rows (Explain o) = (bytes_eq name (codes "explain") ≡ true) × IsExplanationAsked rows (Explain o)
+AreAskedOptionsOf name rows (Tell o) = (bytes_eq name (codes "explain") ≡ true) × IsExplanationAsked rows (Tell o)
 AreAskedOptionsOf name rows (Sample o) = (bytes_eq name (codes "sample") ≡ true) × AreSampleOptionsOf rows o
 AreAskedOptionsOf name rows (Explore o) = (bytes_eq name (codes "explore") ≡ true) × AreExploreOptionsOf rows o
 AreAskedOptionsOf name rows (Trace o) = (bytes_eq name (codes "check") ≡ true) × AreTraceOptionsOf rows o
@@ -272,11 +318,7 @@ AreAskedOptionsOf name rows (Script o) = (bytes_eq name (codes "explain") ≡ fa
     × (bytes_eq name (codes "check") ≡ false)
     × AreOptionsOf name rows o
 
--- whether a seed and a schedule are given
-abbrev pub has_both_options : List Row → Bool
-has_both_options rows = is_some (first_of (codes "seed") rows) && is_some (first_of (codes "schedule") rows)
-
--- what the words ask for, by the matches of a simple command, which find no fault in them, and no seed beside a schedule
+-- what the words ask for, by the matches of a simple command, which find no fault in them; no options exclude each other
 pub record AreGivenOptions (words : List Text) (o : Asked) : Type 0 where
   pub locks : ValueParser
   pub locks_are : OptionTakesNames (codes "array" ∷ codes "ticket" ∷ []) locks
@@ -287,21 +329,22 @@ pub record AreGivenOptions (words : List Text) (o : Asked) : Type 0 where
   pub name : Text
   pub rows : List Row
   pub command : subcommand_of (lrc_rules locks models) words ≡ Some (name, rows)
-  pub one : has_both_options rows ≡ false
+  pub apart : do_options_clash name rows ≡ false
   pub asked : AreAskedOptionsOf name rows o
 
--- the words give a seed and a schedule, and the fault says so
+-- the words give options that exclude each other, and the fault says so
 pub record IsOptionConflict (locks models : ValueParser) (words : List Text) (e : Error) : Type 0 where
   pub name : Text
   pub rows : List Row
   pub command : subcommand_of (lrc_rules locks models) words ≡ Some (name, rows)
-  pub both : has_both_options rows ≡ true
+  pub clash : do_options_clash name rows ≡ true
   pub kind : kind_of e ≡ ArgumentConflict
 
--- what is given for the events or for the processors can't be read
+-- what is given for the events, for the processors or for the words can't be read
 abbrev pub IsOptionUnread : List Row → Type 0
 IsOptionUnread rows = ((x : EventRange) → ¬ AreEventsGiven (first_of (codes "events") rows) x)
-    ⊎ ((marks : List Bool) → ¬ AreProcessorsGiven (first_of (codes "processors") rows) marks)
+    ⊎ (((marks : List Bool) → ¬ AreProcessorsGiven (first_of (codes "processors") rows) marks)
+    ⊎ ((words : List (ℕ × ℕ)) → ¬ AreFinalWordsGiven (first_of (codes "until") rows) words))
 
 -- the words give such a text, and the fault says so
 pub record IsOptionMisread (locks models : ValueParser) (words : List Text) (e : Error) : Type 0 where
@@ -311,13 +354,16 @@ pub record IsOptionMisread (locks models : ValueParser) (words : List Text) (e :
   pub unread : IsOptionUnread rows
   pub kind : kind_of e ≡ ValueValidation
 
--- a command whose rows these are isn't answered: memory ran out, a seed and a schedule are given, or a text that can't be read
-abbrev pub IsOptionUnanswered : List Row → Error → Type 0
-IsOptionUnanswered rows e = (kind_of e ≡ OutOfMemory) ⊎ (((has_both_options rows ≡ true) × (kind_of e ≡ ArgumentConflict))
-    ⊎ (IsOptionUnread rows × (kind_of e ≡ ValueValidation)))
+-- what is shown isn't answered: memory ran out, or a text can't be read
+abbrev pub IsShowingUnread : List Row → Error → Type 0
+IsShowingUnread rows e = (kind_of e ≡ OutOfMemory) ⊎ (IsOptionUnread rows × (kind_of e ≡ ValueValidation))
 
--- memory ran out, or the matches of that command find a fault of this kind in the words, or a seed beside a schedule, or a text
--- that can't be read
+-- a command isn't answered: options exclude each other, or what is shown isn't answered
+abbrev pub IsOptionUnanswered : Text → List Row → Error → Type 0
+IsOptionUnanswered name rows e = ((do_options_clash name rows ≡ true) × (kind_of e ≡ ArgumentConflict)) ⊎ IsShowingUnread rows e
+
+-- memory ran out, or the matches of that command find a fault of this kind in the words, or options that exclude each other, or a
+-- text that can't be read
 pub record IsRefusedCommandLine (words : List Text) (e : Error) : Type 0 where
   pub locks : ValueParser
   pub locks_are : OptionTakesNames (codes "array" ∷ codes "ticket" ∷ []) locks

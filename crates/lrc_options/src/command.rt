@@ -6,12 +6,12 @@ ghost use Rattle.clap.specs.declared.builder.value_parser.ValueParser.TheVariant
 ghost use Rattle.lrc_options.specs.OptionRules.{flag_rule, lock_rule, model_rule, most_rule, number_rule, option_rule, schedule_rule, seed_rule, seeds_rule};
 ghost use Rattle.lrc_options.specs.OptionRules.{IsCommand, bare_rules, check_rules, explain_rules, explore_rules, file_rules};
 ghost use Rattle.lrc_options.specs.OptionRules.{flagged_rules, lrc_rules, run_rules, sample_rules, script_rules, step_rules};
-ghost use Rattle.lrc_options.specs.OptionRules.{tries_rule};
+ghost use Rattle.lrc_options.specs.OptionRules.{judged_rules, told_rules, tries_rule};
 
 use crate::help::{
-    ABOUT, AFTER, AFTER_RUN_AND_STEP, EVENTS, EXPLAIN, EXPLORE, HTML, JOURNAL, JSON, LAX, MODEL,
-    MOST, PROCESSORS, RACE_IS_ERROR, SAMPLE, SCHEDULE, SCRIPT, SCRIPT_FILE, SEED, SEEDS, STATE,
-    SVG, TRACE, TRACE_FILE, TRIES, VERSION,
+    ABOUT, AFTER, AFTER_RUN_AND_STEP, EVENTS, EXPLAIN, EXPLORE, HTML, JOURNAL, JSON, LAX, LOCKSETS,
+    MODEL, MOST, PROCESSORS, RACE_IS_ERROR, SAMPLE, SCHEDULE, SCRIPT, SCRIPT_FILE, SEED, SEEDS,
+    STATE, SVG, TRACE, TRACE_FILE, TRACED, TRIES, UNTIL, VERSION,
 };
 use crate::options::Commands;
 use clap::builder::ValueParser;
@@ -226,9 +226,22 @@ fn step_command<'a>(alloc: Global, locks: &'a [&'a str]) -> Result<Command<'a>, 
     with_option(command, schedule_arg(alloc))
 }
 
-/// `lrc explain`.
-fn explain_command<'a>(alloc: Global, locks: &'a [&'a str]) -> Result<Command<'a>, AllocError>
-    ensures { IfOk result (IsCommand (explain_rules (vp.Names locks.entry))) }
+/// The command with the options that say how a trace is judged.
+fn judged_command<'a>(
+    alloc: Global,
+    command: Result<Command<'a>, AllocError>,
+    models: &'a [&'a str],
+) -> Result<Command<'a>, AllocError>
+    ensures { (a : App) → IfOk command.entry (IsCommand a)
+        → IfOk result (IsCommand (judged_rules a (vp.Names models.entry))) }
+{
+    let command = with_option(command, model_arg(alloc, models));
+    with_option(command, flag_arg(alloc, "lax", LAX))
+}
+
+/// `lrc explain` of a script alone.
+fn run_told_command<'a>(alloc: Global, locks: &'a [&'a str]) -> Result<Command<'a>, AllocError>
+    ensures { IfOk result (IsCommand (told_rules (vp.Names locks.entry))) }
 {
     let about = "Runs the processors as step does, and tells the run event by event";
     let own = seed_arg(alloc);
@@ -238,6 +251,19 @@ fn explain_command<'a>(alloc: Global, locks: &'a [&'a str]) -> Result<Command<'a
     let command = with_option(command, flag_arg(alloc, "state", STATE));
     let command = with_option(command, text_arg(alloc, "events", "A..B", EVENTS));
     with_option(command, text_arg(alloc, "processors", "P,..", PROCESSORS))
+}
+
+/// `lrc explain`.
+fn explain_command<'a>(
+    alloc: Global,
+    locks: &'a [&'a str],
+    models: &'a [&'a str],
+) -> Result<Command<'a>, AllocError>
+    ensures { IfOk result (IsCommand (explain_rules (vp.Names locks.entry) (vp.Names models.entry))) }
+{
+    let command = run_told_command(alloc, locks);
+    let command = with_option(command, flag_arg(alloc, "trace", TRACED));
+    judged_command(alloc, command, models)
 }
 
 /// `lrc sample`.
@@ -257,6 +283,7 @@ fn explore_command<'a>(alloc: Global) -> Result<Command<'a>, AllocError>
         "Looks at all schedules of a script: whether it can race or hang, and what it can show";
     let command = file_command(alloc, "explore", about, EXPLORE, SCRIPT_FILE);
     let command = with_option(command, most_arg(alloc));
+    let command = with_option(command, text_arg(alloc, "until", "A=V,..", UNTIL));
     with_option(command, flag_arg(alloc, "json", JSON))
 }
 
@@ -266,9 +293,9 @@ fn check_command<'a>(alloc: Global, models: &'a [&'a str]) -> Result<Command<'a>
 {
     let about = "Judges a trace from any system: whether such a memory could have made it";
     let command = file_command(alloc, "check", about, TRACE, TRACE_FILE);
-    let command = with_option(command, model_arg(alloc, models));
-    let command = with_option(command, flag_arg(alloc, "lax", LAX));
+    let command = judged_command(alloc, command, models);
     let command = with_option(command, flag_arg(alloc, "race-is-error", RACE_IS_ERROR));
+    let command = with_option(command, flag_arg(alloc, "locksets", LOCKSETS));
     with_option(command, flag_arg(alloc, "json", JSON))
 }
 
@@ -308,7 +335,7 @@ pub(crate) fn lrc_command<'a>(
         Commands::All => (true, AFTER),
         Commands::RunAndStep => (false, AFTER_RUN_AND_STEP),
     };
-    let explain = shown_if(shown, explain_command(alloc, locks));
+    let explain = shown_if(shown, explain_command(alloc, locks, models));
     let sample = shown_if(shown, sample_command(alloc, locks));
     let explore = shown_if(shown, explore_command(alloc));
     let check = shown_if(shown, check_command(alloc, models));

@@ -1,21 +1,25 @@
 //! Reads the program's words.
-ghost use Rattle.std.specs.Prelude.{◌≡◌, Bool, List, IfOk, IfErr, MatchOption, OnOk, false, is_some, map, option_map, string_bytes, codes};
+ghost use Rattle.std.specs.Prelude.{◌≡◌, ℕ, Bool, List, IfOk, IfErr, MatchOption, OnOk, false, is_some, map, option_map, string_bytes, codes};
 ghost use Rattle.std.specs.Option.{option_map_or};
 ghost use Rattle.std.specs.Str.{bytes_eq};
 ghost use Rattle.clap.specs.Words.{first_of, one_of, rows_of, found_of};
 ghost use Rattle.lrc_options.specs.OptionRules.{IsOptionNumberRead, IsNumberOption, IsSeedOption, IsFlagOption, IsOneOfFlags, AreAskedOptionsOf, AreOptionsOf};
 ghost use Rattle.lrc_options.specs.declared.ranges.EventRange.{EventRange};
-ghost use Rattle.lrc_options.specs.OptionRules.{AreEventsGiven, AreExplainOptionsOf, AreExploreOptionsOf, AreProcessorsGiven, AreSampleOptionsOf};
-ghost use Rattle.lrc_options.specs.OptionRules.{AreTraceOptionsOf, default_most_option, has_both_options, option_model_given, option_named_model, ticket_option};
+ghost use Rattle.lrc_options.specs.OptionRules.{AreEventsGiven, AreExplainOptionsOf, AreExploreOptionsOf, AreFinalWordsGiven, AreProcessorsGiven, AreSampleOptionsOf};
+ghost use Rattle.lrc_options.specs.OptionRules.{AreShowOptionsGiven, AreTellOptionsOf, IsExplanationAsked, IsShowingUnread};
+ghost use Rattle.lrc_options.specs.OptionRules.{AreTraceOptionsOf, default_most_option, option_model_given, option_named_model, ticket_option};
+ghost use Rattle.lrc_options.specs.Clashes.{do_options_clash};
 ghost use Rattle.lrc_options.specs.OptionRules.{AreGivenOptions, IsRefusedCommandLine, IsOptionUnanswered, most_tries_option, most_seed_option, default_tries_option, default_seeds_option};
 
+use crate::clashes::{clash_of, is_in_words};
 use crate::command::{LOCKS, MODELS, MOST_SEED, MOST_TRIES, lrc_command};
+use crate::final_words::final_words;
 use crate::options::{
     Asked, Commands, DEFAULT_MOST, DEFAULT_SEEDS, DEFAULT_TRIES, ExplainOptions, ExploreOptions,
-    Options, SampleOptions, TraceModel, TraceOptions,
+    Options, SampleOptions, ShowOptions, TellOptions, TraceModel, TraceOptions,
 };
 use crate::ranges::{ALL_EVENTS, EventRange, event_range, processors};
-use crate::tips::{both_given, not_read, with_tip};
+use crate::tips::{excluded, not_read, with_tip};
 use base::MOST_PROCESSORS;
 use clap::{ArgMatches, Error};
 use std::alloc::{AllocError, Global};
@@ -141,6 +145,21 @@ fn processors_of(matches: &ArgMatches<'_>) -> Option<[bool; MOST_PROCESSORS]>
     }
 }
 
+/// The words given for `--until`, or none; None where what is given are no words. The only error is running out of memory.
+fn until_of(
+    alloc: Global,
+    matches: &ArgMatches<'_>,
+) -> Result<Option<Vec<(usize, u32)>>, AllocError>
+    ensures { IfOk result (λ o. MatchOption o
+        ((words : List (ℕ × ℕ)) → ¬ AreFinalWordsGiven (first_of (codes "until") (rows_of (found_of matches.now))) words)
+        (λ v. AreFinalWordsGiven (first_of (codes "until") (rows_of (found_of matches.now))) v.items)) }
+{
+    match matches.get_str("until") {
+        Some(text) => final_words(alloc, text),
+        None => Ok(Some(Vec::new(alloc))),
+    }
+}
+
 /// Whether what only this memory asks is to be left out.
 fn is_lax(matches: &ArgMatches<'_>) -> bool
     ensures { IsFlagOption (one_of (codes "lax") (rows_of (found_of matches.now))) result }
@@ -153,6 +172,13 @@ fn ends_at_race(matches: &ArgMatches<'_>) -> bool
     ensures { IsFlagOption (one_of (codes "race-is-error") (rows_of (found_of matches.now))) result }
 {
     matches.get_flag("race-is-error")
+}
+
+/// Whether the words are to be told of which somebody forgot the lock.
+fn wants_locksets(matches: &ArgMatches<'_>) -> bool
+    ensures { IsFlagOption (one_of (codes "locksets") (rows_of (found_of matches.now))) result }
+{
+    matches.get_flag("locksets")
 }
 
 /// Whether the answer is to be JSON.
@@ -198,20 +224,6 @@ fn text_of(alloc: Global, matches: &ArgMatches<'_>, id: &str) -> Result<Option<S
     }
 }
 
-/// Whether something is given for this.
-fn is_given(matches: &ArgMatches<'_>, id: &str) -> bool
-    ensures { result ≡ is_some (first_of id.now (rows_of (found_of matches.now))) }
-{
-    matches.get_str(id).is_some()
-}
-
-/// Whether a seed and a schedule are given.
-fn has_both(matches: &ArgMatches<'_>) -> bool
-    ensures { result ≡ has_both_options (rows_of (found_of matches.now)) }
-{
-    is_given(matches, "seed") && is_given(matches, "schedule")
-}
-
 /// The options that the name of a command on a script, and its matches, give.
 fn options_of(alloc: Global, name: &str, matches: &ArgMatches<'_>) -> Result<Options, AllocError>
     ensures { IfOk result (AreOptionsOf name.now (rows_of (found_of matches.now))) }
@@ -229,15 +241,13 @@ fn options_of(alloc: Global, name: &str, matches: &ArgMatches<'_>) -> Result<Opt
     })
 }
 
-/// The options that the matches of `explain` give, of these events of these processors.
+/// The options that the matches of `explain` give, of which this is shown.
 fn explain_options_of(
     alloc: Global,
     matches: &ArgMatches<'_>,
-    events: EventRange,
-    processors: [bool; MOST_PROCESSORS],
+    showing: ShowOptions,
 ) -> Result<ExplainOptions, AllocError>
-    requires events { AreEventsGiven (first_of (codes "events") (rows_of (found_of matches.now))) events }
-    requires processors { AreProcessorsGiven (first_of (codes "processors") (rows_of (found_of matches.now))) processors }
+    requires { AreShowOptionsGiven (rows_of (found_of matches.now)) showing }
     ensures { IfOk result (AreExplainOptionsOf (rows_of (found_of matches.now))) }
 {
     let file = text_of(alloc, matches, "FILE")?;
@@ -247,11 +257,25 @@ fn explain_options_of(
         seed: seed_of(matches),
         schedule,
         ticket: is_ticket(matches),
-        picture: wants_picture(matches),
-        page: wants_page(matches),
-        state: wants_state(matches),
-        events,
-        processors,
+        showing,
+    })
+}
+
+/// The options that the matches of `explain --trace` give, of which this is shown.
+fn tell_options_of(
+    alloc: Global,
+    matches: &ArgMatches<'_>,
+    showing: ShowOptions,
+) -> Result<TellOptions, AllocError>
+    requires { AreShowOptionsGiven (rows_of (found_of matches.now)) showing }
+    ensures { IfOk result (AreTellOptionsOf (rows_of (found_of matches.now))) }
+{
+    let file = text_of(alloc, matches, "FILE")?;
+    Ok(TellOptions {
+        file,
+        model: model_of(matches),
+        lax: is_lax(matches),
+        showing,
     })
 }
 
@@ -268,14 +292,20 @@ fn sample_options_of(alloc: Global, matches: &ArgMatches<'_>) -> Result<SampleOp
     })
 }
 
-/// The options that the matches of `explore` give.
-fn explore_options_of(alloc: Global, matches: &ArgMatches<'_>) -> Result<ExploreOptions, AllocError>
+/// The options that the matches of `explore` give, with these words.
+fn explore_options_of(
+    alloc: Global,
+    matches: &ArgMatches<'_>,
+    until: Vec<(usize, u32)>,
+) -> Result<ExploreOptions, AllocError>
+    requires { AreFinalWordsGiven (first_of (codes "until") (rows_of (found_of matches.now))) until.items }
     ensures { IfOk result (AreExploreOptionsOf (rows_of (found_of matches.now))) }
 {
     let file = text_of(alloc, matches, "FILE")?;
     Ok(ExploreOptions {
         file,
         most: most_of(matches),
+        until,
         json: wants_json(matches),
     })
 }
@@ -290,28 +320,46 @@ fn trace_options_of(alloc: Global, matches: &ArgMatches<'_>) -> Result<TraceOpti
         model: model_of(matches),
         lax: is_lax(matches),
         race_is_error: ends_at_race(matches),
+        locksets: wants_locksets(matches),
         json: wants_json(matches),
     })
 }
 
-/// What a command's name and its matches ask for, of these events of these processors where it asks for some.
+/// What the matches of `explain` ask for, of which this is shown.
+fn explanation_of(
+    alloc: Global,
+    matches: &ArgMatches<'_>,
+    showing: ShowOptions,
+) -> Result<Asked, AllocError>
+    requires { AreShowOptionsGiven (rows_of (found_of matches.now)) showing }
+    ensures { IfOk result (IsExplanationAsked (rows_of (found_of matches.now))) }
+{
+    if is_in_words(matches, "trace") {
+        tell_options_of(alloc, matches, showing).map(Asked::Tell)
+    } else {
+        explain_options_of(alloc, matches, showing).map(Asked::Explain)
+    }
+}
+
+/// What a command's name and its matches ask for, of which this is shown if it is `explain`, with these words if it is
+/// `explore`.
 fn asked_of(
     alloc: Global,
     name: &str,
     matches: &ArgMatches<'_>,
-    events: EventRange,
-    processors: [bool; MOST_PROCESSORS],
+    showing: ShowOptions,
+    until: Vec<(usize, u32)>,
 ) -> Result<Asked, AllocError>
-    requires events { AreEventsGiven (first_of (codes "events") (rows_of (found_of matches.now))) events }
-    requires processors { AreProcessorsGiven (first_of (codes "processors") (rows_of (found_of matches.now))) processors }
+    requires showing { AreShowOptionsGiven (rows_of (found_of matches.now)) showing }
+    requires until { AreFinalWordsGiven (first_of (codes "until") (rows_of (found_of matches.now))) until.items }
     ensures { IfOk result (AreAskedOptionsOf name.now (rows_of (found_of matches.now))) }
 {
     if name == "explain" {
-        explain_options_of(alloc, matches, events, processors).map(Asked::Explain)
+        explanation_of(alloc, matches, showing)
     } else if name == "sample" {
         sample_options_of(alloc, matches).map(Asked::Sample)
     } else if name == "explore" {
-        explore_options_of(alloc, matches).map(Asked::Explore)
+        explore_options_of(alloc, matches, until).map(Asked::Explore)
     } else if name == "check" {
         trace_options_of(alloc, matches).map(Asked::Trace)
     } else {
@@ -319,15 +367,11 @@ fn asked_of(
     }
 }
 
-/// The same, or that a seed and a schedule are given, or events or processors that can't be read.
-fn answer_of(alloc: Global, name: &str, matches: &ArgMatches<'_>) -> Result<Asked, Error>
-    ensures one { OnOk result (has_both_options (rows_of (found_of matches.now)) ≡ false) }
-    ensures asked { IfOk result (AreAskedOptionsOf name.now (rows_of (found_of matches.now))) }
-    ensures unanswered { IfErr result (IsOptionUnanswered (rows_of (found_of matches.now))) }
+/// What of a history is shown, and how; or that events or processors are given that can't be read.
+fn show_options(alloc: Global, name: &str, matches: &ArgMatches<'_>) -> Result<ShowOptions, Error>
+    ensures showing { IfOk result (AreShowOptionsGiven (rows_of (found_of matches.now))) }
+    ensures unread { IfErr result (IsShowingUnread (rows_of (found_of matches.now))) }
 {
-    if has_both(matches) {
-        return Err(both_given(alloc, name)?);
-    }
     let Some(events) = events_of(matches) else {
         let want = "a range of numbers, as 3..8, 3.. or ..8";
         return Err(not_read(alloc, name, matches, "events", "A..B", want)?);
@@ -336,21 +380,46 @@ fn answer_of(alloc: Global, name: &str, matches: &ArgMatches<'_>) -> Result<Aske
         let want = "numbers from 0 to 15, as 2 or 0,2";
         return Err(not_read(alloc, name, matches, "processors", "P,..", want)?);
     };
-    Ok(asked_of(alloc, name, matches, events, processors)?)
+    Ok(ShowOptions {
+        picture: wants_picture(matches),
+        page: wants_page(matches),
+        state: wants_state(matches),
+        events,
+        processors,
+    })
+}
+
+/// What a command's name and its matches ask for; or that options exclude each other, or that events, processors or words
+/// can't be read.
+fn answer_of(alloc: Global, name: &str, matches: &ArgMatches<'_>) -> Result<Asked, Error>
+    ensures apart { OnOk result (do_options_clash name.now (rows_of (found_of matches.now)) ≡ false) }
+    ensures asked { IfOk result (AreAskedOptionsOf name.now (rows_of (found_of matches.now))) }
+    ensures unanswered { IfErr result (IsOptionUnanswered name.now (rows_of (found_of matches.now))) }
+{
+    if let Some(clash) = clash_of(name, matches) {
+        return Err(excluded(alloc, name, clash)?);
+    }
+    let showing = show_options(alloc, name, matches)?;
+    let Some(until) = until_of(alloc, matches)? else {
+        let want = "words at addresses, each address once, as 0=1 or 0=1,4=2";
+        return Err(not_read(alloc, name, matches, "until", "A=V,..", want)?);
+    };
+    Ok(asked_of(alloc, name, matches, showing, until)?)
 }
 
 /// Reads the words, the program's name first: `lrc run [FILE] [--tries N] [--lock KIND] [--journal]`,
 /// `lrc step [FILE] [--seed N | --schedule S] [--lock KIND] [--journal]`,
 /// `lrc explain [FILE] [--seed N | --schedule S] [--lock KIND] [--svg | --html] [--state] [--events A..B] [--processors P,..]`,
-/// `lrc sample [FILE] [--seeds N] [--lock KIND] [--json]`, `lrc explore [FILE] [--most N] [--json]` or
-/// `lrc check [FILE] [--model NAME] [--lax] [--race-is-error] [--json]`.
+/// `lrc explain [FILE] --trace [--model NAME] [--lax]` with the same to say what is shown,
+/// `lrc sample [FILE] [--seeds N] [--lock KIND] [--json]`, `lrc explore [FILE] [--most N] [--until A=V,..] [--json]` or
+/// `lrc check [FILE] [--model NAME] [--lax] [--race-is-error] [--locksets] [--json]`.
 /// Help names the commands that the program has; the words of the others are read all the same.
 ///
 /// # Errors
 ///
 /// clap's, of just the kind that its own function of the command finds in the words: words that give no such command,
-/// a question for help; a conflict, if they give a seed and a schedule; a bad value, if they give events or processors that can't
-/// be read; or running out of memory.
+/// a question for help; a conflict, if they give options that exclude each other; a bad value, if they give events, processors
+/// or words that can't be read; or running out of memory.
 pub fn options<'a>(alloc: Global, words: &'a [String], commands: Commands) -> Result<Asked, Error>
     ensures given { IfOk result (AreGivenOptions (map (λ w. string_bytes w) words.entry.now)) }
     ensures refused { IfErr result (IsRefusedCommandLine (map (λ w. string_bytes w) words.entry.now)) }

@@ -56,8 +56,9 @@ What is printed:
     set F                  set flag F
     watch F, await F       began to wait for flag F; found it set";
 
-/// What is printed of a run that is told.
-pub(crate) const EXPLAIN: &str = "The script is as `lrc run --help` tells it. What is printed:
+/// What is printed of a run or a trace that is told.
+pub(crate) const EXPLAIN: &str =
+    "The script is as `lrc run --help` tells it, and a trace as `lrc check --help` does. What is printed:
   a line for each event    its number, what it did, in its processor's column, and why: which store a load
                            answers, what a fetch brought, for whom a processor waits
   timestamp T ..           with --state, below each event: its processor's vector timestamp; the interval that
@@ -65,9 +66,13 @@ pub(crate) const EXPLAIN: &str = "The script is as `lrc run --help` tells it. Wh
                            write notices that it brings; which copies of pages are stale or dirty
   a race                   the first one: its two events, and what the second had heard of the first
   word, verdict, traffic   as `lrc step` prints them; where no processor gets on, what each waits for
+  events, faithful, ..     of a trace, in their place: what `lrc check` prints. A lie is told in its event's line, too
 
-Statuses: 0 done; 2 the script is refused; 3 no progress: the run is told so far; 4 a limit, running out of
-memory, or a failed write; 5 usage, or the file can't be read.";
+Pages go stale under this memory's rules alone, so of a trace they are told with --model lazy-release, and --state
+and --html want that.
+
+Statuses: 0 done; 2 the script or the trace is refused; 3 no progress: the run is told so far; 4 a limit, running
+out of memory, or a failed write; 5 usage, or the file can't be read; 6 the trace isn't faithful.";
 
 /// What is printed of a script's runs by many schedules.
 pub(crate) const SAMPLE: &str =
@@ -98,6 +103,11 @@ none of them races, each run of the script is one of them. What is printed:
   verdict racy             then the events of a schedule that races, its two accesses behind `race`, and a
                            schedule that can't go on, if one was met
   states N                 N states were found
+With --until, in place of the verdict race-free and what stands below it:
+  until shown              a run ends with these words; then what it shows, as above, and
+    schedule S             `lrc step --schedule S` shows it
+  until never              no run ends with them, and none races
+  until undecided          the search was given up, and no run that it met ends with them
 
 Statuses: 0 done, whatever the verdict; 2 the script is refused; 4 running out of memory, or a failed
 write; 5 usage, or the file can't be read; 7 the search was given up.";
@@ -120,6 +130,8 @@ What is printed:
     unjudged counts order   with --lax: the counts of fetches, and the order of a lock's asks
     unjudged N loads        under race-free: N loads from the first race on
     verdict race-free       or `racy`, and then the two events of the first race, and what would have ordered them
+    unprotected A: ..       with --locksets: two accesses of word A that hold no lock in common, and two that
+                            do; flags, the barrier and their processors' own order keep none of these apart
     traffic M R W           M messages; R records with W words in all, as its fetches tell
   unfaithful I            no such memory makes event I after those before it, which are faithful; behind the
                           race, if it has one by then:
@@ -143,6 +155,9 @@ pub(crate) const SEEDS: &str =
 
 pub(crate) const MOST: &str = "gives up after N states; N is up to 4294967295";
 
+pub(crate) const UNTIL: &str =
+    "looks for a run that ends with word V at address A, and so on; the script has to show them";
+
 /// What the flags do.
 pub(crate) const JOURNAL: &str = "prints a line for each event too";
 
@@ -159,12 +174,18 @@ pub(crate) const EVENTS: &str =
 pub(crate) const PROCESSORS: &str =
     "tells the events of these processors alone, given by their numbers";
 
+pub(crate) const TRACED: &str =
+    "FILE is no script, but a trace from any system: tells it up to its first lie, as `lrc check` judges it";
+
 pub(crate) const LAX: &str =
     "leaves out what only this memory asks: the order of a lock's asks, and counts of fetches";
 
-pub(crate) const MODEL: &str = "what the loads owe";
+pub(crate) const MODEL: &str = "what the loads of the trace owe";
 
 pub(crate) const RACE_IS_ERROR: &str = "ends with the first race, and with status 8";
+
+pub(crate) const LOCKSETS: &str =
+    "tells the words whose lock was forgotten somewhere, of a faithful trace without a race";
 
 pub(crate) const JSON: &str = "prints JSON in place of text: an object a line";
 

@@ -10,8 +10,10 @@
 //! fault names.
 #![tactic(auto)]
 
+mod clashes;
 mod command;
 pub mod command_line;
+mod final_words;
 mod help;
 pub mod options;
 pub mod ranges;

@@ -19,12 +19,29 @@ pub enum Asked {
     Script(Options),
     /// A run of a script by turns is to be explained, by `explain`.
     Explain(ExplainOptions),
+    /// A trace is to be told, by `explain --trace`.
+    Tell(TellOptions),
     /// A script is to be run by many schedules, by `sample`.
     Sample(SampleOptions),
     /// All schedules of a script are to be looked at, by `explore`.
     Explore(ExploreOptions),
     /// A trace is to be judged, by `check`.
     Trace(TraceOptions),
+}
+
+/// What of a history is shown, and how.
+#[derive(Clone, Copy)]
+pub struct ShowOptions {
+    /// Whether a picture is printed and not a text: as an SVG file, or in a page.
+    pub picture: bool,
+    /// Whether it is printed in a page that steps through the history, as an HTML file.
+    pub page: bool,
+    /// Whether the protocol's state at each event is told, too.
+    pub state: bool,
+    /// Which events are told, by their numbers.
+    pub events: EventRange,
+    /// Of each processor, whether its events are told.
+    pub processors: [bool; MOST_PROCESSORS],
 }
 
 /// Which run of a script is to be explained, and how.
@@ -38,16 +55,21 @@ pub struct ExplainOptions {
     pub schedule: Option<String>,
     /// Whether the book's lock is the ticket lock, and not the array lock.
     pub ticket: bool,
-    /// Whether a picture of the run is printed and not its text: as an SVG file, or in a page.
-    pub picture: bool,
-    /// Whether it is printed in a page that steps through the run, as an HTML file.
-    pub page: bool,
-    /// Whether the protocol's state at each event is told, too.
-    pub state: bool,
-    /// Which events are told, by their numbers.
-    pub events: EventRange,
-    /// Of each processor, whether its events are told.
-    pub processors: [bool; MOST_PROCESSORS],
+    /// What of the run is shown, and how.
+    pub showing: ShowOptions,
+}
+
+/// Which trace is to be told, and how.
+#[derive(Drop)]
+pub struct TellOptions {
+    /// The file to read the trace from, or None for standard input.
+    pub file: Option<String>,
+    /// What the loads of the trace owe.
+    pub model: TraceModel,
+    /// Whether what only this memory asks is left out.
+    pub lax: bool,
+    /// What of the trace is shown, and how.
+    pub showing: ShowOptions,
 }
 
 /// How a script is to be sampled.
@@ -70,6 +92,8 @@ pub struct ExploreOptions {
     pub file: Option<String>,
     /// How many states are looked at before the search is given up.
     pub most: u32,
+    /// The words that a run is to end with, each with its address before it; none if all runs are to be looked at.
+    pub until: Vec<(usize, u32)>,
     /// Whether the answer is JSON, an object a line, and not text.
     pub json: bool,
 }
@@ -85,6 +109,8 @@ pub struct TraceOptions {
     pub lax: bool,
     /// Whether judging ends with a race, and the exit status tells it.
     pub race_is_error: bool,
+    /// Whether the words are told of which somebody forgot the lock.
+    pub locksets: bool,
     /// Whether the answer is JSON, an object a line, and not text.
     pub json: bool,
 }

@@ -7,7 +7,7 @@ use clap::{ArgMatches, Command, Error};
 use std::alloc::{AllocError, Global};
 
 /// Each command with each option that it has. Of the commands that have an option the first one is named.
-const OPTIONS: [(&str, &str); 24] = [
+const OPTIONS: [(&str, &str); 29] = [
     ("run", "--tries"),
     ("run", "--lock"),
     ("run", "--journal"),
@@ -23,15 +23,20 @@ const OPTIONS: [(&str, &str); 24] = [
     ("explain", "--state"),
     ("explain", "--events"),
     ("explain", "--processors"),
+    ("explain", "--trace"),
     ("sample", "--seeds"),
     ("sample", "--lock"),
     ("sample", "--json"),
     ("explore", "--most"),
+    ("explore", "--until"),
     ("explore", "--json"),
     ("check", "--model"),
     ("check", "--lax"),
     ("check", "--race-is-error"),
+    ("check", "--locksets"),
     ("check", "--json"),
+    ("explain", "--model"),
+    ("explain", "--lax"),
 ];
 
 /// A command that was given an option that it lacks, and a command that has it.
@@ -61,11 +66,10 @@ impl Misuse<'_> {
     }
 }
 
-/// The fault of usage that a command is given a seed and a schedule.
-pub(crate) fn both_given(alloc: Global, command: &str) -> Result<Error, AllocError>
+/// The fault of usage that a command is given options that exclude each other, as this text says.
+pub(crate) fn excluded(alloc: Global, command: &str, text: &str) -> Result<Error, AllocError>
     ensures { IfOk result (λ e. kind_of e ≡ ErrorKind.ArgumentConflict) }
 {
-    let text = "the argument '--seed <N>' cannot be used with '--schedule <S>'";
     let usage = format!(in alloc; "lrc {command} [OPTIONS] [FILE]")?;
     let mut lrc = Command::new(alloc, "lrc").override_usage(&usage);
     lrc.error(ErrorKind::ArgumentConflict, text)

@@ -1,6 +1,6 @@
 -- How often a processor has departed, and which locks it holds: read off its calls, and off the steps of its section.
-use Rattle.std.proofs.Common.{ℕ, suc, ◌≡◌, ◌≢◌, ◌+◌, ◌≤◌, ◌<◌, ◌↔◌, ◌⊎◌, inl, inr, Bool, true, false, cond, IsTrue, List, [], ◌∷◌, ◌++◌, count_by, fold, length, take, Some, slice_get, refl, sym, ap, ap₂, subst, ◌∙◌, arith}
-use Rattle.std.specs.Prelude.{◌==◌, Option}
+use Rattle.std.proofs.Common.{ℕ, ◌≡◌, ◌≢◌, ◌+◌, ◌↔◌, inl, inr, Bool, true, false, cond, IsTrue, List, [], ◌∷◌, count_by, fold, length, take, refl, sym, ap, ap₂, subst, ◌∙◌, arith}
+use Rattle.std.specs.Prelude.{◌==◌}
 use Rattle.std.proofs.lemmas.Bool.{cases_eq, cond-true, cond-false, eq-eqb, ne_eqb, false≢true}
 use Rattle.std.proofs.lemmas.List.Sums.{fold-append}
 use Rattle.journal.specs.declared.event.Event.{Event}
@@ -21,8 +21,8 @@ use Rattle.explore.specs.declared.prefixes.script_call.ScriptCall.TheVariants.{C
 use Rattle.explore.specs.Prefixes.Beginnings.{IsFlatBeginning}
 use Rattle.explore.specs.Prefixes.Calling.{IsCallOfStep, replyless_call, reply_after_call}
 use Rattle.explore.specs.Prefixes.Laws.{MayComeNext}
-use Rattle.explore.specs.Guarded.{guard_step_departs, guard_held_after, guard_held_after_step, guard_phase_at, guard_held_at, guarded_step_address, guarded_step_stores}
-use Rattle.explore.proofs.prefixes.Beginnings.{beginning_empty, beginning_next}
+use Rattle.explore.specs.Guarded.{guard_step_departs, guard_held_after, guard_held_after_step, guard_phase_at, guarded_step_address, guarded_step_stores}
+use Rattle.explore.proofs.prefixes.Beginnings.{beginning_next}
 use Rattle.explore.proofs.prefixes.Calling.{AreFirstCalls}
 
 -- what holds of no events, and of one more, holds of each beginning

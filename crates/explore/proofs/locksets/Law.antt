@@ -1,9 +1,8 @@
 -- Two accesses that may both come next are in one phase, so on a guarded word their processors would hold one lock.
 -- A processor that waits for nothing has arrived as often as it has departed, and each one has arrived as often as any has
 -- departed. So two that wait for nothing have departed equally often.
-use Rattle.std.proofs.Common.{ℕ, ◌≡◌, ◌≢◌, ◌+◌, ◌<◌, ◌≤◌, ◌⊎◌, inl, inr, IsTrue, false, List, [], ◌∷◌, count_by, fold, length, take, Some, slice_get, refl, sym, ap, subst, ◌∙◌, arith}
+use Rattle.std.proofs.Common.{ℕ, ◌≡◌, ◌≢◌, ◌<◌, ◌≤◌, ◌⊎◌, inl, inr, IsTrue, false, List, [], ◌∷◌, length, Some, slice_get, refl, sym, ap, subst, ◌∙◌, arith}
 use Rattle.std.specs.Global.{Vec}
-use Rattle.std.proofs.lemmas.Bool.{cases_eq}
 use Rattle.std.proofs.lemmas.Option.{none-some}
 use Rattle.journal.specs.declared.event.Event.{Event}
 use Rattle.journal.specs.declared.event.Kind.{Kind}
@@ -11,7 +10,7 @@ use Rattle.journal.specs.declared.event.Kind.TheVariants as kind
 use Rattle.journal.specs.DidEvent.{did, event}
 use Rattle.journal.specs.Events.{address_of, count_of, is_arrive, is_depart, is_store}
 use Rattle.journal.specs.Races.{Conflict}
-use Rattle.journal.specs.WellFormed.{AllArrived, Allowed, AnswersCall, Holds, LastIs}
+use Rattle.journal.specs.WellFormed.{Allowed, AnswersCall, Holds}
 use Rattle.journal.proofs.Order.CountedAndNumbered.{count_of-append}
 use Rattle.journal.proofs.Times.Times.{count_of-one_time}
 use Rattle.journal.proofs.Journals.Balance.{balanced}
@@ -20,7 +19,7 @@ use Rattle.lrc_script.specs.declared.script.Instruction.{Instruction}
 use Rattle.lrc_script.specs.Plan.{Plan}
 use Rattle.conformance.specs.Follows.{calls_of, plan_sizes}
 use Rattle.explore.specs.declared.prefixes.script_call.ScriptCall.{ScriptCall}
-use Rattle.explore.specs.Guarded.{GuardedTextLaw, HaveCommonGuard, IsGuardedAccessAt, IsGuarded, guard_step_departs, guard_held_after_step, guard_held_at, guard_phase_at, guarded_step_address, guarded_step_stores}
+use Rattle.explore.specs.Guarded.{GuardedTextLaw, IsGuardedAccessAt, IsGuarded, guard_held_at, guard_phase_at, guarded_step_stores}
 use Rattle.explore.specs.Machines.{AreLawfulMachineSteps}
 use Rattle.explore.specs.Prefixes.Beginnings.{IsFlatBeginning}
 use Rattle.explore.specs.Prefixes.Calling.{last_reply_of_calls, calling_section_steps, calling_shown_by}
@@ -29,7 +28,7 @@ use Rattle.explore.proofs.Machines.{machine_some_at}
 use Rattle.explore.proofs.prefixes.Beginnings.{beginning_next}
 use Rattle.explore.proofs.prefixes.Calling.{AreFirstCalls, begins_calls}
 use Rattle.explore.proofs.prefixes.Neighbours.Law.{neighbours}
-use Rattle.explore.proofs.locksets.Calls.{lockset_calls_induction, called_address, called_store, lockset_calls_departed, lockset_calls_departures, lockset_first_calls_depart, lockset_first_calls_held, lockset_calls_hold, lockset_calls_holding}
+use Rattle.explore.proofs.locksets.Calls.{lockset_calls_induction, called_address, called_store, lockset_calls_departed, lockset_first_calls_depart, lockset_first_calls_held, lockset_calls_holding}
 
 lockset_departure : (k : Kind) → IsTrue (is_depart k) → k ≡ kind.Depart
 lockset_departure kind.Depart h = refl

@@ -1,10 +1,9 @@
 -- What is noted of the users of words: step by step, row by row; and that a word whose users are clean is guarded.
-use Rattle.std.proofs.Common.{ℕ, ◌≡◌, ◌≢◌, ◌+◌, ◌<◌, ◌≤◌, ◌⊎◌, inl, inr, Bool, true, false, cond, IsTrue, List, [], ◌∷◌, add-one, count_by, fold, length, replicate, take, Option, Some, slice_get, slice_set, slice_index_or, refl, sym, ap, subst, ◌∙◌, map, ◌++◌, zero, suc, arith}
-use Rattle.std.specs.Prelude.{None, ◌==◌, ◌^◌, nat_lt}
+use Rattle.std.proofs.Common.{ℕ, ◌≡◌, ◌≢◌, ◌+◌, ◌<◌, ◌≤◌, ◌⊎◌, inl, inr, Bool, true, false, cond, IsTrue, List, [], ◌∷◌, add-one, count_by, fold, length, replicate, take, Some, slice_get, slice_set, slice_index_or, refl, sym, ap, subst, ◌∙◌, map, ◌++◌, zero, suc, arith}
+use Rattle.std.specs.Prelude.{None, ◌^◌, nat_lt}
 use Rattle.std.specs.Global.{Vec}
-use Rattle.std.specs.BTreeMap.{BTreeMap, Updates, get, is_at}
+use Rattle.std.specs.BTreeMap.{Updates, get, is_at}
 use Rattle.std.specs.Ordering.{nat_cmp}
-use Rattle.std.specs.declared.cmp.Ordering.TheVariants.{Less, Equal, Greater}
 use Rattle.std.proofs.lemmas.Bool.{cases_eq, false≢true, ne_eqb}
 use Rattle.std.proofs.lemmas.List.Elements.{All-get_or}
 use Rattle.std.proofs.lemmas.Option.{none-some, same_Some, slice_get-get_or, slice_get_within}

@@ -1,5 +1,5 @@
--- What a reduced search looks for: hangs, what whole runs show, and two next events that conflict.
-use Rattle.std.proofs.Common.{ℕ, ◌≡◌, ◌≢◌, inl, inr, List, length, Some, slice_get, sym, ap, subst, ◌∙◌, arith}
+-- What a reduced search looks for: hangs, what whole runs show and end with, and two next events that conflict.
+use Rattle.std.proofs.Common.{ℕ, ◌≡◌, ◌≢◌, inl, inr, List, length, Some, sym, ap, subst, ◌∙◌, arith}
 use Rattle.std.specs.Global.{Vec}
 use Rattle.std.proofs.lemmas.Option.{slice_get_within}
 use Rattle.journal.specs.declared.event.Event.{Event}
@@ -12,6 +12,7 @@ use Rattle.explore.specs.declared.prefixes.script_call.ScriptCall.{ScriptCall}
 use Rattle.explore.specs.Machines.{AreLawfulMachineSteps}
 use Rattle.explore.specs.Outcomes.{AreOutcomeReplies, outcome_replies_in}
 use Rattle.explore.specs.Prefixes.Beginnings.{IsFlatBeginning, IsHangingBeginning}
+use Rattle.explore.specs.Until.{HasFinalWords, IsRunWithWords}
 use Rattle.explore.specs.Prefixes.Calling.{calling_section_steps, calling_shown_by}
 use Rattle.explore.proofs.locksets.Law.{lockset_guarded_quiet}
 use Rattle.explore.proofs.Machines.{machine_next_within, machine_some_at}
@@ -67,6 +68,17 @@ reduced_ends_shows_last s rows replies long = record {
     are = reduced_ends_replies_same s g h replies same shows.are;
   };
   stays = λ g p k calm next shows. absurd (follows_ends s g p k long shows.follows next);
+}
+
+-- a whole run that ends with these words
+pub reduced_ends_words_last : (s : Plan) (rows : List (Vec ScriptCall)) (words : List (ℕ × ℕ)) → length s.sections ≡ s.processors
+    → IsReachingLasting s rows (IsRunWithWords s words)
+reduced_ends_words_last s rows words long = record {
+  shared = λ g h same begins run. record {
+    whole = record { beginning = begins; follows = reduced_ends_follows_same s g h same run.whole.follows };
+    ends = subst (λ memory. HasFinalWords memory words) same.memory run.ends;
+  };
+  stays = λ g p k calm next run. absurd (follows_ends s g p k long run.whole.follows next);
 }
 
 -- two next events that conflict

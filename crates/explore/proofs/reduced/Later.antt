@@ -1,6 +1,5 @@
 -- Where an ask that may come later stands in its processor's steps.
 use Rattle.std.proofs.Common.{ℕ, ◌≡◌, ◌<◌, ◌≤◌, List, ◌++◌, length, Some, slice_get, sym, ap, subst, ◌∙◌, length-append, arith}
-use Rattle.std.specs.Prelude.{slice_index_or}
 use Rattle.std.specs.Global.{Vec}
 use Rattle.journal.specs.declared.event.Event.{Event}
 use Rattle.journal.specs.declared.event.Kind.{Kind}
@@ -14,7 +13,7 @@ use Rattle.explore.specs.declared.prefixes.script_call.ScriptCall.TheVariants.{C
 use Rattle.explore.specs.Free.{IsAskAt}
 use Rattle.explore.specs.Machines.{AreLawfulMachineSteps}
 use Rattle.explore.specs.Prefixes.Beginnings.{IsFlatBeginning}
-use Rattle.explore.specs.Prefixes.Calling.{IsCallOfStep, last_reply_of_calls, replyless_call, calling_section_steps, calling_shown_by}
+use Rattle.explore.specs.Prefixes.Calling.{IsCallOfStep, last_reply_of_calls, replyless_call}
 use Rattle.explore.proofs.Machines.{machine_next_within, machine_rows_few, machine_rows_many, machine_row_steps, machine_some_at}
 use Rattle.explore.proofs.prefixes.Beginnings.{beginning_next}
 

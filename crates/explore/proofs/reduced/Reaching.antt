@@ -4,7 +4,7 @@
 -- state that was found it is reached by some events. The free event that was followed there, or the first ask for the lock,
 -- is one of them, and may as well come first; or none is, and then one may come behind them, so that it may come first again.
 -- Either way what is left is reached from the next state, and prefixes are only so long.
-use Rattle.std.proofs.Common.{ℕ, zero, suc, ◌≡◌, ◌≢◌, ◌+◌, ◌<◌, ◌≤◌, ◌⊎◌, inl, inr, List, [], ◌∷◌, ◌++◌, length, replicate, Some, slice_get, refl, sym, ap, subst, ◌∙◌, append_assoc, append-nil, length-append, arith}
+use Rattle.std.proofs.Common.{ℕ, zero, suc, ◌≡◌, ◌≢◌, ◌+◌, ◌≤◌, ◌⊎◌, inl, inr, List, [], ◌∷◌, ◌++◌, length, replicate, slice_get, refl, sym, ap, subst, ◌∙◌, append_assoc, append-nil, length-append, arith}
 use Rattle.std.specs.Global.{Vec}
 use Rattle.std.proofs.lemmas.Bool.{cases_eq}
 use Rattle.std.proofs.lemmas.Option.{none-some, same_Some}
@@ -15,27 +15,21 @@ use Rattle.journal.specs.declared.event.Kind.TheVariants.{Ask, Load}
 use Rattle.journal.specs.DidEvent.{did, event}
 use Rattle.journal.specs.Events.{At}
 use Rattle.journal.specs.FlatMemory.{AnswersFlatWord, memory_after}
-use Rattle.journal.specs.Races.{Conflict}
-use Rattle.lrc_script.specs.declared.script.Instruction.{Instruction}
 use Rattle.lrc_script.specs.Plan.{Plan}
 use Rattle.lrc_script.specs.Lawful.{plan_addresses}
-use Rattle.conformance.specs.Follows.{calls_of, Follows, FollowsSection}
+use Rattle.conformance.specs.Follows.{calls_of}
 use Rattle.explore.specs.declared.prefixes.script_call.ScriptCall.{ScriptCall}
 use Rattle.explore.specs.declared.prefixes.script_call.ScriptCall.TheVariants.{Call, Adds}
 use Rattle.explore.specs.Free.{IsFree}
 use Rattle.journal.proofs.Order.CountedAndNumbered.{numbered_at_longer}
-use Rattle.explore.specs.Guarded.{IsGuarded}
 use Rattle.explore.specs.Machines.{AreLawfulMachineSteps}
-use Rattle.explore.specs.Outcomes.{AreOutcomeReplies, outcome_replies_in}
-use Rattle.explore.specs.Prefixes.Beginnings.{IsFlatBeginning, IsHangingBeginning}
-use Rattle.explore.specs.Prefixes.Calling.{IsCallOfStep, last_reply_of_calls, replyless_call, calling_section_steps, calling_shown_by}
-use Rattle.explore.specs.Prefixes.Laws.{MayComeNext}
+use Rattle.explore.specs.Prefixes.Beginnings.{IsFlatBeginning}
+use Rattle.explore.specs.Prefixes.Calling.{IsCallOfStep, last_reply_of_calls, replyless_call}
 use Rattle.explore.proofs.Lengths.{history_length_few}
 use Rattle.explore.proofs.Machines.{machine_some_at}
-use Rattle.explore.proofs.locksets.Law.{lockset_guarded_quiet}
 use Rattle.explore.proofs.prefixes.Beginnings.{beginning_front, beginning_next}
-use Rattle.explore.proofs.reduced.Same.{IsSame, reduced_same_after_that, reduced_same_other_way, same_calls, same_next, same_on}
-use Rattle.explore.proofs.reduced.Swapping.{SwappedComesFirst, IsCalm, IsNoRival, ask_or_not, reduced_swapped_comes_first, reduced_swapped_next_after, swapped_no_ask_now}
+use Rattle.explore.proofs.reduced.Same.{IsSame, same_on}
+use Rattle.explore.proofs.reduced.Swapping.{IsCalm, IsNoRival, ask_or_not, reduced_swapped_comes_first, swapped_no_ask_now}
 
 -- one reply is the memory's
 once : (memory : List ℕ) (j k : Kind) → replyless_call j ≡ replyless_call k → AnswersFlatWord memory j → AnswersFlatWord memory k → j ≡ k

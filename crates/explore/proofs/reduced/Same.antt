@@ -1,8 +1,8 @@
 -- Beginnings in which each processor has done the same, the words are the same, and the asks came in one order: they go on
 -- alike, and so nothing else that has happened is of use to know.
-use Rattle.std.proofs.Common.{ℕ, ◌≡◌, ◌≢◌, ◌+◌, ◌<◌, ◌↔◌, inl, inr, Bool, true, false, cond, IsTrue, List, [], ◌∷◌, ◌++◌, count_by, filter, length, replicate, Some, slice_get, refl, sym, ap, ap₂, subst, ◌∙◌, append_assoc, append-nil, arith}
-use Rattle.std.specs.Prelude.{◌==◌, ◌&&◌}
-use Rattle.std.proofs.lemmas.Bool.{cases_eq, cases_order, cond-true, cond-false, eq-eqb, ne_eqb}
+use Rattle.std.proofs.Common.{ℕ, ◌≡◌, ◌≢◌, ◌+◌, ◌<◌, ◌↔◌, inl, inr, Bool, List, [], ◌∷◌, ◌++◌, count_by, length, replicate, refl, sym, ap, ap₂, subst, ◌∙◌, append_assoc, append-nil, arith}
+use Rattle.std.specs.Prelude.{◌==◌}
+use Rattle.std.proofs.lemmas.Bool.{cases_eq, cond-true, cond-false, eq-eqb, ne_eqb}
 use Rattle.std.proofs.lemmas.Option.{none-some}
 use Rattle.base.proofs.SlicesAndCounts.{count_by-append, slice_push_cases, slice_push_induction}
 use Rattle.base.proofs.LastWritten.{written-append}
@@ -13,19 +13,16 @@ use Rattle.journal.specs.declared.event.Kind.TheVariants.{Ask, Acquire, Release,
 use Rattle.journal.specs.DidEvent.{did, event}
 use Rattle.journal.specs.Events.{At, count_of, is_arrive, is_depart, events_of}
 use Rattle.journal.specs.FlatMemory.{AnswersFlatWord, flat_write, memory_after}
-use Rattle.journal.specs.Sizes.{Sizes}
-use Rattle.journal.specs.WellFormed.{AllArrived, Allowed, Does, Holds, LastIs, MayBeGranted, MayFollow}
+use Rattle.journal.specs.WellFormed.{AllArrived, Allowed, Does, Holds, LastIs, MayFollow}
 use Rattle.journal.proofs.Order.CountedAndNumbered.{numbered_at_last, numbered_at_longer, numbered_at_within, count_of-append}
 use Rattle.journal.proofs.Times.Times.{count_of-one_time}
 use Rattle.journal.proofs.Journals.WellFormedLast.{well_formed_holds_cases, well_formed_holds_longer, well_formed_holds_now, last_cases, last_longer, last_now, last_shorter, last_unique}
-use Rattle.lrc_script.specs.declared.script.Instruction.{Instruction}
 use Rattle.lrc_script.specs.Plan.{Plan}
 use Rattle.lrc_script.specs.Lawful.{plan_addresses}
 use Rattle.conformance.specs.Follows.{calls_of, call_kinds, plan_sizes}
 use Rattle.conformance.proofs.Calls.{calls_part-append}
 use Rattle.explore.specs.Prefixes.Beginnings.{IsFlatBeginning}
 use Rattle.explore.specs.Prefixes.Calling.{IsCalledNext, calling_section_steps, calling_shown_by}
-use Rattle.explore.specs.Prefixes.Laws.{MayComeNext}
 use Rattle.explore.proofs.prefixes.Beginnings.{beginning_front, beginning_next}
 
 pub reduced_same_part_own : (j : List Event) (e : Event) → events_of (j ++ e ∷ []) e.processor ≡ events_of j e.processor ++ e ∷ []

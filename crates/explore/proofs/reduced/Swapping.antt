@@ -1,29 +1,26 @@
 -- What may come next may still come after another processor's event. So two that may come next come in either order, and
 -- if they don't conflict, and don't both ask for one lock, the two prefixes are the same.
-use Rattle.std.proofs.Common.{ℕ, suc, ◌≡◌, ◌≢◌, ◌+◌, ◌<◌, ◌↔◌, ◌⊎◌, inl, inr, false, List, [], ◌∷◌, ◌++◌, length, replicate, Option, Some, slice_get, slice_set, refl, sym, ap, subst, ◌∙◌, append_assoc, append-nil, length-append, arith}
-use Rattle.std.specs.Prelude.{None}
+use Rattle.std.proofs.Common.{ℕ, suc, ◌≡◌, ◌≢◌, ◌+◌, ◌<◌, ◌↔◌, ◌⊎◌, inl, inr, false, List, [], ◌∷◌, ◌++◌, length, replicate, Some, refl, sym, ap, subst, ◌∙◌, append_assoc, append-nil, length-append, arith}
 use Rattle.std.specs.Global.{Vec}
 use Rattle.std.proofs.lemmas.Bool.{cases_eq, cases_order, false≢true}
 use Rattle.std.proofs.lemmas.List.{set_comm}
-use Rattle.std.proofs.lemmas.Option.{none-some, same_Some}
 use Rattle.base.proofs.SliceSets.{slice_get-set_other}
 use Rattle.base.specs.LastWritten.{wrote}
 use Rattle.journal.specs.declared.event.Event.{Event}
 use Rattle.journal.specs.declared.event.Kind.{Kind}
 use Rattle.journal.specs.declared.event.Kind.TheVariants as kind
 use Rattle.journal.specs.DidEvent.{did, event}
-use Rattle.journal.specs.Events.{At, address_of, count_of, is_arrive, is_depart, is_store, events_of}
+use Rattle.journal.specs.Events.{At, address_of, count_of, is_arrive, is_depart, events_of}
 use Rattle.journal.specs.FlatMemory.{AnswersFlatWord, flat_write, memory_after}
 use Rattle.journal.specs.Races.{Conflict}
 use Rattle.journal.specs.Sizes.{Sizes}
-use Rattle.journal.specs.WellFormed.{AllArrived, Allowed, Does, Holds, LastIs, MayBeGranted, MayFollow}
+use Rattle.journal.specs.WellFormed.{AllArrived, Allowed, Does, LastIs, MayFollow}
 use Rattle.journal.proofs.Order.CountedAndNumbered.{numbered_at_longer, numbered_at_within, count_of-append, numbered_does_same}
 use Rattle.journal.proofs.Times.Times.{count_of-one_time}
 use Rattle.journal.proofs.Journals.WellFormedLast.{well_formed_holds_cases, well_formed_holds_longer, last_cases, last_longer, last_now, last_shorter}
-use Rattle.lrc_script.specs.declared.script.Instruction.{Instruction}
 use Rattle.lrc_script.specs.Plan.{Plan}
 use Rattle.lrc_script.specs.Lawful.{plan_addresses}
-use Rattle.conformance.specs.Follows.{calls_of, plan_sizes}
+use Rattle.conformance.specs.Follows.{plan_sizes}
 use Rattle.conformance.proofs.Calls.{followed_calls-others}
 use Rattle.explore.specs.declared.prefixes.script_call.ScriptCall.{ScriptCall}
 use Rattle.explore.specs.Free.{is_ask}
@@ -31,7 +28,6 @@ use Rattle.explore.specs.Guarded.{IsGuarded}
 use Rattle.explore.specs.Machines.{AreLawfulMachineSteps}
 use Rattle.explore.specs.Prefixes.Beginnings.{IsFlatBeginning}
 use Rattle.explore.specs.Prefixes.Calling.{IsCalledNext, calling_section_steps, calling_shown_by}
-use Rattle.explore.specs.Prefixes.Laws.{MayComeNext}
 use Rattle.explore.proofs.prefixes.Beginnings.{beginning_front, beginning_next}
 use Rattle.explore.proofs.locksets.Law.{lockset_guarded_quiet}
 use Rattle.explore.proofs.reduced.Same.{SameAsksFirst, IsSame, reduced_same_after_that, reduced_same_away_one, reduced_same_as_itself, reduced_same_memory_did, reduced_same_other_way, reduced_same_part_others, reduced_same_part_own, same_on}

@@ -10,8 +10,9 @@ use Rattle.journal.proofs.Order.CountedAndNumbered.{numbered_at_last}
 use Rattle.lrc_script.specs.Plan.{Plan}
 use Rattle.conformance.specs.Begins.{BeginsScript, BeginsSection}
 use Rattle.conformance.specs.Follows.{plan_sizes, calls_of, is_fetch, Follows, FollowsSection}
-use Rattle.conformance.proofs.WithoutFetches.Embeds.{without_fetches, without_fetches_of}
+use Rattle.conformance.proofs.WithoutFetches.Embeds.{without_fetches}
 use Rattle.conformance.proofs.WithoutFetches.Runs.{calls_without_fetches}
+use Rattle.conformance.proofs.WithoutFetches.WellFormed.{follow_with_fetches}
 use Rattle.explore.specs.Prefixes.Beginnings.{IsFlatBeginning, IsFlatRaceFree, IsHangingBeginning}
 use Rattle.explore.specs.Prefixes.Calling.{calling_shown_by}
 use Rattle.explore.specs.declared.explored.Explored.{Explored}
@@ -19,11 +20,9 @@ use Rattle.explore.specs.Explored.{IsExploredHanging}
 use Rattle.explore.proofs.Machines.{machine_next_within}
 use Rattle.lrc_explore.specs.Schedules.Laws.{GoesOnLaw, NoScheduleHangs, IsScheduleUnfinished, NeverStuckLaw}
 use Rattle.lrc_explore.proofs.schedules.Begun.{schedule_begun_fetchless_push, schedule_begun_flat_part, schedule_begun_replays_whole}
-use Rattle.lrc_explore.proofs.schedules.Calls.{schedule_calls_count_same}
 use Rattle.lrc_explore.proofs.schedules.Deciding.{Decided, decided_some}
 use Rattle.lrc_explore.proofs.schedules.Onward.{schedule_onward_decided_next}
 use Rattle.lrc_explore.proofs.schedules.Reports.{found}
-use Rattle.lrc_explore.proofs.schedules.Waiting.{schedule_waiting_follow_there}
 
 -- what may come next on one flat memory, where fetches are left out, may come next
 module _ (s : Plan) (h : List Event) (well : WellFormed (plan_sizes s) h) (p : â„•) (k : Kind)
@@ -36,7 +35,7 @@ module _ (s : Plan) (h : List Event) (well : WellFormed (plan_sizes s) h) (p : â
       let may = ((well_formed_push (plan_sizes s) (without_fetches h) (event p k)).0 flat.well_formed).1 in
       (well_formed_push (plan_sizes s) h (event p k)).1 (
         well,
-        schedule_waiting_follow_there (plan_sizes s) (without_fetches h) h (without_fetches_of h).embeds well (event p k) (schedule_calls_count_same h) may,
+        follow_with_fetches (plan_sizes s) h (event p k) well may,
       )
 
   schedule_going_begins_longer : BeginsScript s (did h p k)

@@ -1,10 +1,8 @@
-use Rattle.std.proofs.Common.{ℕ, ◌≡◌, ◌<◌, ◌≤◌, inl, inr, List, Option, Some, length, sym, subst, ◌∙◌, arith}
-use Rattle.std.specs.Prelude.{None, slice_index_or, slice_set}
-use Rattle.std.proofs.lemmas.Bool.{cases_eq, cases_lt}
+use Rattle.std.proofs.Common.{inl, inr, sym, ◌∙◌, arith}
+use Rattle.std.specs.Prelude.{None}
+use Rattle.std.proofs.lemmas.Bool.{cases_lt}
 use Rattle.std.proofs.lemmas.List.{get_or_past, length-set}
 use Rattle.std.proofs.lemmas.Option.{none-some}
-use Rattle.journal.specs.declared.event.Kind.TheVariants.{Ask}
-use Rattle.explore.specs.Free.{AreAmongNexts}
 use Rattle.explore.proofs.Choosing.{among_set, asks_set, none_among, none_long}
 use Rattle.explore.proofs.free.asks_among.Goals as goal
 

@@ -1,6 +1,5 @@
 use Rattle.std.proofs.Common.{ℕ, ◌≡◌, ◌<◌, Some, length}
 use Rattle.std.specs.Prelude.{None, slice_index_or}
-use Rattle.journal.specs.declared.event.Kind.{Kind}
 use Rattle.journal.specs.declared.event.Kind.TheVariants.{Ask}
 use Rattle.explore.specs.Free.{AreAmongNexts}
 use Rattle.explore.proofs.free.asks_among.Given as goal

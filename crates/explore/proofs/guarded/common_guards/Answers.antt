@@ -1,4 +1,4 @@
-use Rattle.std.proofs.Common.{ℕ, ◌≡◌, ◌<◌, IsTrue, false, List, Bool, zero, suc, [], ◌∷◌, slice_index_or, replicate, sym, refl, ◌∙◌}
+use Rattle.std.proofs.Common.{ℕ, IsTrue, false, zero, suc, slice_index_or, replicate}
 use Rattle.std.proofs.lemmas.Bool.{false≢true}
 use Rattle.explore.proofs.guarded.common_guards.Goals as goal
 

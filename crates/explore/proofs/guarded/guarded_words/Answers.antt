@@ -1,8 +1,7 @@
-use Rattle.std.proofs.Common.{ℕ, ◌≡◌, IsTrue, false, map, slice_index_or, subst, sym, ap, ◌∙◌}
+use Rattle.std.proofs.Common.{IsTrue, false, map, slice_index_or, subst, ap, ◌∙◌}
 use Rattle.std.proofs.lemmas.Result.{IfOk-weaker}
 use Rattle.explore.specs.declared.guarded.WordUse.{WordUse}
 use Rattle.lrc_script.specs.Plan.{plan_of}
-use Rattle.explore.specs.Guarded.{AreGuarded}
 use Rattle.explore.proofs.locksets.Noted.{lockset_noted_flags_of, lockset_noted_each_few, lockset_noted_guarded_word, lockset_noted_rows_within}
 use Rattle.explore.proofs.guarded.guarded_words.Goals as goal
 

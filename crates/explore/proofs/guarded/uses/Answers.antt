@@ -1,4 +1,4 @@
-use Rattle.std.proofs.Common.{ℕ, ◌≡◌, ◌<◌, length, sym, subst, ◌∙◌, arith}
+use Rattle.std.proofs.Common.{◌≡◌, ◌<◌, length, sym, subst, ◌∙◌, arith}
 use Rattle.std.specs.Prelude.{◌^◌, vec_len}
 use Rattle.explore.specs.Users.{AreStepUsersNoted, AreUserRowsNoted, AreUserStepsWithin}
 use Rattle.explore.proofs.Machines.{machine_read_at}

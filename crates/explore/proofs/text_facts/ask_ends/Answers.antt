@@ -1,4 +1,4 @@
-use Rattle.std.proofs.Common.{ℕ, ◌≡◌, ◌∙◌, List, length, refl, sym, subst, arith}
+use Rattle.std.proofs.Common.{◌∙◌, refl, sym, subst, arith}
 use Rattle.std.proofs.lemmas.List.{length-set}
 use Rattle.std.proofs.lemmas.Option.{slice_get_within}
 use Rattle.explore.specs.Free.{AreAskEnds, AreAsksSmall}
@@ -25,7 +25,7 @@ loop-processor-preserved c =
     let few = c.requires.few in
     let long = c.loop-processor.invariant.long in
     record {
-      ends = rows_ends c.args.steps.now p row c.loop-processor.ends c.ends_in.result at (omega (arith, lt, few, long))
+      ends = rows_ends c.args.steps.now p c.loop-processor.ends c.ends_in.result at (omega (arith, lt, few, long))
           (subst (λ xs. AreAskEnds xs c.ends_in.result) c.deref.ensures.value c.ends_in.ensures) c.loop-processor.invariant.ends;
       long = length-set c.loop-processor.ends p c.ends_in.result ∙ long;
     }

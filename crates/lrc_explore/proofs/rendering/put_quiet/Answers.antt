@@ -7,7 +7,5 @@ pub returns : goal.returns
 returns c =
     let explored = c.args.explored.now in
     lines_added_five c.args.text.now.items c.args.verdict.now (explore_text_outcomes_line (vec_len explored.outcomes) explored.are_all)
-    c.args.outcomes.now c.args.hangs.now (explore_text_states_line explored.states) c.extend_from_slice.new.self.items
-    c.put_count.new.text.items c.extend_from_slice-2.new.self.items c.extend_from_slice-3.new.self.items
-    c.put_states.new.text.items c.in_ok-extend_from_slice.ensures.items (rw c.len.ensures at c.in_ok-put_count.ensures)
+    c.args.outcomes.now c.args.hangs.now (explore_text_states_line explored.states) c.in_ok-extend_from_slice.ensures.items (rw c.len.ensures at c.in_ok-put_count.ensures)
     c.in_ok-extend_from_slice-2.ensures.items c.in_ok-extend_from_slice-3.ensures.items c.in_ok-put_states.ensures

@@ -7,6 +7,5 @@ pub returns : goal.returns
 returns c =
     let racy = c.args.racy.now in
     lines_added_four c.args.text.now.items (codes "verdict racy\n") (explore_text_racy_lines racy.events.items racy.first) c.args.hang.now
-    (explore_text_states_line c.args.states) c.extend_from_slice.new.self.items c.put_race.new.text.items
-    c.extend_from_slice-2.new.self.items c.put_states.new.text.items c.in_ok-extend_from_slice.ensures.items
+    (explore_text_states_line c.args.states) c.in_ok-extend_from_slice.ensures.items
     (rw c.deref.ensures.value at c.in_ok-put_race.ensures) c.in_ok-extend_from_slice-2.ensures.items c.in_ok-put_states.ensures

@@ -17,7 +17,7 @@ returns-in-Some-clause-given c =
     let faults = option_no_fault _ _ _ c.in-Ok.is (c.try_get_matches_from.ensures.kinds (ap is_simple_and_free app)) in
     options_given_by (vp.Names c.as_slice.result) (vp.Names c.as_slice-2.result) words c.in-Some.name.now (rows_of (found_of c.in-Some.given.now)) c.answer_of.result
     locks_are (search rules) (sym (ap (λ (a : App). fault_of a words) app) ∙ faults)
-    (sym entered ∙ named_option_rows _ _ _ _ _ c.in-Some.ensures.name c.in-Some.ensures.rows) c.answer_of.ensures.one
+    (sym entered ∙ named_option_rows _ _ _ _ _ c.in-Some.ensures.name c.in-Some.ensures.rows) c.answer_of.ensures.apart
     c.answer_of.ensures.asked
 
 pub returns-in-Some-clause-refused : goal.returns-in-Some-clause-refused

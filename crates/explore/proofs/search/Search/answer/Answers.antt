@@ -6,7 +6,7 @@ use Rattle.lrc_script.specs.Plan.{Plan, plan_of}
 use Rattle.explore.specs.declared.neighbours.Neighbours.{Neighbours}
 use Rattle.explore.specs.declared.prefixes.script_call.ScriptCall.{ScriptCall}
 use Rattle.explore.specs.declared.search.Search.{Search}
-use Rattle.explore.specs.Explored.{AreAllOutcomesExplored, AreExploredOutcomes, is_settled, explored_outcome}
+use Rattle.explore.specs.Explored.{AreAllOutcomesExplored, AreExploredOutcomes, explored_outcome}
 use Rattle.explore.specs.Found.{states_found}
 use Rattle.explore.specs.Guarded.{AreGuarded}
 use Rattle.explore.specs.Machines.{AreLawfulMachineSteps}

@@ -60,8 +60,8 @@ note_end-requires c =
       },
     )
 
-pub follow_all-requires : goal.follow_all-requires
-follow_all-requires c =
+pub follow_all-requires-clause-may : goal.follow_all-requires-clause-may
+follow_all-requires-clause-may c =
     let s = c.requires.unvisited.0 in
     let may = c.requires.unvisited.1 in
     let f = c.at-state.result.now in
@@ -70,9 +70,9 @@ follow_all-requires c =
       | else-is_over w ↦ ap (λ (z : Search). z.found) w.self-is
     ] in (
       s,
-      subst (λ x. MayFollowAll s x c.args.place c.to_follow-followed.result) (sym same)
+      subst (λ x. MayFollowAll s c.args.steps.now x c.args.place c.to_follow-followed.result) (sym same)
           (record {
-            lawful = may.lawful.lawful;
+            lawful = may.lawful;
             found = may.searched.found;
             within = may.more;
             next = λ m at p k told g knows.
@@ -81,8 +81,11 @@ follow_all-requires c =
           }),
     )
 
-pub returns-clause-few : goal.returns-clause-few
-returns-clause-few c = λ s may.
+pub returns-in-Some-clause-found : goal.returns-in-Some-clause-found
+returns-in-Some-clause-found c = λ s may. ((λ place m at. at), omega arith)
+
+pub returns-clause-found : goal.returns-clause-found
+returns-clause-found c = λ s may.
     let x = c.args.self.now.found in
     let place = c.args.place in
     let f = c.at-state.result.now in
@@ -92,8 +95,8 @@ returns-clause-few c = λ s may.
       | then-is_over+in_ok-note_end w ↦ ap (λ (z : Search). z.found) w.self-is ∙ w.in_ok-note_end.ensures.found
       | else-is_over w ↦ ap (λ (z : Search). z.found) w.self-is
     ] in
-    let may_follow : MayFollowAll s x place chosen = record {
-      lawful = may.lawful.lawful;
+    let may_follow : MayFollowAll s c.args.steps.now x place chosen = record {
+      lawful = may.lawful;
       found = may.searched.found;
       within = may.more;
       next = λ m at p k told g knows.
@@ -101,11 +104,11 @@ returns-clause-few c = λ s may.
           (c.to_follow-followed.ensures.among p k told);
     } in
     let followed =
-    subst (λ y. AreFollowed s y new place chosen (length chosen)) same
-    (c.in_ok-follow_all.ensures s (subst (λ y. MayFollowAll s y place chosen) (sym same) may_follow)) in
+    subst (λ y. AreFollowed s c.args.steps.now y new place chosen (length chosen)) same
+    (c.in_ok-follow_all.ensures s (subst (λ y. MayFollowAll s c.args.steps.now y place chosen) (sym same) may_follow)) in
     let few = followed.few in
     let long = c.to_follow-followed.ensures.long in
-    omega (arith, few, long)
+    (followed.keeps, omega (arith, few, long))
 
 pub returns-clause-looked : goal.returns-clause-looked
 returns-clause-looked c = λ s may.
@@ -122,15 +125,15 @@ returns-clause-looked c = λ s may.
     ] in
     let each : (m : FlatState) → slice_get (states_found x.found) place ≡ Some m → AreNexts s m nexts =
     (λ m at. subst (λ y. AreNexts s y nexts) (same_Some f m (sym c.at-state.ensures ∙ at)) are) in
-    let may_follow : MayFollowAll s x.found place chosen = record {
-      lawful = may.lawful.lawful;
+    let may_follow : MayFollowAll s c.args.steps.now x.found place chosen = record {
+      lawful = may.lawful;
       found = may.searched.found;
       within = may.more;
       next = λ m at p k told g knows. (each m at g knows p k).0 (c.to_follow-followed.ensures.among p k told);
     } in
     let followed =
-    subst (λ y. AreFollowed s y new place chosen (length chosen)) same
-    (c.in_ok-follow_all.ensures s (subst (λ y. MayFollowAll s y place chosen) (sym same) may_follow)) in
+    subst (λ y. AreFollowed s c.args.steps.now y new place chosen (length chosen)) same
+    (c.in_ok-follow_all.ensures s (subst (λ y. MayFollowAll s c.args.steps.now y place chosen) (sym same) may_follow)) in
     let noted : SearchOutcomesNoted s c.if-is_over.self (place + 1) = elim c.if-is_over.branch [
       | then-is_over+in_ok-note_end w ↦
           subst (λ z. SearchOutcomesNoted s z (place + 1)) (sym w.self-is) (w.in_ok-note_end.ensures.noted s (record {
@@ -151,7 +154,7 @@ returns-clause-looked c = λ s may.
     ] in
     let z : Search = record { found = new; outcomes = c.if-is_over.self.outcomes; hang = c.if-is_over.self.hang } in
     let more = may.more in
-    looked s x z c.args.steps.now place f.done nexts chosen may
+    looked z f.done nexts chosen may
     (λ m at. ap (λ (y : FlatState). y.done) (same_Some m f (sym at ∙ c.at-state.ensures))) each c.in_default.ensures
     (c.to_follow-followed.ensures.choice c.args.steps.now c.requires.facts) followed
     (search_noted_kept s (states_found x.found) (states_found new) (place + 1) followed.keeps (omega arith) c.if-is_over.self z

@@ -1,4 +1,4 @@
-use Rattle.std.proofs.Common.{ℕ, ◌≡◌, ◌+◌, ◌<◌, ◌≤◌, ◌↔◌, inl, inr, Bool, false, IsTrue, length, subst, sym, ◌∙◌, arith}
+use Rattle.std.proofs.Common.{ℕ, ◌≡◌, ◌<◌, ◌≤◌, ◌↔◌, inl, inr, Bool, false, IsTrue, length, subst, sym, ◌∙◌, arith}
 use Rattle.std.proofs.lemmas.Bool.{cases_lt, false≢true}
 use Rattle.explore.specs.Found.{states_found}
 use Rattle.explore.specs.Searched.{IsSearchedAt, SearchedUpTo}
@@ -66,7 +66,7 @@ loop-place-preserved g c = record {
       let isnt = c.if-place-states.false in
       let lt : c.loop-place.place < length (states_found c.loop-place.self.found) = omega (arith, within, is, isnt) in
       let under = not_past c.args.most c.len-states.result c.is_past.result c.is_past.ensures c.if-is_past.false in
-      let more = c.in_ok-neighbours.ensures.few s (record { lawful = lawful; searched = old; more = lt }) in
+      let more = (c.in_ok-neighbours.ensures.found s (record { lawful = lawful; searched = old; more = lt })).1 in
       omega (arith, more, under, is);
 }
 
@@ -90,7 +90,7 @@ returns-in-Some-clause-few g c = λ s lawful searched one.
     let isnt = c.if-place-states.false in
     let lt : c.loop-place.place < length (states_found c.loop-place.self.found) = omega (arith, within, is, isnt) in
     let under = not_past c.args.most c.len-states.result c.is_past.result c.is_past.ensures c.if-is_past.false in
-    let more = c.in_ok-neighbours.ensures.few s (record { lawful = lawful; searched = old; more = lt }) in
+    let more = (c.in_ok-neighbours.ensures.found s (record { lawful = lawful; searched = old; more = lt })).1 in
     omega (arith, more, under, is)
 
 pub returns-clause-looked : goal.returns-clause-looked

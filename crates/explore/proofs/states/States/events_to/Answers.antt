@@ -1,6 +1,6 @@
-use Rattle.std.proofs.Common.{ℕ, ◌≡◌, ◌≢◌, ◌<◌, ◌++◌, List, [], ◌∷◌, Option, Some, length, reverse, slice_get, append_assoc, refl, sym, ap, subst, ◌∙◌, arith}
+use Rattle.std.proofs.Common.{ℕ, ◌≡◌, ◌≢◌, ◌<◌, ◌++◌, List, [], Option, Some, length, reverse, slice_get, append_assoc, refl, sym, ap, subst, ◌∙◌, arith}
 use Rattle.std.specs.Prelude.{None}
-use Rattle.std.proofs.lemmas.List.{reverse-append}
+use Rattle.std.proofs.lemmas.List.{reverse-append, reverse-reverse}
 use Rattle.journal.specs.declared.event.Event.{Event}
 use Rattle.lrc_script.specs.Plan.{Plan}
 use Rattle.explore.specs.declared.states.States.{States}
@@ -47,12 +47,13 @@ loop-origin-preserved c =
           omega arith);
       rest = λ s g m e found at_m at_e knows.
           let from = comes s x place f.0 c.index.result.now (Some o) found within read c.in-Some.is f.1 in
-          let more = c.loop-origin.invariant.rest s (g ++ o.event ∷ []) m f.0 found at_m f.1 (from.after e g at_e knows) in
-          let pushed : reverse c.push.new.self.items ≡ o.event ∷ reverse c.loop-origin.events.items =
-          ap (λ (es : List Event). reverse es) c.in_ok-push.ensures.items
-          ∙ reverse-append c.loop-origin.events.items (o.event ∷ []) in
+          let more = c.loop-origin.invariant.rest s (g ++ o.events.items) m f.0 found at_m f.1 (from.after e g at_e knows) in
+          let pushed : reverse c.push_backwards.new.events.items ≡ o.events.items ++ reverse c.loop-origin.events.items =
+          ap (λ (es : List Event). reverse es) c.in_ok-push_backwards.ensures
+          ∙ reverse-append c.loop-origin.events.items (reverse c.deref.result.now)
+          ∙ ap (λ es. es ++ reverse c.loop-origin.events.items) (reverse-reverse c.deref.result.now ∙ c.deref.ensures.value) in
           subst (λ es. Knows s es m)
-          (append_assoc g (o.event ∷ []) (reverse c.loop-origin.events.items) ∙ ap (λ es. g ++ es) (sym pushed)) more;
+          (append_assoc g o.events.items (reverse c.loop-origin.events.items) ∙ ap (λ es. g ++ es) (sym pushed)) more;
     }
 
 pub returns : goal.returns

@@ -1,23 +1,51 @@
+use Rattle.std.proofs.Common.{ap, refl, ◌∙◌, ◌++◌, ◌∷◌, []}
 use Rattle.std.proofs.lemmas.Result.{on_ok_weaker}
-use Rattle.explore.proofs.Followed.{followed}
+use Rattle.journal.specs.DidEvent.{did}
+use Rattle.explore.proofs.Followed.{CameFreely, followed}
 use Rattle.explore.proofs.Likes.{knows_like}
 use Rattle.explore.proofs.states.States.follow.Goals as goal
 
 pub step-requires : goal.step-requires
 step-requires c =
-    let may = c.requires.step c.at.result.now c.at.ensures in
+    let s = c.requires.may.0 in
+    let may = c.requires.may.1 in
+    let f = c.at.result.now in
+    let g = may.found.known c.args.place f c.at.ensures in
     record {
-      plan = may.plan;
+      plan = s;
+      lawful = may.lawful.lawful;
+      events = g.0;
+      knows = knows_like s g.0 f c.in_ok-state.state c.in_ok-state.ensures g.1;
+      next = may.next f c.at.ensures g.0 g.1;
+    }
+
+pub go_freely-requires-clause-running : goal.go_freely-requires-clause-running
+go_freely-requires-clause-running c =
+    let s = c.requires.may.0 in
+    let may = c.requires.may.1 in
+    let f = c.at.result.now in
+    let g = may.found.known c.args.place f c.at.ensures in
+    record {
+      plan = s;
       lawful = may.lawful;
-      events = may.events;
-      knows = knows_like may.plan may.events c.at.result.now c.in_ok-state.state c.in_ok-state.ensures may.knows;
-      next = may.next;
+      events = did g.0 c.args.event.processor c.args.event.kind;
+      knows = c.in_ok-step.ensures s g.0 (knows_like s g.0 f c.in_ok-state.state c.in_ok-state.ensures g.1)
+          (may.next f c.at.ensures g.0 g.1) may.small;
     }
 
 pub returns : goal.returns
-returns c = on_ok_weaker c.add.result (λ added s found small goes.
+returns c = on_ok_weaker c.add.result (λ added s may.
     let f = c.at.result.now in
-    followed s c.args.self.now c.add.new.self c.args.place c.args.processor c.args.kind f c.step.new.self found
-    c.at.ensures (goes f c.at.ensures)
-    (λ g knows next. c.in_ok-step.ensures s g (knows_like s g f c.in_ok-state.state c.in_ok-state.ensures knows) next small)
-    added) c.add.ensures
+    let p = c.args.event.processor in
+    let k = c.args.event.kind in
+    let more = c.in_ok-go_freely.ensures.0 in
+    let went = c.in_ok-go_freely.ensures.2 in
+    let came : CameFreely s c.args.steps.now c.args.place p k f c.go_freely.new.state (record { from = c.args.place; events = c.go_freely.new.events }) = record {
+      more = more;
+      free = went.free;
+      from = refl;
+      events = c.in_ok-go_freely.ensures.1 ∙ ap (λ es. es ++ more) (c.in_ok-push.ensures.items ∙ ap (λ es. es ++ c.args.event ∷ []) c.new-events.ensures.items);
+      knows = λ g knows. went.knows s (did g p k) may.lawful
+          (c.in_ok-step.ensures s g (knows_like s g f c.in_ok-state.state c.in_ok-state.ensures knows) (may.next f c.at.ensures g knows) may.small);
+    } in
+    followed may c.at.ensures came c.add.new.self added) c.add.ensures

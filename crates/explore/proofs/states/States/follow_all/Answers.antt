@@ -1,27 +1,24 @@
 use Rattle.std.proofs.Common.{◌+◌, sym, subst}
 use Rattle.explore.specs.Followed.{AreFollowed}
-use Rattle.explore.proofs.FollowedAll.{followed_all_goes_on, followed_all_may_step, nobody_followed, none_followed, one_followed, followed_all_small, followed_all_within}
+use Rattle.explore.proofs.FollowedAll.{followed_all_may, nobody_followed, none_followed, one_followed}
 use Rattle.explore.proofs.states.States.follow_all.Goals.{in-Some+in_ok-follow, in_default}
 use Rattle.explore.proofs.states.States.follow_all.Goals as goal
 
 pub loop-processor-init : goal.loop-processor-init
-loop-processor-init c = λ s may. none_followed s c.args.self.now c.args.self.now c.args.place c.args.nexts.now may
+loop-processor-init c = λ s may. none_followed s c.args.steps.now c.args.self.now c.args.self.now c.args.place c.args.nexts.now may
 
-pub follow-requires : goal.follow-requires
-follow-requires c =
-    let s = c.requires.0 in
-    let may = c.requires.1 in
-    let x = c.args.self.now in
-    let y = c.loop-processor.self in
-    let n = c.loop-processor.processor in
-    let old = c.loop-processor.invariant s may in
-    record {
-      place = followed_all_within s x y c.args.place c.args.nexts.now may n old;
-      step = followed_all_may_step s x y c.args.place c.args.nexts.now may n old c.in-Some.kind c.in-Some.is;
-    }
+pub follow-requires-clause-may : goal.follow-requires-clause-may
+follow-requires-clause-may c =
+    let s = c.requires.may.0 in
+    let may = c.requires.may.1 in (
+      s,
+      followed_all_may s c.args.steps.now c.args.self.now c.loop-processor.self c.args.place c.args.nexts.now may
+          c.loop-processor.processor (c.loop-processor.invariant s may) c.in-Some.kind c.in-Some.is,
+    )
 
 pub loop-processor-preserved : goal.loop-processor-preserved
 loop-processor-preserved c = λ s may.
+    let rows = c.args.steps.now in
     let x = c.args.self.now in
     let y = c.loop-processor.self in
     let n = c.loop-processor.processor in
@@ -32,11 +29,10 @@ loop-processor-preserved c = λ s may.
       | in-Some+in_ok-follow w ↦
           (let k = w.in-Some.kind in
           let here = w.in-Some.is in
-          let followed = w.in_ok-follow.ensures s old.found (followed_all_small s x y place nexts may n old k here)
-          (followed_all_goes_on s x y place nexts may n old k here) in
-          subst (λ z. AreFollowed s x z place nexts (n + 1)) (sym w.self-is)
-          (one_followed s x y place nexts may n old k here w.follow.new.self followed))
+          let followed = w.in_ok-follow.ensures s (followed_all_may s rows x y place nexts may n old k here) in
+          subst (λ z. AreFollowed s rows x z place nexts (n + 1)) (sym w.self-is)
+          (one_followed s rows x y place nexts may n old k here w.follow.new.self followed))
       | in_default w ↦
-          subst (λ z. AreFollowed s x z place nexts (n + 1)) (sym w.self-is)
-          (nobody_followed s x y place nexts may n old w.in_default.not-Some)
+          subst (λ z. AreFollowed s rows x z place nexts (n + 1)) (sym w.self-is)
+          (nobody_followed s rows x y place nexts may n old w.in_default.not-Some)
     ]

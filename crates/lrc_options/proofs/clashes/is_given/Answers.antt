@@ -3,7 +3,7 @@ use Rattle.std.specs.Prelude.{is_some}
 use Rattle.clap.specs.Words.{found_of}
 use Rattle.clap.proofs.WalkLemmas.{first_value-rows}
 use Rattle.lrc_options.proofs.OptionRules.{option_is_some_map}
-use Rattle.lrc_options.proofs.command_line.is_given.Goals as goal
+use Rattle.lrc_options.proofs.clashes.is_given.Goals as goal
 
 pub returns : goal.returns
 returns c = c.is_some.ensures ∙ sym (option_is_some_map (λ s. s.now) c.get_str.result)

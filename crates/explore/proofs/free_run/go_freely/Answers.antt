@@ -1,0 +1,59 @@
+use Rattle.std.proofs.Common.{◌<◌, ◌≤◌, ◌++◌, ◌∷◌, [], List, sym, ap, subst, append-nil, append_assoc, ◌∙◌, arith}
+use Rattle.journal.specs.declared.event.Event.{Event}
+use Rattle.journal.specs.DidEvent.{did}
+use Rattle.lrc_script.specs.Plan.{Plan}
+use Rattle.explore.specs.Free.{IsFreeOf}
+use Rattle.explore.specs.Prefixes.Beginnings.{IsFlatBeginning}
+use Rattle.explore.proofs.Choosing.{choosing_free_of}
+use Rattle.explore.proofs.FreeRuns.{went_nowhere, went_on}
+use Rattle.explore.proofs.Machines.{machine_next_within}
+use Rattle.explore.proofs.free_run.go_freely.Goals as goal
+
+-- a processor that may do something is one of the script's
+small : (s : Plan) (g : List Event) (e : Event) → s.processors ≤ 16 → IsFlatBeginning s (did g e.processor e.kind) → e.processor < 16
+small s g e most next = let within = machine_next_within s g e.processor e.kind next in omega arith
+
+pub loop-init : goal.loop-init
+loop-init c = ([], sym (append-nil c.args.events.now.items), went_nowhere c.args.steps.now c.args.state.now)
+
+pub nexts_of-nexts-requires : goal.nexts_of-nexts-requires
+nexts_of-nexts-requires c =
+    let running = c.requires.running in
+    let went = c.loop.invariant.2 in
+    record {
+      plan = running.plan;
+      lawful = running.lawful;
+      events = running.events ++ c.loop.invariant.0;
+      knows = went.knows running.plan running.events running.lawful running.knows;
+    }
+
+pub step-requires : goal.step-requires
+step-requires c =
+    let running = c.requires.running in
+    let s = running.plan in
+    let went = c.loop.invariant.2 in
+    let g = running.events ++ c.loop.invariant.0 in
+    let knows = went.knows s running.events running.lawful running.knows in
+    let e = c.in-Some.event in
+    record {
+      plan = s;
+      lawful = running.lawful.lawful;
+      events = g;
+      knows = knows;
+      next = (c.nexts_of-nexts.ensures.nexts s running.lawful g knows e.processor e.kind).0 c.in-Some.ensures.0;
+    }
+
+pub loop-preserved : goal.loop-preserved
+loop-preserved c =
+    let rows = c.args.steps.now in
+    let more = c.loop.invariant.0 in
+    let e = c.in-Some.event in
+    let free = choosing_free_of rows c.args.facts.now.guarded.items e.kind c.requires.facts.guarded
+    (subst (λ words. IsFreeOf words e.kind) c.deref.ensures.value c.in-Some.ensures.1) in (
+      more ++ e ∷ [],
+      c.in_ok-push.ensures.items ∙ ap (λ es. es ++ e ∷ []) c.loop.invariant.1
+          ∙ append_assoc c.args.events.now.items more (e ∷ []),
+      went_on rows c.args.state.now c.loop.state c.step.new.self more e c.loop.invariant.2 free (λ s g lawful knows.
+          let next = (c.nexts_of-nexts.ensures.nexts s lawful g knows e.processor e.kind).0 c.in-Some.ensures.0 in
+          c.in_ok-step.ensures s g knows next (small s g e lawful.lawful.but_uneven.sizes.most_processors next)),
+    )

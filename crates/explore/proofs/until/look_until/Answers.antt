@@ -1,0 +1,148 @@
+use Rattle.std.proofs.Common.{ℕ, ◌≡◌, ◌<◌, ◌≤◌, ◌↔◌, inl, inr, Bool, false, IsTrue, length, subst, sym, ◌∙◌, arith}
+use Rattle.std.proofs.lemmas.Bool.{cases_lt, false≢true}
+use Rattle.std.proofs.lemmas.Option.{same_Some}
+use Rattle.explore.specs.Found.{states_found}
+use Rattle.explore.specs.Machines.{Knows}
+use Rattle.explore.specs.Searched.{HasMoreToSearch, IsSearchedAt}
+use Rattle.explore.specs.UntilSearched.{SearchedWithoutWords}
+use Rattle.explore.proofs.Machines.{machine_none_of}
+use Rattle.explore.proofs.UntilSearched.{until_none_next}
+use Rattle.explore.proofs.until.look_until.Goals as goal
+
+-- the states are no more than these
+not_past : (most states : ℕ) (past : Bool) → IsTrue past ↔ (most < states) → past ≡ false → states ≤ most
+not_past most states past tells isnt = elim (cases_lt most states) [
+  | inl over ↦ absurd (false≢true (sym isnt ∙ tells.1 over))
+  | inr le ↦ omega (arith, le)
+]
+
+pub loop-place-init : goal.loop-place-init
+loop-place-init g c = record {
+  searched = λ s lawful searched. record { searched = searched; none = λ place m g lt. absurd (omega arith) };
+  few = λ s lawful searched one. omega (arith, one);
+}
+
+pub returns-then-is_past-clause-looked : goal.returns-then-is_past-clause-looked
+returns-then-is_past-clause-looked g c = λ s lawful searched. record {
+  found = (c.loop-place.invariant.searched s lawful searched).searched.found;
+  end = λ few. absurd (let over = c.is_past.ensures.0 c.if-is_past.true in let is = c.len-states.ensures.count in omega arith);
+}
+
+pub returns-then-is_past-clause-few : goal.returns-then-is_past-clause-few
+returns-then-is_past-clause-few g c = c.loop-place.invariant.few
+
+pub returns-then-place-states-clause-looked : goal.returns-then-place-states-clause-looked
+returns-then-place-states-clause-looked g c = λ s lawful searched.
+    let old = c.loop-place.invariant.searched s lawful searched in
+    record {
+      found = old.searched.found;
+      end = λ few.
+          subst (SearchedWithoutWords s c.loop-place.search c.args.steps.now c.args.words.now)
+          (c.if-place-states.true ∙ c.len-states.ensures.count) old;
+    }
+
+pub returns-then-place-states-clause-few : goal.returns-then-place-states-clause-few
+returns-then-place-states-clause-few g c = c.loop-place.invariant.few
+
+pub is_ending-requires : goal.is_ending-requires
+is_ending-requires g c =
+    let s = c.requires.searched.0 in
+    let old = c.loop-place.invariant.searched s c.requires.searched.1 c.requires.searched.2 in
+    let h = old.searched.found.known c.loop-place.place c.at.result.now c.at.ensures in
+    record { plan = s; lawful = c.requires.searched.1; events = h.0; knows = h.1 }
+
+pub returns-then-is_ending-clause-looked : goal.returns-then-is_ending-clause-looked
+returns-then-is_ending-clause-looked g c = λ s lawful searched.
+    let old = c.loop-place.invariant.searched s lawful searched in
+    let within = old.searched.within in
+    let is = c.len-states.ensures.count in
+    let isnt = c.if-place-states.false in
+    record {
+      found = old.searched.found;
+      end = record {
+        within = omega (arith, within, is, isnt);
+        ends = λ m h at knows.
+            let mine = subst (Knows s h) (same_Some m c.at.result.now (sym at ∙ c.at.ensures)) knows in
+            (c.is_ending.ensures s h lawful mine).0 c.if-is_ending.true;
+      };
+    }
+
+pub returns-then-is_ending-clause-few : goal.returns-then-is_ending-clause-few
+returns-then-is_ending-clause-few g c = c.loop-place.invariant.few
+
+pub look_at-requires-clause-unvisited : goal.look_at-requires-clause-unvisited
+look_at-requires-clause-unvisited g c =
+    let s = c.requires.searched.0 in
+    let old = c.loop-place.invariant.searched s c.requires.searched.1 c.requires.searched.2 in
+    let within = old.searched.within in
+    let is = c.len-states.ensures.count in
+    let isnt = c.if-place-states.false in
+    let lt : c.loop-place.place < length (states_found c.loop-place.search.found) = omega (arith, within, is, isnt) in
+    (s, record { lawful = c.requires.searched.1; searched = old.searched; more = lt })
+
+pub loop-place-preserved : goal.loop-place-preserved
+loop-place-preserved g c = record {
+  searched = λ s lawful searched.
+      let old = c.loop-place.invariant.searched s lawful searched in
+      let within = old.searched.within in
+      let is = c.len-states.ensures.count in
+      let isnt = c.if-place-states.false in
+      let lt : c.loop-place.place < length (states_found c.loop-place.search.found) = omega (arith, within, is, isnt) in
+      let more : HasMoreToSearch s c.loop-place.search c.args.steps.now c.loop-place.place = record { lawful = lawful; searched = old.searched; more = lt } in
+      record {
+        searched = subst (λ o. IsSearchedAt s c.look_at.new.self c.args.steps.now c.loop-place.place o)
+            (machine_none_of c.in_ok-neighbours.field-0 c.in_default.not-Some) (c.in_ok-neighbours.ensures.looked s more);
+        none = until_none_next s c.args.words.now (states_found c.loop-place.search.found) (states_found c.look_at.new.self.found)
+            c.loop-place.place (c.in_ok-neighbours.ensures.found s more).0 lt
+            (λ m h at knows ends.
+            let mine = subst (Knows s h) (same_Some m c.at.result.now (sym at ∙ c.at.ensures)) knows in
+            false≢true (sym c.if-is_ending.false ∙ (c.is_ending.ensures s h lawful mine).1 ends)) old.none;
+      };
+  few = λ s lawful searched one.
+      let old = c.loop-place.invariant.searched s lawful searched in
+      let within = old.searched.within in
+      let is = c.len-states.ensures.count in
+      let isnt = c.if-place-states.false in
+      let lt : c.loop-place.place < length (states_found c.loop-place.search.found) = omega (arith, within, is, isnt) in
+      let under = not_past c.args.most c.len-states.result c.is_past.result c.is_past.ensures c.if-is_past.false in
+      let more = (c.in_ok-neighbours.ensures.found s (record { lawful = lawful; searched = old.searched; more = lt })).1 in
+      omega (arith, more, under, is);
+}
+
+pub returns-in-Some-clause-looked : goal.returns-in-Some-clause-looked
+returns-in-Some-clause-looked g c = λ s lawful searched.
+    let old = c.loop-place.invariant.searched s lawful searched in
+    let within = old.searched.within in
+    let is = c.len-states.ensures.count in
+    let isnt = c.if-place-states.false in
+    let lt : c.loop-place.place < length (states_found c.loop-place.search.found) = omega (arith, within, is, isnt) in
+    let both =
+    subst (λ o. IsSearchedAt s c.look_at.new.self c.args.steps.now c.loop-place.place o) c.in-Some.is
+    (c.in_ok-neighbours.ensures.looked s (record { lawful = lawful; searched = old.searched; more = lt })) in
+    record { found = both.0.found; end = both.1 }
+
+pub returns-in-Some-clause-few : goal.returns-in-Some-clause-few
+returns-in-Some-clause-few g c = λ s lawful searched one.
+    let old = c.loop-place.invariant.searched s lawful searched in
+    let within = old.searched.within in
+    let is = c.len-states.ensures.count in
+    let isnt = c.if-place-states.false in
+    let lt : c.loop-place.place < length (states_found c.loop-place.search.found) = omega (arith, within, is, isnt) in
+    let under = not_past c.args.most c.len-states.result c.is_past.result c.is_past.ensures c.if-is_past.false in
+    let more = (c.in_ok-neighbours.ensures.found s (record { lawful = lawful; searched = old.searched; more = lt })).1 in
+    omega (arith, more, under, is)
+
+pub returns-clause-looked : goal.returns-clause-looked
+returns-clause-looked g c = λ s lawful searched.
+    let old = c.loop-place.invariant.searched s lawful searched in
+    record {
+      found = old.searched.found;
+      end = λ few.
+          let within = old.searched.within in
+          let over = c.loop-place-test.false in
+          let end : c.loop-place.place ≡ length (states_found c.loop-place.search.found) = omega arith in
+          subst (SearchedWithoutWords s c.loop-place.search c.args.steps.now c.args.words.now) end old;
+    }
+
+pub returns-clause-few : goal.returns-clause-few
+returns-clause-few g c = c.loop-place.invariant.few

@@ -1,0 +1,40 @@
+use Rattle.std.proofs.Common.{◌≢◌, Option, Some, None, refl, sym, subst}
+use Rattle.std.specs.Prelude.{MatchOption}
+use Rattle.causes.specs.Prelude.{IsFirstRaceTold}
+use Rattle.journal.specs.Races.{RaceFree}
+use Rattle.lrc_script.specs.Plan.{plan_of}
+use Rattle.explore.specs.Found.{states_found}
+use Rattle.explore.specs.Outcomes.{AreOutcomeReplies}
+use Rattle.explore.specs.Prefixes.Beginnings.{IsFlatBeginning}
+use Rattle.explore.proofs.Machines.{machine_some_at}
+use Rattle.explore.proofs.until.run_to.Goals as goal
+
+-- where there is no race, none is told
+told_none : {A : Type 0} (o : Option A) (P : Type 0) (Q : A → Type 0) → ((x : A) → o ≢ Some x) → MatchOption o P Q → P
+told_none None P Q isnt h = h
+told_none (Some x) P Q isnt h = absurd (isnt x refl)
+
+pub race_in-requires-clause-begins : goal.race_in-requires-clause-begins
+race_in-requires-clause-begins c =
+    let s = plan_of c.args.script.now in
+    let m = machine_some_at (states_found c.args.found.now) c.args.place c.requires.ends.1.within in
+    subst (IsFlatBeginning s) (sym c.deref.ensures.value) (c.in_ok-events.ensures s c.requires.found m.0 m.1).beginning
+
+pub returns-in-Some-clause-showing : goal.returns-in-Some-clause-showing
+returns-in-Some-clause-showing c = λ words ends.
+    let s = plan_of c.args.script.now in
+    let m = machine_some_at (states_found c.args.found.now) c.args.place ends.within in
+    c.cut_behind.ensures s (c.in_ok-events.ensures s c.requires.found m.0 m.1).beginning
+
+pub returns-clause-showing : goal.returns-clause-showing
+returns-clause-showing c = λ words ends.
+    let s = plan_of c.args.script.now in
+    let m = c.at.result.now in
+    let events = c.in_ok-events.events.items in
+    let knows = c.in_ok-events.ensures s c.requires.found m c.at.ensures in
+    record {
+      is = ends.ends m events c.at.ensures knows;
+      race_free = subst RaceFree c.deref.ensures.value (told_none c.in_ok-race.field-0 (RaceFree c.deref.result.now) (IsFirstRaceTold c.deref.result.now) c.in_default.not-Some
+          c.in_ok-race.ensures);
+      outcome = subst (AreOutcomeReplies s events) (sym c.in_ok-replies.ensures) knows.replies;
+    }

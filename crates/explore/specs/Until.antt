@@ -1,0 +1,61 @@
+-- Whether a run of a script on one flat memory ends with words that are asked for.
+use Rattle.std.specs.Prelude.{ℕ, ◌≡◌, ◌+◌, ◌<◌, ◌≤◌, ⊤, Bool, true, false, List, Some, replicate, slice_get}
+use Rattle.base.specs.InOrderOnce.{Has}
+use Rattle.journal.specs.declared.event.Event.{Event}
+use Rattle.journal.specs.FlatMemory.{memory_after}
+use Rattle.journal.specs.Races.{RaceFree}
+use Rattle.lrc_script.specs.Plan.{Plan}
+use Rattle.lrc_script.specs.Lawful.{plan_addresses}
+use Rattle.explore.specs.declared.showing.ExploredUntil.{ExploredUntil}
+use Rattle.explore.specs.declared.showing.Showing.{Showing}
+use Rattle.explore.specs.declared.showing.Showing.TheVariants.{Shown, Never, Racy, Undecided}
+use Rattle.explore.specs.declared.showing.ShownRun.{ShownRun}
+use Rattle.explore.specs.Explored.{IsExploredRacy, explored_outcome}
+use Rattle.explore.specs.Outcomes.{AreOutcomeReplies}
+use Rattle.explore.specs.Prefixes.Beginnings.{IsFlatRaceFree, IsWholeBeginning}
+use Rattle.explore.specs.Room.{states_to_look_at}
+use Rattle.explore.specs.States.{HasStates}
+
+-- at each of these addresses the memory has this word
+abbrev pub HasFinalWords : List ℕ → List (ℕ × ℕ) → Type 0
+HasFinalWords memory words = (address word : ℕ) → Has words (address, word) → slice_get memory address ≡ Some word
+
+-- after these events the flat memory has them
+abbrev pub EndsWithWords : Plan → List (ℕ × ℕ) → List Event → Type 0
+EndsWithWords s words g = HasFinalWords (memory_after (replicate (plan_addresses s) 0) g) words
+
+-- a whole run that ends with these words
+pub record IsRunWithWords (s : Plan) (words : List (ℕ × ℕ)) (g : List Event) : Type 0 where
+  pub whole : IsWholeBeginning s g
+  pub ends : EndsWithWords s words g
+
+-- such a run without a race, and what its loads answered
+pub record IsShownRun (s : Plan) (words : List (ℕ × ℕ)) (run : ShownRun) : Type 0 where
+  pub is : IsRunWithWords s words run.events.items
+  pub race_free : RaceFree run.events.items
+  pub outcome : AreOutcomeReplies s run.events.items (explored_outcome run.outcome)
+
+-- no run ends with these words
+abbrev pub NoRunWithWords : Plan → List (ℕ × ℕ) → Type 0
+NoRunWithWords s words = (g : List Event) → ¬ IsRunWithWords s words g
+
+-- what is so by the answer
+abbrev pub IsShowing : Plan → List (ℕ × ℕ) → Showing → Type 0
+IsShowing s words (Shown run) = IsShownRun s words run
+IsShowing s words Never = NoRunWithWords s words × IsFlatRaceFree s
+IsShowing s words (Racy racy) = IsExploredRacy s racy
+IsShowing s words Undecided = ⊤
+
+-- whether nothing is open
+abbrev pub is_showing_settled : Showing → Bool
+is_showing_settled Undecided = false
+is_showing_settled _ = true
+
+-- what an answer says, if so many states were asked for: the script has as many as were found, which are no more than
+-- those to be looked at and what comes next after one; the answer is true; and it is open only if there are more states
+-- than were asked for, or than fit
+pub record IsExploredUntil (s : Plan) (words : List (ℕ × ℕ)) (most : ℕ) (answer : ExploredUntil) : Type 0 where
+  pub states : HasStates s answer.states
+  pub few : answer.states ≤ states_to_look_at s most + 16
+  pub showing : IsShowing s words answer.showing
+  pub given_up : is_showing_settled answer.showing ≡ false → states_to_look_at s most < answer.states

@@ -1,0 +1,7 @@
+use Rattle.lrc_commands.proofs.Judging.{told_as, told_by}
+use Rattle.lrc_commands.proofs.telling.tell_source.Goals as goal
+
+pub returns-clause-told : goal.returns-clause-told
+returns-clause-told g c =
+    told_by _ _ c.model_for.result _ _ _ c.is_some.ensures c.model_for.ensures
+    (told_as _ _ _ _ _ c.in_ok-labelled.ensures.trace c.in_ok-labelled.ensures.text c.in_ok-told.ensures.events)

@@ -1,0 +1,41 @@
+-- What is promised of the text of whether a run of a script ends with words that were asked for.
+use Rattle.std.specs.Prelude.{ℕ, ◌≡◌, List, ◌++◌, Option, codes}
+use Rattle.std.specs.Io.KnownBytes.{Appends}
+use Rattle.base.specs.InOrderOnce.{Has}
+use Rattle.conformance.specs.Schedules.{schedule_text}
+use Rattle.explore.specs.declared.showing.ExploredUntil.{ExploredUntil}
+use Rattle.explore.specs.declared.showing.Showing.{Showing}
+use Rattle.explore.specs.declared.showing.Showing.TheVariants.{Shown, Never, Racy, Undecided}
+use Rattle.lrc_explore.specs.Texts.{explore_text_racy_lines, explore_text_states_line}
+
+-- each of these words is at an address that is shown
+abbrev pub AreWordsShown : List ℕ → List (ℕ × ℕ) → Type 0
+AreWordsShown shown words = (address word : ℕ) → Has words (address, word) → Has shown address
+
+-- one of these words is at this address, which isn't shown
+pub record IsUnshown (shown : List ℕ) (words : List (ℕ × ℕ)) (address : ℕ) : Type 0 where
+  pub word : ℕ
+  pub asked : Has words (address, word)
+  pub unshown : ¬ Has shown address
+
+-- the line of a schedule
+abbrev pub schedule_line : List ℕ → List ℕ
+schedule_line turns = codes "  schedule " ++ schedule_text turns ++ codes "\n"
+
+-- a run that ends with the words: a line of what it shows, and one of a schedule
+abbrev pub IsShownText : ℕ → List ℕ → Type 0
+IsShownText states text =
+    (outcome turns : List ℕ)
+    × (text ≡ codes "until shown\n" ++ outcome ++ schedule_line turns ++ explore_text_states_line states)
+
+-- the text by the answer, if so many states were found
+abbrev pub IsShowingText : Showing → ℕ → List ℕ → Type 0
+IsShowingText (Shown run) states text = IsShownText states text
+IsShowingText Never states text = text ≡ codes "until never\n" ++ explore_text_states_line states
+IsShowingText (Racy racy) states text =
+    text ≡ codes "verdict racy\n" ++ explore_text_racy_lines racy.events.items racy.first ++ explore_text_states_line states
+IsShowingText Undecided states text = text ≡ codes "until undecided\n" ++ explore_text_states_line states
+
+-- such a text was appended
+abbrev pub ShowingWritten : Option (List ℕ) → Option (List ℕ) → ExploredUntil → Type 0
+ShowingWritten old new explored = (text : List ℕ) × IsShowingText explored.showing explored.states text × Appends old new text
