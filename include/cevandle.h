@@ -191,7 +191,7 @@ typedef struct cevandle_exploration {
     uint64_t verdict;  /* a cevandle_racing */
     uint64_t hangs;    /* a cevandle_hanging */
     uint64_t states;   /* how many were found */
-    uint64_t outcomes; /* how many different results of whole runs were met */
+    uint64_t outcomes; /* how many different words are shown at the end of whole runs that were met */
     uint64_t are_all;  /* 1 if whole runs have no others, else 0 */
     cevandle_conflict race;  /* with CEVANDLE_RACES: of some schedule the first race, with which it ends */
     cevandle_wait waits[16]; /* with CEVANDLE_HANGS: what each processor waits for at the end of some schedule */

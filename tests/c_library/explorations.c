@@ -42,12 +42,12 @@ static void explorations(void)
         = "cluster 2 1 1 1\np 0\nacquire 0\nadd 0 1\nrelease 0\np 1\nacquire 0\nadd 0 1\nrelease 0\nshow 0\n";
     cevandle_exploration found = explored("a counter", counter, 1000);
     count("it never races", found.verdict == CEVANDLE_NEVER_RACES && found.hangs == CEVANDLE_NEVER_HANGS
-                                && found.states == 5 && found.outcomes == 2 && found.are_all == 1 && has_no_race(&found)
+                                && found.states == 4 && found.outcomes == 1 && found.are_all == 1 && has_no_race(&found)
                                 && waiting(&found) == 0);
-    found = explored("a counter, up to its last state", counter, 5);
-    count("nothing is open", found.hangs == CEVANDLE_NEVER_HANGS && found.states == 5 && found.are_all == 1);
-    found = explored("a counter, up to the state before", counter, 4);
-    count("it is given up", found.hangs == CEVANDLE_HANGS_UNKNOWN && found.states == 5 && found.are_all == 0);
+    found = explored("a counter, up to its last state", counter, 4);
+    count("nothing is open", found.hangs == CEVANDLE_NEVER_HANGS && found.states == 4 && found.are_all == 1);
+    found = explored("a counter, up to the state before", counter, 3);
+    count("it is given up", found.hangs == CEVANDLE_HANGS_UNKNOWN && found.states == 4 && found.are_all == 0);
     const char races[] = "cluster 2 1 2 0\np 0\nstore 1 5\np 1\nload 1\nshow 0\n";
     found = explored("a race", races, SIZE_MAX);
     count("its accesses", found.verdict == CEVANDLE_RACES && is_access(&found.race.first, 0, 0, CEVANDLE_STORE, 5)

@@ -20,6 +20,7 @@ sys.path.insert(0, str(TESTS / "exploring"))
 
 import scripts  # noqa: E402
 from schedules import enumerate_all  # noqa: E402
+from texts import results_of  # noqa: E402
 
 DRAWN = 200
 UNTOLD = re.compile(r", held by .*|, which nobody .*| for processor .*")
@@ -79,11 +80,13 @@ def by_cases(program):
 
 def by_rules(text, said):
     """What is wrong beside the enumeration; None where nothing is."""
-    found = enumerate_all(scripts.read(text.decode()))
+    script = scripts.read(text.decode())
+    found = enumerate_all(script)
     if found.race is not None:
         return compared(said[:1], ["verdict racy"])
     hangs = "hangs never" if found.hang is None else "hangs"
-    return compared(said[:3], ["verdict race-free under every schedule", f"outcomes {len(found.outcomes)}", hangs])
+    results = results_of(script, found, "words")
+    return compared(said[:3], ["verdict race-free under every schedule", f"outcomes {len(results)}", hangs])
 
 
 def by_scripts(program, lrc):

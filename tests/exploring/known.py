@@ -13,6 +13,9 @@ CROSSED = ("cluster 2 1 1 2/p 0/acquire 0/acquire 1/release 1/release 0/"
 CHAIN = ("cluster 3 1 1 2/p 0/acquire 0/store 0 9/release 0/p 1/acquire 1/acquire 0/release 0/release 1/"
          "p 2/acquire 1/load 0/release 1/show 0/")
 
+# `add` and `load` by processor 0, and a word that `load` tells and the words don't.
+BOTH = "cluster 2 1 2 1/p 0/acquire 0/add 0 1/load 1/release 0/p 1/acquire 0/add 0 1/store 1 4/release 0/show 0/"
+
 # A script, its verdict, its outcomes as the text has them, and whether it hangs; of a racy one None.
 BY_HAND = [
     (MESSAGE, "race-free", ["words 0 5 replies p1 5"], False),
@@ -50,6 +53,20 @@ BY_HAND = [
     # A flag that two set: who awaits it may know the one alone.
     ("cluster 3 1 1 0 1/p 0/store 0 3/set 0/p 1/set 0/p 2/await 0/load 0/show 0/", "racy", None, None),
 ]
+
+
+# What the outcomes of that script tell, by each detail.
+TOLD = {
+    "words": ["words 0 2"],
+    "loads": ["words 0 2 replies p0 0", "words 0 2 replies p0 4"],
+    "all": ["words 0 2 replies p0 0 0 p1 1", "words 0 2 replies p0 1 4 p1 0"],
+}
+
+
+def is_told_as_by_hand(detail):
+    script = scripts.read(BOTH.replace("/", "\n"))
+    results = texts.results_of(script, enumerate_all(script), detail)
+    return [texts.outcome_line(result).strip() for result in results] == TOLD[detail]
 
 
 def is_as_by_hand(row):
@@ -123,9 +140,9 @@ def is_every_path(seed, most):
     return racy if found.race is not None else (False, found.hang is not None, found.outcomes) == (racy, hangs, outcomes)
 
 
-def damages(script, found):
+def damages(script, found, detail):
     """The text of what was found, damaged: what is wrong with it, and the text."""
-    lines = texts.write(script, found).splitlines()
+    lines = texts.write(script, found, detail).splitlines()
 
     def without(place):
         return lines[:place] + lines[place + 1:]
@@ -141,7 +158,10 @@ def damages(script, found):
     yield "racy", ["verdict racy", *lines[2:]]
     yield "given up", ["verdict undecided", *lines[1:]]
     yield "outcomes so far", [lines[0], lines[1] + " so far", *lines[2:]]
-    count = len(found.outcomes)
+    count = len(texts.results_of(script, found, detail))
+    for other in texts.DETAILS:
+        if (told := texts.write(script, found, other).splitlines()) != lines:
+            yield f"told by {other}", told
     if count:
         yield "an outcome left out", [lines[0], f"outcomes {count - 1}", *lines[3:]]
         yield "an outcome twice", [lines[0], f"outcomes {count + 1}", lines[2], *lines[2:]]
@@ -159,30 +179,35 @@ def damages(script, found):
         yield "a wait left out", without(len(lines) - 2)
 
 
-def is_refused(script, found, lines):
+def is_refused(script, found, lines, detail):
     """Whether the damaged text is refused."""
     try:
-        texts.judge(script, found, "".join(line + "\n" for line in lines))
+        texts.judge(script, found, "".join(line + "\n" for line in lines), detail)
     except texts.Wrong:
         return True
     return False
 
 
 def is_judged(seed):
-    """Whether the right text of a drawn script is let through, and each damaged one is refused."""
+    """Whether the right text of a drawn script is let through, by each detail, and each damaged one is refused."""
     script = scripts.draw(seed)
     found = enumerate_all(script)
-    try:
-        texts.judge(script, found, texts.write(script, found))
-    except texts.Wrong:
-        return False
-    return all(is_refused(script, found, lines) for _, lines in damages(script, found))
+    for detail in texts.DETAILS:
+        try:
+            texts.judge(script, found, texts.write(script, found, detail), detail)
+        except texts.Wrong:
+            return False
+        if not all(is_refused(script, found, lines, detail) for _, lines in damages(script, found, detail)):
+            return False
+    return True
 
 
 def trials():
     """What is tried, and whether it held."""
     for row in BY_HAND:
         yield f"by hand: {row[0]}", is_as_by_hand(row)
+    for detail in texts.DETAILS:
+        yield f"{detail} by hand", is_told_as_by_hand(detail)
     for seed in range(200):
         yield f"a walk of script {seed}", is_one_walk(seed)
     for seed in range(100):

@@ -109,6 +109,24 @@ def read_outcome(line):
     return tuple(shown), tuple(answered)
 
 
+DETAILS = ("words", "loads", "all")
+
+
+def are_told(script, processor, detail):
+    """Of each load of the processor, whether a result tells its reply: those of shown words, of each `load`, or of all."""
+    calls = script.calls(processor)
+    loads = [place for place, call in enumerate(calls) if call[0] == "load"]
+    last = loads[len(loads) - len(script.shown):] if processor == 0 else []
+    by_add = [place for place in loads if calls[place + 1:][:1] and calls[place + 1][0] == "adds"]
+    return [place in last or detail == "all" or (detail == "loads" and place not in by_add) for place in loads]
+
+
+def told_of(script, replies, detail):
+    """Of each processor the replies that a result tells."""
+    return tuple(tuple(reply for reply, told in zip(row, are_told(script, processor, detail)) if told)
+                 for processor, row in enumerate(replies))
+
+
 def shown_of(script, replies):
     """The shown addresses with their words, and for each processor that loads what its own loads answered."""
     count = len(replies[0]) - len(script.shown)
@@ -140,15 +158,20 @@ def wait_lines(memory):
     return [f"processor {processor} waits {wait}" for processor, wait in waits if wait is not None]
 
 
-def write(script, found):
-    """The text of what the enumeration found."""
+def results_of(script, found, detail):
+    """What the outcomes show, each once, told by this detail, in the order of the text."""
+    return [shown_of(script, told) for told in sorted({told_of(script, replies, detail) for replies in found.outcomes})]
+
+
+def write(script, found, detail):
+    """The text of what the enumeration found, told by this detail."""
     if found.race is not None:
         places = first_race(found.race)
         ends = ["race"] + [found.race[place].line(place) for place in places]
         lines = ["verdict racy", *event_lines(found.race), *ends]
     else:
-        lines = ["verdict race-free under every schedule", f"outcomes {len(found.outcomes)}"]
-        lines += [outcome_line(shown_of(script, replies)) for replies in sorted(found.outcomes)]
+        results = results_of(script, found, detail)
+        lines = ["verdict race-free under every schedule", f"outcomes {len(results)}", *map(outcome_line, results)]
         if found.hang is None:
             lines.append("hangs never")
         else:
@@ -160,8 +183,8 @@ def event_lines(events):
     return [event.line(place) for place, event in enumerate(events)]
 
 
-def judge(script, found, text):
-    """Wrong where the text says anything else of the script than the enumeration found."""
+def judge(script, found, text, detail):
+    """Wrong where the text says anything else of the script than the enumeration found, told by this detail."""
     answer = read(text)
     verdict = "race-free" if found.race is None else "racy"
     if answer.verdict != verdict:
@@ -169,7 +192,7 @@ def judge(script, found, text):
     if verdict == "racy":
         judge_race(script, answer)
     else:
-        judge_outcomes(script, found, answer)
+        judge_outcomes(script, found, answer, detail)
         if answer.never_hangs != (found.hang is None) or (answer.hang is None) != (found.hang is None):
             raise Wrong("a hang" if found.hang is None else "no hang")
     if answer.hang is not None:
@@ -186,8 +209,8 @@ def judge_race(script, answer):
         raise Wrong(f"{answer.racing} are no race's events")
 
 
-def judge_outcomes(script, found, answer):
-    wanted = [shown_of(script, replies) for replies in sorted(found.outcomes)]
+def judge_outcomes(script, found, answer, detail):
+    wanted = results_of(script, found, detail)
     if not answer.are_all:
         raise Wrong("outcomes so far")
     if sorted(answer.outcomes) != sorted(wanted):

@@ -7,6 +7,7 @@ use Rattle.lrc_script.specs.LineFaults.{IsFault}
 use Rattle.lrc_script.specs.Plan.{Plan}
 use Rattle.lrc_script.specs.Text.{text}
 use Rattle.explore.specs.declared.explored.Explored.{Explored}
+use Rattle.explore.specs.declared.told.Detail.TheVariants as detail
 use Rattle.explore.specs.Explored.{IsExplored}
 use Rattle.c_library.specs.declared.call_fault.CallFault.{CallFault}
 use Rattle.c_library.specs.declared.call_fault.CallFault.TheVariants.{BadScript, NoMemory}
@@ -26,7 +27,7 @@ pub record IsExplorationTold (bytes : List ℕ) (most : ℕ) (told : ToldExplora
   pub script : Plan
   pub text : IsScriptText bytes script
   pub found : Explored
-  pub explored : IsExplored script most found
+  pub explored : IsExplored script detail.Words most found
   pub is : told ≡ told_exploration found
 
 -- they are the text of none

@@ -6,7 +6,7 @@ ghost use Rattle.c_library.specs.Prelude.{IsCodeOf, IsExplorationTold, IsExplore
 use crate::call_fault::CallFault;
 use crate::told_exploration::{ToldExploration, told_exploration};
 use crate::unexplored::{ToldScriptFault, Unexplored, told_script_fault};
-use explore::{Silent, explore};
+use explore::{Detail, Silent, explore};
 use lrc_script::fault::ScriptFault;
 use lrc_script::script::{Script, parse};
 use std::alloc::Global;
@@ -29,7 +29,7 @@ fn explore_text(alloc: Global, bytes: &[u8], most: usize) -> Result<ToldExplorat
     ensures refused { IfErr result (IsUnexplored bytes.now) }
 {
     let script = script_of_text(alloc, bytes)?;
-    let found = explore(alloc, &script, most, &mut Silent)?;
+    let found = explore(alloc, &script, Detail::Words, most, &mut Silent)?;
     Ok(told_exploration(&found))
 }
 

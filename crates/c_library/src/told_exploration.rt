@@ -50,7 +50,7 @@ pub struct ToldExploration {
     pub hangs: u64,
     /// How many states were found.
     pub states: u64,
-    /// How many different results of whole runs were met.
+    /// How many different results of whole runs were met: what the shown words are at the end.
     pub outcomes: u64,
     /// 1 if there are no others, else 0.
     pub are_all: u64,

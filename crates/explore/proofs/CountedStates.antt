@@ -14,6 +14,8 @@ use Rattle.lrc_script.specs.Plan.{Plan}
 use Rattle.explore.specs.declared.states.States.{States}
 use Rattle.explore.specs.declared.flat_state.FlatState.{FlatState}
 use Rattle.explore.specs.declared.waiting.Waiting.{Waiting}
+use Rattle.explore.specs.declared.told.Detail.{Detail}
+use Rattle.explore.specs.Told.{telling_of_script}
 use Rattle.explore.specs.Found.{AreFound, states_found}
 use Rattle.explore.specs.Machines.{SameMachineState, Knows}
 use Rattle.explore.specs.States.{HasStates}
@@ -61,6 +63,7 @@ module _ (E : WaitCode → WaitCode → Bool) (F : Seat → Seat → Bool) (own 
 
   states_like_trans : (a b c : FlatState) → SameMachineState a b → SameMachineState b c → SameMachineState a c
   states_like_trans a b c first second = record {
+    telling = second.telling ∙ first.telling;
     done = second.done ∙ first.done;
     replies = second.replies ∙ first.replies;
     memory = second.memory ∙ first.memory;
@@ -73,7 +76,8 @@ module _ (E : WaitCode → WaitCode → Bool) (F : Seat → Seat → Bool) (own 
     };
   }
 
-  module _ (s : Plan) (x : States) (found : AreFound s x) (unique : IsDistinct (machine_equal E F) (states_found x)) where
+  module _ (s : Plan) (d : Detail) (x : States) (found : AreFound s x) (telling : x.telling ≡ telling_of_script s d)
+      (unique : IsDistinct (machine_equal E F) (states_found x)) where
     -- some events that come to the state at a place
     events_of : (i : ℕ) (o : Option FlatState) → slice_get (states_found x) i ≡ o → List Event
     events_of i None is = []
@@ -86,7 +90,7 @@ module _ (E : WaitCode → WaitCode → Bool) (F : Seat → Seat → Bool) (own 
     counted_state_knows i m (Some n) is some =
         subst (Knows s (found.known i n is).0) (same_Some n m some) (found.known i n is).1
 
-    pub has_counted_states : HasStates s (length (states_found x))
+    pub has_counted_states : HasStates s d (length (states_found x))
     has_counted_states = record {
       beginning = λ i. events_of i (slice_get (states_found x) i) refl;
       are = λ i lt.
@@ -98,7 +102,9 @@ module _ (E : WaitCode → WaitCode → Bool) (F : Seat → Seat → Bool) (own 
           let mine = counted_state_knows i m.0 (slice_get (states_found x) i) refl m.1 in
           let theirs = counted_state_knows k n.0 (slice_get (states_found x) k) refl n.1 in
           let like =
-          states_like_trans m.0 one.machine n.0 (determined_machine s _ m.0 one.machine mine one.first)
-          (determined_machine s _ one.machine n.0 one.second theirs) in
+          let first = found.told i m.0 m.1 ∙ telling in
+          let second = found.told k n.0 n.1 ∙ telling in
+          states_like_trans m.0 one.machine n.0 (determined_machine s _ m.0 one.machine (one.telling ∙ sym first) mine one.first)
+          (determined_machine s _ one.machine n.0 (second ∙ sym one.telling) one.second theirs) in
           false≢true (sym (determined_apart_at (machine_equal E F) (states_found x) unique i k m.0 n.0 less m.1 n.1) ∙ states_like_equal m.0 n.0 like);
     }

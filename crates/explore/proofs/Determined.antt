@@ -13,10 +13,12 @@ use Rattle.lrc_script.specs.Plan.{Plan}
 use Rattle.explore.specs.declared.flat_state.FlatState.{FlatState}
 use Rattle.explore.specs.declared.waiting.Waiting.{Waiting}
 use Rattle.explore.specs.Machines.{SameMachineState, Knows, machine_rows}
+use Rattle.explore.specs.Told.{AreKeptReplies, told_kept, told_steps}
+use Rattle.conformance.specs.Follows.{calls_of}
 use Rattle.explore.specs.Waiting.{AreAskedWaiting, WaitingAsksAt, IsLikeWaiting, TellsWaiting}
 use Rattle.explore.proofs.Queued.{QueuedBefore}
 use Rattle.explore.proofs.Waits.{wait_code_ending_once, wait_code_seated_once}
-use Rattle.explore.proofs.Searched.{search_same_replies}
+use Rattle.explore.proofs.ToldReplies.{told_same_rows}
 
 -- lists that read the same are the same
 determined_read : {A : Type 0} (d : A) (xs ys : List A) → length xs ≡ length ys
@@ -111,14 +113,19 @@ determined_waiting g x y first second = record {
   asked = determined_asked g y.asked.items x.asked.items second.asked first.asked;
 }
 
-pub determined_machine : (s : Plan) (g : List Event) (m n : FlatState) → Knows s g m → Knows s g n → SameMachineState m n
-determined_machine s g m n first second = record {
+pub determined_machine : (s : Plan) (g : List Event) (m n : FlatState) → n.telling ≡ m.telling → Knows s g m → Knows s g n
+    → SameMachineState m n
+determined_machine s g m n telling first second = record {
+  telling = telling;
   done = (
       let one = first.long in
       let two = second.long in
       determined_read 0 n.done m.done (two ∙ sym one)
       (λ p lt. second.done p (omega arith) ∙ sym (first.done p (omega arith))));
-  replies = search_same_replies s g (machine_rows n.replies.items) (machine_rows m.replies.items) second.replies first.replies;
+  replies =
+      told_same_rows s.processors (λ p. told_kept m.telling p (told_steps s p) (calls_of g p)) (machine_rows n.replies.items)
+      (machine_rows m.replies.items)
+      (subst (λ t. AreKeptReplies s t g (machine_rows n.replies.items)) telling second.replies) first.replies;
   memory = second.memory ∙ sym first.memory;
   waiting = determined_waiting g m.waiting n.waiting first.waiting second.waiting;
 }

@@ -86,13 +86,14 @@ module _ (E : WaitCode → WaitCode → Bool) (F : Seat → Seat → Bool) (same
         asked = equal_numbers x.asked.items y.asked.items d.1;
       }
 
-  pub equal_machine_like : (m n : FlatState) → machine_equal E F m n ≡ true → SameMachineState m n
-  equal_machine_like m n h =
+  pub equal_machine_like : (m n : FlatState) → machine_equal E F m n ≡ true → n.telling ≡ m.telling → SameMachineState m n
+  equal_machine_like m n h telling =
       let a = and_parts (pointwise nat_eq m.done n.done) _ h in
       let rows : Vec ℕ → Vec ℕ → Bool = λ v w. pointwise nat_eq v.items w.items in
       let b = and_parts (pointwise rows m.replies.items n.replies.items) _ a.1 in
       let c = and_parts (pointwise nat_eq m.memory.items n.memory.items) (waiting_equal E F m.waiting n.waiting) b.1 in
       record {
+        telling = telling;
         done = equal_numbers m.done n.done a.0;
         replies =
             equal_items (λ (v : Vec ℕ). v.items) rows (λ v w. equal_numbers v.items w.items) m.replies.items

@@ -59,9 +59,9 @@ module _ (s : Plan) (x y : States) (m : FlatState) (o : Option Origin) (pushed :
   followed_pushed_at : slice_get (states_found y) (length (states_found x)) ≡ Some m
   followed_pushed_at = ap (λ ms. slice_get ms (length (states_found x))) pushed.states ∙ slice_get-last (states_found x) m
 
-  pub followed_pushed_found : AreFound s x → (g : List Event) → Knows s g m → FoundComesFrom s (states_found x) (length (states_found x)) m o
-      → AreFound s y
-  followed_pushed_found old g knows from = record {
+  pub followed_pushed_found : AreFound s x → (g : List Event) → Knows s g m → m.telling ≡ x.telling
+      → FoundComesFrom s (states_found x) (length (states_found x)) m o → AreFound s y
+  followed_pushed_found old g knows tells from = record {
     long = (
         let before = old.long in
         let states = ap (λ (ms : List FlatState). length ms) pushed.states in
@@ -94,6 +94,10 @@ module _ (s : Plan) (x y : States) (m : FlatState) (o : Option Origin) (pushed :
               ]
         ];
     first = followed_known_kept s (states_found x) (states_found y) [] followed_pushed_keeps old.first;
+    told = λ place f at. elim (slice_push_cases (states_found x) m place f (ap (λ ms. slice_get ms place) (sym pushed.states) ∙ at)) [
+      | inl before ↦ old.told place f before.1 ∙ sym pushed.telling
+      | inr now ↦ ap (λ (n : FlatState). n.telling) (sym now.1) ∙ tells ∙ sym pushed.telling
+    ];
   }
 
   pub followed_pushed_known : (g : List Event) → Knows s g m → IsFoundState s (states_found y) g
@@ -114,14 +118,15 @@ module _ (s : Plan) (x y : States) (m : FlatState) (was : WasFoundBefore x y m) 
         (old.come place f p (ap (λ ms. slice_get ms place) (sym was.states) ∙ at)
         (ap (λ os. slice_get os place) (sym was.origins) ∙ from_at));
     first = followed_known_kept s (states_found x) (states_found y) [] followed_there_keeps old.first;
+    told = λ place f at. old.told place f (ap (λ ms. slice_get ms place) (sym was.states) ∙ at) ∙ sym was.telling;
   }
 
-  pub followed_there_known : (g : List Event) → Knows s g m → IsFoundState s (states_found y) g
-  followed_there_known g knows = record {
+  pub followed_there_known : AreFound s x → m.telling ≡ x.telling → (g : List Event) → Knows s g m → IsFoundState s (states_found y) g
+  followed_there_known old tells g knows = record {
     place = was.place;
     state = was.state;
     at = ap (λ ms. slice_get ms was.place) was.states ∙ was.at;
-    knows = knows_like s g m was.state was.like knows;
+    knows = knows_like s g m was.state (was.like (old.told was.place was.state was.at ∙ sym tells)) knows;
   }
 
 -- what is found soon stays so
@@ -139,6 +144,7 @@ pub record CameFreely (s : Plan) (rows : List (Vec ScriptCall)) (place p : ℕ) 
   pub free : AreFree rows more
   pub from : o.from ≡ place
   pub events : o.events.items ≡ event p k ∷ more
+  pub telling : m.telling ≡ f.telling
   pub knows : (g : List Event) → Knows s g f → Knows s (did g p k ++ more) m
 
 -- so what it comes to is found soon
@@ -167,15 +173,18 @@ module _ {s : Plan} {rows : List (Vec ScriptCall)} {x : States} {place p : ℕ} 
   followed (inl was) = record {
     keeps = followed_there_keeps s x y m was;
     found = followed_there_found s x y m was may.found;
-    known = followed_soon (followed_there_known s x y m was);
+    known = followed_soon (followed_there_known s x y m was may.found (came.telling ∙ may.found.told place f at));
+    telling = was.telling;
     few = (let same = ap (λ (ms : List FlatState). length ms) was.states in omega (arith, same));
   }
   followed (inr pushed) = record {
     keeps = followed_pushed_keeps s x y m _ pushed;
     found =
         (let first = may.found.known place f at in
-        followed_pushed_found s x y m _ pushed may.found (did first.0 p k ++ came.more) (came.knows first.0 first.1) followed_origin);
+        followed_pushed_found s x y m _ pushed may.found (did first.0 p k ++ came.more) (came.knows first.0 first.1)
+        (came.telling ∙ may.found.told place f at) followed_origin);
     known = followed_soon (followed_pushed_known s x y m _ pushed);
+    telling = pushed.telling;
     few = (
         let longer = ap (λ (ms : List FlatState). length ms) pushed.states in
         let one = length-append (states_found x) (m ∷ []) in
@@ -196,11 +205,11 @@ followed_first_few x y m o none (inr pushed) =
     omega (arith, more, one, no)
 
 -- the first state alone
-pub followed_first_found : (s : Plan) (x y : States) (m : FlatState) → states_found x ≡ [] → x.origins.items ≡ [] → Knows s [] m
-    → FoundStateAdded x y m None → AreFound s y
-followed_first_found s x y m states origins knows (inl was) =
+pub followed_first_found : (s : Plan) (x y : States) (m : FlatState) → states_found x ≡ [] → x.origins.items ≡ [] → x.telling ≡ m.telling
+    → Knows s [] m → FoundStateAdded x y m None → AreFound s y
+followed_first_found s x y m states origins telling knows (inl was) =
     absurd (none-some was.state (sym (ap (λ ms. slice_get ms was.place) states) ∙ was.at))
-followed_first_found s x y m states origins knows (inr pushed) =
+followed_first_found s x y m states origins telling knows (inr pushed) =
     let all = pushed.states ∙ ap (λ ms. ms ++ m ∷ []) states in
     let from = pushed.origins ∙ ap (λ os. os ++ None ∷ []) origins in
     record {
@@ -213,6 +222,9 @@ followed_first_found s x y m states origins knows (inr pushed) =
           subst (λ q. FoundComesFrom s (states_found y) place f q) (only None place p (ap (λ os. slice_get os place) (sym from) ∙ from_at))
           (subst (Knows s []) (only m place f (ap (λ ms. slice_get ms place) (sym all) ∙ at)) knows);
       first = record { place = 0; state = m; at = ap (λ ms. slice_get ms 0) all; knows = knows };
+      told = λ place f at.
+          ap (λ (n : FlatState). n.telling) (sym (only m place f (ap (λ ms. slice_get ms place) (sym all) ∙ at))) ∙ sym telling
+          ∙ sym pushed.telling;
     }
   where
     only : {A : Type 0} (a : A) (place : ℕ) (b : A) → slice_get (a ∷ []) place ≡ Some b → a ≡ b

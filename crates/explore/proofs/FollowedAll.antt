@@ -1,5 +1,5 @@
 -- What is found after a state, an event at a time.
-use Rattle.std.proofs.Common.{ℕ, ◌≡◌, ◌≢◌, ◌+◌, ◌<◌, inl, inr, List, Option, Some, length, slice_get, slice_index_or, sym, ap, subst, ◌∙◌, arith}
+use Rattle.std.proofs.Common.{ℕ, ◌≡◌, ◌≢◌, ◌+◌, ◌<◌, inl, inr, List, Option, Some, length, slice_get, slice_index_or, refl, sym, ap, subst, ◌∙◌, arith}
 use Rattle.std.specs.Prelude.{None}
 use Rattle.std.specs.Global.{Vec}
 use Rattle.explore.specs.declared.prefixes.script_call.ScriptCall.{ScriptCall}
@@ -24,6 +24,7 @@ module _ (s : Plan) (rows : List (Vec ScriptCall)) (x y : States) (place : ℕ) 
     found = may.found;
     known = λ m g p k lt. absurd (omega arith);
     few = omega arith;
+    telling = refl;
   }
 
   -- the state at the place is still there
@@ -75,6 +76,7 @@ module _ (s : Plan) (rows : List (Vec ScriptCall)) (x y : States) (place : ℕ) 
           | inr isnt ↦ followed_soon_kept s rows (states_found y) (states_found z) _ followed.keeps (old.known m g p j (omega arith) at knows told)
         ];
         few = (let one = followed.few in let before = old.few in omega (arith, one, before));
+        telling = followed.telling ∙ old.telling;
       }
 
     -- a processor that may do nothing
@@ -87,4 +89,5 @@ module _ (s : Plan) (rows : List (Vec ScriptCall)) (x y : States) (place : ℕ) 
         | inr isnt ↦ old.known m g p j (omega arith) at knows told
       ];
       few = (let before = old.few in omega (arith, before));
+      telling = old.telling;
     }

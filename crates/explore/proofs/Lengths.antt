@@ -43,7 +43,7 @@ steps_length_few (i ∷ is) =
     let both = length-append (calling_steps i) (calling_steps_of_all is) in
     omega arith
 
-load_steps_length : (shown : List ℕ) → length (calling_load_steps shown) ≡ length shown
+pub load_steps_length : (shown : List ℕ) → length (calling_load_steps shown) ≡ length shown
 load_steps_length [] = refl
 load_steps_length (a ∷ shown) = ap suc (load_steps_length shown)
 

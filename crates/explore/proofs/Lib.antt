@@ -3,6 +3,7 @@ pub mod Asked
 pub mod Queued
 pub mod Following
 pub mod Proper
+pub mod ToldReplies
 pub mod Replies
 pub mod Lengths
 pub mod Likes

@@ -9,8 +9,9 @@ use Rattle.lrc_script.specs.Plan.{Plan}
 use Rattle.conformance.specs.Follows.{calls_of}
 use Rattle.explore.specs.declared.flat_state.FlatState.{FlatState}
 use Rattle.explore.specs.declared.waiting.Waiting.{Waiting}
-use Rattle.explore.specs.Machines.{SameMachineState, Knows}
-use Rattle.explore.specs.Outcomes.{AreOutcomeReplies}
+use Rattle.explore.specs.declared.told.OutcomeTelling.{OutcomeTelling}
+use Rattle.explore.specs.Machines.{SameMachineState, Knows, machine_rows}
+use Rattle.explore.specs.Told.{AreKeptReplies}
 use Rattle.explore.specs.Waiting.{AreAskedWaiting, IsLikeWaiting, TellsWaiting}
 use Rattle.explore.specs.Waits.{WaitsAreKept, wait_code_arrivals_open, wait_code_seated}
 use Rattle.explore.specs.declared.wait.WaitCode.{WaitCode}
@@ -39,7 +40,10 @@ knows_like s g m n like knows = record {
   beginning = knows.beginning;
   long = ap (λ (ns : List ℕ). length ns) like.done ∙ knows.long;
   done = subst (λ ns. (p : ℕ) → p < 16 → slice_index ns p ≡ length (calls_of g p)) (sym like.done) knows.done;
-  replies = subst (AreOutcomeReplies s g) (sym like.replies) knows.replies;
+  shown = ap (λ (t : OutcomeTelling). t.shown) like.telling ∙ knows.shown;
+  replies =
+      subst (λ rows. AreKeptReplies s n.telling g rows) (sym like.replies)
+      (subst (λ t. AreKeptReplies s t g (machine_rows m.replies.items)) (sym like.telling) knows.replies);
   memory = like.memory ∙ knows.memory;
   waiting = tells_like g m.waiting n.waiting like.waiting knows.waiting;
 }

@@ -1,6 +1,6 @@
 -- What a machine may do next, and what it knows after that.
 use Rattle.std.proofs.Common.{ℕ, zero, suc, ◌≡◌, ◌≢◌, ◌+◌, ◌<◌, ◌≤◌, ◌↔◌, inl, inr, List, [], ◌∷◌, Bool, true, false, cond, ◌==◌, All, length, replicate, Option, Some, slice_get, slice_index, slice_index_or, slice_set, get_or-set_same, get_or-set_other, refl, sym, ap, subst, ◌∙◌, length-append, arith}
-use Rattle.std.specs.Prelude.{None, ◌%◌, ◌^◌}
+use Rattle.std.specs.Prelude.{None, IsTrue, ◌%◌, ◌^◌}
 use Rattle.std.specs.Global.{Vec}
 use Rattle.std.proofs.lemmas.Bool.{cases_eq}
 use Rattle.std.proofs.lemmas.Option.{same_Some, slice_get-get_or, slice_get_within}
@@ -28,6 +28,7 @@ use Rattle.explore.specs.declared.prefixes.script_call.ScriptCall.TheVariants.{C
 use Rattle.explore.specs.declared.flat_state.FlatState.{FlatState}
 use Rattle.explore.specs.Prefixes.Beginnings.{IsFlatBeginning}
 use Rattle.explore.specs.Prefixes.Calling.{AreCallingSteps, IsCalledNext, IsCallOfStep, last_reply_of_calls, replyless_call, calling_section_steps, calling_shown_by}
+use Rattle.explore.specs.Told.{is_told_sum, told_steps}
 use Rattle.explore.specs.Machines.{AreLawfulMachineSteps, MachineStepReads, IsProperMachineStep, Knows}
 use Rattle.explore.proofs.prefixes.Beginnings.{beginning_next}
 use Rattle.explore.proofs.Proper.{proper_section}
@@ -93,6 +94,12 @@ pub machine_step_word : (s : Plan) (x : ScriptCall) (size : ℕ) → size ≡ pl
 machine_step_word s (Call (kind.Load a v)) size is proper = subst (λ n. a < n) (sym is) proper.0
 machine_step_word s _ size is proper = tt
 
+-- only a step that adds asks for the reply before it
+machine_same_call : (reply other : ℕ) (x : ScriptCall) (k : Kind) → (IsTrue (is_told_sum (Some x)) → reply ≡ other)
+    → IsCallOfStep reply x k → IsCallOfStep other x k
+machine_same_call reply other (Call c) k same is = is
+machine_same_call reply other (Adds a v) k same is = subst (λ r. IsCallOfStep r (Adds a v) k) (same refl) is
+
 -- the memory keeps its length
 pub machine_memory_long : (s : Plan) (g : List Event) (m : FlatState) → Knows s g m → length m.memory.items ≡ plan_addresses s
 machine_memory_long s g m knows =
@@ -118,6 +125,14 @@ machine_row_steps s steps p row are at =
       at = here;
       are = are.each p (slice_index_or s.sections p []) row here at;
     }
+
+-- these are the processor's steps
+pub machine_row_told : (s : Plan) (p : ℕ) (row : Vec ScriptCall) → IsMachineRow s p row → row.items ≡ told_steps s p
+machine_row_told s p row of =
+    let lt = slice_get_within s.sections p of.section of.at in
+    of.are
+    ∙ ap (λ section. calling_section_steps section (calling_shown_by s p))
+    (same_Some of.section (slice_index_or s.sections p []) (sym of.at ∙ slice_get-get_or s.sections p [] lt))
 
 machine_shown_small : (s : Plan) (p : ℕ) → IsLawful s → All (λ a. a < plan_addresses s) (calling_shown_by s p)
 machine_shown_small s p lawful = go (p == 0)
@@ -154,11 +169,11 @@ module _ (s : Plan) (g : List Event) (m : FlatState) (p : ℕ) (row : Vec Script
       omega (arith, within, done)
 
   -- else the next step says which it may be
-  pub machine_at_step : (reply : ℕ) → reply ≡ last_reply_of_calls (calls_of g p) → (x : ScriptCall)
-      → slice_get row.items (slice_index m.done p) ≡ Some x → (c : Kind)
+  pub machine_at_step : (reply : ℕ) (x : ScriptCall)
+      → (IsTrue (is_told_sum (Some x)) → reply ≡ last_reply_of_calls (calls_of g p)) → slice_get row.items (slice_index m.done p) ≡ Some x → (c : Kind)
       → ((k : Kind) → (c ≡ k) ↔ (IsCallOfStep reply x k × AnswersFlatWord m.memory.items k)) → (k : Kind)
       → IsFlatBeginning s (did g p k) ↔ (MayFollow (plan_sizes s) g (event p c) × (c ≡ k))
-  machine_at_step reply told x at c says k = (there, back)
+  machine_at_step reply x told at c says k = (there, back)
     where
       next_at : slice_get row.items (length (calls_of g p)) ≡ Some x
       next_at = subst (λ n. slice_get row.items n ≡ Some x) (knows.done p small) at
@@ -169,7 +184,7 @@ module _ (s : Plan) (g : List Event) (m : FlatState) (p : ℕ) (row : Vec Script
           let all = ((beginning_next s g p k).0 h).1 in
           let same = same_Some next.step x (sym next.at ∙ next_at) in
           let step = subst (λ y. IsCallOfStep (last_reply_of_calls (calls_of g p)) y k) same next.is in
-          let mine = subst (λ r. IsCallOfStep r x k) (sym told) step in
+          let mine = machine_same_call (last_reply_of_calls (calls_of g p)) reply x k (λ is. sym (told is)) step in
           let word = subst (λ xs. AnswersFlatWord xs k) (sym knows.memory) all.answers in
           let is = (says k).1 (mine, word) in
           (subst (λ y. MayFollow (plan_sizes s) g (event p y)) (sym is) all.may_follow, is)
@@ -177,7 +192,7 @@ module _ (s : Plan) (g : List Event) (m : FlatState) (p : ℕ) (row : Vec Script
       back : MayFollow (plan_sizes s) g (event p c) × (c ≡ k) → IsFlatBeginning s (did g p k)
       back h =
           let both = (says k).0 h.1 in
-          let step = subst (λ r. IsCallOfStep r x k) told both.0 in
+          let step = machine_same_call reply (last_reply_of_calls (calls_of g p)) x k told both.0 in
           (beginning_next s g p k).1 (
             knows.beginning,
             record {

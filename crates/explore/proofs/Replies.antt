@@ -1,34 +1,22 @@
 -- What a machine has of the replies.
--- The replies of one call more are those before and its own, so a row is pushed; the last reply is the last of its
--- processor's row.
-use Rattle.std.proofs.Common.{ℕ, zero, suc, ◌≡◌, ◌-◌, ◌<◌, inl, inr, List, [], ◌∷◌, ◌++◌, false, length, fold, option_map, Some, slice_get, slice_set, refl, sym, ap, subst, ◌∙◌, length-set, arith}
-use Rattle.std.specs.Prelude.{None}
+-- What is kept with one call more is a row that is pushed onto; what the next step adds to is the last of its processor's row.
+use Rattle.std.proofs.Common.{ℕ, zero, suc, ◌≡◌, ◌-◌, ◌<◌, inl, inr, List, [], ◌∷◌, ◌++◌, false, length, option_map, Some, slice_get, slice_set, refl, sym, ap, subst, ◌∙◌, length-set, arith}
+use Rattle.std.specs.Prelude.{None, IsTrue}
 use Rattle.std.specs.Global.{Vec}
 use Rattle.std.proofs.lemmas.Bool.{cases_eq}
 use Rattle.std.proofs.lemmas.Option.{none-some, same_Some, slice_get-map, slice_get_within}
 use Rattle.base.proofs.SliceSets.{slice_get-set_other, slice_get-set_same}
 use Rattle.journal.specs.declared.event.Event.{Event}
 use Rattle.journal.specs.declared.event.Kind.{Kind}
-use Rattle.journal.specs.declared.event.Kind.TheVariants as kind
 use Rattle.journal.specs.DidEvent.{did}
 use Rattle.lrc_script.specs.Plan.{Plan}
 use Rattle.conformance.specs.Follows.{calls_of, is_fetch}
 use Rattle.conformance.proofs.Calls.{followed_calls-own, followed_calls-others}
-use Rattle.explore.specs.Prefixes.Calling.{last_reply_of_calls, reply_after_call}
+use Rattle.explore.specs.declared.told.OutcomeTelling.{OutcomeTelling}
+use Rattle.explore.specs.Prefixes.Calling.{last_reply_of_calls}
 use Rattle.explore.specs.Machines.{machine_rows, machine_last_or}
-use Rattle.explore.specs.Outcomes.{AreOutcomeReplies, outcome_replies_in}
-
--- replies of calls that are put together
-outcome_replies_in-append : (xs ys : List Kind) → outcome_replies_in (xs ++ ys) ≡ outcome_replies_in xs ++ outcome_replies_in ys
-outcome_replies_in-append [] ys = refl
-outcome_replies_in-append (kind.Load a v ∷ xs) ys = ap (λ words. v ∷ words) (outcome_replies_in-append xs ys)
-outcome_replies_in-append (k ∷ xs) ys = outcome_replies_in-append xs ys
-
--- the reply that was given last is the last one
-last_of_replies_from : (reply : ℕ) (kinds : List Kind) → machine_last_or reply (outcome_replies_in kinds) ≡ fold reply_after_call reply kinds
-last_of_replies_from reply [] = refl
-last_of_replies_from reply (kind.Load a v ∷ kinds) = last_of_replies_from v kinds
-last_of_replies_from reply (k ∷ kinds) = last_of_replies_from reply kinds
+use Rattle.explore.specs.Told.{AreKeptReplies, is_told_sum, told_kept, told_replies, told_steps}
+use Rattle.explore.proofs.ToldReplies.{told_kept_pending}
 
 last_at_replies : (word : ℕ) (words : List ℕ) → slice_get (word ∷ words) (length words) ≡ Some (machine_last_or word words)
 last_at_replies word [] = refl
@@ -66,36 +54,43 @@ pub replies_row_push : (vs : List (Vec ℕ)) (v : Vec ℕ) → machine_rows (vs 
 replies_row_push [] v = refl
 replies_row_push (x ∷ vs) v = ap (λ rows. x.items ∷ rows) (replies_row_push vs v)
 
-module _ (s : Plan) (g : List Event) (p : ℕ) (vs : List (Vec ℕ)) (v : Vec ℕ) (within : p < s.processors)
-    (at : slice_get vs p ≡ Some v) (old : AreOutcomeReplies s g (machine_rows vs)) where
-  -- the row of a processor has its replies
-  pub row_replies : v.items ≡ outcome_replies_in (calls_of g p)
-  row_replies = same_Some v.items (outcome_replies_in (calls_of g p)) (sym (replies_row_at vs p v at) ∙ old.each p within)
+-- the last of words that end with this one
+replies_last_pushed : (word : ℕ) (words : List ℕ) (w : ℕ) → machine_last_or word (words ++ w ∷ []) ≡ w
+replies_last_pushed word [] w = refl
+replies_last_pushed word (x ∷ words) w = replies_last_pushed x words w
 
-  pub replies_last_told : (reply : ℕ) → reply ≡ machine_last_or 0 v.items → reply ≡ last_reply_of_calls (calls_of g p)
-  replies_last_told reply is = is ∙ ap (machine_last_or 0) row_replies ∙ last_of_replies_from 0 (calls_of g p)
+module _ (s : Plan) (t : OutcomeTelling) (g : List Event) (p : ℕ) (vs : List (Vec ℕ)) (v : Vec ℕ) (within : p < s.processors)
+    (at : slice_get vs p ≡ Some v) (old : AreKeptReplies s t g (machine_rows vs)) where
+  -- the row of a processor has what is kept
+  pub row_replies : v.items ≡ told_kept t p (told_steps s p) (calls_of g p)
+  row_replies =
+      same_Some v.items (told_kept t p (told_steps s p) (calls_of g p)) (sym (replies_row_at vs p v at) ∙ old.each p within)
+
+  -- its last one is the reply that the next step adds to
+  pub replies_last_told : (reply : ℕ) → reply ≡ machine_last_or 0 v.items
+      → IsTrue (is_told_sum (slice_get (told_steps s p) (length (calls_of g p)))) → reply ≡ last_reply_of_calls (calls_of g p)
+  replies_last_told reply is sum =
+      is ∙ ap (machine_last_or 0) (row_replies ∙ told_kept_pending t p (told_steps s p) (calls_of g p) sum)
+      ∙ replies_last_pushed 0 (told_replies t p (told_steps s p) 0 (calls_of g p)) (last_reply_of_calls (calls_of g p))
 
   -- and after its next call
-  pub replies_next : (k : Kind) (new : Vec ℕ) → is_fetch k ≡ false → new.items ≡ v.items ++ outcome_replies_in (k ∷ [])
-      → AreOutcomeReplies s (did g p k) (machine_rows (slice_set vs p new))
-  replies_next k new call is = subst (AreOutcomeReplies s (did g p k)) (sym (replies_row_set vs p new)) (record {
+  pub replies_next : (k : Kind) (new : Vec ℕ) → is_fetch k ≡ false
+      → new.items ≡ told_kept t p (told_steps s p) (calls_of g p ++ k ∷ [])
+      → AreKeptReplies s t (did g p k) (machine_rows (slice_set vs p new))
+  replies_next k new call is = subst (AreKeptReplies s t (did g p k)) (sym (replies_row_set vs p new)) (record {
     long = length-set (machine_rows vs) p new.items ∙ old.long;
     each = λ q lt. elim (cases_eq q p) [
       | inl same ↦
-          subst (λ r. slice_get (slice_set (machine_rows vs) p new.items) r ≡ Some (outcome_replies_in (calls_of (did g p k) r)))
-          (sym same) mine
+          subst (λ r. slice_get (slice_set (machine_rows vs) p new.items) r
+          ≡ Some (told_kept t r (told_steps s r) (calls_of (did g p k) r))) (sym same) mine
       | inr isnt ↦
           slice_get-set_other (machine_rows vs) p q new.items isnt ∙ old.each q lt
-          ∙ ap (λ ks. Some (outcome_replies_in ks)) (sym (followed_calls-others g p q k (λ e. isnt (sym e))))
+          ∙ ap (λ ks. Some (told_kept t q (told_steps s q) ks)) (sym (followed_calls-others g p q k (λ e. isnt (sym e))))
     ];
   })
     where
-      told : new.items ≡ outcome_replies_in (calls_of (did g p k) p)
-      told =
-          is ∙ ap (λ words. words ++ outcome_replies_in (k ∷ [])) row_replies
-          ∙ sym (outcome_replies_in-append (calls_of g p) (k ∷ [])) ∙ ap outcome_replies_in (sym (followed_calls-own g p k call))
-
-      mine : slice_get (slice_set (machine_rows vs) p new.items) p ≡ Some (outcome_replies_in (calls_of (did g p k) p))
+      mine : slice_get (slice_set (machine_rows vs) p new.items) p
+          ≡ Some (told_kept t p (told_steps s p) (calls_of (did g p k) p))
       mine =
           slice_get-set_same (machine_rows vs) p new.items (slice_get_within (machine_rows vs) p v.items (replies_row_at vs p v at))
-          ∙ ap Some told
+          ∙ ap Some (is ∙ ap (told_kept t p (told_steps s p)) (sym (followed_calls-own g p k call)))

@@ -1,25 +1,24 @@
 -- What a search knows, state by state.
 -- What was noted of the first states stays so as states are pushed on. One more state is either followed, where its next
 -- events are found, or ends: then it is whole and shows an outcome, or it hangs.
-use Rattle.std.proofs.Common.{ℕ, zero, suc, ◌≡◌, ◌≢◌, ◌+◌, ◌<◌, ◌≤◌, ◌↔◌, ◌⊎◌, inl, inr, Bool, false, List, [], ◌∷◌, Option, Some, length, map, slice_get, slice_index, slice_index_or, refl, sym, ap, subst, ◌∙◌, arith}
+use Rattle.std.proofs.Common.{ℕ, ◌≡◌, ◌≢◌, ◌+◌, ◌<◌, ◌≤◌, ◌↔◌, ◌⊎◌, inl, inr, Bool, false, List, [], ◌∷◌, Option, Some, length, map, slice_get, slice_index, slice_index_or, refl, sym, ap, subst, ◌∙◌, arith}
 use Rattle.std.specs.Prelude.{None, MatchOption, unwrap_or}
 use Rattle.std.specs.Global.{Vec}
 use Rattle.std.proofs.lemmas.Bool.{cases_eq, cases_lt, false≢true}
 use Rattle.std.proofs.lemmas.List.{get_or_past}
-use Rattle.std.proofs.lemmas.Option.{none-some, same_Some, slice_get_within}
+use Rattle.std.proofs.lemmas.Option.{none-some, same_Some, slice_get-get_or, slice_get_within}
 use Rattle.base.specs.InOrderOnce.{Has, IsOnce}
 use Rattle.base.proofs.Joined.{has-append, has-cons, has-nil, in_order-append, in_order-nil, joined_in_order_single}
-use Rattle.base.proofs.SliceSets.{slice_sets_same}
 use Rattle.journal.specs.declared.event.Event.{Event}
 use Rattle.journal.specs.declared.event.Kind.{Kind}
 use Rattle.journal.specs.declared.event.Kind.TheVariants.{Ask}
 use Rattle.journal.specs.DidEvent.{did}
 use Rattle.lrc_script.specs.Plan.{Plan}
-use Rattle.conformance.specs.Follows.{Follows}
+use Rattle.conformance.specs.Follows.{Follows, calls_of}
 use Rattle.explore.specs.declared.prefixes.script_call.ScriptCall.{ScriptCall}
 use Rattle.explore.specs.Prefixes.Beginnings.{IsFlatBeginning, IsHangingBeginning}
 use Rattle.explore.specs.Prefixes.Laws.{HasNoNeighbours}
-use Rattle.explore.proofs.prefixes.Beginnings.{beginning_next}
+use Rattle.explore.proofs.prefixes.Beginnings.{beginning_next, beginning_whole_done}
 use Rattle.explore.specs.declared.flat_state.FlatState.{FlatState}
 use Rattle.explore.specs.declared.neighbours.Neighbours.{Neighbours}
 use Rattle.explore.specs.declared.search.Search.{Search}
@@ -34,7 +33,9 @@ use Rattle.explore.specs.Found.{AreFound, IsFoundState, KeepsFound, states_found
 use Rattle.explore.specs.FreeRun.{IsFoundSoon}
 use Rattle.explore.specs.Machines.{AreLawfulMachineSteps, Knows, machine_rows}
 use Rattle.explore.specs.Nexts.{AreNexts, AreNextInConflict}
-use Rattle.explore.specs.Outcomes.{AreOutcomeReplies}
+use Rattle.explore.specs.declared.told.Detail.{Detail}
+use Rattle.explore.specs.Told.{AreToldReplies, telling_of_script, told_kept, told_replies, told_steps}
+use Rattle.explore.proofs.ToldReplies.{told_kept_whole, told_rows_like, told_same_rows}
 use Rattle.explore.specs.Searched.{AreAsksFollowed, AreSearchOutcomesShown, StateHangs, IsAmongSearched, SearchFollowsFree, SearchFollowsWhole, IsSearchReduced, SearchOutcomesNoted, IsSearchHangingOpen, IsSearchVerdictOpen, IsSearchQuiet, SearchedUpTo, IsShownBySearch, HasMoreToSearch, MayNoteState, NoStateHangs}
 use Rattle.explore.proofs.Followed.{followed_soon_kept}
 use Rattle.explore.proofs.Machines.{machine_some_at}
@@ -245,20 +246,15 @@ search_noted_hangs s x y steps n f may at unfinished found outcomes hang =
           (search_hung s (states_found x.found) n f at is_hang x.hang may.noted.hang));
     }
 
--- lists of replies of one history are the same
-search_past_none : {A : Type 0} (xs : List A) (k : ℕ) → length xs ≤ k → slice_get xs k ≡ None
-search_past_none [] k le = refl
-search_past_none (x ∷ xs) zero le = absurd (omega arith)
-search_past_none (x ∷ xs) (suc k) le = search_past_none xs k (omega arith)
-
-pub search_same_replies : (s : Plan) (g : List Event) (a b : List (List ℕ)) → AreOutcomeReplies s g a → AreOutcomeReplies s g b → a ≡ b
-search_same_replies s g a b first second = slice_sets_same a b (λ k. elim (cases_lt k s.processors) [
-  | inl lt ↦ first.each k lt ∙ sym (second.each k lt)
-  | inr past ↦
-      (let one = first.long in
-      let two = second.long in
-      search_past_none a k (omega arith) ∙ sym (search_past_none b k (omega arith)))
-])
+-- where a run is whole, what is kept is told
+pub search_kept_told : (s : Plan) (g : List Event) (m : FlatState) → length s.sections ≡ s.processors → Follows s g → Knows s g m
+    → AreToldReplies s m.telling g (machine_rows m.replies.items)
+search_kept_told s g m one follows knows =
+    told_rows_like s.processors (λ p. told_kept m.telling p (told_steps s p) (calls_of g p))
+    (λ p. told_replies m.telling p (told_steps s p) 0 (calls_of g p)) (machine_rows m.replies.items)
+    (λ p lt. told_kept_whole m.telling p (told_steps s p) (calls_of g p)
+    ((beginning_whole_done s g knows.beginning).0 follows p (slice_index_or s.sections p []) (slice_get-get_or s.sections p [] (omega arith))))
+    knows.replies
 
 -- the state is whole
 module _ (s : Plan) (x : Search) (steps : List (Vec ScriptCall)) (n : ℕ) (f : FlatState) (may : MayNoteState s x steps n)
@@ -274,7 +270,7 @@ module _ (s : Plan) (x : Search) (steps : List (Vec ScriptCall)) (n : ℕ) (f : 
         events = g.0;
         knows = g.1;
         follows = whole g.0 g.1;
-        are = g.1.replies;
+        are = search_kept_told s g.0 f may.lawful.lawful.but_uneven.one_each (whole g.0 g.1) g.1;
       }
 
   search_shows_before : (replies : List (List ℕ)) → IsShownBySearch s (states_found x.found) n replies
@@ -296,7 +292,9 @@ module _ (s : Plan) (x : Search) (steps : List (Vec ScriptCall)) (n : ℕ) (f : 
     | inl is ↦
         (let same = same_Some y.state f (sym y.at ∙ ap (slice_get (states_found x.found)) is ∙ at) in
         let knows = subst (Knows s y.events) same y.knows in
-        inr (search_same_replies s y.events (machine_rows f.replies.items) replies knows.replies y.are))
+        inr (told_same_rows s.processors (λ p. told_replies f.telling p (told_steps s p) 0 (calls_of y.events p)) (machine_rows f.replies.items)
+        replies (search_kept_told s y.events f may.lawful.lawful.but_uneven.one_each y.follows knows)
+        (subst (λ m. AreToldReplies s m.telling y.events replies) same y.are)))
     | inr isnt ↦ inl (record {
       place = y.place;
       within = (let lt = y.within in omega arith);
@@ -491,10 +489,12 @@ module _ (s : Plan) (x : Search) (steps : List (Vec ScriptCall)) (lawful : AreLa
       (slice_get_within (states_found x.found) known.place known.state known.at) known.at known.knows c.first c.second c.apart
       c.conflict
 
-  pub searched_all_outcomes : AreAllOutcomesExplored s (map explored_outcome x.outcomes.keys)
-  searched_all_outcomes replies outcome =
-      let r = search_reached (EndsShowing s replies)
-      (reduced_ends_shows_last s steps replies lawful.lawful.but_uneven.one_each) outcome.0 outcome.1.beginning (record { follows = outcome.1.follows; are = outcome.2 }) in
+  pub searched_all_outcomes : (d : Detail) → x.found.telling ≡ telling_of_script s d
+      → AreAllOutcomesExplored s d (map explored_outcome x.outcomes.keys)
+  searched_all_outcomes d tells replies outcome =
+      let t = telling_of_script s d in
+      let r = search_reached (EndsShowing s t replies)
+      (reduced_ends_shows_last s t steps replies lawful.lawful.but_uneven.one_each) outcome.0 outcome.1.beginning (record { follows = outcome.1.follows; are = outcome.2 }) in
       let known = r.found in
       (searched.noted.shown.each replies).1 (record {
         place = known.place;
@@ -504,15 +504,19 @@ module _ (s : Plan) (x : Search) (steps : List (Vec ScriptCall)) (lawful : AreLa
         events = r.events;
         knows = known.knows;
         follows = r.has.follows;
-        are = r.has.are;
+        are = subst (λ u. AreToldReplies s u r.events replies) (sym (searched.found.told known.place known.state known.at ∙ tells)) r.has.are;
       })
 
-pub searched_some_outcomes : (s : Plan) (x : Search) (steps : List (Vec ScriptCall)) (n : ℕ) → SearchedUpTo s x steps n
-    → AreExploredOutcomes s (map explored_outcome x.outcomes.keys)
-searched_some_outcomes s x steps n searched = record {
+pub searched_some_outcomes : (s : Plan) (d : Detail) (x : Search) (steps : List (Vec ScriptCall)) (n : ℕ)
+    → x.found.telling ≡ telling_of_script s d → SearchedUpTo s x steps n
+    → AreExploredOutcomes s d (map explored_outcome x.outcomes.keys)
+searched_some_outcomes s d x steps n tells searched = record {
   each = λ replies has.
-      let by = (searched.noted.shown.each replies).0 has in
-      (by.events, record { beginning = by.knows.beginning; follows = by.follows }, by.are);
+      let by = (searched.noted.shown.each replies).0 has in (
+        by.events,
+        record { beginning = by.knows.beginning; follows = by.follows },
+        subst (λ t. AreToldReplies s t by.events replies) (searched.found.told by.place by.state by.at ∙ tells) by.are,
+      );
   once = searched.noted.shown.once;
 }
 

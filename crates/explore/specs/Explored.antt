@@ -13,6 +13,7 @@ use Rattle.explore.specs.declared.explored.ScriptOutcome.{ScriptOutcome}
 use Rattle.explore.specs.declared.explored.RacyEvents.{RacyEvents}
 use Rattle.explore.specs.declared.explored.Verdict.{Verdict}
 use Rattle.explore.specs.declared.explored.Verdict.TheVariants as verdict
+use Rattle.explore.specs.declared.told.Detail.{Detail}
 use Rattle.explore.specs.Prefixes.Beginnings.{IsFlatBeginning, IsFlatRaceFree, IsHangingBeginning}
 use Rattle.explore.specs.Outcomes.{IsOutcome}
 use Rattle.explore.specs.Room.{states_to_look_at}
@@ -36,14 +37,14 @@ pub record IsExploredHang (s : Plan) (hang : Hang) : Type 0 where
 abbrev pub explored_outcome : ScriptOutcome → List (List ℕ)
 explored_outcome o = map (λ (v : Vec ℕ). v.items) o.replies.items
 
--- whole runs show each of these, and each is there once
-pub record AreExploredOutcomes (s : Plan) (outcomes : List (List (List ℕ))) : Type 0 where
-  pub each : (replies : List (List ℕ)) → Has outcomes replies → IsOutcome s replies
+-- whole runs show each of these, told by this detail, and each is there once
+pub record AreExploredOutcomes (s : Plan) (d : Detail) (outcomes : List (List (List ℕ))) : Type 0 where
+  pub each : (replies : List (List ℕ)) → Has outcomes replies → IsOutcome s d replies
   pub once : IsOnce outcomes
 
 -- whole runs show nothing else
-abbrev pub AreAllOutcomesExplored : Plan → List (List (List ℕ)) → Type 0
-AreAllOutcomesExplored s outcomes = (replies : List (List ℕ)) → IsOutcome s replies → Has outcomes replies
+abbrev pub AreAllOutcomesExplored : Plan → Detail → List (List (List ℕ)) → Type 0
+AreAllOutcomesExplored s d outcomes = (replies : List (List ℕ)) → IsOutcome s d replies → Has outcomes replies
 
 -- what is so by the verdict
 abbrev pub IsExploredVerdict : Plan → Verdict → Type 0
@@ -67,14 +68,14 @@ explored_settles _ _ all = false
 abbrev pub is_settled : Explored → Bool
 is_settled answer = explored_settles answer.verdict answer.hanging answer.are_all
 
--- what an answer says, if so many states were asked for: the script has as many as were found, which are no more than
+-- what an answer by this detail says, if so many states were asked for: the script has as many as were found, which are no more than
 -- those to be looked at and what comes next after one; each answer is true; and one is open only if there are more
 -- states than were asked for, or than fit
-pub record IsExplored (s : Plan) (most : ℕ) (answer : Explored) : Type 0 where
-  pub states : HasStates s answer.states
+pub record IsExplored (s : Plan) (d : Detail) (most : ℕ) (answer : Explored) : Type 0 where
+  pub states : HasStates s d answer.states
   pub few : answer.states ≤ states_to_look_at s most + 16
   pub verdict : IsExploredVerdict s answer.verdict
   pub hanging : IsExploredHanging s answer.hanging
-  pub outcomes : AreExploredOutcomes s (map explored_outcome answer.outcomes.items)
-  pub all : IsTrue answer.are_all → AreAllOutcomesExplored s (map explored_outcome answer.outcomes.items)
+  pub outcomes : AreExploredOutcomes s d (map explored_outcome answer.outcomes.items)
+  pub all : IsTrue answer.are_all → AreAllOutcomesExplored s d (map explored_outcome answer.outcomes.items)
   pub given_up : is_settled answer ≡ false → states_to_look_at s most < answer.states

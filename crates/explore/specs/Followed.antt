@@ -27,6 +27,7 @@ pub record IsFoundStateFollowed (s : Plan) (rows : List (Vec ScriptCall)) (x y :
   pub known : (m : FlatState) (g : List Event) → slice_get (states_found x) place ≡ Some m → Knows s g m
       → IsFoundSoon s rows (states_found y) (did g p k)
   pub few : length (states_found y) ≤ length (states_found x) + 1
+  pub telling : y.telling ≡ x.telling
 
 -- of the state at this place of a lawful script each of these may come next
 pub record MayFollowAll (s : Plan) (rows : List (Vec ScriptCall)) (x : States) (place : ℕ) (nexts : List (Option Kind)) : Type 0 where
@@ -43,3 +44,4 @@ pub record AreFollowed (s : Plan) (rows : List (Vec ScriptCall)) (x y : States) 
   pub known : (m : FlatState) (g : List Event) (p : ℕ) (k : Kind) → p < n → slice_get (states_found x) place ≡ Some m
       → Knows s g m → slice_index_or nexts p None ≡ Some k → IsFoundSoon s rows (states_found y) (did g p k)
   pub few : length (states_found y) ≤ length (states_found x) + n
+  pub telling : y.telling ≡ x.telling

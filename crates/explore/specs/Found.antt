@@ -32,25 +32,28 @@ abbrev pub FoundComesFrom : Plan → List FlatState → ℕ → FlatState → Op
 FoundComesFrom s states place m None = Knows s [] m
 FoundComesFrom s states place m (Some o) = IsOriginOfFound s states place m o
 
--- these are states of the script, among them the first one, with where each comes from
+-- these are states of the script that keep what is told, among them the first one, with where each comes from
 pub record AreFound (s : Plan) (x : States) : Type 0 where
   pub long : length x.origins.items ≡ length (states_found x)
   pub known : (place : ℕ) (m : FlatState) → slice_get (states_found x) place ≡ Some m → (g : List Event) × Knows s g m
   pub come : (place : ℕ) (m : FlatState) (o : Option Origin) → slice_get (states_found x) place ≡ Some m
       → slice_get x.origins.items place ≡ Some o → FoundComesFrom s (states_found x) place m o
   pub first : IsFoundState s (states_found x) []
+  pub told : (place : ℕ) (m : FlatState) → slice_get (states_found x) place ≡ Some m → m.telling ≡ x.telling
 
 -- the state was there already
 pub record WasFoundBefore (x y : States) (m : FlatState) : Type 0 where
+  pub telling : y.telling ≡ x.telling
   pub states : states_found y ≡ states_found x
   pub origins : y.origins.items ≡ x.origins.items
   pub place : ℕ
   pub state : FlatState
   pub at : slice_get (states_found x) place ≡ Some state
-  pub like : SameMachineState m state
+  pub like : state.telling ≡ m.telling → SameMachineState m state
 
 -- it was put at the end
 pub record WasPushedToFound (x y : States) (m : FlatState) (o : Option Origin) : Type 0 where
+  pub telling : y.telling ≡ x.telling
   pub states : states_found y ≡ states_found x ++ m ∷ []
   pub origins : y.origins.items ≡ x.origins.items ++ o ∷ []
 

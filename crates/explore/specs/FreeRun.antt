@@ -1,5 +1,5 @@
 -- Free events, one after another.
-use Rattle.std.specs.Prelude.{List, ◌++◌}
+use Rattle.std.specs.Prelude.{◌≡◌, List, ◌++◌}
 use Rattle.std.specs.Global.{Vec}
 use Rattle.base.specs.InOrderOnce.{Has}
 use Rattle.journal.specs.declared.event.Event.{Event}
@@ -17,6 +17,7 @@ AreFree rows more = (e : Event) → Has more e → IsFree rows e.kind
 -- the machine m has become n by these events, which are free
 pub record WentFreely (rows : List (Vec ScriptCall)) (m n : FlatState) (more : List Event) : Type 0 where
   pub free : AreFree rows more
+  pub telling : n.telling ≡ m.telling
   pub knows : (s : Plan) (g : List Event) → AreLawfulMachineSteps s rows → Knows s g m → Knows s (g ++ more) n
 
 -- free events lead from g to one of these states

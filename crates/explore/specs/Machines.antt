@@ -15,7 +15,7 @@ use Rattle.explore.specs.declared.prefixes.script_call.ScriptCall.TheVariants.{C
 use Rattle.explore.specs.declared.flat_state.FlatState.{FlatState}
 use Rattle.explore.specs.Prefixes.Beginnings.{IsFlatBeginning}
 use Rattle.explore.specs.Prefixes.Calling.{AreCallingSteps}
-use Rattle.explore.specs.Outcomes.{AreOutcomeReplies}
+use Rattle.explore.specs.Told.{AreKeptReplies}
 use Rattle.explore.specs.Waiting.{IsLikeWaiting, TellsWaiting}
 
 -- what vectors have, without where they lie in memory
@@ -32,12 +32,14 @@ pub record Knows (s : Plan) (g : List Event) (m : FlatState) : Type 0 where
   pub beginning : IsFlatBeginning s g
   pub long : length m.done ≡ 16
   pub done : (p : ℕ) → p < 16 → slice_index m.done p ≡ length (calls_of g p)
-  pub replies : AreOutcomeReplies s g (machine_rows m.replies.items)
+  pub shown : m.telling.shown ≡ length s.shown
+  pub replies : AreKeptReplies s m.telling g (machine_rows m.replies.items)
   pub memory : m.memory.items ≡ memory_after (replicate (plan_addresses s) 0) g
   pub waiting : TellsWaiting g m.waiting
 
 -- two machines are in the same state
 pub record SameMachineState (m n : FlatState) : Type 0 where
+  pub telling : n.telling ≡ m.telling
   pub done : n.done ≡ m.done
   pub replies : machine_rows n.replies.items ≡ machine_rows m.replies.items
   pub memory : n.memory.items ≡ m.memory.items
@@ -65,10 +67,10 @@ pub record IsMachineRunning (m : FlatState) (steps : List (Vec ScriptCall)) : Ty
   pub events : List Event
   pub knows : Knows plan events m
 
--- p may do this after some events of a lawful script
-pub record IsMachineStep (m : FlatState) (p : ℕ) (k : Kind) : Type 0 where
+-- p may do this after some events of a lawful script, whose steps are these
+pub record IsMachineStep (m : FlatState) (steps : List (Vec ScriptCall)) (p : ℕ) (k : Kind) : Type 0 where
   pub plan : Plan
-  pub lawful : IsLawful plan
+  pub lawful : AreLawfulMachineSteps plan steps
   pub events : List Event
   pub knows : Knows plan events m
   pub next : IsFlatBeginning plan (did events p k)

@@ -25,7 +25,7 @@ use Rattle.explore.specs.FreeRun.{IsFoundSoon}
 use Rattle.explore.specs.Machines.{AreLawfulMachineSteps, Knows}
 use Rattle.explore.specs.Nexts.{IsOverNext}
 use Rattle.explore.specs.Racing.{AreRacing}
-use Rattle.explore.specs.Outcomes.{AreOutcomeReplies}
+use Rattle.explore.specs.Told.{AreToldReplies}
 
 -- all that may come next after the state m is found soon
 abbrev pub SearchFollowsWhole : Plan → List (Vec ScriptCall) → List FlatState → FlatState → Type 0
@@ -70,7 +70,7 @@ pub record IsShownBySearch (s : Plan) (states : List FlatState) (n : ℕ) (repli
   pub events : List Event
   pub knows : Knows s events state
   pub follows : Follows s events
-  pub are : AreOutcomeReplies s events replies
+  pub are : AreToldReplies s state.telling events replies
 
 -- these are what the first n states show, each once
 pub record AreSearchOutcomesShown (s : Plan) (states : List FlatState) (n : ℕ) (outcomes : List (List (List ℕ))) : Type 0 where

@@ -10,11 +10,12 @@ use Rattle.explore.specs.declared.showing.ExploredUntil.{ExploredUntil}
 use Rattle.explore.specs.declared.showing.Showing.{Showing}
 use Rattle.explore.specs.declared.showing.Showing.TheVariants.{Shown, Never, Racy, Undecided}
 use Rattle.explore.specs.declared.showing.ShownRun.{ShownRun}
+use Rattle.explore.specs.declared.told.Detail.{Detail}
 use Rattle.explore.specs.Explored.{IsExploredRacy, explored_outcome}
-use Rattle.explore.specs.Outcomes.{AreOutcomeReplies}
 use Rattle.explore.specs.Prefixes.Beginnings.{IsFlatRaceFree, IsWholeBeginning}
 use Rattle.explore.specs.Room.{states_to_look_at}
 use Rattle.explore.specs.States.{HasStates}
+use Rattle.explore.specs.Told.{AreToldReplies, telling_of_script}
 
 -- at each of these addresses the memory has this word
 abbrev pub HasFinalWords : List ℕ → List (ℕ × ℕ) → Type 0
@@ -29,33 +30,33 @@ pub record IsRunWithWords (s : Plan) (words : List (ℕ × ℕ)) (g : List Event
   pub whole : IsWholeBeginning s g
   pub ends : EndsWithWords s words g
 
--- such a run without a race, and what its loads answered
-pub record IsShownRun (s : Plan) (words : List (ℕ × ℕ)) (run : ShownRun) : Type 0 where
+-- such a run without a race, and what it shows, told by this detail
+pub record IsShownRun (s : Plan) (d : Detail) (words : List (ℕ × ℕ)) (run : ShownRun) : Type 0 where
   pub is : IsRunWithWords s words run.events.items
   pub race_free : RaceFree run.events.items
-  pub outcome : AreOutcomeReplies s run.events.items (explored_outcome run.outcome)
+  pub outcome : AreToldReplies s (telling_of_script s d) run.events.items (explored_outcome run.outcome)
 
 -- no run ends with these words
 abbrev pub NoRunWithWords : Plan → List (ℕ × ℕ) → Type 0
 NoRunWithWords s words = (g : List Event) → ¬ IsRunWithWords s words g
 
 -- what is so by the answer
-abbrev pub IsShowing : Plan → List (ℕ × ℕ) → Showing → Type 0
-IsShowing s words (Shown run) = IsShownRun s words run
-IsShowing s words Never = NoRunWithWords s words × IsFlatRaceFree s
-IsShowing s words (Racy racy) = IsExploredRacy s racy
-IsShowing s words Undecided = ⊤
+abbrev pub IsShowing : Plan → Detail → List (ℕ × ℕ) → Showing → Type 0
+IsShowing s d words (Shown run) = IsShownRun s d words run
+IsShowing s d words Never = NoRunWithWords s words × IsFlatRaceFree s
+IsShowing s d words (Racy racy) = IsExploredRacy s racy
+IsShowing s d words Undecided = ⊤
 
 -- whether nothing is open
 abbrev pub is_showing_settled : Showing → Bool
 is_showing_settled Undecided = false
 is_showing_settled _ = true
 
--- what an answer says, if so many states were asked for: the script has as many as were found, which are no more than
+-- what an answer by this detail says, if so many states were asked for: the script has as many as were found, which are no more than
 -- those to be looked at and what comes next after one; the answer is true; and it is open only if there are more states
 -- than were asked for, or than fit
-pub record IsExploredUntil (s : Plan) (words : List (ℕ × ℕ)) (most : ℕ) (answer : ExploredUntil) : Type 0 where
-  pub states : HasStates s answer.states
+pub record IsExploredUntil (s : Plan) (d : Detail) (words : List (ℕ × ℕ)) (most : ℕ) (answer : ExploredUntil) : Type 0 where
+  pub states : HasStates s d answer.states
   pub few : answer.states ≤ states_to_look_at s most + 16
-  pub showing : IsShowing s words answer.showing
+  pub showing : IsShowing s d words answer.showing
   pub given_up : is_showing_settled answer.showing ≡ false → states_to_look_at s most < answer.states

@@ -29,7 +29,8 @@ pub enum Hanging {
 /// What a whole run shows.
 #[derive(Drop, PartialEq, Eq, Hash)]
 pub struct ScriptOutcome {
-    /// Of each processor, what its loads answered, in order. The last ones of processor 0 show the words at the end.
+    /// Of each processor, what those of its loads answered that are told, in order. The last ones of processor 0 show the words
+    /// at the end: they are told by each detail.
     pub replies: Vec<Vec<u32>>,
 }
 

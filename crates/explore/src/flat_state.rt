@@ -1,5 +1,5 @@
 //! A script's run on one flat memory, an event at a time.
-ghost use Rattle.std.specs.Prelude.{◌≡◌, ◌↔◌, ℕ, ◌+◌, ◌<◌, ◌≤◌, ◌++◌, [], ◌∷◌, List, Some, None, IfOk, OnOk, IsTrue};
+ghost use Rattle.std.specs.Prelude.{◌≡◌, ◌↔◌, ℕ, ◌+◌, ◌<◌, ◌≤◌, ◌++◌, [], ◌∷◌, List, Some, None, IfOk, OnOk, IsTrue, cond};
 ghost use Rattle.std.specs.Prelude.{length, replicate, slice_get, slice_index, slice_index_or};
 ghost use Rattle.base.specs.Prelude.{most_processors, wrote};
 ghost use Rattle.journal.specs.declared.event.Event.{Event as AnEvent};
@@ -11,11 +11,12 @@ ghost use Rattle.explore.specs.Prefixes.Calling.{IsCallOfStep, last_reply_of_cal
 ghost use Rattle.explore.specs.Prefixes.Prelude.{IsFlatBeginning};
 ghost use Rattle.explore.specs.Machines.{AreLawfulMachineSteps, MachineStepReads, SameMachineState, IsMachineRunning, IsMachineStep, Knows};
 ghost use Rattle.explore.specs.Machines.{machine_rows, machine_last_or};
-ghost use Rattle.explore.specs.Outcomes.{AreOutcomeReplies, outcome_replies_in};
+ghost use Rattle.explore.specs.Told.{is_told_sum, told_reply, told_steps, telling_of_script};
 ghost use Rattle.explore.specs.Until.{HasFinalWords};
 ghost use Rattle.explore.specs.Waiting.{AreAwaited};
 
 use crate::prefixes::ScriptCall;
+use crate::told::{Detail, OutcomeTelling, is_told_sum, told_step};
 use crate::waiting::Waiting;
 use base::MOST_PROCESSORS;
 use journal::Kind;
@@ -23,11 +24,15 @@ use lrc_script::script::Script;
 use std::alloc::{AllocError, Global};
 
 /// A script's run on one flat memory, after some events. Machines that are equal go on alike.
-#[derive(Drop, PartialEq, Eq, Hash)]
+#[derive(Drop)]
+#[derive_where(PartialEq, Eq, Hash)]
 pub struct FlatState {
+    /// What outcomes tell. It is one for all states of a search, so it isn't compared.
+    #[derive_where(skip(EqHashOrd))]
+    pub(crate) telling: OutcomeTelling,
     /// How many calls each processor has made.
     done: [u16; MOST_PROCESSORS],
-    /// What the loads of each have answered, in order.
+    /// The replies of each that outcomes tell, in order, and then the one that its next step adds to.
     replies: Vec<Vec<u32>>,
     /// The words of the memory.
     memory: Vec<u32>,
@@ -56,12 +61,24 @@ fn last_of(words: &[u32]) -> u32
     }
 }
 
-/// Puts the reply of a load at the end.
-fn keep_reply(replies: &mut Vec<u32>, kind: Kind) -> Result<(), AllocError>
-    ensures { OnOk result (replies.new.items ≡ replies.old.items ++ outcome_replies_in (kind ∷ [])) }
+/// Lets go of the last reply, if the step added to it.
+fn let_go(replies: &mut Vec<u32>, is_sum: bool)
+    ensures { (front : List ℕ) (reply : ℕ) → replies.old.items ≡ front ++ cond is_sum (reply ∷ []) []
+        → replies.new.items ≡ front }
+{
+    if is_sum {
+        replies.pop();
+    }
+}
+
+/// Puts the reply of a load at the end, if it is to be kept.
+fn keep_reply(replies: &mut Vec<u32>, kept: bool, kind: Kind) -> Result<(), AllocError>
+    ensures { OnOk result (replies.new.items ≡ replies.old.items ++ told_reply kept kind) }
 {
     if let Kind::Load(_, word) = kind {
-        replies.push(word)?;
+        if kept {
+            replies.push(word)?;
+        }
     }
     Ok(())
 }
@@ -96,11 +113,16 @@ fn no_replies(alloc: Global, processors: usize) -> Result<Vec<Vec<u32>>, AllocEr
 
 impl FlatState {
     /// Before the first event of the script. The only error is running out of memory.
-    pub fn new(alloc: Global, script: &Script) -> Result<FlatState, AllocError>
+    pub fn new(alloc: Global, script: &Script, detail: Detail) -> Result<FlatState, AllocError>
         requires { IsLawful (plan_of script.now) }
-        ensures { IfOk result (Knows (plan_of script.now) []) }
+        ensures knows { IfOk result (Knows (plan_of script.now) []) }
+        ensures telling { IfOk result (λ m. m.telling ≡ telling_of_script (plan_of script.now) detail) }
     {
         Ok(FlatState {
+            telling: OutcomeTelling {
+                detail,
+                shown: script.shown.len(),
+            },
             done: [0; MOST_PROCESSORS],
             replies: no_replies(alloc, script.processors)?,
             memory: vec![in alloc; 0; script.pages * script.words]?,
@@ -113,6 +135,7 @@ impl FlatState {
         ensures { IfOk result (SameMachineState self.now) }
     {
         Ok(FlatState {
+            telling: self.telling,
             done: self.done,
             replies: self.replies()?,
             memory: self.memory.clone()?,
@@ -128,10 +151,12 @@ impl FlatState {
         self.done[processor] as usize
     }
 
-    /// What the processor's last load answered, 0 if there is none.
+    /// What the processor's last load answered, if its next step adds to that.
     fn reply_before(&self, processor: usize) -> u32
         requires { processor < length self.now.replies.items }
-        ensures { (s : Plan) (g : List AnEvent) → Knows s g self.now → result ≡ last_reply_of_calls (calls_of g processor) }
+        ensures { (s : Plan) (g : List AnEvent) → Knows s g self.now
+            → IsTrue (is_told_sum (slice_get (told_steps s processor) (length (calls_of g processor))))
+            → result ≡ last_reply_of_calls (calls_of g processor) }
     {
         last_of(&self.replies[processor])
     }
@@ -156,16 +181,27 @@ impl FlatState {
         }
     }
 
-    /// Does what the processor may do next. The only error is running out of memory, after which the machine may be of
-    /// no use.
-    pub fn step(&mut self, processor: usize, kind: Kind) -> Result<(), AllocError>
-        requires { IsMachineStep self.old processor kind }
-        ensures { OnOk result ((s : Plan) (g : List AnEvent) → Knows s g self.old
-            → IsFlatBeginning s (did g processor kind) → processor < most_processors
-            → Knows s (did g processor kind) self.new) }
+    /// Does what the processor may do next. Its steps are one of these rows. The only error is running out of memory, after
+    /// which the machine may be of no use.
+    pub fn step(
+        &mut self,
+        steps: &[Vec<ScriptCall>],
+        processor: usize,
+        kind: Kind,
+    ) -> Result<(), AllocError>
+        requires { IsMachineStep self.old steps.now processor kind }
+        ensures knows { OnOk result ((s : Plan) (g : List AnEvent) → AreLawfulMachineSteps s steps.now → Knows s g self.old
+            → IsFlatBeginning s (did g processor kind) → Knows s (did g processor kind) self.new) }
+        ensures telling { OnOk result (self.new.telling ≡ self.old.telling) }
     {
+        let row = &steps[processor];
+        let place = self.done[processor] as usize;
+        let is_told = self.telling.is_told(processor, row, place);
         self.waiting.note(processor, kind)?;
-        keep_reply(&mut self.replies[processor], kind)?;
+        let replies = &mut self.replies[processor];
+        let_go(replies, is_told_sum(told_step(row, place)));
+        keep_reply(replies, is_told, kind)?;
+        keep_reply(replies, is_told_sum(told_step(row, place + 1)), kind)?;
         write(&mut self.memory, kind);
         self.done[processor] += 1;
         Ok(())
@@ -197,7 +233,7 @@ impl FlatState {
         true
     }
 
-    /// What the loads of each processor have answered.
+    /// What is kept of the replies of each processor.
     pub fn replies(&self) -> Result<Vec<Vec<u32>>, AllocError>
         ensures { IfOk result (λ v. machine_rows v.items ≡ machine_rows self.now.replies.items) }
     {

@@ -50,7 +50,7 @@ pub fn go_freely(
         let Some(event) = free_among(&nexts, &facts.guarded) else {
             return Ok(());
         };
-        state.step(event.processor, event.kind)?;
+        state.step(steps, event.processor, event.kind)?;
         events.push(event)?;
     }
     Ok(())

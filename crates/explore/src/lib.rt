@@ -1,7 +1,7 @@
 //! All schedules of a script on one flat memory: whether it races, whether it can hang, and what it can show.
 //!
 //! **What contracts see.** `IsExplored` is what an answer says: no prefix races, or here is a race; this is a hang, or
-//! there is none; these are outcomes of whole runs, each once, and all of them or some. `IsExploredUntil` says the same of
+//! there is none; these are outcomes of whole runs, each once, and all of them or some, told by a `Detail` (`IsOutcome`). `IsExploredUntil` says the same of
 //! whether a run ends with some words (`EndsWithWords`). An answer is open only if there are more states than were to be
 //! looked at (`states_to_look_at`). Inside, a `FlatState` knows events (`Knows`), so two machines
 //! that are found equal go on alike; `States` has the states, each once, with where it comes from (`AreFound`); `Search` has
@@ -26,6 +26,7 @@ mod search;
 mod showing;
 mod states;
 mod text_facts;
+mod told;
 mod until;
 mod wait;
 mod waiting;
@@ -34,5 +35,6 @@ pub use explored::{Explored, Hang, Hanging, RacyEvents, ScriptOutcome, Verdict};
 pub use progress::{Progress, Silent};
 pub use search::explore;
 pub use showing::{ExploredUntil, Showing, ShownRun};
+pub use told::{Detail, full_outcomes_law};
 pub use until::explore_until;
 pub use waiting::Waiting;

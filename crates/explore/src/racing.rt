@@ -37,7 +37,7 @@ fn racing_events(
     } = neighbours;
     let mut events = found.events_to(alloc, place)?;
     let mut state = found.at(place).copy()?;
-    state.step(first.processor, first.kind)?;
+    state.step(steps, first.processor, first.kind)?;
     let kind = state.next(steps, second.processor).unwrap();
     events.push(first)?;
     events.push(Event {

@@ -12,6 +12,8 @@ ghost use Rattle.explore.specs.Found.{AreFound, KeepsFound, states_found};
 ghost use Rattle.explore.specs.Machines.{AreLawfulMachineSteps};
 ghost use Rattle.explore.specs.Racing.{AreRacing};
 ghost use Rattle.explore.specs.Room.{states_to_look_at};
+ghost use Rattle.explore.specs.declared.told.Detail.{Detail as ADetail};
+ghost use Rattle.explore.specs.Told.{telling_of_script};
 ghost use Rattle.explore.specs.Searched.{StateHangs, IsAmongSearched, IsSearchedAt, IsSearchedThrough, SearchOutcomesNoted, SearchedUpTo, HasMoreToSearch};
 ghost use Rattle.explore.specs.Searched.{IsSearchHangingOpen, IsSearchVerdictOpen, IsSearched, MayNoteState};
 
@@ -26,6 +28,7 @@ use crate::racing::racing_history;
 use crate::room::states_to_look_at;
 use crate::states::States;
 use crate::text_facts::{TextFacts, text_facts};
+use crate::told::Detail;
 use indexmap::IndexSet;
 use lrc_script::script::Script;
 use std::alloc::{AllocError, Global};
@@ -82,13 +85,14 @@ fn search_outcomes_listed(
 
 impl Search {
     /// The first state alone. The only error is running out of memory.
-    pub(crate) fn new(alloc: Global, script: &Script) -> Result<Search, AllocError>
+    pub(crate) fn new(alloc: Global, script: &Script, detail: Detail) -> Result<Search, AllocError>
         requires { IsLawful (plan_of script.now) }
         ensures searched { IfOk result (λ x. (rows : List (AVec AStep)) → SearchedUpTo (plan_of script.now) x rows 0) }
         ensures few { IfOk result (λ x. length (states_found x.found) ≤ 1) }
+        ensures telling { IfOk result (λ x. x.found.telling ≡ telling_of_script (plan_of script.now) detail) }
     {
         Ok(Search {
-            found: States::new(alloc, FlatState::new(alloc, script)?)?,
+            found: States::new(alloc, FlatState::new(alloc, script, detail)?)?,
             outcomes: IndexSet::new(alloc),
             hang: None,
         })
@@ -123,7 +127,8 @@ impl Search {
             → IsSearchedAt s self.new steps.now place o) }
         ensures found { IfOk result (λ _. (s : Plan) → HasMoreToSearch s self.old steps.now place
             → KeepsFound (states_found self.old.found) (states_found self.new.found)
-            × (length (states_found self.new.found) ≤ length (states_found self.old.found) + most_processors)) }
+            × (length (states_found self.new.found) ≤ length (states_found self.old.found) + most_processors)
+            × (self.new.found.telling ≡ self.old.found.telling)) }
     {
         let state = self.found.at(place);
         let nexts = nexts_of(state, steps);
@@ -156,6 +161,8 @@ impl Search {
             → IsSearchedThrough s self.new steps.now most o) }
         ensures few { IfOk result (λ _. (s : Plan) → AreLawfulMachineSteps s steps.now → SearchedUpTo s self.old steps.now 0
             → length (states_found self.old.found) ≤ 1 → length (states_found self.new.found) ≤ most + most_processors) }
+        ensures telling { IfOk result (λ _. (s : Plan) → AreLawfulMachineSteps s steps.now → SearchedUpTo s self.old steps.now 0
+            → self.new.found.telling ≡ self.old.found.telling) }
     {
         for place in 0..most {
             let states = self.found.len();
@@ -242,7 +249,8 @@ impl Search {
         requires facts { AreTextFacts steps.now facts.now }
         requires searched { SearchedUpTo (plan_of script.now) self.old steps.now 0 }
         requires few { length (states_found self.old.found) ≤ 1 }
-        ensures { IfOk result (IsExplored (plan_of script.now) most) }
+        ensures { IfOk result (λ answer. (d : ADetail) → self.old.found.telling ≡ telling_of_script (plan_of script.now) d
+            → IsExplored (plan_of script.now) d most answer) }
     {
         let most = states_to_look_at(script, most);
         let neighbours = self.look_at_all(steps, facts, most, progress)?;
@@ -268,19 +276,20 @@ fn search_steps<P: Progress>(
     alloc: Global,
     script: &Script,
     steps: &[Vec<ScriptCall>],
+    detail: Detail,
     most: usize,
     progress: &mut P,
 ) -> Result<Explored, AllocError>
     requires { AreLawfulMachineSteps (plan_of script.now) steps.now }
-    ensures { IfOk result (IsExplored (plan_of script.now) most) }
+    ensures { IfOk result (IsExplored (plan_of script.now) detail most) }
 {
     let facts = text_facts(alloc, script, steps)?;
-    let mut search = Search::new(alloc, script)?;
+    let mut search = Search::new(alloc, script, detail)?;
     search.answer(alloc, script, steps, &facts, most, progress)
 }
 
 /// Looks at the states of the script on one flat memory, and says whether it races, whether it can hang, and what it can
-/// show. If all words are guarded (`guarded_words`), it says race-free whatever it finds. It ends at the first two
+/// show, told by this detail. If all words are guarded (`guarded_words`), it says race-free whatever it finds. It ends at the first two
 /// accesses that race, and gives up once it finds more than `most` states. Either way it says what it has found: a hang and
 /// outcomes that it met are there. The only error is running out of memory.
 ///
@@ -288,7 +297,8 @@ fn search_steps<P: Progress>(
 /// memory, and a reply to each load that the script's sections make, and which have 2^27 words together. So the memory that
 /// it takes is bounded, whatever the script. While it looks, `progress` is told how many states were found.
 ///
-/// A state is what each processor has done, with the replies to its loads, the words, and who waits for what. If some
+/// A state is what each processor has done, with the replies that are told or that its next step adds to, the words, and who
+/// waits for what. So the less is told, the fewer states there are. If some
 /// processor may do next what commutes with all that others may do, that alone is followed (`to_follow`), and if all who
 /// have yet to ask for a lock may do so next, these asks: persistent sets (Godefroid, Partial-order methods for the
 /// verification of concurrent systems, 1996). A state between events that are followed alone is passed over (`go_freely`).
@@ -297,12 +307,13 @@ fn search_steps<P: Progress>(
 pub fn explore<P: Progress>(
     alloc: Global,
     script: &Script,
+    detail: Detail,
     most: usize,
     progress: &mut P,
 ) -> Result<Explored, AllocError>
     requires { IsLawful (plan_of script.now) }
-    ensures { IfOk result (IsExplored (plan_of script.now) most) }
+    ensures { IfOk result (IsExplored (plan_of script.now) detail most) }
 {
     let steps = steps_of_script(alloc, script)?;
-    search_steps(alloc, script, &steps, most, progress)
+    search_steps(alloc, script, &steps, detail, most, progress)
 }

@@ -7,11 +7,14 @@ ghost use Rattle.explore.specs.Followed.{AreFollowed, IsFoundStateFollowed, MayF
 ghost use Rattle.explore.specs.Free.{AreTextFacts};
 ghost use Rattle.explore.specs.States.{HasStates};
 ghost use Rattle.explore.specs.Machines.{Knows};
+ghost use Rattle.explore.specs.declared.told.Detail.{Detail as ADetail};
+ghost use Rattle.explore.specs.Told.{telling_of_script};
 
 use crate::flat_state::FlatState;
 use crate::free_run::go_freely;
 use crate::prefixes::ScriptCall;
 use crate::text_facts::TextFacts;
+use crate::told::OutcomeTelling;
 use indexmap::IndexSet;
 use journal::{Event, Kind};
 use std::alloc::{AllocError, Global};
@@ -28,6 +31,8 @@ pub struct Origin {
 #[derive(Drop)]
 pub struct States {
     alloc: Global,
+    /// What outcomes tell.
+    telling: OutcomeTelling,
     states: IndexSet<FlatState>,
     /// Of each state where it comes from; the first one comes from nowhere.
     origins: Vec<Option<Origin>>,
@@ -46,10 +51,12 @@ impl States {
     /// The first state alone. The only error is running out of memory.
     pub fn new(alloc: Global, first: FlatState) -> Result<States, AllocError>
         ensures found { IfOk result (λ x. (s : Plan) → Knows s [] first → AreFound s x) }
+        ensures telling { IfOk result (λ x. x.telling ≡ first.telling) }
         ensures few { IfOk result (λ x. length (states_found x) ≤ 1) }
     {
         let mut found = States {
             alloc,
+            telling: first.telling,
             states: IndexSet::new(alloc),
             origins: Vec::new(alloc),
         };
@@ -57,10 +64,11 @@ impl States {
         Ok(found)
     }
 
-    /// How many states there are. A script has as many at least.
+    /// How many states there are. A script has as many at least, by the same detail.
     pub fn len(&self) -> usize
         ensures count { result ≡ length (states_found self.now) }
-        ensures states { (s : Plan) → AreFound s self.now → HasStates s result }
+        ensures states { (s : Plan) (d : ADetail) → AreFound s self.now → self.now.telling ≡ telling_of_script s d
+            → HasStates s d result }
     {
         self.states.len()
     }
@@ -99,7 +107,7 @@ impl States {
             → IsFoundStateFollowed s steps.now self.old self.new place event.processor event.kind) }
     {
         let mut state = self.at(place).copy()?;
-        state.step(event.processor, event.kind)?;
+        state.step(steps, event.processor, event.kind)?;
         let mut events = Vec::new(self.alloc);
         events.push(event)?;
         go_freely(&mut state, &mut events, steps, facts)?;

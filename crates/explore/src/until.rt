@@ -7,6 +7,8 @@ ghost use Rattle.explore.specs.Free.{AreTextFacts};
 ghost use Rattle.explore.specs.Found.{AreFound, states_found};
 ghost use Rattle.explore.specs.Machines.{AreLawfulMachineSteps, IsMachineRunning, Knows};
 ghost use Rattle.explore.specs.Searched.{SearchedUpTo};
+ghost use Rattle.explore.specs.declared.told.Detail.{Detail as ADetail};
+ghost use Rattle.explore.specs.Told.{telling_of_script};
 ghost use Rattle.explore.specs.Until.{IsExploredUntil, IsRunWithWords, IsShowing, is_showing_settled};
 ghost use Rattle.explore.specs.UntilSearched.{IsSearchedUntil, IsUntilEnded, IsUntilOpen, StateEndsWithWords};
 
@@ -21,6 +23,7 @@ use crate::search::{Search, is_past};
 use crate::showing::{ExploredUntil, Showing, ShownRun};
 use crate::states::States;
 use crate::text_facts::{TextFacts, text_facts};
+use crate::told::Detail;
 use lrc_script::script::Script;
 use std::alloc::{AllocError, Global};
 
@@ -58,6 +61,8 @@ fn look_until<P: Progress>(
         → IsSearchedUntil s search.new steps.now words.now most o) }
     ensures few { IfOk result (λ _. (s : Plan) → AreLawfulMachineSteps s steps.now → SearchedUpTo s search.old steps.now 0
         → length (states_found search.old.found) ≤ 1 → length (states_found search.new.found) ≤ most + most_processors) }
+    ensures telling { IfOk result (λ _. (s : Plan) → AreLawfulMachineSteps s steps.now → SearchedUpTo s search.old steps.now 0
+        → search.new.found.telling ≡ search.old.found.telling) }
 {
     for place in 0..most {
         let states = search.found.len();
@@ -88,9 +93,9 @@ fn run_to(
     requires lawful { IsLawful (plan_of script.now) }
     requires found { AreFound (plan_of script.now) found.now }
     requires ends { (words : List (ℕ × ℕ)) × StateEndsWithWords (plan_of script.now) words (states_found found.now) place }
-    ensures showing { IfOk result (λ showing. (words : List (ℕ × ℕ))
+    ensures showing { IfOk result (λ showing. (words : List (ℕ × ℕ)) (d : ADetail)
         → StateEndsWithWords (plan_of script.now) words (states_found found.now) place
-        → IsShowing (plan_of script.now) words showing) }
+        → found.now.telling ≡ telling_of_script (plan_of script.now) d → IsShowing (plan_of script.now) d words showing) }
     ensures settled { IfOk result (λ showing. IsTrue (is_showing_settled showing)) }
 {
     let events = found.events_to(alloc, place)?;
@@ -113,9 +118,9 @@ fn showing_of(
 ) -> Result<Showing, AllocError>
     requires steps { AreLawfulMachineSteps (plan_of script.now) steps.now }
     requires ended { (words : List (ℕ × ℕ)) × IsUntilEnded (plan_of script.now) search.now steps.now words through met }
-    ensures showing { IfOk result (λ showing. (words : List (ℕ × ℕ))
+    ensures showing { IfOk result (λ showing. (words : List (ℕ × ℕ)) (d : ADetail)
         → IsUntilEnded (plan_of script.now) search.now steps.now words through met
-        → IsShowing (plan_of script.now) words showing) }
+        → search.now.found.telling ≡ telling_of_script (plan_of script.now) d → IsShowing (plan_of script.now) d words showing) }
     ensures opens { IfOk result (IsUntilOpen met through) }
 {
     match met {
@@ -134,16 +139,17 @@ fn until_by_steps<P: Progress>(
     alloc: Global,
     script: &Script,
     steps: &[Vec<ScriptCall>],
+    detail: Detail,
     words: &[(usize, u32)],
     most: usize,
     progress: &mut P,
 ) -> Result<ExploredUntil, AllocError>
     requires { AreLawfulMachineSteps (plan_of script.now) steps.now }
-    ensures { IfOk result (IsExploredUntil (plan_of script.now) words.now most) }
+    ensures { IfOk result (IsExploredUntil (plan_of script.now) detail words.now most) }
 {
     let facts = text_facts(alloc, script, steps)?;
     let most = states_to_look_at(script, most);
-    let mut search = Search::new(alloc, script)?;
+    let mut search = Search::new(alloc, script, detail)?;
     let met = look_until(&mut search, steps, &facts, words, most, progress)?;
     let states = search.found.len();
     let showing = showing_of(alloc, script, steps, &search, met, states <= most)?;
@@ -151,19 +157,20 @@ fn until_by_steps<P: Progress>(
 }
 
 /// Looks at the states of the script on one flat memory as `explore` does, until a whole run ends with these words, each at its
-/// address: then it tells that run. It ends, too, at the first two accesses that race, and tells them: what a racy script shows
+/// address: then it tells that run, and what it shows by this detail. It ends, too, at the first two accesses that race, and tells them: what a racy script shows
 /// isn't what runs on one flat memory show. If it comes to its end, no run ends with these words, and none races. It gives up
 /// as `explore` does. The only error is running out of memory.
 pub fn explore_until<P: Progress>(
     alloc: Global,
     script: &Script,
+    detail: Detail,
     words: &[(usize, u32)],
     most: usize,
     progress: &mut P,
 ) -> Result<ExploredUntil, AllocError>
     requires { IsLawful (plan_of script.now) }
-    ensures { IfOk result (IsExploredUntil (plan_of script.now) words.now most) }
+    ensures { IfOk result (IsExploredUntil (plan_of script.now) detail words.now most) }
 {
     let steps = steps_of_script(alloc, script)?;
-    until_by_steps(alloc, script, &steps, words, most, progress)
+    until_by_steps(alloc, script, &steps, detail, words, most, progress)
 }

@@ -53,7 +53,7 @@ serves_explanation picture o script source old new (Err fault) read told = tt
 
 -- what the options ask for was looked for
 pub serves_search : (o : ExploreOptions) (script : Plan) (source old new : Option (List ℕ)) (result : Result Bool StudyFault)
-    → IsScriptRead source script → IfOk result (λ decided. IsSearchAsked o.until.items o.most decided o.json script old new)
+    → IsScriptRead source script → IfOk result (λ decided. IsSearchAsked o.outcomes o.until.items o.most decided o.json script old new)
     → IfOk result (λ decided. SearchWritten o decided source old new)
 serves_search o script source old new (Ok x) read written = record { script = script; read = read; search = written }
 serves_search o script source old new (Err fault) read written = tt

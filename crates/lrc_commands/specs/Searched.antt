@@ -8,18 +8,28 @@ use Rattle.explore.specs.declared.explored.Explored.{Explored}
 use Rattle.explore.specs.declared.showing.ExploredUntil.{ExploredUntil}
 use Rattle.lrc_explore.specs.Showings.{AreWordsShown, ShowingWritten}
 use Rattle.lrc_explore.specs.Texts.{ExploreWritten}
+use Rattle.explore.specs.declared.told.Detail.{Detail}
+use Rattle.explore.specs.declared.told.Detail.TheVariants as detail
 use Rattle.lrc_options.specs.declared.options.ExploreOptions.{ExploreOptions}
+use Rattle.lrc_options.specs.declared.options.OutcomeDetail.{OutcomeDetail}
+use Rattle.lrc_options.specs.declared.options.OutcomeDetail.TheVariants as outcomes
 use Rattle.lrc_program.specs.Served.{IsScriptRead}
+
+-- what outcomes tell, by the options
+abbrev pub search_detail : OutcomeDetail → Detail
+search_detail outcomes.Words = detail.Words
+search_detail outcomes.Loads = detail.Loads
+search_detail outcomes.All = detail.All
 
 -- the text of what was found was written; or JSON, of which no more is said
 abbrev pub IsSearchAnswer : Bool → Option (List ℕ) → Option (List ℕ) → Explored → Type 0
 IsSearchAnswer true old new explored = (json : List ℕ) × Appends old new json
 IsSearchAnswer false old new explored = ExploreWritten old new explored
 
--- the script's schedules were looked at, that many states at most, and what was found was written
-pub record IsSearchWritten (most : ℕ) (decided json : Bool) (script : Plan) (old new : Option (List ℕ)) : Type 0 where
+-- the script's schedules were looked at, that many states at most, and what was found was written, so far as it is told
+pub record IsSearchWritten (outcomes : OutcomeDetail) (most : ℕ) (decided json : Bool) (script : Plan) (old new : Option (List ℕ)) : Type 0 where
   pub explored : Explored
-  pub is : IsExplored script most explored
+  pub is : IsExplored script (search_detail outcomes) most explored
   pub decided_is : is_settled explored ≡ decided
   pub written : IsSearchAnswer json old new explored
 
@@ -30,21 +40,22 @@ IsShowingAnswer false old new explored = ShowingWritten old new explored
 
 -- a run of the script that ends with these words, which it shows, was looked for, in that many states at most, and what was
 -- found was written
-pub record IsShowingAsked (words : List (ℕ × ℕ)) (most : ℕ) (decided json : Bool) (script : Plan) (old new : Option (List ℕ))
+pub record IsShowingAsked (outcomes : OutcomeDetail) (words : List (ℕ × ℕ)) (most : ℕ) (decided json : Bool) (script : Plan) (old new : Option (List ℕ))
     : Type 0 where
   pub explored : ExploredUntil
-  pub is : IsExploredUntil script words most explored
+  pub is : IsExploredUntil script (search_detail outcomes) words most explored
   pub shown : AreWordsShown script.shown words
   pub decided_is : is_showing_settled explored.showing ≡ decided
   pub written : IsShowingAnswer json old new explored
 
 -- such a run, if words are given; else all schedules
-abbrev pub IsSearchAsked : List (ℕ × ℕ) → ℕ → Bool → Bool → Plan → Option (List ℕ) → Option (List ℕ) → Type 0
-IsSearchAsked [] most decided json script old new = IsSearchWritten most decided json script old new
-IsSearchAsked (word ∷ words) most decided json script old new = IsShowingAsked (word ∷ words) most decided json script old new
+abbrev pub IsSearchAsked : OutcomeDetail → List (ℕ × ℕ) → ℕ → Bool → Bool → Plan → Option (List ℕ) → Option (List ℕ) → Type 0
+IsSearchAsked outcomes [] most decided json script old new = IsSearchWritten outcomes most decided json script old new
+IsSearchAsked outcomes (word ∷ words) most decided json script old new =
+    IsShowingAsked outcomes (word ∷ words) most decided json script old new
 
 -- what the options ask for was looked for in the script that the source had
 pub record SearchWritten (o : ExploreOptions) (decided : Bool) (source old new : Option (List ℕ)) : Type 0 where
   pub script : Plan
   pub read : IsScriptRead source script
-  pub search : IsSearchAsked o.until.items o.most decided o.json script old new
+  pub search : IsSearchAsked o.outcomes o.until.items o.most decided o.json script old new

@@ -4,13 +4,13 @@ ghost use Rattle.std.specs.Io.KnownBytes.{Keeps};
 ghost use Rattle.lrc_script.specs.Prelude.{IsLawful, plan_of};
 ghost use Rattle.lrc_program.specs.Prelude.{IsNoScript};
 ghost use Rattle.lrc_commands.specs.Prelude.{IsStatusBeforeAnswer, IsInputsStatus, IsSearchAnswer, IsSearchAsked, IsSearchWritten, SearchWritten};
-ghost use Rattle.lrc_commands.specs.Prelude.{IsShowingAnswer, IsShowingAsked};
+ghost use Rattle.lrc_commands.specs.Prelude.{IsShowingAnswer, IsShowingAsked, search_detail};
 
 use crate::fault::StudyFault;
-use explore::{Explored, ExploredUntil, Progress, explore, explore_until};
+use explore::{Detail, Explored, ExploredUntil, Progress, explore, explore_until};
 use lrc_explore::{render, render_showing, unshown_address};
 use lrc_json::{write_explored, write_showing};
-use lrc_options::options::ExploreOptions;
+use lrc_options::options::{ExploreOptions, OutcomeDetail};
 use lrc_program::program::read_script;
 use lrc_script::script::Script;
 use std::alloc::Global;
@@ -18,6 +18,17 @@ use std::io::{Read, Write};
 
 /// The exit status if the search was given up.
 const UNDECIDED: u8 = 7;
+
+/// What outcomes tell, by the options.
+fn search_detail(outcomes: OutcomeDetail) -> Detail
+    ensures { result ≡ search_detail outcomes }
+{
+    match outcomes {
+        OutcomeDetail::Words => Detail::Words,
+        OutcomeDetail::Loads => Detail::Loads,
+        OutcomeDetail::All => Detail::All,
+    }
+}
 
 /// Writes what was found of all schedules of a script, as text or as JSON.
 fn write_search<W: Write>(
@@ -66,13 +77,14 @@ fn print_search<W: Write, P: Progress>(
     progress: &mut P,
 ) -> Result<bool, StudyFault>
     requires { IsLawful (plan_of script.now) }
-    ensures written { IfOk result (λ decided. IsSearchWritten options.now.most decided options.now.json
+    ensures written { IfOk result (λ decided. IsSearchWritten options.now.outcomes options.now.most decided options.now.json
         (plan_of script.now) (W.contents out.old) (W.contents out.new)) }
     ensures runs { IfErr result (λ fault. IsInputsStatus fault → ⊥) }
     ensures early { IfErr result
         (λ fault. IsStatusBeforeAnswer fault → Keeps (W.contents out.old) (W.contents out.new)) }
 {
-    let explored = explore(alloc, script, options.most as usize, progress)?;
+    let detail = search_detail(options.outcomes);
+    let explored = explore(alloc, script, detail, options.most as usize, progress)?;
     write_search(alloc, options.json, script, &explored, out)?;
     Ok(explored.is_settled())
 }
@@ -87,7 +99,7 @@ fn print_showing<W: Write, P: Progress>(
     progress: &mut P,
 ) -> Result<bool, StudyFault>
     requires { IsLawful (plan_of script.now) }
-    ensures written { IfOk result (λ decided. IsShowingAsked options.now.until.items options.now.most decided options.now.json
+    ensures written { IfOk result (λ decided. IsShowingAsked options.now.outcomes options.now.until.items options.now.most decided options.now.json
         (plan_of script.now) (W.contents out.old) (W.contents out.new)) }
     ensures runs { IfErr result (λ fault. IsInputsStatus fault → ⊥) }
     ensures early { IfErr result
@@ -99,6 +111,7 @@ fn print_showing<W: Write, P: Progress>(
     let explored = explore_until(
         alloc,
         script,
+        search_detail(options.outcomes),
         &options.until,
         options.most as usize,
         progress,
@@ -116,7 +129,7 @@ fn print_asked<W: Write, P: Progress>(
     progress: &mut P,
 ) -> Result<bool, StudyFault>
     requires { IsLawful (plan_of script.now) }
-    ensures written { IfOk result (λ decided. IsSearchAsked options.now.until.items options.now.most decided options.now.json
+    ensures written { IfOk result (λ decided. IsSearchAsked options.now.outcomes options.now.until.items options.now.most decided options.now.json
         (plan_of script.now) (W.contents out.old) (W.contents out.new)) }
     ensures runs { IfErr result (λ fault. IsInputsStatus fault → ⊥) }
     ensures early { IfErr result

@@ -17,10 +17,12 @@ use Rattle.clap.specs.Values.{kind_of}
 use Rattle.clap.specs.declared.builder.value_parser.ValueParser.{ValueParser}
 use Rattle.clap.specs.declared.error.kind.ErrorKind.TheVariants.{OutOfMemory}
 use Rattle.lrc_options.specs.declared.options.Asked.{Asked}
+use Rattle.lrc_options.specs.declared.options.OutcomeDetail.{OutcomeDetail}
+use Rattle.lrc_options.specs.declared.options.OutcomeDetail.TheVariants.{Words}
 use Rattle.lrc_options.specs.declared.options.TraceModel.{TraceModel}
 use Rattle.lrc_options.specs.declared.options.TraceModel.TheVariants.{RaceFree}
 use Rattle.lrc_options.specs.Clashes.{do_options_clash, option_source}
-use Rattle.lrc_options.specs.OptionRules.{option_model_given, option_named_model, IsCommand, IsOptionNumberRead, IsNumberOption, IsSeedOption, IsFlagOption, IsRefusedCommandLine, IsOptionUnanswered, OptionTakesNames, AreAskedOptionsOf, AreGivenOptions, flagged_rules, lrc_rules, option_number, most_seed_option}
+use Rattle.lrc_options.specs.OptionRules.{option_detail_given, option_model_given, option_named_detail, option_named_model, IsCommand, IsOptionNumberRead, IsNumberOption, IsSeedOption, IsFlagOption, IsRefusedCommandLine, IsOptionUnanswered, AreOptionParsers, OptionParsers, AreAskedOptionsOf, AreGivenOptions, flagged_rules, lrc_rules, option_number, most_seed_option}
 
 -- a text that is a number is read as that
 option_number_reads : {E : Type 0} (t : Text) (G : List ℕ → Result ℕ E → Type 0) (r : Option ℕ) → ReadsOne G t r
@@ -125,6 +127,15 @@ option_model_read f name m is same = same
 pub no_option_model : (f : Found) → None ≡ first_value f (codes "model") → RaceFree ≡ option_model_given (rows_of f)
 no_option_model f is = ap (λ o. option_map_or option_named_model o RaceFree) (is ∙ first_value-rows f (codes "model"))
 
+-- what is told by a name that is given, and by none
+pub option_detail_read : (f : Found) (name : Text) (d : OutcomeDetail) → Some name ≡ first_value f (codes "outcomes")
+    → d ≡ option_named_detail name → d ≡ option_detail_given (rows_of f)
+option_detail_read f name d is same = same
+    ∙ ap (λ o. option_map_or option_named_detail o Words) (is ∙ first_value-rows f (codes "outcomes"))
+
+pub no_option_detail : (f : Found) → None ≡ first_value f (codes "outcomes") → Words ≡ option_detail_given (rows_of f)
+no_option_detail f is = ap (λ o. option_map_or option_named_detail o Words) (is ∙ first_value-rows f (codes "outcomes"))
+
 -- what holds of a value, where there is one, makes what follows from it hold
 pub option_if_ok_map : {T E : Type 0} {P Q : T → Type 0} (r : Result T E) → ((x : T) → P x → Q x) → IfOk r P → IfOk r Q
 option_if_ok_map (Ok x) follows holds = follows x holds
@@ -187,47 +198,38 @@ pub option_fault_same_kind : (kinds : Kinds) (a b : Error) → kind_of b ≡ kin
 option_fault_same_kind kinds a b is has = subst (λ k. (k ≡ OutOfMemory) ⊎ IsAmong k kinds) (sym is) has
 
 -- running out of memory refuses any words
-pub options_out_of_memory : (locks models : ValueParser) (words : List Text) (e : Error)
-    → OptionTakesNames (codes "array" ∷ codes "ticket" ∷ []) locks
-    → OptionTakesNames (codes "race-free" ∷ codes "happens-before" ∷ codes "lazy-release" ∷ codes "sequential" ∷ []) models
+pub options_out_of_memory : (parsers : OptionParsers) (words : List Text) (e : Error)
+    → AreOptionParsers parsers
     → kind_of e ≡ OutOfMemory → IsRefusedCommandLine words e
-options_out_of_memory locks models words e are models_are is = record { locks = locks; locks_are = are; models = models; models_are = models_are; kind = inl (inl is) }
+options_out_of_memory parsers words e are is = record { parsers = parsers; parsers_are = are; kind = inl (inl is) }
 
 -- and so do options that exclude each other, and a text that can't be read
-pub options_refused_by : (locks models : ValueParser) (words : List Text) (name : Text) (rows : List Row) (e : Error)
-    → OptionTakesNames (codes "array" ∷ codes "ticket" ∷ []) locks
-    → OptionTakesNames (codes "race-free" ∷ codes "happens-before" ∷ codes "lazy-release" ∷ codes "sequential" ∷ []) models
-    → subcommand_of (lrc_rules locks models) words ≡ Some (name, rows)
+pub options_refused_by : (parsers : OptionParsers) (words : List Text) (name : Text) (rows : List Row) (e : Error)
+    → AreOptionParsers parsers
+    → subcommand_of (lrc_rules parsers) words ≡ Some (name, rows)
     → IsOptionUnanswered name rows e → IsRefusedCommandLine words e
-options_refused_by locks models words name rows e are models_are command (inl clash) = record {
-  locks = locks;
-  locks_are = are;
-  models = models;
-  models_are = models_are;
+options_refused_by parsers words name rows e are command (inl clash) = record {
+  parsers = parsers;
+  parsers_are = are;
   kind = inr (inl (record { name = name; rows = rows; command = command; clash = clash.0; kind = clash.1 }));
 }
-options_refused_by locks models words name rows e are models_are command (inr (inl memory)) =
-    options_out_of_memory locks models words e are models_are memory
-options_refused_by locks models words name rows e are models_are command (inr (inr bad)) = record {
-  locks = locks;
-  locks_are = are;
-  models = models;
-  models_are = models_are;
+options_refused_by parsers words name rows e are command (inr (inl memory)) =
+    options_out_of_memory parsers words e are memory
+options_refused_by parsers words name rows e are command (inr (inr bad)) = record {
+  parsers = parsers;
+  parsers_are = are;
   kind = inr (inr (record { name = name; rows = rows; command = command; unread = bad.0; kind = bad.1 }));
 }
 
 -- what is answered is what the words ask for
-pub options_given_by : (locks models : ValueParser) (words : List Text) (name : Text) (rows : List Row) (result : Result Asked Error)
-    → OptionTakesNames (codes "array" ∷ codes "ticket" ∷ []) locks
-    → OptionTakesNames (codes "race-free" ∷ codes "happens-before" ∷ codes "lazy-release" ∷ codes "sequential" ∷ []) models
-    → fault_of (lrc_rules locks models) words ≡ []
-    → subcommand_of (lrc_rules locks models) words ≡ Some (name, rows) → OnOk result (do_options_clash name rows ≡ false)
+pub options_given_by : (parsers : OptionParsers) (words : List Text) (name : Text) (rows : List Row) (result : Result Asked Error)
+    → AreOptionParsers parsers
+    → fault_of (lrc_rules parsers) words ≡ []
+    → subcommand_of (lrc_rules parsers) words ≡ Some (name, rows) → OnOk result (do_options_clash name rows ≡ false)
     → IfOk result (AreAskedOptionsOf name rows) → IfOk result (AreGivenOptions words)
-options_given_by locks models words name rows (Ok asked) are models_are none command apart told = record {
-  locks = locks;
-  locks_are = are;
-  models = models;
-  models_are = models_are;
+options_given_by parsers words name rows (Ok asked) are none command apart told = record {
+  parsers = parsers;
+  parsers_are = are;
   faultless = none;
   name = name;
   rows = rows;
@@ -235,7 +237,7 @@ options_given_by locks models words name rows (Ok asked) are models_are none com
   apart = apart;
   asked = told;
 }
-options_given_by locks models words name rows (Err e) are models_are none command apart told = tt
+options_given_by parsers words name rows (Err e) are none command apart told = tt
 
 -- `value_source`, by the rows
 pub option_source_read : (f : Found) (id : Text) → option_and_then (λ (a : MatchedArg). a.source) (matched_of f id) ≡ option_source id (rows_of f)

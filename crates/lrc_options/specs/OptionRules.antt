@@ -26,6 +26,8 @@ use Rattle.lrc_options.specs.declared.options.ExploreOptions.{ExploreOptions}
 use Rattle.lrc_options.specs.declared.options.Options.{Options}
 use Rattle.lrc_options.specs.declared.options.SampleOptions.{SampleOptions}
 use Rattle.lrc_options.specs.declared.options.TellOptions.{TellOptions}
+use Rattle.lrc_options.specs.declared.options.OutcomeDetail.{OutcomeDetail}
+use Rattle.lrc_options.specs.declared.options.OutcomeDetail.TheVariants as outcome_detail
 use Rattle.lrc_options.specs.declared.options.TraceModel.{TraceModel}
 use Rattle.lrc_options.specs.declared.options.TraceModel.TheVariants.{HappensBefore, LazyRelease, RaceFree, Sequential}
 use Rattle.lrc_options.specs.declared.options.TraceOptions.{TraceOptions}
@@ -101,6 +103,9 @@ processors_rule = option_rule (codes "processors")
 abbrev pub until_rule : Rule
 until_rule = option_rule (codes "until")
 
+abbrev pub outcomes_rule : ValueParser → Rule
+outcomes_rule details = record (option_rule (codes "outcomes")) { parser = Some details; defaults = codes "words" ∷ [] }
+
 abbrev pub json_rule : Rule
 json_rule = flag_rule (codes "json")
 
@@ -152,8 +157,9 @@ abbrev pub sample_rules : ValueParser → App
 sample_rules locks = flagged_rules (codes "sample") seeds_rule locks json_rule
 
 -- `lrc explore`
-abbrev pub explore_rules : App
-explore_rules = with_rule (with_rule (with_rule (file_rules (codes "explore")) most_rule) until_rule) json_rule
+abbrev pub explore_rules : ValueParser → App
+explore_rules details =
+    with_rule (with_rule (with_rule (with_rule (file_rules (codes "explore")) most_rule) until_rule) (outcomes_rule details)) json_rule
 
 -- `lrc check`
 abbrev pub race_is_error_rule : Rule
@@ -170,16 +176,32 @@ check_rules models = with_rule (with_rule (with_rule (judged_rules (file_rules (
 abbrev pub bare_rules : App
 bare_rules = on_top (λ s. record s { subcommand_required = true; has_version = true }) (new_app (codes "lrc"))
 
+-- what takes the names of locks, of models, and of what outcomes tell
+pub record OptionParsers : Type 0 where
+  pub locks : ValueParser
+  pub models : ValueParser
+  pub details : ValueParser
+
+abbrev pub option_parsers : ValueParser → ValueParser → ValueParser → OptionParsers
+option_parsers locks models details = record { locks = locks; models = models; details = details }
+
 -- `lrc` with all its commands
-abbrev pub lrc_rules : ValueParser → ValueParser → App
-lrc_rules locks models = with_subcommand (with_subcommand (with_subcommand (with_subcommand (with_subcommand (with_subcommand bare_rules
-    (run_rules locks).top) (step_rules locks).top) (explain_rules locks models).top) (sample_rules locks).top) explore_rules.top)
-    (check_rules models).top
+abbrev pub lrc_rules : OptionParsers → App
+lrc_rules by = with_subcommand (with_subcommand (with_subcommand (with_subcommand (with_subcommand (with_subcommand bare_rules
+    (run_rules by.locks).top) (step_rules by.locks).top) (explain_rules by.locks by.models).top) (sample_rules by.locks).top)
+    (explore_rules by.details).top) (check_rules by.models).top
 
 -- the parser takes these names and no others
 abbrev pub OptionTakesNames : List Text → ValueParser → Type 0
 OptionTakesNames names (vp.Names given) = map (λ s. s.now) given.now ≡ names
 OptionTakesNames names _ = ⊥
+
+-- these are the names that may be given
+pub record AreOptionParsers (by : OptionParsers) : Type 0 where
+  pub locks : OptionTakesNames (codes "array" ∷ codes "ticket" ∷ []) by.locks
+  pub models :
+      OptionTakesNames (codes "race-free" ∷ codes "happens-before" ∷ codes "lazy-release" ∷ codes "sequential" ∷ []) by.models
+  pub details : OptionTakesNames (codes "words" ∷ codes "loads" ∷ codes "all" ∷ []) by.details
 
 -- the number that a text gives
 abbrev pub option_number : Text → ℕ
@@ -234,6 +256,15 @@ option_named_model name = cond (bytes_eq name (codes "happens-before")) HappensB
 abbrev pub option_model_given : List Row → TraceModel
 option_model_given rows = option_map_or option_named_model (first_of (codes "model") rows) RaceFree
 
+-- what is told by this name
+abbrev pub option_named_detail : Text → OutcomeDetail
+option_named_detail name = cond (bytes_eq name (codes "loads")) outcome_detail.Loads
+    (cond (bytes_eq name (codes "all")) outcome_detail.All outcome_detail.Words)
+
+-- how much of a run is told, or the default
+abbrev pub option_detail_given : List Row → OutcomeDetail
+option_detail_given rows = option_map_or option_named_detail (first_of (codes "outcomes") rows) outcome_detail.Words
+
 -- the options that the rows of `check` give
 pub record AreTraceOptionsOf (rows : List Row) (o : TraceOptions) : Type 0 where
   pub file : option_map (λ f. string_bytes f) o.file ≡ first_of (codes "FILE") rows
@@ -264,6 +295,7 @@ pub record AreExploreOptionsOf (rows : List Row) (o : ExploreOptions) : Type 0 w
   pub file : option_map (λ f. string_bytes f) o.file ≡ first_of (codes "FILE") rows
   pub most : IsNumberOption 0 most_seed_option default_most_option (one_of (codes "most") rows) o.most
   pub until : AreFinalWordsGiven (first_of (codes "until") rows) o.until.items
+  pub outcomes : o.outcomes ≡ option_detail_given rows
   pub json : IsFlagOption (one_of (codes "json") rows) o.json
 
 -- the events that are given, or all
@@ -320,23 +352,20 @@ AreAskedOptionsOf name rows (Script o) = (bytes_eq name (codes "explain") ≡ fa
 
 -- what the words ask for, by the matches of a simple command, which find no fault in them; no options exclude each other
 pub record AreGivenOptions (words : List Text) (o : Asked) : Type 0 where
-  pub locks : ValueParser
-  pub locks_are : OptionTakesNames (codes "array" ∷ codes "ticket" ∷ []) locks
-  pub models : ValueParser
-  pub models_are : OptionTakesNames
-      (codes "race-free" ∷ codes "happens-before" ∷ codes "lazy-release" ∷ codes "sequential" ∷ []) models
-  pub faultless : fault_of (lrc_rules locks models) words ≡ []
+  pub parsers : OptionParsers
+  pub parsers_are : AreOptionParsers parsers
+  pub faultless : fault_of (lrc_rules parsers) words ≡ []
   pub name : Text
   pub rows : List Row
-  pub command : subcommand_of (lrc_rules locks models) words ≡ Some (name, rows)
+  pub command : subcommand_of (lrc_rules parsers) words ≡ Some (name, rows)
   pub apart : do_options_clash name rows ≡ false
   pub asked : AreAskedOptionsOf name rows o
 
 -- the words give options that exclude each other, and the fault says so
-pub record IsOptionConflict (locks models : ValueParser) (words : List Text) (e : Error) : Type 0 where
+pub record IsOptionConflict (parsers : OptionParsers) (words : List Text) (e : Error) : Type 0 where
   pub name : Text
   pub rows : List Row
-  pub command : subcommand_of (lrc_rules locks models) words ≡ Some (name, rows)
+  pub command : subcommand_of (lrc_rules parsers) words ≡ Some (name, rows)
   pub clash : do_options_clash name rows ≡ true
   pub kind : kind_of e ≡ ArgumentConflict
 
@@ -347,10 +376,10 @@ IsOptionUnread rows = ((x : EventRange) → ¬ AreEventsGiven (first_of (codes "
     ⊎ ((words : List (ℕ × ℕ)) → ¬ AreFinalWordsGiven (first_of (codes "until") rows) words))
 
 -- the words give such a text, and the fault says so
-pub record IsOptionMisread (locks models : ValueParser) (words : List Text) (e : Error) : Type 0 where
+pub record IsOptionMisread (parsers : OptionParsers) (words : List Text) (e : Error) : Type 0 where
   pub name : Text
   pub rows : List Row
-  pub command : subcommand_of (lrc_rules locks models) words ≡ Some (name, rows)
+  pub command : subcommand_of (lrc_rules parsers) words ≡ Some (name, rows)
   pub unread : IsOptionUnread rows
   pub kind : kind_of e ≡ ValueValidation
 
@@ -365,10 +394,7 @@ IsOptionUnanswered name rows e = ((do_options_clash name rows ≡ true) × (kind
 -- memory ran out, or the matches of that command find a fault of this kind in the words, or options that exclude each other, or a
 -- text that can't be read
 pub record IsRefusedCommandLine (words : List Text) (e : Error) : Type 0 where
-  pub locks : ValueParser
-  pub locks_are : OptionTakesNames (codes "array" ∷ codes "ticket" ∷ []) locks
-  pub models : ValueParser
-  pub models_are : OptionTakesNames
-      (codes "race-free" ∷ codes "happens-before" ∷ codes "lazy-release" ∷ codes "sequential" ∷ []) models
-  pub kind : HasKind (fault_of (lrc_rules locks models) words) e
-      ⊎ (IsOptionConflict locks models words e ⊎ IsOptionMisread locks models words e)
+  pub parsers : OptionParsers
+  pub parsers_are : AreOptionParsers parsers
+  pub kind : HasKind (fault_of (lrc_rules parsers) words) e
+      ⊎ (IsOptionConflict parsers words e ⊎ IsOptionMisread parsers words e)

@@ -3,15 +3,15 @@ ghost use Rattle.std.specs.Prelude.{◌≡◌, IfOk, false, true};
 ghost use Rattle.clap.specs.Words.{App, app_of, rule_of, with_rule, with_subcommand};
 ghost use Rattle.clap.specs.declared.builder.command.Command.TheViews.{out-Command};
 ghost use Rattle.clap.specs.declared.builder.value_parser.ValueParser.TheVariants as vp;
-ghost use Rattle.lrc_options.specs.OptionRules.{flag_rule, lock_rule, model_rule, most_rule, number_rule, option_rule, schedule_rule, seed_rule, seeds_rule};
-ghost use Rattle.lrc_options.specs.OptionRules.{IsCommand, bare_rules, check_rules, explain_rules, explore_rules, file_rules};
+ghost use Rattle.lrc_options.specs.OptionRules.{flag_rule, lock_rule, model_rule, most_rule, number_rule, option_parsers, option_rule, schedule_rule, seed_rule, seeds_rule};
+ghost use Rattle.lrc_options.specs.OptionRules.{IsCommand, bare_rules, check_rules, explain_rules, explore_rules, file_rules, outcomes_rule};
 ghost use Rattle.lrc_options.specs.OptionRules.{flagged_rules, lrc_rules, run_rules, sample_rules, script_rules, step_rules};
 ghost use Rattle.lrc_options.specs.OptionRules.{judged_rules, told_rules, tries_rule};
 
 use crate::help::{
     ABOUT, AFTER, AFTER_RUN_AND_STEP, EVENTS, EXPLAIN, EXPLORE, HTML, JOURNAL, JSON, LAX, LOCKSETS,
-    MODEL, MOST, PROCESSORS, RACE_IS_ERROR, SAMPLE, SCHEDULE, SCRIPT, SCRIPT_FILE, SEED, SEEDS,
-    STATE, SVG, TRACE, TRACE_FILE, TRACED, TRIES, UNTIL, VERSION,
+    MODEL, MOST, OUTCOMES, PROCESSORS, RACE_IS_ERROR, SAMPLE, SCHEDULE, SCRIPT, SCRIPT_FILE, SEED,
+    SEEDS, STATE, SVG, TRACE, TRACE_FILE, TRACED, TRIES, UNTIL, VERSION,
 };
 use crate::options::Commands;
 use clap::builder::ValueParser;
@@ -29,6 +29,9 @@ pub(crate) static LOCKS: [&str; 2] = ["array", "ticket"];
 
 /// The models by which a trace may be judged, the one that is taken where none is given first.
 pub(crate) static MODELS: [&str; 4] = ["race-free", "happens-before", "lazy-release", "sequential"];
+
+/// What an outcome may tell, what it tells where nothing is given first.
+pub(crate) static DETAILS: [&str; 3] = ["words", "loads", "all"];
 
 /// The option of this name whose value is a number in this range.
 fn number_arg<'a>(alloc: Global, name: &'a str, least: u64, most: u64, help: &'a str) -> Arg<'a>
@@ -117,6 +120,19 @@ fn model_arg<'a>(alloc: Global, models: &'a [&'a str]) -> Arg<'a>
         .value_parser(models)
         .default_value("race-free")
         .help(MODEL)
+}
+
+/// `--outcomes WHAT`.
+fn outcomes_arg<'a>(alloc: Global, details: &'a [&'a str]) -> Arg<'a>
+    ensures rule { rule_of result ≡ outcomes_rule (vp.Names details.entry) }
+    ensures own { result.global ≡ false }
+{
+    Arg::new(alloc, "outcomes")
+        .long("outcomes")
+        .value_name("WHAT")
+        .value_parser(details)
+        .default_value("words")
+        .help(OUTCOMES)
 }
 
 /// The flag of this name.
@@ -276,14 +292,15 @@ fn sample_command<'a>(alloc: Global, locks: &'a [&'a str]) -> Result<Command<'a>
 }
 
 /// `lrc explore`.
-fn explore_command<'a>(alloc: Global) -> Result<Command<'a>, AllocError>
-    ensures { IfOk result (IsCommand explore_rules) }
+fn explore_command<'a>(alloc: Global, details: &'a [&'a str]) -> Result<Command<'a>, AllocError>
+    ensures { IfOk result (IsCommand (explore_rules (vp.Names details.entry))) }
 {
     let about =
         "Looks at all schedules of a script: whether it can race or hang, and what it can show";
     let command = file_command(alloc, "explore", about, EXPLORE, SCRIPT_FILE);
     let command = with_option(command, most_arg(alloc));
     let command = with_option(command, text_arg(alloc, "until", "A=V,..", UNTIL));
+    let command = with_option(command, outcomes_arg(alloc, details));
     with_option(command, flag_arg(alloc, "json", JSON))
 }
 
@@ -326,9 +343,10 @@ pub(crate) fn lrc_command<'a>(
     alloc: Global,
     locks: &'a [&'a str],
     models: &'a [&'a str],
+    details: &'a [&'a str],
     commands: Commands,
 ) -> Result<Command<'a>, AllocError>
-    ensures command { IfOk result (IsCommand (lrc_rules (vp.Names locks.entry) (vp.Names models.entry))) }
+    ensures command { IfOk result (IsCommand (lrc_rules (option_parsers (vp.Names locks.entry) (vp.Names models.entry) (vp.Names details.entry)))) }
     ensures wants { IfOk result (λ c. (out-Command c).subcommand_required ≡ true) }
 {
     let (shown, after) = match commands {
@@ -337,7 +355,7 @@ pub(crate) fn lrc_command<'a>(
     };
     let explain = shown_if(shown, explain_command(alloc, locks, models));
     let sample = shown_if(shown, sample_command(alloc, locks));
-    let explore = shown_if(shown, explore_command(alloc));
+    let explore = shown_if(shown, explore_command(alloc, details));
     let check = shown_if(shown, check_command(alloc, models));
     let lrc = Ok(bare_command(alloc, after));
     let lrc = with_command(lrc, run_command(alloc, locks));

@@ -7,16 +7,16 @@ ghost use Rattle.lrc_options.specs.OptionRules.{IsOptionNumberRead, IsNumberOpti
 ghost use Rattle.lrc_options.specs.declared.ranges.EventRange.{EventRange};
 ghost use Rattle.lrc_options.specs.OptionRules.{AreEventsGiven, AreExplainOptionsOf, AreExploreOptionsOf, AreFinalWordsGiven, AreProcessorsGiven, AreSampleOptionsOf};
 ghost use Rattle.lrc_options.specs.OptionRules.{AreShowOptionsGiven, AreTellOptionsOf, IsExplanationAsked, IsShowingUnread};
-ghost use Rattle.lrc_options.specs.OptionRules.{AreTraceOptionsOf, default_most_option, option_model_given, option_named_model, ticket_option};
+ghost use Rattle.lrc_options.specs.OptionRules.{AreTraceOptionsOf, default_most_option, option_detail_given, option_model_given, option_named_detail, option_named_model, ticket_option};
 ghost use Rattle.lrc_options.specs.Clashes.{do_options_clash};
 ghost use Rattle.lrc_options.specs.OptionRules.{AreGivenOptions, IsRefusedCommandLine, IsOptionUnanswered, most_tries_option, most_seed_option, default_tries_option, default_seeds_option};
 
 use crate::clashes::{clash_of, is_in_words};
-use crate::command::{LOCKS, MODELS, MOST_SEED, MOST_TRIES, lrc_command};
+use crate::command::{DETAILS, LOCKS, MODELS, MOST_SEED, MOST_TRIES, lrc_command};
 use crate::final_words::final_words;
 use crate::options::{
     Asked, Commands, DEFAULT_MOST, DEFAULT_SEEDS, DEFAULT_TRIES, ExplainOptions, ExploreOptions,
-    Options, SampleOptions, ShowOptions, TellOptions, TraceModel, TraceOptions,
+    Options, OutcomeDetail, SampleOptions, ShowOptions, TellOptions, TraceModel, TraceOptions,
 };
 use crate::ranges::{ALL_EVENTS, EventRange, event_range, processors};
 use crate::tips::{excluded, not_read, with_tip};
@@ -213,6 +213,29 @@ fn model_of(matches: &ArgMatches<'_>) -> TraceModel
     }
 }
 
+/// What is told by this name; the words alone, if nothing is.
+fn detail_named(name: &str) -> OutcomeDetail
+    ensures { result ≡ option_named_detail name.now }
+{
+    if name == "loads" {
+        OutcomeDetail::Loads
+    } else if name == "all" {
+        OutcomeDetail::All
+    } else {
+        OutcomeDetail::Words
+    }
+}
+
+/// How much of a run is to be told.
+fn detail_of(matches: &ArgMatches<'_>) -> OutcomeDetail
+    ensures { result ≡ option_detail_given (rows_of (found_of matches.now)) }
+{
+    match matches.get_str("outcomes") {
+        Some(name) => detail_named(name),
+        None => OutcomeDetail::Words,
+    }
+}
+
 /// The text that is given for this.
 fn text_of(alloc: Global, matches: &ArgMatches<'_>, id: &str) -> Result<Option<String>, AllocError>
     ensures { IfOk result (λ f. option_map (λ s. string_bytes s) f
@@ -306,6 +329,7 @@ fn explore_options_of(
         file,
         most: most_of(matches),
         until,
+        outcomes: detail_of(matches),
         json: wants_json(matches),
     })
 }
@@ -411,7 +435,7 @@ fn answer_of(alloc: Global, name: &str, matches: &ArgMatches<'_>) -> Result<Aske
 /// `lrc step [FILE] [--seed N | --schedule S] [--lock KIND] [--journal]`,
 /// `lrc explain [FILE] [--seed N | --schedule S] [--lock KIND] [--svg | --html] [--state] [--events A..B] [--processors P,..]`,
 /// `lrc explain [FILE] --trace [--model NAME] [--lax]` with the same to say what is shown,
-/// `lrc sample [FILE] [--seeds N] [--lock KIND] [--json]`, `lrc explore [FILE] [--most N] [--until A=V,..] [--json]` or
+/// `lrc sample [FILE] [--seeds N] [--lock KIND] [--json]`, `lrc explore [FILE] [--most N] [--until A=V,..] [--outcomes WHAT] [--json]` or
 /// `lrc check [FILE] [--model NAME] [--lax] [--race-is-error] [--locksets] [--json]`.
 /// Help names the commands that the program has; the words of the others are read all the same.
 ///
@@ -424,9 +448,15 @@ pub fn options<'a>(alloc: Global, words: &'a [String], commands: Commands) -> Re
     ensures given { IfOk result (AreGivenOptions (map (λ w. string_bytes w) words.entry.now)) }
     ensures refused { IfErr result (IsRefusedCommandLine (map (λ w. string_bytes w) words.entry.now)) }
 {
-    match lrc_command(alloc, LOCKS.as_slice(), MODELS.as_slice(), commands)?.try_get_matches_from(
-        words,
-    ) {
+    match lrc_command(
+        alloc,
+        LOCKS.as_slice(),
+        MODELS.as_slice(),
+        DETAILS.as_slice(),
+        commands,
+    )?
+    .try_get_matches_from(words)
+    {
         Ok(matches) => match matches.subcommand() {
             Some((name, given)) => answer_of(alloc, name, given),
             None => unreachable!("a command is required"),

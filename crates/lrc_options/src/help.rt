@@ -97,7 +97,8 @@ none of them races, each run of the script is one of them. What is printed:
                            or `verdict undecided`: the search was given up, and none that it met races
     outcomes N             whole runs have N results, a line each; with `so far`, there may be others
       words A V .. replies pP V ..
-                             address A has V in the end, and the loads of processor P answered V .., in order
+                             address A has V in the end; with --outcomes loads, the instructions `load` of processor
+                             P answered V .., in order; with --outcomes all, what its `add` loaded is among them
     hangs never            or `hangs`, then the events of a schedule that can't go on, and who waits for what;
                            or `hangs undecided`: the search was given up, and none that it met hangs
   verdict racy             then the events of a schedule that races, its two accesses behind `race`, and a
@@ -157,6 +158,9 @@ pub(crate) const MOST: &str = "gives up after N states; N is up to 4294967295";
 
 pub(crate) const UNTIL: &str =
     "looks for a run that ends with word V at address A, and so on; the script has to show them";
+
+pub(crate) const OUTCOMES: &str =
+    "what a result tells: the words alone, what each `load` answered, too, or what each `add` loaded, too";
 
 /// What the flags do.
 pub(crate) const JOURNAL: &str = "prints a line for each event too";

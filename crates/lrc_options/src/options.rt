@@ -94,8 +94,21 @@ pub struct ExploreOptions {
     pub most: u32,
     /// The words that a run is to end with, each with its address before it; none if all runs are to be looked at.
     pub until: Vec<(usize, u32)>,
+    /// How much of a run its outcome tells.
+    pub outcomes: OutcomeDetail,
     /// Whether the answer is JSON, an object a line, and not text.
     pub json: bool,
+}
+
+/// How much of a run its outcome tells.
+#[derive(Clone, Copy, Debug, PartialEq, Eq)]
+pub enum OutcomeDetail {
+    /// The shown words at the end.
+    Words,
+    /// Those, and what instructions `load` answered.
+    Loads,
+    /// Those, and what instructions `add` loaded, too.
+    All,
 }
 
 /// How a trace is to be judged.

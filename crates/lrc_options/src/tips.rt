@@ -7,7 +7,7 @@ use clap::{ArgMatches, Command, Error};
 use std::alloc::{AllocError, Global};
 
 /// Each command with each option that it has. Of the commands that have an option the first one is named.
-const OPTIONS: [(&str, &str); 29] = [
+const OPTIONS: [(&str, &str); 30] = [
     ("run", "--tries"),
     ("run", "--lock"),
     ("run", "--journal"),
@@ -29,6 +29,7 @@ const OPTIONS: [(&str, &str); 29] = [
     ("sample", "--json"),
     ("explore", "--most"),
     ("explore", "--until"),
+    ("explore", "--outcomes"),
     ("explore", "--json"),
     ("check", "--model"),
     ("check", "--lax"),

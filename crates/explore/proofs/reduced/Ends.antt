@@ -10,7 +10,8 @@ use Rattle.lrc_script.specs.Plan.{Plan}
 use Rattle.conformance.specs.Follows.{calls_of, Follows, FollowsSection}
 use Rattle.explore.specs.declared.prefixes.script_call.ScriptCall.{ScriptCall}
 use Rattle.explore.specs.Machines.{AreLawfulMachineSteps}
-use Rattle.explore.specs.Outcomes.{AreOutcomeReplies, outcome_replies_in}
+use Rattle.explore.specs.declared.told.OutcomeTelling.{OutcomeTelling}
+use Rattle.explore.specs.Told.{AreToldReplies, told_replies, told_steps}
 use Rattle.explore.specs.Prefixes.Beginnings.{IsFlatBeginning, IsHangingBeginning}
 use Rattle.explore.specs.Until.{HasFinalWords, IsRunWithWords}
 use Rattle.explore.specs.Prefixes.Calling.{calling_section_steps, calling_shown_by}
@@ -37,11 +38,11 @@ reduced_ends_follows_same : (s : Plan) (g h : List Event) → IsSame s g h → F
 reduced_ends_follows_same s g h same follows p section at =
     subst (FollowsSection section (calling_shown_by s p)) (same_calls s g h p same) (follows p section at)
 
-reduced_ends_replies_same : (s : Plan) (g h : List Event) (replies : List (List ℕ)) → IsSame s g h → AreOutcomeReplies s g replies
-    → AreOutcomeReplies s h replies
-reduced_ends_replies_same s g h replies same are = record {
+reduced_ends_replies_same : (s : Plan) (t : OutcomeTelling) (g h : List Event) (replies : List (List ℕ)) → IsSame s g h
+    → AreToldReplies s t g replies → AreToldReplies s t h replies
+reduced_ends_replies_same s t g h replies same are = record {
   long = are.long;
-  each = λ p lt. are.each p lt ∙ ap (λ ks. Some (outcome_replies_in ks)) (same_calls s g h p same);
+  each = λ p lt. are.each p lt ∙ ap (λ ks. Some (told_replies t p (told_steps s p) 0 ks)) (same_calls s g h p same);
 }
 
 -- a hang
@@ -55,17 +56,17 @@ reduced_ends_hang_lasts s rows = record {
   stays = λ g p k calm next hang. absurd (hang.stuck p k next);
 }
 
--- a whole run that shows this
-pub record EndsShowing (s : Plan) (replies : List (List ℕ)) (g : List Event) : Type 0 where
+-- a whole run that shows this, so far as it is told
+pub record EndsShowing (s : Plan) (t : OutcomeTelling) (replies : List (List ℕ)) (g : List Event) : Type 0 where
   pub follows : Follows s g
-  pub are : AreOutcomeReplies s g replies
+  pub are : AreToldReplies s t g replies
 
-pub reduced_ends_shows_last : (s : Plan) (rows : List (Vec ScriptCall)) (replies : List (List ℕ)) → length s.sections ≡ s.processors
-    → IsReachingLasting s rows (EndsShowing s replies)
-reduced_ends_shows_last s rows replies long = record {
+pub reduced_ends_shows_last : (s : Plan) (t : OutcomeTelling) (rows : List (Vec ScriptCall)) (replies : List (List ℕ))
+    → length s.sections ≡ s.processors → IsReachingLasting s rows (EndsShowing s t replies)
+reduced_ends_shows_last s t rows replies long = record {
   shared = λ g h same begins shows. record {
     follows = reduced_ends_follows_same s g h same shows.follows;
-    are = reduced_ends_replies_same s g h replies same shows.are;
+    are = reduced_ends_replies_same s t g h replies same shows.are;
   };
   stays = λ g p k calm next shows. absurd (follows_ends s g p k long shows.follows next);
 }

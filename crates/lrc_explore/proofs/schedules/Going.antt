@@ -16,6 +16,7 @@ use Rattle.conformance.proofs.WithoutFetches.WellFormed.{follow_with_fetches}
 use Rattle.explore.specs.Prefixes.Beginnings.{IsFlatBeginning, IsFlatRaceFree, IsHangingBeginning}
 use Rattle.explore.specs.Prefixes.Calling.{calling_shown_by}
 use Rattle.explore.specs.declared.explored.Explored.{Explored}
+use Rattle.explore.specs.declared.told.Detail.{Detail}
 use Rattle.explore.specs.Explored.{IsExploredHanging}
 use Rattle.explore.proofs.Machines.{machine_next_within}
 use Rattle.lrc_explore.specs.Schedules.Laws.{GoesOnLaw, NoScheduleHangs, IsScheduleUnfinished, NeverStuckLaw}
@@ -56,11 +57,11 @@ module _ (s : Plan) (h : List Event) (begun : IsScheduleUnfinished s h) (free : 
       begun.unfinished (λ p section at.
       subst (FollowsSection section (calling_shown_by s p)) (calls_without_fetches p h) (follows p section at))
 
-schedule_going_never_hangs : (s : Plan) (answer : Explored) → NoScheduleHangs s answer → (g : List Event) → ¬ IsHangingBeginning s g
-schedule_going_never_hangs s answer f = subst (IsExploredHanging s) f.hanging f.found.explored.hanging
+schedule_going_never_hangs : (s : Plan) (d : Detail) (answer : Explored) → NoScheduleHangs s d answer → (g : List Event) → ¬ IsHangingBeginning s g
+schedule_going_never_hangs s d answer f = subst (IsExploredHanging s) f.hanging f.found.explored.hanging
 
 pub schedule_going_never_stuck : NeverStuckLaw
-schedule_going_never_stuck s answer h f stuck = schedule_going_never_hangs s answer f (without_fetches h) (record {
+schedule_going_never_stuck s d answer h f stuck = schedule_going_never_hangs s d answer f (without_fetches h) (record {
   beginning = flat s h stuck.begun free;
   unfinished = schedule_going_unfinished s h stuck.begun free;
   stuck = λ p k next.
@@ -69,11 +70,11 @@ schedule_going_never_stuck s answer h f stuck = schedule_going_never_hangs s ans
 })
   where
     free : IsFlatRaceFree s
-    free = found s answer f.found
+    free = found s d answer f.found
 
 -- some processor's next call may come, or none may, which would be a hang
 pub going_longer_by_call : GoesOnLaw
-going_longer_by_call s answer h lawful f begun = elim some [
+going_longer_by_call s d answer h lawful f begun = elim some [
   | inl next ↦ record {
     processor = next.0;
     kind = next.2.0;
@@ -81,7 +82,7 @@ going_longer_by_call s answer h lawful f begun = elim some [
     well_formed = schedule_going_well_longer s h begun.well_formed next.0 next.2.0 next.2.1;
     begins = schedule_going_begins_longer s h begun.well_formed next.0 next.2.0 next.2.1;
   }
-  | inr none ↦ absurd (schedule_going_never_hangs s answer f (without_fetches h) (record {
+  | inr none ↦ absurd (schedule_going_never_hangs s d answer f (without_fetches h) (record {
     beginning = flat s h begun free;
     unfinished = schedule_going_unfinished s h begun free;
     stuck = λ p k next. none (p, machine_next_within s (without_fetches h) p k next, (k, next));
@@ -89,7 +90,7 @@ going_longer_by_call s answer h lawful f begun = elim some [
 ]
   where
     free : IsFlatRaceFree s
-    free = found s answer f.found
+    free = found s d answer f.found
 
     some : Decided ((p : ℕ) × (p < s.processors) × ((k : Kind) × IsFlatBeginning s (did (without_fetches h) p k)))
     some =

@@ -1,9 +1,10 @@
 -- What a report of a race-free script says.
 -- The report's history has no race, and replays; without its fetches it is a whole run on one flat memory, with the same
 -- calls. So what its loads answered is an outcome, and stands in the list.
-use Rattle.std.proofs.Common.{ℕ, zero, suc, ◌≡◌, ◌<◌, List, [], ◌∷◌, ◌++◌, map, length, Some, slice_get, refl, sym, ap, subst, ◌∙◌, arith}
+use Rattle.std.proofs.Common.{ℕ, zero, suc, ◌≡◌, ◌<◌, List, [], ◌∷◌, ◌++◌, map, length, Some, slice_get, slice_index_or, refl, sym, ap, subst, ◌∙◌, arith}
 use Rattle.std.proofs.lemmas.Bool.{false_from_ne_true}
-use Rattle.std.proofs.lemmas.Option.{same_Some, slice_get_within}
+use Rattle.std.proofs.lemmas.List.{length-map}
+use Rattle.std.proofs.lemmas.Option.{same_Some, slice_get-get_or, slice_get_within}
 use Rattle.journal.specs.declared.event.Event.{Event}
 use Rattle.journal.specs.declared.event.Kind.{Kind}
 use Rattle.journal.specs.declared.event.Kind.TheVariants as kind
@@ -13,12 +14,15 @@ use Rattle.conformance.specs.Follows.{calls_of, load_of, FollowsSection}
 use Rattle.conformance.proofs.WithoutFetches.Embeds.{without_fetches}
 use Rattle.conformance.proofs.WithoutFetches.Runs.{calls_without_fetches}
 use Rattle.explore.specs.Prefixes.Beginnings.{IsFlatRaceFree, IsWholeBeginning}
-use Rattle.explore.proofs.prefixes.Beginnings.{beginning_of_followed}
+use Rattle.explore.proofs.prefixes.Beginnings.{beginning_of_followed, beginning_whole_done}
 use Rattle.explore.specs.Prefixes.Calling.{calling_shown_by}
 use Rattle.conformance.specs.Reports.{AreReportedReplies}
 use Rattle.explore.specs.declared.explored.Explored.{Explored}
 use Rattle.explore.specs.Explored.{IsExploredVerdict}
+use Rattle.explore.specs.declared.told.Detail.{Detail}
 use Rattle.explore.specs.Outcomes.{AreOutcomeReplies, outcome_replies_in}
+use Rattle.explore.specs.Told.{AreToldReplies, telling_of_script, told_replies, told_steps}
+use Rattle.explore.proofs.ToldReplies.{told_ends_shown}
 use Rattle.lrc_explore.specs.Schedules.Laws.{ScheduleEndsWith, NoScheduleRaces, ReportLaw}
 use Rattle.lrc_explore.proofs.schedules.Begun.{schedule_begun_flat_part, race_free, schedule_begun_replays_whole}
 
@@ -65,20 +69,57 @@ schedule_report_ends_shown calls shown last = record {
   are = ap outcome_replies_in last.ends ∙ schedule_report_replies_end last.front shown;
 }
 
+module _ (s : Plan) (d : Detail) where
+  -- of them some are told
+  schedule_report_told : List Event → ℕ → List ℕ
+  schedule_report_told h p = told_replies (telling_of_script s d) p (told_steps s p) 0 (calls_of h p)
+
+  schedule_report_tells : (h : List Event) → (replies : List (List ℕ)) × AreToldReplies s (telling_of_script s d) h replies
+  unfolding schedule_report_told
+  schedule_report_tells h = (
+    rows (schedule_report_told h) s.processors,
+    record {
+      long = schedule_report_rows_long (schedule_report_told h) s.processors;
+      each = schedule_report_row_at (schedule_report_told h) s.processors;
+    },
+  )
+
+  -- and without its fetches the same
+  schedule_report_tells_fetchless : (h : List Event) (replies : List (List ℕ)) → AreToldReplies s (telling_of_script s d) h replies
+      → AreToldReplies s (telling_of_script s d) (without_fetches h) replies
+  schedule_report_tells_fetchless h replies are = record {
+    long = are.long;
+    each = λ p less.
+        are.each p less
+        ∙ ap (λ ks. Some (told_replies (telling_of_script s d) p (told_steps s p) 0 ks)) (sym (calls_without_fetches p h));
+  }
+
+  -- those of processor 0 end with what is shown
+  schedule_report_ends_told : (calls : List Kind) (shown : List (ℕ × ℕ)) → AreReportedReplies calls shown
+      → length calls ≡ length (told_steps s 0) → length shown ≡ length s.shown
+      → ScheduleEndsWith (told_replies (telling_of_script s d) 0 (told_steps s 0) 0 calls) (map (λ (x : ℕ × ℕ). x.1) shown)
+  schedule_report_ends_told calls shown last whole many = record {
+    front = told_replies (telling_of_script s d) 0 (told_steps s 0) 0 last.front;
+    are = told_ends_shown s d last.front shown calls last.ends whole many;
+  }
+
 -- a script that was found race-free is
-pub found : (s : Plan) (answer : Explored) → NoScheduleRaces s answer → IsFlatRaceFree s
-found s answer f = subst (IsExploredVerdict s) f.verdict f.explored.verdict
+pub found : (s : Plan) (d : Detail) (answer : Explored) → NoScheduleRaces s d answer → IsFlatRaceFree s
+found s d answer f = subst (IsExploredVerdict s) f.verdict f.explored.verdict
 
 pub report_law : ReportLaw
-report_law s answer r f is = record {
+report_law s d answer r f is = record {
   race_free = false_from_ne_true r.racy
       (λ yes. let race = is.tells.racy.0 yes in
       race_free s free h is.tells.well_formed is.tells.explained begins race.0 race.1 race.2);
   listed = λ all. record {
-    replies = shown.0;
+    answered = shown.0;
     are = shown.1;
-    listed = f.explored.all all shown.0 (without_fetches h, whole, schedule_report_shows_fetchless s h shown.0 shown.1);
+    replies = told.0;
+    told = told.1;
+    listed = f.explored.all all told.0 (without_fetches h, whole, schedule_report_tells_fetchless s d h told.0 told.1);
     shown = ends;
+    ends = told_ends;
   };
 }
   where
@@ -86,7 +127,7 @@ report_law s answer r f is = record {
     h = is.history
 
     free : IsFlatRaceFree s
-    free = found s answer f
+    free = found s d answer f
 
     begins : BeginsScript s h
     begins = beginning_of_followed s h is.tells.follows
@@ -103,6 +144,19 @@ report_law s answer r f is = record {
     shown : (replies : List (List ℕ)) × AreOutcomeReplies s h replies
     shown = schedule_report_shows s h
 
+    told : (replies : List (List ℕ)) × AreToldReplies s (telling_of_script s d) h replies
+    told = schedule_report_tells s d h
+
+    all_called : 0 < length s.sections → length (calls_of h 0) ≡ length (told_steps s 0)
+    all_called within =
+        ap (λ (ks : List Kind). length ks) (sym (calls_without_fetches 0 h))
+        ∙ (beginning_whole_done s (without_fetches h) whole.beginning).0 whole.follows 0 (slice_index_or s.sections 0 [])
+        (slice_get-get_or s.sections 0 [] within)
+
+    many : length r.shown.items ≡ length s.shown
+    many =
+        sym (length-map r.shown.items (λ (x : ℕ × ℕ). x.0)) ∙ ap (λ (xs : List ℕ). length xs) is.tells.shown_addresses
+
     ends : (words : List ℕ) → slice_get shown.0 0 ≡ Some words → ScheduleEndsWith words (map (λ (x : ℕ × ℕ). x.1) r.shown.items)
     ends words at =
         let less = slice_get_within shown.0 0 words at in
@@ -110,3 +164,12 @@ report_law s answer r f is = record {
         let first = shown.1.each 0 (omega (arith, less, long)) in
         subst (λ ws. ScheduleEndsWith ws (map (λ (x : ℕ × ℕ). x.1) r.shown.items)) (same_Some _ _ (sym first ∙ at))
         (schedule_report_ends_shown (calls_of h 0) r.shown.items is.tells.replies)
+
+    told_ends : length s.sections ≡ s.processors → (words : List ℕ) → slice_get told.0 0 ≡ Some words
+        → ScheduleEndsWith words (map (λ (x : ℕ × ℕ). x.1) r.shown.items)
+    told_ends one words at =
+        let less = slice_get_within told.0 0 words at in
+        let long = told.1.long in
+        let first = told.1.each 0 (omega (arith, less, long)) in
+        subst (λ ws. ScheduleEndsWith ws (map (λ (x : ℕ × ℕ). x.1) r.shown.items)) (same_Some _ _ (sym first ∙ at))
+        (schedule_report_ends_told s d (calls_of h 0) r.shown.items is.tells.replies (all_called (omega (arith, less, long, one))) many)

@@ -1,17 +1,8 @@
-use Rattle.std.proofs.Common.{◌<◌, ◌≤◌, ◌++◌, ◌∷◌, [], List, sym, ap, subst, append-nil, append_assoc, ◌∙◌, arith}
-use Rattle.journal.specs.declared.event.Event.{Event}
-use Rattle.journal.specs.DidEvent.{did}
-use Rattle.lrc_script.specs.Plan.{Plan}
+use Rattle.std.proofs.Common.{◌++◌, ◌∷◌, [], sym, ap, subst, append-nil, append_assoc, ◌∙◌}
 use Rattle.explore.specs.Free.{IsFreeOf}
-use Rattle.explore.specs.Prefixes.Beginnings.{IsFlatBeginning}
 use Rattle.explore.proofs.Choosing.{choosing_free_of}
 use Rattle.explore.proofs.FreeRuns.{went_nowhere, went_on}
-use Rattle.explore.proofs.Machines.{machine_next_within}
 use Rattle.explore.proofs.free_run.go_freely.Goals as goal
-
--- a processor that may do something is one of the script's
-small : (s : Plan) (g : List Event) (e : Event) → s.processors ≤ 16 → IsFlatBeginning s (did g e.processor e.kind) → e.processor < 16
-small s g e most next = let within = machine_next_within s g e.processor e.kind next in omega arith
 
 pub loop-init : goal.loop-init
 loop-init c = ([], sym (append-nil c.args.events.now.items), went_nowhere c.args.steps.now c.args.state.now)
@@ -37,7 +28,7 @@ step-requires c =
     let e = c.in-Some.event in
     record {
       plan = s;
-      lawful = running.lawful.lawful;
+      lawful = running.lawful;
       events = g;
       knows = knows;
       next = (c.nexts_of-nexts.ensures.nexts s running.lawful g knows e.processor e.kind).0 c.in-Some.ensures.0;
@@ -53,7 +44,7 @@ loop-preserved c =
       more ++ e ∷ [],
       c.in_ok-push.ensures.items ∙ ap (λ es. es ++ e ∷ []) c.loop.invariant.1
           ∙ append_assoc c.args.events.now.items more (e ∷ []),
-      went_on rows c.args.state.now c.loop.state c.step.new.self more e c.loop.invariant.2 free (λ s g lawful knows.
+      went_on rows c.step.new.self more e c.loop.invariant.2 free c.in_ok-step.ensures.telling (λ s g lawful knows.
           let next = (c.nexts_of-nexts.ensures.nexts s lawful g knows e.processor e.kind).0 c.in-Some.ensures.0 in
-          c.in_ok-step.ensures s g knows next (small s g e lawful.lawful.but_uneven.sizes.most_processors next)),
+          c.in_ok-step.ensures.knows s g lawful knows next),
     )

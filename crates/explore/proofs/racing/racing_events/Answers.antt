@@ -28,12 +28,6 @@ module _ (s : Plan) (x : States) (steps : List (Vec ScriptCall)) (ns : Neighbour
   second_next : IsFlatBeginning s (did g ns.second.processor ns.second.kind)
   second_next = are.are.second f at g knows
 
-  first_small : ns.first.processor < 16
-  first_small =
-      let within = machine_next_within s g ns.first.processor ns.first.kind first_next in
-      let most = are.lawful.lawful.but_uneven.sizes.most_processors in
-      omega arith
-
   second_row : ns.second.processor < length steps
   second_row =
       let within = machine_next_within s g ns.second.processor ns.second.kind second_next in
@@ -60,7 +54,7 @@ step-requires c =
     let g = some_events s x c.args.steps.now ns are f c.at.ensures in
     record {
       plan = s;
-      lawful = are.lawful.lawful;
+      lawful = are.lawful;
       events = g.0;
       knows = knows_like s g.0 f c.in_ok-state.state c.in_ok-state.ensures g.1;
       next = first_next s x c.args.steps.now ns are f c.at.ensures g.0 g.1;
@@ -89,9 +83,8 @@ next-requires-clause-running c =
       lawful = are.lawful;
       events = did g.0 ns.first.processor ns.first.kind;
       knows =
-          c.in_ok-step.ensures s g.0 (knows_like s g.0 f c.in_ok-state.state c.in_ok-state.ensures g.1)
-          (first_next s x c.args.steps.now ns are f c.at.ensures g.0 g.1)
-          (first_small s x c.args.steps.now ns are f c.at.ensures g.0 g.1);
+          c.in_ok-step.ensures.knows s g.0 are.lawful (knows_like s g.0 f c.in_ok-state.state c.in_ok-state.ensures g.1)
+          (first_next s x c.args.steps.now ns are f c.at.ensures g.0 g.1);
     }
 
 pub unwrap-kind-requires : goal.unwrap-kind-requires
@@ -104,9 +97,8 @@ unwrap-kind-requires c =
     let g = some_events s x c.args.steps.now ns are f c.at.ensures in
     let r = races s x c.args.steps.now ns are f c.at.ensures g.0 g.1 in
     let knows =
-    c.in_ok-step.ensures s g.0 (knows_like s g.0 f c.in_ok-state.state c.in_ok-state.ensures g.1)
-    (first_next s x c.args.steps.now ns are f c.at.ensures g.0 g.1)
-    (first_small s x c.args.steps.now ns are f c.at.ensures g.0 g.1) in
+    c.in_ok-step.ensures.knows s g.0 are.lawful (knows_like s g.0 f c.in_ok-state.state c.in_ok-state.ensures g.1)
+    (first_next s x c.args.steps.now ns are f c.at.ensures g.0 g.1) in
     let is = (c.next.ensures s (did g.0 ns.first.processor ns.first.kind) are.lawful knows r.kind).1 r.beginning in
     subst IsSome (sym is) refl
 
@@ -119,9 +111,8 @@ returns c = λ s are.
     let known = c.in_ok-events.ensures s are.found f c.at.ensures in
     let r = races s x c.args.steps.now ns are f c.at.ensures g known in
     let knows =
-    c.in_ok-step.ensures s g (knows_like s g f c.in_ok-state.state c.in_ok-state.ensures known)
-    (first_next s x c.args.steps.now ns are f c.at.ensures g known)
-    (first_small s x c.args.steps.now ns are f c.at.ensures g known) in
+    c.in_ok-step.ensures.knows s g are.lawful (knows_like s g f c.in_ok-state.state c.in_ok-state.ensures known)
+    (first_next s x c.args.steps.now ns are f c.at.ensures g known) in
     let is = (c.next.ensures s (did g ns.first.processor ns.first.kind) are.lawful knows r.kind).1 r.beginning in
     let same = same_Some c.unwrap-kind.result r.kind (sym c.unwrap-kind.ensures ∙ is) in
     let before = did g ns.first.processor ns.first.kind in

@@ -1,4 +1,4 @@
-use Rattle.std.proofs.Common.{ℕ, ◌≡◌, ◌<◌, ◌≤◌, ◌↔◌, inl, inr, Bool, false, IsTrue, length, subst, sym, ◌∙◌, arith}
+use Rattle.std.proofs.Common.{ℕ, ◌≡◌, ◌<◌, ◌≤◌, ◌↔◌, inl, inr, Bool, false, IsTrue, length, refl, subst, sym, ◌∙◌, arith}
 use Rattle.std.proofs.lemmas.Bool.{cases_lt, false≢true}
 use Rattle.std.proofs.lemmas.Option.{same_Some}
 use Rattle.explore.specs.Found.{states_found}
@@ -20,6 +20,7 @@ pub loop-place-init : goal.loop-place-init
 loop-place-init g c = record {
   searched = λ s lawful searched. record { searched = searched; none = λ place m g lt. absurd (omega arith) };
   few = λ s lawful searched one. omega (arith, one);
+  telling = λ s lawful searched. refl;
 }
 
 pub returns-then-is_past-clause-looked : goal.returns-then-is_past-clause-looked
@@ -107,6 +108,14 @@ loop-place-preserved g c = record {
       let under = not_past c.args.most c.len-states.result c.is_past.result c.is_past.ensures c.if-is_past.false in
       let more = (c.in_ok-neighbours.ensures.found s (record { lawful = lawful; searched = old.searched; more = lt })).1 in
       omega (arith, more, under, is);
+  telling = λ s lawful searched.
+      let old = c.loop-place.invariant.searched s lawful searched in
+      let within = old.searched.within in
+      let is = c.len-states.ensures.count in
+      let isnt = c.if-place-states.false in
+      let lt : c.loop-place.place < length (states_found c.loop-place.search.found) = omega (arith, within, is, isnt) in
+      (c.in_ok-neighbours.ensures.found s (record { lawful = lawful; searched = old.searched; more = lt })).2
+      ∙ c.loop-place.invariant.telling s lawful searched;
 }
 
 pub returns-in-Some-clause-looked : goal.returns-in-Some-clause-looked
@@ -143,6 +152,28 @@ returns-clause-looked g c = λ s lawful searched.
           let end : c.loop-place.place ≡ length (states_found c.loop-place.search.found) = omega arith in
           subst (SearchedWithoutWords s c.loop-place.search c.args.steps.now c.args.words.now) end old;
     }
+
+pub returns-then-is_past-clause-telling : goal.returns-then-is_past-clause-telling
+returns-then-is_past-clause-telling g c = c.loop-place.invariant.telling
+
+pub returns-then-place-states-clause-telling : goal.returns-then-place-states-clause-telling
+returns-then-place-states-clause-telling g c = c.loop-place.invariant.telling
+
+pub returns-then-is_ending-clause-telling : goal.returns-then-is_ending-clause-telling
+returns-then-is_ending-clause-telling g c = c.loop-place.invariant.telling
+
+pub returns-in-Some-clause-telling : goal.returns-in-Some-clause-telling
+returns-in-Some-clause-telling g c = λ s lawful searched.
+    let old = c.loop-place.invariant.searched s lawful searched in
+    let within = old.searched.within in
+    let is = c.len-states.ensures.count in
+    let isnt = c.if-place-states.false in
+    let lt : c.loop-place.place < length (states_found c.loop-place.search.found) = omega (arith, within, is, isnt) in
+    (c.in_ok-neighbours.ensures.found s (record { lawful = lawful; searched = old.searched; more = lt })).2
+    ∙ c.loop-place.invariant.telling s lawful searched
+
+pub returns-clause-telling : goal.returns-clause-telling
+returns-clause-telling g c = c.loop-place.invariant.telling
 
 pub returns-clause-few : goal.returns-clause-few
 returns-clause-few g c = c.loop-place.invariant.few

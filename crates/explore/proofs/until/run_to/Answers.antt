@@ -1,12 +1,14 @@
-use Rattle.std.proofs.Common.{◌≢◌, Option, Some, None, refl, sym, subst}
+use Rattle.std.proofs.Common.{◌≢◌, Option, Some, None, refl, sym, subst, ◌∙◌}
 use Rattle.std.specs.Prelude.{MatchOption}
 use Rattle.causes.specs.Prelude.{IsFirstRaceTold}
 use Rattle.journal.specs.Races.{RaceFree}
 use Rattle.lrc_script.specs.Plan.{plan_of}
 use Rattle.explore.specs.Found.{states_found}
-use Rattle.explore.specs.Outcomes.{AreOutcomeReplies}
+use Rattle.explore.specs.Machines.{machine_rows}
 use Rattle.explore.specs.Prefixes.Beginnings.{IsFlatBeginning}
+use Rattle.explore.specs.Told.{AreToldReplies, telling_of_script}
 use Rattle.explore.proofs.Machines.{machine_some_at}
+use Rattle.explore.proofs.Searched.{search_kept_told}
 use Rattle.explore.proofs.until.run_to.Goals as goal
 
 -- where there is no race, none is told
@@ -21,13 +23,13 @@ race_in-requires-clause-begins c =
     subst (IsFlatBeginning s) (sym c.deref.ensures.value) (c.in_ok-events.ensures s c.requires.found m.0 m.1).beginning
 
 pub returns-in-Some-clause-showing : goal.returns-in-Some-clause-showing
-returns-in-Some-clause-showing c = λ words ends.
+returns-in-Some-clause-showing c = λ words d ends telling.
     let s = plan_of c.args.script.now in
     let m = machine_some_at (states_found c.args.found.now) c.args.place ends.within in
     c.cut_behind.ensures s (c.in_ok-events.ensures s c.requires.found m.0 m.1).beginning
 
 pub returns-clause-showing : goal.returns-clause-showing
-returns-clause-showing c = λ words ends.
+returns-clause-showing c = λ words d ends telling.
     let s = plan_of c.args.script.now in
     let m = c.at.result.now in
     let events = c.in_ok-events.events.items in
@@ -36,5 +38,10 @@ returns-clause-showing c = λ words ends.
       is = ends.ends m events c.at.ensures knows;
       race_free = subst RaceFree c.deref.ensures.value (told_none c.in_ok-race.field-0 (RaceFree c.deref.result.now) (IsFirstRaceTold c.deref.result.now) c.in_default.not-Some
           c.in_ok-race.ensures);
-      outcome = subst (AreOutcomeReplies s events) (sym c.in_ok-replies.ensures) knows.replies;
+      outcome =
+          subst (AreToldReplies s (telling_of_script s d) events) (sym c.in_ok-replies.ensures)
+          (subst (λ t. AreToldReplies s t events (machine_rows m.replies.items))
+          (c.requires.found.told c.args.place m c.at.ensures ∙ telling)
+          (search_kept_told s events m c.requires.lawful.but_uneven.one_each (ends.ends m events c.at.ensures knows).whole.follows
+          knows));
     }

@@ -9,7 +9,7 @@ use Rattle.explore.proofs.UntilSearched.{until_no_run}
 use Rattle.explore.proofs.until.showing_of.Goals as goal
 
 pub returns-in-None-clause-showing : goal.returns-in-None-clause-showing
-returns-in-None-clause-showing c = λ words ended.
+returns-in-None-clause-showing c = λ words d ended telling.
     let s = plan_of c.args.script.now in
     let x = c.args.search.now in
     let steps = c.args.steps.now in

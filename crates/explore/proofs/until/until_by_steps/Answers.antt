@@ -1,4 +1,4 @@
-use Rattle.std.proofs.Common.{arith}
+use Rattle.std.proofs.Common.{arith, ◌∙◌}
 use Rattle.lrc_script.specs.Plan.{plan_of}
 use Rattle.explore.proofs.UntilSearched.{until_ended, until_open_only}
 use Rattle.explore.proofs.until.until_by_steps.Goals as goal
@@ -23,14 +23,15 @@ returns g c =
     let looked = c.in_ok-met.ensures.looked s c.requires begun in
     let most = c.states_to_look_at-most.ensures in
     let count = c.len-states.ensures.count in
+    let telling = c.in_ok-met.ensures.telling s c.requires begun ∙ c.in_ok-search.ensures.telling in
     record {
-      states = c.len-states.ensures.states s looked.found;
+      states = c.len-states.ensures.states s c.args.detail looked.found telling;
       few = (
           let found = c.in_ok-met.ensures.few s c.requires begun c.in_ok-search.ensures.few in
           omega (arith, found, count, most));
-      showing = c.in_ok-showing.ensures.showing c.args.words.now
+      showing = c.in_ok-showing.ensures.showing c.args.words.now c.args.detail
           (until_ended s c.look_until.new.search c.args.steps.now c.args.words.now c.states_to_look_at-most.result c.len-states.result
-          c.in_ok-met.met count looked);
+          c.in_ok-met.met count looked) telling;
       given_up = λ opens.
           let more = until_open_only c.states_to_look_at-most.result c.len-states.result c.in_ok-met.met c.in_ok-showing.showing
           c.in_ok-showing.ensures.opens opens in

@@ -19,8 +19,11 @@ returns-clause-written g c =
     c.unshown_address.ensures in
     record {
       explored = c.in_ok-explored.explored;
-      is = subst (λ ws. IsExploredUntil s ws c.args.options.now.most c.in_ok-explored.explored) c.deref-3.ensures.value
-          c.in_ok-explored.ensures;
+      is =
+          subst (λ d. IsExploredUntil s d c.args.options.now.until.items c.args.options.now.most c.in_ok-explored.explored)
+          c.search_detail.ensures
+          (subst (λ ws. IsExploredUntil s c.search_detail.result ws c.args.options.now.most c.in_ok-explored.explored)
+          c.deref-3.ensures.value c.in_ok-explored.ensures);
       shown = subst (λ ws. AreWordsShown s.shown ws) c.deref-2.ensures.value
           (subst (λ addresses. AreWordsShown addresses words) c.deref.ensures.value are_shown);
       decided_is = sym c.is_settled.ensures;

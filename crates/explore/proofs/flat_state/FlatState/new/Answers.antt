@@ -1,9 +1,11 @@
-use Rattle.std.proofs.Common.{ℕ, zero, suc, ◌≡◌, ◌<◌, [], List, Some, replicate, slice_get, refl, sym, subst, arith}
+use Rattle.std.proofs.Common.{ℕ, zero, suc, ◌≡◌, ◌<◌, [], List, Some, replicate, slice_get, slice_index_or, refl, sym, ap, subst, ◌∙◌, arith}
 use Rattle.std.proofs.lemmas.List.{length-replicate}
 use Rattle.base.proofs.SliceSets.{index-zeros}
 use Rattle.lrc_script.specs.Plan.{plan_of}
 use Rattle.explore.proofs.prefixes.Beginnings.{beginning_empty}
-use Rattle.explore.specs.Outcomes.{AreOutcomeReplies}
+use Rattle.explore.specs.Prefixes.Calling.{calling_shown_by}
+use Rattle.explore.specs.Told.{AreKeptReplies, telling_of_script}
+use Rattle.explore.proofs.ToldReplies.{told_kept_first}
 use Rattle.explore.proofs.flat_state.FlatState.new.Goals as goal
 
 -- so many of one item have it at each place
@@ -12,16 +14,19 @@ always_empty zero p lt = absurd (omega arith)
 always_empty (suc n) zero lt = refl
 always_empty (suc n) (suc p) lt = always_empty n p (omega arith)
 
-pub returns : goal.returns
-returns c =
+pub returns-clause-knows : goal.returns-clause-knows
+returns-clause-knows c =
     let s = plan_of c.args.script.now in
     record {
       beginning = beginning_empty s;
       long = refl;
       done = λ p lt. index-zeros 16 p;
-      replies = subst (AreOutcomeReplies s []) (sym c.in_ok-no_replies.ensures) (record {
+      shown = omega (arith, c.len.ensures);
+      replies = subst (AreKeptReplies s (telling_of_script s c.args.detail) []) (sym c.in_ok-no_replies.ensures) (record {
         long = length-replicate s.processors [];
-        each = always_empty s.processors;
+        each = λ p lt.
+            always_empty s.processors p lt
+            ∙ ap Some (sym (told_kept_first (telling_of_script s c.args.detail) p (slice_index_or s.sections p []) (calling_shown_by s p)));
       });
       memory = c.in_ok-vec.ensures.items_if_clones_equal (λ x is. is);
       waiting = c.new.ensures;

@@ -1,4 +1,4 @@
-use Rattle.std.proofs.Common.{ℕ, ◌≡◌, ◌<◌, ◌≤◌, ◌↔◌, List, Some, length, slice_get, slice_index, refl, sym, ap, subst, ◌∙◌, arith}
+use Rattle.std.proofs.Common.{ℕ, ◌≡◌, ◌<◌, ◌≤◌, ◌↔◌, List, Some, IsTrue, length, slice_get, slice_index, refl, sym, ap, subst, ◌∙◌, arith}
 use Rattle.std.specs.Global.{Vec}
 use Rattle.std.proofs.lemmas.Bool.{false≢true}
 use Rattle.std.proofs.lemmas.Option.{none-some, same_Some}
@@ -14,7 +14,8 @@ use Rattle.explore.specs.Prefixes.Beginnings.{IsFlatBeginning}
 use Rattle.explore.specs.Prefixes.Calling.{IsCallOfStep, last_reply_of_calls}
 use Rattle.explore.specs.declared.flat_state.FlatState.{FlatState}
 use Rattle.explore.specs.Machines.{AreLawfulMachineSteps, Knows}
-use Rattle.explore.proofs.Machines.{machine_at_step, machine_memory_long, machine_past_steps, machine_read_at, machine_row_steps, machine_row_proper, machine_rows_few, machine_rows_many, machine_sizes_small, machine_step_range, machine_step_word}
+use Rattle.explore.specs.Told.{is_told_sum, told_steps}
+use Rattle.explore.proofs.Machines.{machine_at_step, machine_memory_long, machine_past_steps, machine_read_at, machine_row_steps, machine_row_told, machine_row_proper, machine_rows_few, machine_rows_many, machine_sizes_small, machine_step_range, machine_step_word}
 use Rattle.explore.proofs.flat_state.FlatState.next.Goals as goal
 
 pub returns-then-done-len : goal.returns-then-done-len
@@ -52,7 +53,8 @@ call_of-kind-requires c =
 module _ (s : Plan) (g : List Event) (m : FlatState) (steps : List (Vec ScriptCall)) (p : ℕ) (row : Vec ScriptCall)
     (lawful : AreLawfulMachineSteps s steps) (knows : Knows s g m) (lt : p < length steps) (at : slice_get steps p ≡ Some row)
     (x : ScriptCall) (here : slice_get row.items (slice_index m.done p) ≡ Some x) (reply : ℕ) (words : List ℕ)
-    (told : (t : Plan) (h : List Event) → Knows t h m → reply ≡ last_reply_of_calls (calls_of h p))
+    (told : (t : Plan) (h : List Event) → Knows t h m
+    → IsTrue (is_told_sum (slice_get (told_steps t p) (length (calls_of h p)))) → reply ≡ last_reply_of_calls (calls_of h p))
     (are : words ≡ m.memory.items) (c : Kind)
     (says : (k : Kind) → (c ≡ k) ↔ (IsCallOfStep reply x k × AnswersFlatWord words k)) where
   in_range : KindInRange (plan_sizes s) c
@@ -64,8 +66,13 @@ module _ (s : Plan) (g : List Event) (m : FlatState) (steps : List (Vec ScriptCa
   goes : (k : Kind) → IsFlatBeginning s (did g p k) ↔ (MayFollow (plan_sizes s) g (event p c) × (c ≡ k))
   goes =
       let few = machine_rows_few s steps lawful in
-      machine_at_step s g m p row lawful.lawful (machine_row_steps s steps p row lawful.are at) (omega arith) knows reply (told s g knows) x
-      here c (subst (λ ws. (k : Kind) → (c ≡ k) ↔ (IsCallOfStep reply x k × AnswersFlatWord ws k)) are says)
+      let of = machine_row_steps s steps p row lawful.are at in
+      let small : p < 16 = omega arith in
+      let there : slice_get (told_steps s p) (length (calls_of g p)) ≡ Some x =
+      ap (λ xs. slice_get xs (length (calls_of g p))) (sym (machine_row_told s p row of))
+      ∙ ap (slice_get row.items) (sym (knows.done p small)) ∙ here in
+      machine_at_step s g m p row lawful.lawful of small knows reply x
+      (λ sum. told s g knows (ap is_told_sum there ∙ sum)) here c (subst (λ ws. (k : Kind) → (c ≡ k) ↔ (IsCallOfStep reply x k × AnswersFlatWord ws k)) are says)
 
 pub may_follow-requires : goal.may_follow-requires
 may_follow-requires c =

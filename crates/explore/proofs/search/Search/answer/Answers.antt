@@ -94,7 +94,7 @@ hanging-requires-clause-searched g c =
     )
 
 pub returns : goal.returns
-returns g c =
+returns g c = λ d begun.
     let s = plan_of c.args.script.now in
     let x = c.look_at_all.new.self in
     let steps = c.args.steps.now in
@@ -104,17 +104,20 @@ returns g c =
     let count = c.len-states.ensures.count in
     let all = searched s x steps c.states_to_look_at-most.result c.len-states.result c.in_ok-neighbours.neighbours
     c.is_through-through.result through count c.is_through-through.ensures in
+    let telling = looked.telling s c.requires.steps c.requires.searched ∙ begun in
     let keys = sym (c.in_ok-outcomes.ensures ∙ ap (λ o. o.keys) c.replace-outcomes.ensures.value) in
     record {
-      states = c.len-states.ensures.states s through.some.1.found;
+      states = c.len-states.ensures.states s d through.some.1.found telling;
       few = (
           let found = looked.few s c.requires.steps c.requires.searched c.requires.few in
           omega (arith, found, count, most));
       verdict = c.in_ok-verdict.ensures.verdict;
       hanging = c.in_ok-hanging.ensures.hanging;
-      outcomes = subst (λ os. AreExploredOutcomes s (map explored_outcome os)) keys (searched_some_outcomes s x steps through.some.0 through.some.1);
+      outcomes = subst (λ os. AreExploredOutcomes s d (map explored_outcome os)) keys
+          (searched_some_outcomes s d x steps through.some.0 telling through.some.1);
       all = λ yes.
-          subst (λ os. AreAllOutcomesExplored s (map explored_outcome os)) keys (searched_all_outcomes s x steps c.requires.steps (all.all yes));
+          subst (λ os. AreAllOutcomesExplored s d (map explored_outcome os)) keys
+          (searched_all_outcomes s x steps c.requires.steps (all.all yes) d telling);
       given_up = λ opens.
           let both = search_open_only c.in_ok-neighbours.neighbours (c.is_through-through.result || c.are_all.result)
           c.is_through-through.result c.in_ok-verdict.verdict c.in_ok-hanging.hanging c.in_ok-verdict.ensures.opens

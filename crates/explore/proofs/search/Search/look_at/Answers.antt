@@ -82,7 +82,7 @@ follow_all-requires-clause-may c =
     )
 
 pub returns-in-Some-clause-found : goal.returns-in-Some-clause-found
-returns-in-Some-clause-found c = λ s may. ((λ place m at. at), omega arith)
+returns-in-Some-clause-found c = λ s may. ((λ place m at. at), omega arith, refl)
 
 pub returns-clause-found : goal.returns-clause-found
 returns-clause-found c = λ s may.
@@ -108,7 +108,7 @@ returns-clause-found c = λ s may.
     (c.in_ok-follow_all.ensures s (subst (λ y. MayFollowAll s c.args.steps.now y place chosen) (sym same) may_follow)) in
     let few = followed.few in
     let long = c.to_follow-followed.ensures.long in
-    (followed.keeps, omega (arith, few, long))
+    (followed.keeps, omega (arith, few, long), followed.telling)
 
 pub returns-clause-looked : goal.returns-clause-looked
 returns-clause-looked c = λ s may.

@@ -1,4 +1,4 @@
-use Rattle.std.proofs.Common.{ℕ, ◌≡◌, ◌<◌, ◌≤◌, ◌↔◌, inl, inr, Bool, false, IsTrue, length, subst, sym, ◌∙◌, arith}
+use Rattle.std.proofs.Common.{ℕ, ◌≡◌, ◌<◌, ◌≤◌, ◌↔◌, inl, inr, Bool, false, IsTrue, length, refl, subst, sym, ◌∙◌, arith}
 use Rattle.std.proofs.lemmas.Bool.{cases_lt, false≢true}
 use Rattle.explore.specs.Found.{states_found}
 use Rattle.explore.specs.Searched.{IsSearchedAt, SearchedUpTo}
@@ -30,6 +30,7 @@ pub loop-place-init : goal.loop-place-init
 loop-place-init g c = record {
   searched = λ s lawful searched. searched;
   few = λ s lawful searched one. omega (arith, one);
+  telling = λ s lawful searched. refl;
 }
 
 pub returns-then-is_past-clause-few : goal.returns-then-is_past-clause-few
@@ -68,6 +69,14 @@ loop-place-preserved g c = record {
       let under = not_past c.args.most c.len-states.result c.is_past.result c.is_past.ensures c.if-is_past.false in
       let more = (c.in_ok-neighbours.ensures.found s (record { lawful = lawful; searched = old; more = lt })).1 in
       omega (arith, more, under, is);
+  telling = λ s lawful searched.
+      let old = c.loop-place.invariant.searched s lawful searched in
+      let within = old.within in
+      let is = c.len-states.ensures.count in
+      let isnt = c.if-place-states.false in
+      let lt : c.loop-place.place < length (states_found c.loop-place.self.found) = omega (arith, within, is, isnt) in
+      (c.in_ok-neighbours.ensures.found s (record { lawful = lawful; searched = old; more = lt })).2
+      ∙ c.loop-place.invariant.telling s lawful searched;
 }
 
 pub returns-in-Some-clause-looked : goal.returns-in-Some-clause-looked
@@ -104,6 +113,25 @@ returns-clause-looked g c = λ s lawful searched.
           let end : c.loop-place.place ≡ length (states_found c.loop-place.self.found) = omega arith in
           subst (SearchedUpTo s c.loop-place.self c.args.steps.now) end old;
     }
+
+pub returns-then-is_past-clause-telling : goal.returns-then-is_past-clause-telling
+returns-then-is_past-clause-telling g c = c.loop-place.invariant.telling
+
+pub returns-then-place-states-clause-telling : goal.returns-then-place-states-clause-telling
+returns-then-place-states-clause-telling g c = c.loop-place.invariant.telling
+
+pub returns-in-Some-clause-telling : goal.returns-in-Some-clause-telling
+returns-in-Some-clause-telling g c = λ s lawful searched.
+    let old = c.loop-place.invariant.searched s lawful searched in
+    let within = old.within in
+    let is = c.len-states.ensures.count in
+    let isnt = c.if-place-states.false in
+    let lt : c.loop-place.place < length (states_found c.loop-place.self.found) = omega (arith, within, is, isnt) in
+    (c.in_ok-neighbours.ensures.found s (record { lawful = lawful; searched = old; more = lt })).2
+    ∙ c.loop-place.invariant.telling s lawful searched
+
+pub returns-clause-telling : goal.returns-clause-telling
+returns-clause-telling g c = c.loop-place.invariant.telling
 
 pub returns-clause-few : goal.returns-clause-few
 returns-clause-few g c = c.loop-place.invariant.few

@@ -1,4 +1,4 @@
-use Rattle.std.proofs.Common.{◌+◌, ◌≤◌, length}
+use Rattle.std.proofs.Common.{◌≡◌, ◌+◌, ◌≤◌, length}
 use Rattle.lrc_script.specs.Plan.{Plan}
 use Rattle.explore.specs.Found.{states_found}
 use Rattle.explore.specs.Machines.{AreLawfulMachineSteps}
@@ -10,4 +10,6 @@ invariant-loop-place g l = record {
   searched : (s : Plan) → AreLawfulMachineSteps s l.steps → SearchedUpTo s l.initial.self l.steps 0 → SearchedUpTo s l.self l.steps l.place;
   few : (s : Plan) → AreLawfulMachineSteps s l.steps → SearchedUpTo s l.initial.self l.steps 0
       → length (states_found l.initial.self.found) ≤ 1 → length (states_found l.self.found) ≤ l.most + 16;
+  telling : (s : Plan) → AreLawfulMachineSteps s l.steps → SearchedUpTo s l.initial.self l.steps 0
+      → l.self.found.telling ≡ l.initial.self.found.telling;
 }

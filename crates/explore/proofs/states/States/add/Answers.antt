@@ -9,6 +9,7 @@ returns-else-is_new c =
     let kept = equal_keys_kept _ c.in_ok-is_new.is_new c.args.self.now.states.keys _ c.insert_full.new.self.keys c.if-is_new.false e.added e.keys in
     inl
     (record {
+      telling = refl;
       states = kept;
       origins = refl;
       place = c.in_ok-is_new.field-0-0;

@@ -13,7 +13,7 @@ step-requires c =
     let g = may.found.known c.args.place f c.at.ensures in
     record {
       plan = s;
-      lawful = may.lawful.lawful;
+      lawful = may.lawful;
       events = g.0;
       knows = knows_like s g.0 f c.in_ok-state.state c.in_ok-state.ensures g.1;
       next = may.next f c.at.ensures g.0 g.1;
@@ -29,8 +29,8 @@ go_freely-requires-clause-running c =
       plan = s;
       lawful = may.lawful;
       events = did g.0 c.args.event.processor c.args.event.kind;
-      knows = c.in_ok-step.ensures s g.0 (knows_like s g.0 f c.in_ok-state.state c.in_ok-state.ensures g.1)
-          (may.next f c.at.ensures g.0 g.1) may.small;
+      knows = c.in_ok-step.ensures.knows s g.0 may.lawful (knows_like s g.0 f c.in_ok-state.state c.in_ok-state.ensures g.1)
+          (may.next f c.at.ensures g.0 g.1);
     }
 
 pub returns : goal.returns
@@ -45,7 +45,8 @@ returns c = on_ok_weaker c.add.result (λ added s may.
       free = went.free;
       from = refl;
       events = c.in_ok-go_freely.ensures.1 ∙ ap (λ es. es ++ more) (c.in_ok-push.ensures.items ∙ ap (λ es. es ++ c.args.event ∷ []) c.new-events.ensures.items);
+      telling = went.telling ∙ c.in_ok-step.ensures.telling ∙ c.in_ok-state.ensures.telling;
       knows = λ g knows. went.knows s (did g p k) may.lawful
-          (c.in_ok-step.ensures s g (knows_like s g f c.in_ok-state.state c.in_ok-state.ensures knows) (may.next f c.at.ensures g knows) may.small);
+          (c.in_ok-step.ensures.knows s g may.lawful (knows_like s g f c.in_ok-state.state c.in_ok-state.ensures knows) (may.next f c.at.ensures g knows));
     } in
     followed may c.at.ensures came c.add.new.self added) c.add.ensures

@@ -4,6 +4,7 @@ use Rattle.explore.proofs.CountedStates.{has_counted_states}
 use Rattle.explore.proofs.states.States.len.Goals as goal
 
 pub returns-clause-states : goal.returns-clause-states
-returns-clause-states c = λ s found.
-    subst (HasStates s) (sym c.len.ensures.len)
-    (has_counted_states _ _ (λ w. search rules) (λ t. search rules) s c.args.self.now found c.len.ensures.unique)
+returns-clause-states c = λ s d found telling.
+    subst (HasStates s d) (sym c.len.ensures.len)
+    (has_counted_states _ _ (λ w. search rules) (λ t. search rules) s d c.args.self.now found telling
+    c.len.ensures.unique)
