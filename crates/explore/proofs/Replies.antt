@@ -19,7 +19,7 @@ use Rattle.explore.specs.Machines.{machine_rows, machine_last_or}
 use Rattle.explore.specs.Outcomes.{AreOutcomeReplies, outcome_replies_in}
 
 -- replies of calls that are put together
-outcome_replies_in-append : (xs ys : List Kind) → outcome_replies_in (xs ++ ys) ≡ outcome_replies_in xs ++ outcome_replies_in ys
+pub outcome_replies_in-append : (xs ys : List Kind) → outcome_replies_in (xs ++ ys) ≡ outcome_replies_in xs ++ outcome_replies_in ys
 outcome_replies_in-append [] ys = refl
 outcome_replies_in-append (kind.Load a v ∷ xs) ys = ap (λ words. v ∷ words) (outcome_replies_in-append xs ys)
 outcome_replies_in-append (k ∷ xs) ys = outcome_replies_in-append xs ys
