@@ -66,7 +66,7 @@ begun_length_few section shown kinds begins =
     omega arith
 
 -- the sum of the first n
-abbrev lengths_total : (ℕ → ℕ) → ℕ → ℕ
+abbrev pub lengths_total : (ℕ → ℕ) → ℕ → ℕ
 lengths_total f zero = 0
 lengths_total f (suc n) = lengths_total f n + f n
 
@@ -95,7 +95,7 @@ lengths_total_more f h (suc n) p lt more others = elim (cases_eq p n) [
       omega arith)
 ]
 
-lengths_total_few : (f : ℕ → ℕ) (n most : ℕ) → ((q : ℕ) → q < n → f q ≤ most) → lengths_total f n ≤ n * most
+pub lengths_total_few : (f : ℕ → ℕ) (n most : ℕ) → ((q : ℕ) → q < n → f q ≤ most) → lengths_total f n ≤ n * most
 lengths_total_few f zero most few = omega arith
 lengths_total_few f (suc n) most few =
     let rest = lengths_total_few f n most (λ q lt. few q (omega arith)) in
@@ -103,7 +103,7 @@ lengths_total_few f (suc n) most few =
     omega arith
 
 -- each event is its processor's call
-length_total : (n : ℕ) (g : List Event) → FlatRunHasNoFetch g → ProcessorsInRange n g
+pub length_total : (n : ℕ) (g : List Event) → FlatRunHasNoFetch g → ProcessorsInRange n g
     → length g ≡ lengths_total (λ p. length (calls_of g p)) n
 length_total n = slice_push_induction (λ (g : List Event). FlatRunHasNoFetch g → ProcessorsInRange n g
     → length g ≡ lengths_total (λ p. length (calls_of g p)) n) (λ none within. sym (lengths_total_zero n)) step

@@ -19,5 +19,6 @@ pub mod Searched
 pub mod UntilSearched
 pub mod locksets
 pub mod reduced
+pub mod allowed_runs
 pub mod Determined
 pub mod CountedStates

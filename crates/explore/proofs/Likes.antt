@@ -17,7 +17,7 @@ use Rattle.explore.specs.Waits.{WaitsAreKept, wait_code_arrivals_open, wait_code
 use Rattle.explore.specs.declared.wait.WaitCode.{WaitCode}
 use Rattle.explore.specs.declared.wait.Seat.{Seat}
 
-tells_like : (g : List Event) (x y : Waiting) → IsLikeWaiting x y → TellsWaiting g x → TellsWaiting g y
+pub tells_like : (g : List Event) (x y : Waiting) → IsLikeWaiting x y → TellsWaiting g x → TellsWaiting g y
 tells_like g x y like tells = record {
   long = ap (λ (ws : List (Option WaitCode)). length ws) like.waits ∙ tells.long;
   arrivals_long = ap (λ (ns : List ℕ). length ns) like.arrivals ∙ tells.arrivals_long;

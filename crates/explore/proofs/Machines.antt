@@ -69,7 +69,7 @@ pub machine_adds_call : (reply a v : ℕ) (memory : List ℕ) (k : Kind)
 machine_adds_call reply a v memory k = ((λ is. (sym is, subst (AnswersFlatWord memory) is tt)), (λ h. sym h.0))
 
 -- what a proper step says is in range, and no fetch
-machine_range_replyless : (s : Sizes) (k : Kind) → KindInRange s k ↔ KindInRange s (replyless_call k)
+pub machine_range_replyless : (s : Sizes) (k : Kind) → KindInRange s k ↔ KindInRange s (replyless_call k)
 machine_range_replyless s (kind.Load a v) = ((λ h. h), (λ h. h))
 machine_range_replyless s _ = ((λ h. h), (λ h. h))
 
@@ -84,7 +84,7 @@ machine_step_range s reply (Call c) k proper is =
     (subst (KindInRange (plan_sizes s)) (sym is) ((machine_range_replyless (plan_sizes s) c).0 proper.0))
 machine_step_range s reply (Adds a v) k proper is = subst (KindInRange (plan_sizes s)) (sym is) proper
 
-machine_step_call : (s : Plan) (reply : ℕ) (x : ScriptCall) (k : Kind) → IsProperMachineStep s x → IsCallOfStep reply x k → is_fetch k ≡ false
+pub machine_step_call : (s : Plan) (reply : ℕ) (x : ScriptCall) (k : Kind) → IsProperMachineStep s x → IsCallOfStep reply x k → is_fetch k ≡ false
 machine_step_call s reply (Call c) k proper is =
     sym (machine_fetch_replyless k) ∙ ap is_fetch is ∙ machine_fetch_replyless c ∙ proper.1
 machine_step_call s reply (Adds a v) k proper is = ap is_fetch is

@@ -8,6 +8,8 @@ use Rattle.std.proofs.lemmas.Option.{none-some, same_Some, slice_get-map, slice_
 use Rattle.base.proofs.SliceSets.{slice_get-set_other, slice_get-set_same}
 use Rattle.journal.specs.declared.event.Event.{Event}
 use Rattle.journal.specs.declared.event.Kind.{Kind}
+use Rattle.journal.specs.declared.event.Kind.{Kind}
+use Rattle.journal.specs.declared.event.Kind.TheVariants as kind
 use Rattle.journal.specs.DidEvent.{did}
 use Rattle.lrc_script.specs.Plan.{Plan}
 use Rattle.conformance.specs.Follows.{calls_of, is_fetch}
@@ -15,8 +17,15 @@ use Rattle.conformance.proofs.Calls.{followed_calls-own, followed_calls-others}
 use Rattle.explore.specs.declared.told.OutcomeTelling.{OutcomeTelling}
 use Rattle.explore.specs.Prefixes.Calling.{last_reply_of_calls}
 use Rattle.explore.specs.Machines.{machine_rows, machine_last_or}
+use Rattle.explore.specs.Outcomes.{outcome_replies_in}
 use Rattle.explore.specs.Told.{AreKeptReplies, is_told_sum, told_kept, told_replies, told_steps}
 use Rattle.explore.proofs.ToldReplies.{told_kept_pending}
+
+-- replies of calls that are put together
+pub outcome_replies_in-append : (xs ys : List Kind) → outcome_replies_in (xs ++ ys) ≡ outcome_replies_in xs ++ outcome_replies_in ys
+outcome_replies_in-append [] ys = refl
+outcome_replies_in-append (kind.Load a v ∷ xs) ys = ap (λ words. v ∷ words) (outcome_replies_in-append xs ys)
+outcome_replies_in-append (k ∷ xs) ys = outcome_replies_in-append xs ys
 
 last_at_replies : (word : ℕ) (words : List ℕ) → slice_get (word ∷ words) (length words) ≡ Some (machine_last_or word words)
 last_at_replies word [] = refl

@@ -1,5 +1,10 @@
 pub mod Told
 pub mod Outcomes
+pub mod Allowed
+pub mod AllowedAnswers
+pub mod AllowedBeginnings
+pub mod AllowedRoom
+pub mod AllowedSearch
 pub mod Room
 pub mod Explored
 pub mod Waits

@@ -34,7 +34,7 @@ pub fn is_free(guarded: &[bool], kind: Kind) -> bool
 }
 
 /// This event alone.
-fn alone(processor: usize, kind: Kind) -> [Option<Kind>; MOST_PROCESSORS]
+pub fn alone(processor: usize, kind: Kind) -> [Option<Kind>; MOST_PROCESSORS]
     requires { processor < most_processors }
     ensures own { slice_index_or result processor None ≡ Some kind }
     ensures only { (p : ℕ) (k : AKind) → slice_index_or result p None ≡ Some k → (p ≡ processor) × (k ≡ kind) }

@@ -7,11 +7,22 @@
 //! that are found equal go on alike; `States` has the states, each once, with where it comes from (`AreFound`); `Search` has
 //! looked at the first of them (`VisitedUpTo`).
 //!
-//! **What is proved.** `explore` answers what `IsExplored` says, and `explore_until` what `IsExploredUntil` says. `guarded_words` says of a word only if it is so that no two
+//! `AreAllowedOutcomes` is what is said of what runs may show by the rules of the memory alone, whether the script races or not: each load
+//! answers a latest store of its past (`IsAllowedOutcome`).
+//!
+//! **What is proved.** `allowed_outcomes` answers what `AreAllowedOutcomes` says: exactly these outcomes, each once, or some of them if there
+//! are more beginnings of runs than were to be looked at. `explore` answers what `IsExplored` says, and `explore_until` what `IsExploredUntil` says. `guarded_words` says of a word only if it is so that no two
 //! accesses of it race; `to_follow` leaves out only what may as well come later (`proofs/reduced`). `Waiting` tells exactly
 //! whether an event may follow.
 #![tactic(auto)]
 
+mod allowed;
+mod allowed_answers;
+mod allowed_beginning;
+mod allowed_calls;
+mod allowed_choice;
+mod allowed_room;
+mod allowed_search;
 mod explored;
 mod flat_state;
 mod free;
@@ -31,6 +42,8 @@ mod until;
 mod wait;
 mod waiting;
 
+pub use allowed::AllowedOutcomes;
+pub use allowed_search::allowed_outcomes;
 pub use explored::{Explored, Hang, Hanging, RacyEvents, ScriptOutcome, Verdict};
 pub use progress::{Progress, Silent};
 pub use search::explore;

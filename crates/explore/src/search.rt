@@ -45,7 +45,7 @@ pub struct Search {
 }
 
 /// Adds an outcome, if it is a new one. The only error is running out of memory.
-fn add_outcome(
+pub(crate) fn add_outcome(
     outcomes: &mut IndexSet<ScriptOutcome>,
     outcome: ScriptOutcome,
 ) -> Result<(), AllocError>
@@ -74,7 +74,7 @@ fn is_through(neighbours: Option<Neighbours>, states: usize, most: usize) -> boo
 }
 
 /// The outcomes as a list. The only error is running out of memory.
-fn search_outcomes_listed(
+pub(crate) fn search_outcomes_listed(
     alloc: Global,
     outcomes: IndexSet<ScriptOutcome>,
 ) -> Result<Vec<ScriptOutcome>, AllocError>

@@ -1,4 +1,5 @@
 pub mod Texts
+pub mod AllowedTexts
 pub mod Showings
 pub mod Prelude
 pub mod Schedules

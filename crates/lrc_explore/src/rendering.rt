@@ -157,7 +157,7 @@ fn racy_text(alloc: Global, racy: &RacyEvents, explored: &Explored) -> Result<Ve
 }
 
 /// The text of what was found of a script that shows these addresses. The only error is running out of memory.
-fn text_of(alloc: Global, shown: &[usize], explored: &Explored) -> Result<Vec<u8>, AllocError>
+pub fn text_of(alloc: Global, shown: &[usize], explored: &Explored) -> Result<Vec<u8>, AllocError>
     ensures { IfOk result (λ t. IsExploreText explored.now t.items) }
 {
     match &explored.verdict {

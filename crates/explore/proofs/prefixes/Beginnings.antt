@@ -92,14 +92,14 @@ beginning_replays_push start g p k old answers i q a v does = elim (slice_push_c
       (sym (take-append_seam g (event p k ∷ [])) ∙ ap (λ n. take n (did g p k)) (sym now.0)) word)
 ]
 
-beginning_now : (s : Plan) (g : List Event) (p : ℕ) (k : Kind) → is_fetch k ≡ false → BeginsScript s (did g p k)
+pub beginning_now : (s : Plan) (g : List Event) (p : ℕ) (k : Kind) → is_fetch k ≡ false → BeginsScript s (did g p k)
     → (section : List Instruction) → slice_get s.sections p ≡ Some section
     → IsCalledNext (calling_section_steps section (calling_shown_by s p)) (calls_of g p) k
 beginning_now s g p k call begins section at =
     ((prefix_calling_begins_push section (calling_shown_by s p) (calls_of g p) k).0
     (subst (BeginsSection section (calling_shown_by s p)) (followed_calls-own g p k call) (begins p section at))).1
 
-beginning_more : (s : Plan) (g : List Event) (p : ℕ) (k : Kind) → BeginsScript s g → CallsNext s g p k
+pub beginning_more : (s : Plan) (g : List Event) (p : ℕ) (k : Kind) → BeginsScript s g → CallsNext s g p k
     → BeginsScript s (did g p k)
 beginning_more s g p k begins may q section at = elim (cases_eq p q) [
   | inl is ↦
@@ -112,7 +112,7 @@ beginning_more s g p k begins may q section at = elim (cases_eq p q) [
       subst (BeginsSection section (calling_shown_by s q)) (sym (followed_calls-others g p q k isnt)) (begins q section at)
 ]
 
-beginning_fetchless_push : (g : List Event) (p : ℕ) (k : Kind) → FlatRunHasNoFetch g → is_fetch k ≡ false → FlatRunHasNoFetch (did g p k)
+pub beginning_fetchless_push : (g : List Event) (p : ℕ) (k : Kind) → FlatRunHasNoFetch g → is_fetch k ≡ false → FlatRunHasNoFetch (did g p k)
 beginning_fetchless_push g p k none call i e at = elim (slice_push_cases g (event p k) i e at) [
   | inl before ↦ none i e before.1
   | inr now ↦ ap (λ (x : Event). is_fetch x.kind) (sym now.1) ∙ call

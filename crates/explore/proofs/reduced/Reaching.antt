@@ -61,15 +61,15 @@ reduced_reaching_next_once s g p j k long first second =
     (subst (λ x. IsCallOfStep (last_reply_of_calls (calls_of g p)) x k) same there.is) one.answers two.answers
 
 -- p's first event among some, or none of them is its
-record FirstReaching (w : List Event) (p : ℕ) : Type 0 where
-  before : List Event
-  own : Event
-  after : List Event
-  are : w ≡ before ++ own ∷ after
-  mine : own.processor ≡ p
-  away : (m : ℕ) (f : Event) → At before m f → f.processor ≢ p
+pub record FirstReaching (w : List Event) (p : ℕ) : Type 0 where
+  pub before : List Event
+  pub own : Event
+  pub after : List Event
+  pub are : w ≡ before ++ own ∷ after
+  pub mine : own.processor ≡ p
+  pub away : (m : ℕ) (f : Event) → At before m f → f.processor ≢ p
 
-reduced_reaching_first_of : (w : List Event) (p : ℕ) → FirstReaching w p ⊎ ((m : ℕ) (f : Event) → At w m f → f.processor ≢ p)
+pub reduced_reaching_first_of : (w : List Event) (p : ℕ) → FirstReaching w p ⊎ ((m : ℕ) (f : Event) → At w m f → f.processor ≢ p)
 reduced_reaching_first_of [] p = inr (λ m f at. absurd (none-some f at))
 reduced_reaching_first_of (e ∷ w) p = elim (cases_eq e.processor p) [
   | inl is ↦ inl (record {

@@ -170,6 +170,20 @@ pub record IsSame (s : Plan) (g h : List Event) : Type 0 where
   pub memory : memory_after (replicate (plan_addresses s) 0) g ≡ memory_after (replicate (plan_addresses s) 0) h
   pub asks : (l p q : ℕ) → SameAsksFirst g l p q ↔ SameAsksFirst h l p q
 
+-- the first and the last of these, which alone say what may come next
+pub record IsSameOrder (g h : List Event) : Type 0 where
+  pub parts : (p : ℕ) → events_of g p ≡ events_of h p
+  pub asks : (l p q : ℕ) → SameAsksFirst g l p q ↔ SameAsksFirst h l p q
+
+pub same_order : (s : Plan) (g h : List Event) → IsSame s g h → IsSameOrder g h
+same_order s g h same = record { parts = same.parts; asks = same.asks }
+
+pub same_order_other_way : (g h : List Event) → IsSameOrder g h → IsSameOrder h g
+same_order_other_way g h same = record {
+  parts = λ p. sym (same.parts p);
+  asks = λ l p q. ((same.asks l p q).1, (same.asks l p q).0);
+}
+
 pub reduced_same_as_itself : (s : Plan) (g : List Event) → IsSame s g g
 reduced_same_as_itself s g = record { parts = λ p. refl; memory = refl; asks = λ l p q. ((λ a. a), (λ a. a)) }
 
@@ -195,7 +209,7 @@ pub reduced_same_memory_did : (start : List ℕ) (g : List Event) (p : ℕ) (k :
     → memory_after start (did g p k) ≡ wrote (memory_after start g) (flat_write k)
 reduced_same_memory_did start g p k = written-append (λ (e : Event). flat_write e.kind) start g (event p k ∷ [])
 
-module _ (s : Plan) (g h : List Event) (same : IsSame s g h) where
+module _ (s : Plan) (g h : List Event) (same : IsSameOrder g h) where
   allowed_same : (p : ℕ) (k : Kind) → Allowed (plan_sizes s) g p k → Allowed (plan_sizes s) h p k
   allowed_same p (Ask l) a = λ holds. a (same_held h g p l (sym (same.parts p)) holds)
   allowed_same p (Acquire l) a =
@@ -273,20 +287,32 @@ module _ (s : Plan) (g h : List Event) (same : IsSame s g h) where
     ]
   ]
 
--- one event more is the same
-pub same_push : (s : Plan) (g h : List Event) (p : ℕ) (k : Kind) → IsSame s g h → IsSame s (did g p k) (did h p k)
-same_push s g h p k same = record {
+-- one event more keeps the order
+pub same_order_push : (s : Plan) (g h : List Event) (p : ℕ) (k : Kind) → IsSameOrder g h → IsSameOrder (did g p k) (did h p k)
+same_order_push s g h p k same = record {
   parts = λ q. elim (cases_eq p q) [
     | inl is ↦
         subst (λ r. events_of (did g p k) r ≡ events_of (did h p k) r) is
         (reduced_same_part_own g (event p k) ∙ ap (λ xs. xs ++ event p k ∷ []) (same.parts p) ∙ sym (reduced_same_part_own h (event p k)))
     | inr isnt ↦ reduced_same_part_others g (event p k) q isnt ∙ same.parts q ∙ sym (reduced_same_part_others h (event p k) q isnt)
   ];
-  memory =
-      reduced_same_memory_did (replicate (plan_addresses s) 0) g p k ∙ ap (λ m. wrote m (flat_write k)) same.memory
-      ∙ sym (reduced_same_memory_did (replicate (plan_addresses s) 0) h p k);
-  asks = λ l r q. (reduced_same_asks_push s g h same (event p k) l r q, reduced_same_asks_push s h g (reduced_same_other_way s g h same) (event p k) l r q);
+  asks = λ l r q. (
+    reduced_same_asks_push s g h same (event p k) l r q,
+    reduced_same_asks_push s h g (same_order_other_way g h same) (event p k) l r q,
+  );
 }
+
+-- one event more is the same
+pub same_push : (s : Plan) (g h : List Event) (p : ℕ) (k : Kind) → IsSame s g h → IsSame s (did g p k) (did h p k)
+same_push s g h p k same =
+    let order = same_order_push s g h p k (same_order s g h same) in
+    record {
+      parts = order.parts;
+      memory =
+          reduced_same_memory_did (replicate (plan_addresses s) 0) g p k ∙ ap (λ m. wrote m (flat_write k)) same.memory
+          ∙ sym (reduced_same_memory_did (replicate (plan_addresses s) 0) h p k);
+      asks = order.asks;
+    }
 
 -- and it may come next
 pub same_next : (s : Plan) (g h : List Event) (p : ℕ) (k : Kind) → IsSame s g h → IsFlatBeginning s h
@@ -296,7 +322,7 @@ same_next s g h p k same begins next =
     (beginning_next s h p k).1 (
       begins,
       record {
-        may_follow = follows_same s g h same (event p k) may.may_follow;
+        may_follow = follows_same s g h (same_order s g h same) (event p k) may.may_follow;
         calls = record {
           call = may.calls.call;
           next = λ section at.

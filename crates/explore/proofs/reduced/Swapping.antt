@@ -241,7 +241,7 @@ module _ (g : List Event) (p q : ℕ) (k c : Kind) (apart : p ≢ q) (l : ℕ) (
 
 -- events of two processors in either order
 module _ (g : List Event) (p q : ℕ) (k c : Kind) (apart : p ≢ q) where
-  reduced_swapped_parts_either : (r : ℕ) → events_of (did (did g p k) q c) r ≡ events_of (did (did g q c) p k) r
+  pub reduced_swapped_parts_either : (r : ℕ) → events_of (did (did g p k) q c) r ≡ events_of (did (did g q c) p k) r
   reduced_swapped_parts_either r = elim (cases_eq p r) [
     | inl is ↦
         (let isnt : q ≢ r = λ other. apart (is ∙ sym other) in
@@ -262,7 +262,7 @@ module _ (g : List Event) (p q : ℕ) (k c : Kind) (apart : p ≢ q) where
   ]
 
   -- which don't both ask for one lock
-  asks_either : (l r t : ℕ) → (kind.Ask l ≡ k → kind.Ask l ≢ c)
+  pub asks_either : (l r t : ℕ) → (kind.Ask l ≡ k → kind.Ask l ≢ c)
       → SameAsksFirst (did (did g p k) q c) l r t ↔ SameAsksFirst (did (did g q c) p k) l r t
   asks_either l r t one = elim (ask_or_not l k) [
     | inl is ↦

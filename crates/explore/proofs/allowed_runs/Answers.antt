@@ -1,0 +1,197 @@
+-- The values that a load may answer are those of its latest stores, or 0 if it has none.
+use Rattle.std.proofs.Common.{ℕ, zero, suc, ◌≡◌, ◌≢◌, ◌+◌, ◌<◌, ◌≤◌, ◌⊎◌, ◌↔◌, inl, inr, List, [], ◌∷◌, ◌++◌, Option, Some, length, slice_get, refl, sym, ap, subst, ◌∙◌, arith}
+use Rattle.std.proofs.lemmas.Bool.{cases_eq}
+use Rattle.std.proofs.lemmas.Option.{none-some, same_Some, slice_get_within}
+use Rattle.base.specs.InOrderOnce.{Has, IsOnce}
+use Rattle.base.proofs.Joined.{has-append, has-cons, has-nil, in_order-append, in_order-nil, joined_in_order_single}
+use Rattle.journal.specs.declared.event.Event.{Event}
+use Rattle.journal.specs.declared.event.Kind.{Kind}
+use Rattle.journal.specs.declared.event.Kind.TheVariants.{Load, Store}
+use Rattle.journal.specs.DidEvent.{did, event}
+use Rattle.journal.specs.Events.{At}
+use Rattle.journal.specs.ExplainedAnswers.{IsAnswer, LatestStore}
+use Rattle.journal.proofs.Order.CountedAndNumbered.{numbered_at_same, numbered_at_shorter, numbered_at_within}
+use Rattle.journal.proofs.Order.HappensBefore.{before_goes_forward}
+use Rattle.judge.specs.Sources.Latest.{IsLatest}
+use Rattle.judge.specs.Sources.Answers.{IsAnswerValue}
+use Rattle.judge.proofs.sources.Answering.{answering_latest_at, answers_law}
+use Rattle.explore.specs.AllowedAnswers.{AreStoredAt, HasAnswerMore, IsStoredAt, answer_stored}
+
+-- one more answer
+pub allowed_answer_there : (old new : List ℕ) (v : ℕ) → Has old v → new ≡ old → HasAnswerMore old new v
+allowed_answer_there old new v has is = record {
+  each = λ x. (
+    λ there. inl (subst (λ xs. Has xs x) is there),
+    λ either. subst (λ xs. Has xs x) (sym is) (elim either [ inl was ↦ was | inr now ↦ subst (Has old) (sym now) has ]),
+  );
+  once = λ once. subst IsOnce (sym is) once;
+}
+
+pub allowed_answer_pushed : (old new : List ℕ) (v : ℕ) → ¬ Has old v → new ≡ old ++ v ∷ [] → HasAnswerMore old new v
+allowed_answer_pushed old new v hasnt is = record {
+  each = λ x. (
+    λ there. elim ((has-append old (v ∷ []) x).0 (subst (λ xs. Has xs x) is there)) [
+      | inl was ↦ inl was
+      | inr now ↦ elim ((has-cons v [] x).0 now) [ inl own ↦ inr (sym own) | inr none ↦ absurd (has-nil x none) ]
+    ],
+    λ either. subst (λ xs. Has xs x) (sym is) ((has-append old (v ∷ []) x).1 (elim either [
+      | inl was ↦ inl was
+      | inr now ↦ inr ((has-cons v [] x).1 (inl (sym now)))
+    ])),
+  );
+  once = λ once. subst IsOnce (sym is)
+      (in_order-append (λ (a b : ℕ). a ≢ b) old (v ∷ []) once (joined_in_order_single (λ (a b : ℕ). a ≢ b) v)
+      (λ a b here there same. elim ((has-cons v [] b).0 there) [
+        | inl own ↦ hasnt (subst (Has old) (same ∙ sym own) here)
+        | inr none ↦ has-nil b none
+      ]));
+}
+
+-- the values that are stored at the first places
+pub allowed_stored_start : (j : List Event) (places : List (Option ℕ)) → AreStoredAt j places 0 []
+allowed_stored_start j places = record {
+  each = λ x. ((λ has. absurd (has-nil x has)), (λ is. absurd (let lt = is.within in omega arith)));
+  once = in_order-nil (λ (a b : ℕ). a ≢ b);
+}
+
+allowed_stored_more : (j : List Event) (places : List (Option ℕ)) (n x : ℕ) → IsStoredAt j places n x → IsStoredAt j places (n + 1) x
+allowed_stored_more j places n x is = record {
+  by = is.by;
+  within = (let lt = is.within in omega arith);
+  place = is.place;
+  is_place = is.is_place;
+  event = is.event;
+  at = is.at;
+  stores = is.stores;
+}
+
+-- of those of one place more, the last one, or one of the old ones
+allowed_stored_cases : (j : List Event) (places : List (Option ℕ)) (n x : ℕ) (is : IsStoredAt j places (n + 1) x)
+    → (is.by ≡ n) ⊎ IsStoredAt j places n x
+allowed_stored_cases j places n x is = elim (cases_eq is.by n) [
+  | inl own ↦ inl own
+  | inr isnt ↦ inr (record {
+    by = is.by;
+    within = (let lt = is.within in omega arith);
+    place = is.place;
+    is_place = is.is_place;
+    event = is.event;
+    at = is.at;
+    stores = is.stores;
+  })
+]
+
+pub allowed_stored_some : (j : List Event) (places : List (Option ℕ)) (n i : ℕ) (e : Event) (old new : List ℕ)
+    → slice_get places n ≡ Some (Some i) → At j i e → AreStoredAt j places n old → HasAnswerMore old new (answer_stored e.kind)
+    → AreStoredAt j places (n + 1) new
+allowed_stored_some j places n i e old new place at stored more = record {
+  each = λ x. (
+    λ has. elim ((more.each x).0 has) [
+      | inl was ↦ allowed_stored_more j places n x ((stored.each x).0 was)
+      | inr now ↦ record { by = n; within = omega arith; place = i; is_place = place; event = e; at = at; stores = sym now }
+    ],
+    λ is. (more.each x).1 (elim (allowed_stored_cases j places n x is) [
+      | inl own ↦
+          (let there = subst (λ b. slice_get places b ≡ Some (Some is.place)) own is.is_place in
+          let both = same_Some (Some i) (Some is.place) (sym place ∙ there) in
+          let same = same_Some i is.place both in
+          let one = numbered_at_same j i e is.event at (subst (λ k. At j k is.event) (sym same) is.at) in
+          inr (sym (ap (λ (y : Event). answer_stored y.kind) one ∙ is.stores)))
+      | inr old_one ↦ inl ((stored.each x).1 old_one)
+    ]),
+  );
+  once = more.once stored.once;
+}
+
+pub allowed_stored_none : (j : List Event) (places : List (Option ℕ)) (n : ℕ) (old : List ℕ)
+    → ((i : ℕ) → slice_get places n ≢ Some (Some i)) → AreStoredAt j places n old → AreStoredAt j places (n + 1) old
+allowed_stored_none j places n old none stored = record {
+  each = λ x. (
+    λ has. allowed_stored_more j places n x ((stored.each x).0 has),
+    λ is. elim (allowed_stored_cases j places n x is) [
+      | inl own ↦ absurd (none is.place (subst (λ b. slice_get places b ≡ Some (Some is.place)) own is.is_place))
+      | inr old_one ↦ (stored.each x).1 old_one
+    ],
+  );
+  once = stored.once;
+}
+
+-- the places of the latest stores tell what a load may answer
+module _ (j : List Event) (p a : ℕ) (latest : List (Option ℕ)) (found : List ℕ)
+    (tells : (v q i : ℕ) → (slice_get latest q ≡ Some (Some i)) ↔ IsLatest (did j p (Load a v)) (length j) a q i)
+    (stored : AreStoredAt j latest (length latest) found) where
+  abbrev IsAllowedNext : ℕ → Type 0
+  IsAllowedNext x = IsAnswer (did j p (Load a x)) (length j) a x
+
+  -- a value that was found is one of a latest store
+  allowed_found_answer : (x : ℕ) → Has found x → IsAllowedNext x
+  allowed_found_answer x has =
+      let is = (stored.each x).0 has in
+      let l = (tells x is.by is.place).0 is.is_place in
+      let there = answering_latest_at j p a x is.by is.place l in
+      let same = numbered_at_same j is.place (event is.by (Store a l.value)) is.event there is.at in
+      let value : l.value ≡ x = ap (λ (y : Event). answer_stored y.kind) same ∙ is.stores in
+      inr (subst (λ v. LatestStore (did j p (Load a x)) (length j) a v) value l.store)
+
+  allowed_answer_found : (x q i : ℕ) → IsLatest (did j p (Load a x)) (length j) a q i → At (did j p (Load a x)) i (event q (Store a x)) → Has found x
+  allowed_answer_found x q i l at =
+      let place = (tells x q i).1 l in
+      let lt = before_goes_forward (did j p (Load a x)) l.store.before in
+      let is = l.place in
+      let here : At j i (event q (Store a x)) = numbered_at_shorter j (event p (Load a x) ∷ []) i (event q (Store a x)) (omega arith) at in
+      (stored.each x).1 (record {
+        by = q;
+        within = slice_get_within latest q (Some i) place;
+        place = i;
+        is_place = place;
+        event = event q (Store a x);
+        at = here;
+        stores = refl;
+      })
+
+  -- some were found: they are what it may answer
+  pub allowed_answers_some : found ≢ [] → (x : ℕ) → Has found x ↔ IsAllowedNext x
+  allowed_answers_some some x = (allowed_found_answer x, back)
+    where
+      first_of : (ys : List ℕ) → ys ≢ [] → (y : ℕ) × Has ys y
+      first_of [] not_empty = absurd (not_empty refl)
+      first_of (y ∷ ys) not_empty = (y, (0, refl))
+
+      back : IsAllowedNext x → Has found x
+      back answer = elim ((answers_law (did j p (Load a x)) (length j) a x).0 answer) [
+        | inl none ↦
+            (let one = first_of found some in
+            let is = (stored.each one.0).0 one.1 in
+            absurd (none.1 is.by is.place ((tells x is.by is.place).0 is.is_place)))
+        | inr l ↦ allowed_answer_found x l.0 l.1 l.2 l.3
+      ]
+
+  -- none was: it answers 0
+  pub allowed_answers_none : found ≡ [] → (x : ℕ) → Has (0 ∷ []) x ↔ IsAllowedNext x
+  allowed_answers_none none x = (there, back)
+    where
+      nothing : (q i : ℕ) → ¬ IsLatest (did j p (Load a x)) (length j) a q i
+      nothing q i l =
+          let at = answering_latest_at j p a x q i l in
+          let place = (tells x q i).1 l in
+          has-nil l.value (subst (λ xs. Has xs l.value) none ((stored.each l.value).1 (record {
+            by = q;
+            within = slice_get_within latest q (Some i) place;
+            place = i;
+            is_place = place;
+            event = event q (Store a l.value);
+            at = at;
+            stores = refl;
+          })))
+
+      there : Has (0 ∷ []) x → IsAllowedNext x
+      there has = elim ((has-cons 0 [] x).0 has) [
+        | inl is ↦ (answers_law (did j p (Load a x)) (length j) a x).1 (inl (sym is, nothing))
+        | inr more ↦ absurd (has-nil x more)
+      ]
+
+      back : IsAllowedNext x → Has (0 ∷ []) x
+      back answer = elim ((answers_law (did j p (Load a x)) (length j) a x).0 answer) [
+        | inl is ↦ (has-cons 0 [] x).1 (inl (sym is.0))
+        | inr l ↦ absurd (nothing l.0 l.1 l.2)
+      ]

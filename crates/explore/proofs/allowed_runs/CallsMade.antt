@@ -1,0 +1,83 @@
+-- What a processor has called, after one event more.
+use Rattle.std.proofs.Common.{ℕ, ◌≡◌, ◌≢◌, ◌+◌, ◌<◌, ◌⊎◌, inl, inr, Bool, true, false, cond, ◌==◌, List, [], ◌∷◌, ◌++◌, count_by, length, take, Some, slice_get, refl, sym, ap, subst, ◌∙◌, append-nil, length-append, arith, add-one}
+use Rattle.std.proofs.lemmas.Bool.{cases_eq, cond-true, cond-false, eq-eqb, ne_eqb}
+use Rattle.base.proofs.SlicesAndCounts.{count_by-append, slice_push_induction, take-suc_at}
+use Rattle.journal.specs.declared.event.Event.{Event}
+use Rattle.journal.specs.declared.event.Kind.{Kind}
+use Rattle.journal.specs.declared.event.Kind.TheVariants as kind
+use Rattle.journal.proofs.Order.CountedAndNumbered.{numbered_at_last, numbered_at_longer}
+use Rattle.conformance.specs.FlatRuns.{FlatRunHasNoFetch}
+use Rattle.conformance.specs.Follows.{calls_of, is_fetch}
+use Rattle.conformance.proofs.Calls.{calls_of_one, calls_of_one-fetch, calls_of_one-others, followed_calls-append, followed_calls-own, followed_calls-others}
+use Rattle.explore.specs.Outcomes.{outcome_replies_in}
+use Rattle.explore.proofs.Replies.{outcome_replies_in-append}
+
+-- a fetch gives no reply
+allowed_fetch_replies : (k : Kind) → is_fetch k ≡ true → outcome_replies_in (k ∷ []) ≡ []
+allowed_fetch_replies (kind.Load a v) fetch = absurd cc
+allowed_fetch_replies _ fetch = refl
+
+bool_is : (b : Bool) → (b ≡ true) ⊎ (b ≡ false)
+bool_is true = inl refl
+bool_is false = inr refl
+
+-- the replies of one event
+allowed_replies_one : (e : Event) (p : ℕ)
+    → outcome_replies_in (calls_of (e ∷ []) p) ≡ cond (e.processor == p) (outcome_replies_in (e.kind ∷ [])) []
+allowed_replies_one e p = elim (cases_eq e.processor p) [
+  | inl is ↦ elim (bool_is (is_fetch e.kind)) [
+    | inl fetch ↦
+        ap outcome_replies_in (calls_of_one-fetch e.processor p e.kind fetch) ∙ sym (allowed_fetch_replies e.kind fetch)
+        ∙ sym (cond-true (e.processor == p) (outcome_replies_in (e.kind ∷ [])) [] (eq-eqb e.processor p is))
+    | inr call ↦
+        ap outcome_replies_in (subst (λ q. calls_of (e ∷ []) q ≡ e.kind ∷ []) is (calls_of_one e.processor e.kind call))
+        ∙ sym (cond-true (e.processor == p) (outcome_replies_in (e.kind ∷ [])) [] (eq-eqb e.processor p is))
+  ]
+  | inr isnt ↦
+      ap outcome_replies_in (calls_of_one-others e.processor p e.kind isnt)
+      ∙ sym (cond-false (e.processor == p) (outcome_replies_in (e.kind ∷ [])) [] (ne_eqb e.processor p isnt))
+]
+
+-- of the first events and one more
+pub allowed_replies_next : (g : List Event) (n : ℕ) (e : Event) (p : ℕ) → slice_get g n ≡ Some e
+    → outcome_replies_in (calls_of (take (n + 1) g) p)
+    ≡ outcome_replies_in (calls_of (take n g) p) ++ cond (e.processor == p) (outcome_replies_in (e.kind ∷ [])) []
+allowed_replies_next g n e p at =
+    rw (add-one, take-suc_at g n e at)
+    (ap outcome_replies_in (followed_calls-append (take n g) (e ∷ []) p)
+    ∙ outcome_replies_in-append (calls_of (take n g) p) (calls_of (e ∷ []) p)
+    ∙ ap (λ xs. outcome_replies_in (calls_of (take n g) p) ++ xs) (allowed_replies_one e p))
+
+-- a processor's events are its calls, if nothing is fetched
+pub allowed_calls_counted : (g : List Event) (p : ℕ) → FlatRunHasNoFetch g
+    → count_by (λ (e : Event). e.processor == p) g ≡ length (calls_of g p)
+allowed_calls_counted g p = slice_push_induction (λ (h : List Event). FlatRunHasNoFetch h
+    → count_by (λ (e : Event). e.processor == p) h ≡ length (calls_of h p)) (λ none. refl) step g
+  where
+    one : (e : Event) → e.processor ≡ p → count_by (λ (x : Event). x.processor == p) (e ∷ []) ≡ 1
+    one e is = let own = eq-eqb e.processor p is in rw own refl
+
+    nothing : (e : Event) → e.processor ≢ p → count_by (λ (x : Event). x.processor == p) (e ∷ []) ≡ 0
+    nothing e isnt = let others = ne_eqb e.processor p isnt in rw others refl
+
+    step : (h : List Event) (e : Event)
+        → (FlatRunHasNoFetch h → count_by (λ (x : Event). x.processor == p) h ≡ length (calls_of h p))
+        → FlatRunHasNoFetch (h ++ e ∷ [])
+        → count_by (λ (x : Event). x.processor == p) (h ++ e ∷ []) ≡ length (calls_of (h ++ e ∷ []) p)
+    step h e old none =
+        let before = old (λ i f at. none i f (numbered_at_longer h (e ∷ []) i f at)) in
+        let call = none (length h) e (numbered_at_last h e) in
+        let sum = count_by-append (λ (x : Event). x.processor == p) h (e ∷ []) in
+        elim (cases_eq e.processor p) [
+          | inl is ↦
+              (let mine = one e is in
+              let own : calls_of (h ++ e ∷ []) p ≡ calls_of h p ++ e.kind ∷ [] =
+              subst (λ q. calls_of (h ++ e ∷ []) q ≡ calls_of h q ++ e.kind ∷ []) is (followed_calls-own h e.processor e.kind call) in
+              let long = ap (λ (ks : List Kind). length ks) own in
+              let both = length-append (calls_of h p) (e.kind ∷ []) in
+              omega arith)
+          | inr isnt ↦
+              (let mine = nothing e isnt in
+              let others = ap (λ (ks : List Kind). length ks) (followed_calls-others h e.processor p e.kind isnt) in
+              omega arith)
+        ]

@@ -1,0 +1,200 @@
+//! A beginning of a run that the rules of the memory allow, an event at a time.
+ghost use Rattle.std.specs.Prelude.{◌≡◌, ◌↔◌, ℕ, ◌<◌, ◌≤◌, List, [], None, Some, IfOk, OnOk, IsTrue, length, slice_index_or};
+ghost use Rattle.base.specs.Prelude.{most_processors};
+ghost use Rattle.journal.specs.declared.event.Kind.{Kind as AKind};
+ghost use Rattle.journal.specs.declared.event.Kind.TheVariants.{Load};
+ghost use Rattle.journal.specs.Prelude.{did};
+ghost use Rattle.judge.specs.Sources.Prelude.{AreSourceStoresOf};
+ghost use Rattle.lrc_script.specs.Prelude.{IsLawful, Plan};
+ghost use Rattle.lrc_script.specs.Lawful.{plan_addresses};
+ghost use Rattle.conformance.specs.Follows.{Follows};
+ghost use Rattle.explore.specs.Allowed.{IsAllowedBeginning};
+ghost use Rattle.explore.specs.AllowedBeginnings.{AreCallsFollowed, AreCallsNext, ArePlainCalls, IsCallFollowed, MayBeLengthened};
+ghost use Rattle.explore.specs.AllowedBeginnings.{MayCallNext, MayFollowCall, MayFollowCalls, TellsAllowed, allowed_events};
+ghost use Rattle.explore.specs.Machines.{AreLawfulMachineSteps, machine_rows};
+ghost use Rattle.explore.specs.Outcomes.{AreOutcomeReplies};
+ghost use Rattle.explore.specs.Prefixes.Calling.{replyless_call};
+ghost use Rattle.explore.specs.Waiting.{IsLikeWaiting};
+
+use crate::allowed_answers::allowed_answers;
+use crate::allowed_calls::{
+    allowed_call_of, allowed_calls_made, allowed_replies, allowed_reply_before,
+};
+use crate::prefixes::ScriptCall;
+use crate::waiting::Waiting;
+use base::MOST_PROCESSORS;
+use journal::{Event, Kind};
+use judge::sources::Sources;
+use std::alloc::{AllocError, Global};
+
+/// A beginning of a run that the rules of the memory allow: each load answers a latest store of its past.
+#[derive(Drop)]
+pub struct AllowedBeginning {
+    events: Vec<Event>,
+    waiting: Waiting,
+}
+
+impl AllowedBeginning {
+    /// Before the first event.
+    pub fn new(alloc: Global) -> AllowedBeginning
+        ensures told { (s : Plan) → TellsAllowed s result }
+        ensures empty { allowed_events result ≡ [] }
+    {
+        AllowedBeginning {
+            events: Vec::new(alloc),
+            waiting: Waiting::new(alloc),
+        }
+    }
+
+    /// The events, in order.
+    pub fn events(&self) -> &[Event]
+        ensures { result.now ≡ allowed_events self.now }
+    {
+        &self.events
+    }
+
+    /// Another one of the same events. The only error is running out of memory.
+    fn copy(&self) -> Result<AllowedBeginning, AllocError>
+        ensures events { IfOk result (λ b. allowed_events b ≡ allowed_events self.now) }
+        ensures waiting { IfOk result (λ b. IsLikeWaiting self.now.waiting b.waiting) }
+    {
+        Ok(AllowedBeginning {
+            events: self.events.clone()?,
+            waiting: self.waiting.copy()?,
+        })
+    }
+
+    /// The beginning with one event more, which may come next. The only error is running out of memory.
+    fn lengthened(&self, processor: usize, kind: Kind) -> Result<AllowedBeginning, AllocError>
+        requires { (s : Plan) × MayBeLengthened s self.now processor kind }
+        ensures events { IfOk result (λ b. allowed_events b ≡ did (allowed_events self.now) processor kind) }
+        ensures told { IfOk result (λ b. (s : Plan) → MayBeLengthened s self.now processor kind → TellsAllowed s b) }
+    {
+        let mut longer = self.copy()?;
+        longer.waiting.note(processor, kind)?;
+        longer.events.push(Event { processor, kind })?;
+        Ok(longer)
+    }
+
+    /// What the processor calls next, a load without a reply; None if it has made all its calls, or has to wait. Its steps are one of
+    /// these rows.
+    fn next_call(&self, steps: &[Vec<ScriptCall>], processor: usize) -> Option<Kind>
+        requires processor { processor < length steps.now }
+        requires told { (s : Plan) × AreLawfulMachineSteps s steps.now × TellsAllowed s self.now }
+        ensures call { (s : Plan) → AreLawfulMachineSteps s steps.now → TellsAllowed s self.now → (k : AKind)
+            → (result ≡ Some (replyless_call k)) ↔ MayCallNext s (allowed_events self.now) processor k }
+        ensures plain { (c : AKind) → result ≡ Some c → replyless_call c ≡ c }
+    {
+        let row = &steps[processor];
+        let made = allowed_calls_made(&self.events, processor);
+        if made >= row.len() {
+            return None;
+        }
+        let call = allowed_call_of(row[made], allowed_reply_before(&self.events, processor));
+        if self.waiting.may_follow(steps.len(), processor, call) {
+            Some(call)
+        } else {
+            None
+        }
+    }
+
+    /// What each processor calls next, as `next_call` says.
+    pub fn next_calls(&self, steps: &[Vec<ScriptCall>]) -> [Option<Kind>; MOST_PROCESSORS]
+        requires told { (s : Plan) × AreLawfulMachineSteps s steps.now × TellsAllowed s self.now }
+        ensures calls { (s : Plan) → AreLawfulMachineSteps s steps.now → TellsAllowed s self.now
+            → AreCallsNext s (allowed_events self.now) result }
+        ensures plain { ArePlainCalls result }
+        ensures long { length result ≡ most_processors }
+    {
+        let mut calls = [None; MOST_PROCESSORS];
+        for processor in 0..steps.len() {
+            calls[processor] = self.next_call(steps, processor);
+        }
+        calls
+    }
+
+    /// Whether each processor has made all its calls.
+    pub fn is_whole(&self, steps: &[Vec<ScriptCall>]) -> bool
+        ensures { (s : Plan) → AreLawfulMachineSteps s steps.now → TellsAllowed s self.now
+            → IsTrue result ↔ Follows s (allowed_events self.now) }
+    {
+        for processor in 0..steps.len() {
+            if allowed_calls_made(&self.events, processor) < steps[processor].len() {
+                return false;
+            }
+        }
+        true
+    }
+
+    /// What the loads of each of so many processors have answered. The only error is running out of memory.
+    pub fn replies(&self, alloc: Global, processors: usize) -> Result<Vec<Vec<u32>>, AllocError>
+        ensures { IfOk result (λ v. (s : Plan) → s.processors ≡ processors
+            → AreOutcomeReplies s (allowed_events self.now) (machine_rows v.items)) }
+    {
+        let replies = allowed_replies(alloc, &self.events, processors)?;
+        Ok(replies)
+    }
+
+    /// Adds the beginning with the processor's load of this address, by each reply that it may have.
+    fn follow_load(
+        &self,
+        alloc: Global,
+        sources: &Sources,
+        processor: usize,
+        address: usize,
+        pending: &mut Vec<AllowedBeginning>,
+    ) -> Result<(), AllocError>
+        requires { (s : Plan) × MayFollowCall s self.now sources.now processor (Load address 0) }
+        ensures { OnOk result ((s : Plan) → MayFollowCall s self.now sources.now processor (Load address 0)
+            → IsCallFollowed s (allowed_events self.now) processor (Load address 0) pending.old.items pending.new.items) }
+    {
+        let answers = allowed_answers(alloc, sources, &self.events, processor, address)?;
+        for word in &answers {
+            pending.push(self.lengthened(processor, Kind::Load(address, *word))?)?;
+        }
+        Ok(())
+    }
+
+    /// Adds the beginning with the processor's next call, which is this; a load by each reply that it may have.
+    fn follow(
+        &self,
+        alloc: Global,
+        sources: &Sources,
+        processor: usize,
+        call: Kind,
+        pending: &mut Vec<AllowedBeginning>,
+    ) -> Result<(), AllocError>
+        requires { (s : Plan) × MayFollowCall s self.now sources.now processor call }
+        ensures { OnOk result ((s : Plan) → MayFollowCall s self.now sources.now processor call
+            → IsCallFollowed s (allowed_events self.now) processor call pending.old.items pending.new.items) }
+    {
+        match call {
+            Kind::Load(address, _) => self.follow_load(alloc, sources, processor, address, pending),
+            _ => {
+                pending.push(self.lengthened(processor, call)?)?;
+                Ok(())
+            }
+        }
+    }
+
+    /// Adds the beginning with each of these calls, one of each processor; a load by each reply that it may have. The only error
+    /// is running out of memory.
+    pub fn follow_all(
+        &self,
+        alloc: Global,
+        sources: &Sources,
+        calls: &[Option<Kind>; MOST_PROCESSORS],
+        pending: &mut Vec<AllowedBeginning>,
+    ) -> Result<(), AllocError>
+        requires { (s : Plan) × MayFollowCalls s self.now sources.now calls.now }
+        ensures { OnOk result ((s : Plan) → MayFollowCalls s self.now sources.now calls.now
+            → AreCallsFollowed s (allowed_events self.now) calls.now pending.old.items pending.new.items) }
+    {
+        for processor in 0..MOST_PROCESSORS {
+            if let Some(call) = calls[processor] {
+                self.follow(alloc, sources, processor, call, pending)?;
+            }
+        }
+        Ok(())
+    }
+}
