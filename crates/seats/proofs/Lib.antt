@@ -11,3 +11,4 @@ mod Kept
 pub mod Tenures
 pub mod KeptByPrograms
 pub mod KeptTotals
+pub mod Rounds

@@ -34,7 +34,7 @@ other_kind h i p q a x k none does =
     absurd (cc)
 
 -- who accesses a word has departed as often as it has arrived
-idle_at : (s : Sizes) (h : List Event) (i p a : ℕ) → WellFormed s h → AccessAt h i p a
+pub idle_at : (s : Sizes) (h : List Event) (i p a : ℕ) → WellFormed s h → AccessAt h i p a
     → count_of is_arrive (take i h) p ≡ count_of is_depart (take i h) p
 idle_at s h i p a well x = (balanced s (take i h) p (well_formed_take s h i well)).going none
   where

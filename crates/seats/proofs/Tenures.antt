@@ -67,7 +67,7 @@ abbrev pub open_tenure : (ℕ → Bool) → ℕ → List Event → ℕ → List 
 open_tenure words l j p = tenure_after words l (deeds (events_of j p))
 
 -- what others did is as it was
-others_deeds : (j : List Event) (p q : ℕ) (k : Kind) → q ≢ p
+pub others_deeds : (j : List Event) (p q : ℕ) (k : Kind) → q ≢ p
     → deeds (events_of (j ++ event p k ∷ []) q) ≡ deeds (events_of j q)
 others_deeds j p q k apart =
     own_deeds-append j (event p k ∷ []) q
@@ -82,7 +82,7 @@ own_deeds j p k deed =
     ∙ ap (λ es. deeds (events_of j p) ++ es) (own_deed (event p k) p (eq-eqb p p refl) deed)
 
 -- a fetch more
-fetched_deeds : (j : List Event) (p : ℕ) (k : Kind) → is_deed k ≡ false
+pub fetched_deeds : (j : List Event) (p : ℕ) (k : Kind) → is_deed k ≡ false
     → deeds (events_of (j ++ event p k ∷ []) p) ≡ deeds (events_of j p)
 fetched_deeds j p k fetch =
     own_deeds-append j (event p k ∷ []) p
@@ -151,7 +151,7 @@ others_tenure : (words : ℕ → Bool) (l : ℕ) (j : List Event) (p q : ℕ) (k
 others_tenure words l j p q k apart = ap (λ ks. tenure_after words l ks) (others_deeds j p q k apart)
 
 -- the memory after one event more
-memory_push : (memory : List ℕ) (j : List Event) (p : ℕ) (k : Kind)
+pub memory_push : (memory : List ℕ) (j : List Event) (p : ℕ) (k : Kind)
     → memory_after memory (j ++ event p k ∷ []) ≡ wrote (memory_after memory j) (flat_write k)
 memory_push memory j p k = written-append (λ (e : Event). flat_write e.kind) memory j (event p k ∷ [])
 
@@ -447,7 +447,7 @@ kept_start {memory = memory} under = record {
 }
 
 -- what a load answers in a history that replays
-replayed : {memory : List ℕ} {h : List Event} (n p : ℕ) (k : Kind) → Replays memory h → Does h n p k
+pub replayed : {memory : List ℕ} {h : List Event} (n p : ℕ) (k : Kind) → Replays memory h → Does h n p k
     → AnswersFlatWord (memory_after memory (take n h)) k
 replayed n p (Load a v) replays does = replays n p a v does
 replayed n p _ replays does = tt

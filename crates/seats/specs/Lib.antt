@@ -1,9 +1,12 @@
 pub mod Deeds
+pub mod Grids
 pub mod Guards
 pub mod Kept
 pub mod Laws
+pub mod Loads
 pub mod Prelude
 pub mod ProgramRuns
+pub mod Rounds
 pub mod SeatCalls
 pub mod Sitting
 pub mod Tables

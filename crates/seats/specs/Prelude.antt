@@ -10,3 +10,6 @@ pub use Rattle.seats.specs.Sitting.{HasWorked, IsSitting, new_seat, seat_deeds}
 pub use Rattle.seats.specs.SeatCalls.{AccessesBy, AccessesInside, AccessesPage, FetchesBy, HasDone, HasTaken, IsLeftUndone, IsUndone}
 pub use Rattle.seats.specs.SeatCalls.{StaysSeated, WaitsStill, closing_deeds, seat_access_refusal}
 pub use Rattle.seats.specs.Tenures.{KeptFact, KeptLaw}
+pub use Rattle.seats.specs.Loads.{LoadsValue}
+pub use Rattle.seats.specs.Grids.{GridsLaw, grid_at, grid_rounds, block_end, block_start, grid_made, grid_read}
+pub use Rattle.seats.specs.Rounds.{HasMadeRounds, RoundsLaw}

@@ -1,5 +1,5 @@
 //! Laws, as contracts of functions that do nothing: the check proves each by its name.
-ghost use Rattle.seats.specs.Prelude.{KeptFact, KeptLaw, PhaseGuardLaw, TableGuardLaw};
+ghost use Rattle.seats.specs.Prelude.{GridsLaw, KeptFact, KeptLaw, PhaseGuardLaw, RoundsLaw, TableGuardLaw};
 
 /// If each processor keeps to the guards in what it does, then no two accesses of a word race, but of one that was open
 /// to all.
@@ -21,4 +21,16 @@ pub trait LockKeeps {
 /// holds at the end, of one flat memory and of all accesses to the lock's words.
 pub fn kept_law<K: LockKeeps>()
     ensures { KeptLaw K.fact }
+{}
+
+/// If in each round, from one departure from the barrier to the next, each processor makes its words from words that nobody
+/// makes then, and all make each word that the round changes, then the memory at the end is that after all rounds.
+pub fn rounds_law()
+    ensures { RoundsLaw }
+{}
+
+/// If the rounds make two grids in turn, the first one at first from the start and then each from the other by a step, then
+/// the last one that was made is the start after as many steps.
+pub fn grids_law()
+    ensures { GridsLaw }
 {}

@@ -26,6 +26,7 @@
 mod accesses;
 mod closings;
 mod fault;
+mod grids;
 mod guard;
 pub mod laws;
 mod layout;
@@ -37,6 +38,7 @@ mod sitting;
 mod tests;
 
 pub use fault::{ProcessorFault, SeatFault};
+pub use grids::Grids;
 pub use guard::Guard;
 pub use layout::Layout;
 pub use program::{Program, sit};

@@ -1,0 +1,5 @@
+use Rattle.seats.proofs.Rounds.RoundsLaw.{rounds_law}
+use Rattle.seats.proofs.laws.rounds_law.Goals as goal
+
+pub returns : goal.returns
+returns c = rounds_law
