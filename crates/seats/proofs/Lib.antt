@@ -11,3 +11,10 @@ mod Kept
 pub mod Tenures
 pub mod KeptByPrograms
 pub mod KeptTotals
+pub mod Totals
+pub mod TotalsInHistories
+pub mod KeptReads
+pub mod Acting
+pub mod GuardedRuns
+pub mod Balances
+pub mod BalancedRuns

@@ -1,4 +1,7 @@
+pub mod Acting
+pub mod Balances
 pub mod Deeds
+pub mod GuardedRuns
 pub mod Guards
 pub mod Kept
 pub mod Laws
@@ -8,3 +11,4 @@ pub mod SeatCalls
 pub mod Sitting
 pub mod Tables
 pub mod Tenures
+pub mod Totals
