@@ -3,15 +3,21 @@
 //!
 //! Each of four processors adds one to a shared word, again and again. At the end the program prints the word.
 //!
-//! **What is proved** is what `seats::run` promises: the journal has the whole history, which a lazy release consistent
-//! memory may have; and no two accesses race, since each processor keeps to the layout and no word of it is open to all. It
-//! has no proof file.
+//! **What is proved**: the word is 4 × 250, modulo 2^32 (`count`). A processor says how much it has added to the word (`did`), and `Seat::add`
+//! says of itself how much that is; so the proof is a loop's invariant and a line for the end. Besides, what `seats::run_guarded`
+//! promises: no two accesses race, since each processor keeps to the layout and no word of it is open to all.
 //!
-//! **What is only tested**: that the word is as great as it should be.
+//! **What is only tested**: that it answers.
 #![tactic(auto)]
 
+ghost use Rattle.std.specs.Prelude.{◌≡◌, ◌%◌, ◌^◌, IfOk};
+ghost use Rattle.seats.specs.Prelude.{HasAdded};
+
 use anyhow::Result;
-use seats::{Guard, Layout, Program, Seat, SeatFault, Sitting};
+use seats::{Guard, Layout, ProcessorFault, Program, Seat, SeatFault, Sitting};
+use std::alloc::Global;
+use std::sync::Wait;
+use std::thread::Threads;
 
 /// Processors.
 const PROCESSORS: usize = 4;
@@ -28,29 +34,31 @@ struct Counter;
 impl Program for Counter {
     type Answer = ();
 
-    // Nothing is said of what a processor does.
-    ghost did = { λ processor deeds answer. Unit {0} };
+    // To the word at address 0, under lock 0, it has added 250.
+    ghost did = { λ processor deeds answer. HasAdded 0 0 250 deeds };
 
     fn work<S: Sitting>(&self, seat: &mut Seat<'_, S>) -> Result<(), SeatFault> {
-        for _ in 0..ROUNDS {
-            seat.lock(LOCK)?;
-            let count = seat.load(COUNT)?;
-            seat.store(COUNT, count.wrapping_add(1))?;
-            seat.unlock(LOCK)?;
+        for round in 0..ROUNDS {
+            seat.add(LOCK, COUNT, 1)?;
         }
         Ok(())
     }
 }
 
-fn main(rt: HostRuntime) -> Result<()> {
+/// Counts by a thread for each processor, and answers the word at the end.
+fn count<R: Threads + Wait + Sync>(rt: &R, alloc: Global) -> Result<u32, ProcessorFault>
+    ensures { IfOk result (λ count. count % 2 ^ 32 ≡ 1000) }
+{
     // Only who holds the lock may access the word.
-    let mut layout = Layout::new(rt.alloc(), 1, 0, 1)?;
+    let mut layout = Layout::new(alloc, 1, 0, 1)?;
     layout.put(0, COUNT, COUNT + 1, Guard::Under(LOCK));
     // One page of one word, one lock, no flags.
-    let ran = seats::run(&rt, rt.alloc(), PROCESSORS, 1, 1, 1, 0, &layout, &Counter)?;
-    let words = ran.journal.replay()?;
-    if let Some(count) = words.as_ref().and_then(|words| words.first()) {
-        println!(rt; "counted {count} of {}", PROCESSORS * ROUNDS)?;
-    }
+    let ran = seats::run_guarded(rt, alloc, PROCESSORS, 1, 1, 1, 0, &layout, &Counter)?;
+    Ok(ran.memory[COUNT])
+}
+
+fn main(rt: HostRuntime) -> Result<()> {
+    let count = count(&rt, rt.alloc())?;
+    println!(rt; "counted {count} of {}", PROCESSORS * ROUNDS)?;
     Ok(())
 }

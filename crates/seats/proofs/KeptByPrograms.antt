@@ -5,7 +5,7 @@ use Rattle.std.proofs.lemmas.Bool.{eq-eqb}
 use Rattle.std.proofs.lemmas.List.{take-append-le}
 use Rattle.std.proofs.lemmas.Option.{none-some, slice_get_cases}
 use Rattle.std.proofs.Math.Seq.{take-length}
-use Rattle.base.proofs.SlicesAndCounts.{slice_append_cases}
+use Rattle.base.proofs.SlicesAndCounts.{slice_append_cases, slice_get-append_right, slice_get-last}
 use Rattle.journal.specs.declared.event.Event.{Event}
 use Rattle.journal.specs.declared.event.Kind.{Kind}
 use Rattle.journal.specs.declared.event.Kind.TheVariants.{Ask, Acquire, Release}
@@ -23,7 +23,7 @@ use Rattle.seats.specs.ProgramRuns.{IsProgramRun}
 use Rattle.seats.specs.declared.guard.Guard.{Guard}
 use Rattle.seats.specs.declared.guard.Guard.TheVariants.{Under}
 use Rattle.seats.specs.Tables.{GuardTables, IsPut, NoneOpen, guard_in, guards_of, is_between, table_at}
-use Rattle.seats.specs.Tenures.{IsBetweenTenures, IsKeptUnder, KeptFact, Preserves, PreservesByTenures, accesses_among, are_among, is_among, tenure_after, tenure_on, whole_tenure}
+use Rattle.seats.specs.Tenures.{HaveReadKept, IsBetweenTenures, IsKeptUnder, KeptFact, Preserves, PreservesByTenures, ReadsKept, accesses_among, are_among, is_among, tenure_after, tenure_on, whole_tenure}
 use Rattle.seats.proofs.Guards.{held_on-append}
 use Rattle.seats.proofs.Tenures.{IsAccessAmong, among_held, among_tenure, kept_law, tenure_on-append}
 
@@ -92,6 +92,16 @@ take-past (x ∷ xs) ys m =
     ap (λ n. take n (x ∷ xs ++ ys)) (let e : suc (length xs) + m ≡ suc (length xs + m) = omega arith in e)
     ∙ ap (λ zs. x ∷ zs) (take-past xs ys m)
 
+-- a whole tenure behind what has none open, up to its release
+tenure_behind : (f : KeptFact) (ks mid : List Kind) → tenure_after f.words f.lock ks ≡ [] → are_among f.words mid ≡ true → (m : ℕ)
+    → slice_get (whole_tenure f.lock mid) m ≡ Some (Release f.lock)
+    → tenure_after f.words f.lock (take (length ks + m) (ks ++ whole_tenure f.lock mid)) ≡ mid
+tenure_behind f ks mid closed all m at =
+    ap (tenure_after f.words f.lock) (take-past ks (whole_tenure f.lock mid) m)
+    ∙ tenure_on-append f.words f.lock ks (take m (whole_tenure f.lock mid)) []
+    ∙ ap (λ es. tenure_on f.words f.lock es (take m (whole_tenure f.lock mid))) closed
+    ∙ tenure_of_whole f.words f.lock mid all m at
+
 -- one more whole tenure, which preserves the fact
 pub between_tenure : {f : KeptFact} (ks mid : List Kind) → IsBetweenTenures f ks → are_among f.words mid ≡ true
     → Preserves f mid → IsBetweenTenures f (ks ++ whole_tenure f.lock mid)
@@ -102,7 +112,7 @@ between_tenure {f} ks mid was all preserves = record {
           (sym (take-append-le i ks (whole_tenure f.lock mid) (let less = old.0 in omega arith)))
           (was.preserves.each i old.1)
       | inr new ↦ subst (λ n. Preserves f (tenure_after f.words f.lock (take n (ks ++ whole_tenure f.lock mid)))) (sym new.1)
-          (subst (Preserves f) (sym (here new.0 new.2)) preserves)
+          (subst (Preserves f) (sym (tenure_behind f ks mid was.closed all new.0 new.2)) preserves)
     ];
     ended = held_on-append ks (whole_tenure f.lock mid) f.lock false
         ∙ held_among f.words f.lock mid (Release f.lock ∷ []) _ all ∙ rw (eq-eqb f.lock f.lock refl) refl;
@@ -111,14 +121,15 @@ between_tenure {f} ks mid was all preserves = record {
       ∙ ap (λ es. tenure_on f.words f.lock es (whole_tenure f.lock mid)) was.closed
       ∙ tenure_among f.words f.lock mid (Release f.lock ∷ []) [] all ∙ rw (eq-eqb f.lock f.lock refl) refl;
 }
-  where
-    here : (m : ℕ) → slice_get (whole_tenure f.lock mid) m ≡ Some (Release f.lock)
-        → tenure_after f.words f.lock (take (length ks + m) (ks ++ whole_tenure f.lock mid)) ≡ mid
-    here m at =
-        ap (tenure_after f.words f.lock) (take-past ks (whole_tenure f.lock mid) m)
-        ∙ tenure_on-append f.words f.lock ks (take m (whole_tenure f.lock mid)) []
-        ∙ ap (λ es. tenure_on f.words f.lock es (take m (whole_tenure f.lock mid))) was.closed
-        ∙ tenure_of_whole f.words f.lock mid all m at
+
+-- what it loaded is of a memory of which the fact held, if that is so of each tenure
+pub read_behind : {f : KeptFact} (ks mid : List Kind) → IsBetweenTenures f ks → are_among f.words mid ≡ true
+    → ReadsKept f (ks ++ whole_tenure f.lock mid) → HaveReadKept f mid
+read_behind {f} ks mid was all reads =
+    let place = suc (suc (length mid)) in
+    let here : slice_get (whole_tenure f.lock mid) place ≡ Some (Release f.lock) = slice_get-last mid (Release f.lock) in
+    subst (HaveReadKept f) (tenure_behind f ks mid was.closed all place here)
+    (reads (length ks + place) (slice_get-append_right ks (whole_tenure f.lock mid) place ∙ here))
 
 -- what a processor did since it was that
 pub record HasDoneSince (b m : Local) (ks : List Kind) : Type 0 where

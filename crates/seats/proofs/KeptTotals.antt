@@ -8,6 +8,7 @@ use Rattle.journal.specs.Events.{At, events_of}
 use Rattle.journal.specs.Sizes.{Sizes}
 use Rattle.journal.specs.WellFormed.{WellFormed}
 use Rattle.seats.specs.Deeds.{deeds}
+use Rattle.seats.specs.Totals.{total_of}
 use Rattle.seats.proofs.Deeds.{deeds-append, others_deed, own_deeds-append}
 
 -- a number of deeds that adds up, as a count or a sum
@@ -15,17 +16,12 @@ pub record IsAdditive (f : List Kind → ℕ) : Type 0 where
   pub nothing : f [] ≡ 0
   pub both : (ks ls : List Kind) → f (ks ++ ls) ≡ f ks + f ls
 
--- the sum of the first numbers of a sequence
-abbrev pub total_of : (ℕ → ℕ) → ℕ → ℕ
-total_of a zero = 0
-total_of a (suc n) = total_of a n + a n
-
-total_same : (a b : ℕ → ℕ) (n : ℕ) → ((p : ℕ) → p < n → a p ≡ b p) → total_of a n ≡ total_of b n
+pub total_same : (a b : ℕ → ℕ) (n : ℕ) → ((p : ℕ) → p < n → a p ≡ b p) → total_of a n ≡ total_of b n
 total_same a b zero same = refl
 total_same a b (suc n) same =
     let rest = total_same a b n (λ p less. same p (omega arith)) in let last = same n (omega arith) in cc
 
-total_both : (a b : ℕ → ℕ) (n : ℕ) → total_of (λ p. a p + b p) n ≡ total_of a n + total_of b n
+pub total_both : (a b : ℕ → ℕ) (n : ℕ) → total_of (λ p. a p + b p) n ≡ total_of a n + total_of b n
 total_both a b zero = refl
 total_both a b (suc n) = let rest = total_both a b n in omega arith
 
@@ -35,14 +31,14 @@ total_none a (suc n) none =
     let rest = total_none a n (λ p less. none p (omega arith)) in let last = none n (omega arith) in omega arith
 
 -- all but one are zero
-total_one : (a : ℕ → ℕ) (q n : ℕ) → q < n → ((p : ℕ) → p ≢ q → a p ≡ 0) → total_of a n ≡ a q
+pub total_one : (a : ℕ → ℕ) (q n : ℕ) → q < n → ((p : ℕ) → p ≢ q → a p ≡ 0) → total_of a n ≡ a q
 total_one a q zero less none = absurd (omega arith)
 total_one a q (suc n) less none = elim (cases_eq n q) [
   | inl is ↦ (let rest = total_none a n (λ p lt. none p (λ e. omega arith)) in let last = ap a is in omega arith)
   | inr apart ↦ (let rest = total_one a q n (omega arith) none in let last = none n apart in omega arith)
 ]
 
-total_equal : (a : ℕ → ℕ) (n c : ℕ) → ((p : ℕ) → p < n → a p ≡ c) → total_of a n ≡ n * c
+pub total_equal : (a : ℕ → ℕ) (n c : ℕ) → ((p : ℕ) → p < n → a p ≡ c) → total_of a n ≡ n * c
 total_equal a zero c same = omega arith
 total_equal a (suc n) c same =
     let rest = total_equal a n c (λ p less. same p (omega arith)) in let last = same n (omega arith) in

@@ -12,3 +12,10 @@ pub mod Tenures
 pub mod KeptByPrograms
 pub mod KeptTotals
 pub mod Rounds
+pub mod Totals
+pub mod TotalsInHistories
+pub mod KeptReads
+pub mod Acting
+pub mod GuardedRuns
+pub mod Balances
+pub mod BalancedRuns

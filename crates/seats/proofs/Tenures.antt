@@ -107,7 +107,7 @@ pub record IsKeptSoFar (f : KeptFact) (memory : List ℕ) (j : List Event) : Typ
 abbrev pub OneHolds : ℕ → List Event → Type 0
 OneHolds l j = (p q : ℕ) → has_lock l j p ≡ true → has_lock l j q ≡ true → p ≡ q
 
-not_both : (b : Bool) → b ≡ true → b ≡ false → ⊥
+pub not_both : (b : Bool) → b ≡ true → b ≡ false → ⊥
 not_both b on off = let e : true ≡ false = sym on ∙ off in absurd (cc)
 
 -- what changes neither the lock, nor its words, nor tenures keeps all
@@ -131,7 +131,7 @@ kept_same j i k locks tenures all words = record {
 }
 
 -- what p's deed does to its own lock and tenure
-own_lock : (l : ℕ) (j : List Event) (p : ℕ) (k : Kind) → is_deed k ≡ true
+pub own_lock : (l : ℕ) (j : List Event) (p : ℕ) (k : Kind) → is_deed k ≡ true
     → has_lock l (j ++ event p k ∷ []) p ≡ held_then k l (has_lock l j p)
 own_lock l j p k deed =
     ap (λ ks. holds_after ks l) (own_deeds j p k deed) ∙ held_on-append (deeds (events_of j p)) (k ∷ []) l false
@@ -142,7 +142,7 @@ own_tenure words l j p k deed =
     ap (λ ks. tenure_after words l ks) (own_deeds j p k deed) ∙ tenure_on-append words l (deeds (events_of j p)) (k ∷ []) []
 
 -- to those of others nothing
-others_lock : (l : ℕ) (j : List Event) (p q : ℕ) (k : Kind) → q ≢ p
+pub others_lock : (l : ℕ) (j : List Event) (p q : ℕ) (k : Kind) → q ≢ p
     → has_lock l (j ++ event p k ∷ []) q ≡ has_lock l j q
 others_lock l j p q k apart = ap (λ ks. holds_after ks l) (others_deeds j p q k apart)
 
@@ -452,13 +452,17 @@ pub replayed : {memory : List ℕ} {h : List Event} (n p : ℕ) (k : Kind) → R
 replayed n p (Load a v) replays does = replays n p a v does
 replayed n p _ replays does = tt
 
+-- each tenure that has ended preserves the fact
+abbrev pub PreservesEachTenure : KeptFact → List Kind → Type 0
+PreservesEachTenure f ks = (i : ℕ) → slice_get ks i ≡ Some (Release f.lock) → Preserves f (tenure_after f.words f.lock (take i ks))
+
 -- the premises of the law
-record HasKept (s : Sizes) (g : Guards) (memory : List ℕ) (h : List Event) (f : KeptFact) : Type 0 where
+pub record HasKept (s : Sizes) (g : Guards) (memory : List ℕ) (h : List Event) (f : KeptFact) : Type 0 where
   pub well : WellFormed s h
   pub keeps : AllKeepTo g h
   pub replays : Replays memory h
   pub under : IsKeptUnder g memory f
-  pub each : (p : ℕ) → p < s.processors → PreservesByTenures f (deeds (events_of h p))
+  pub each : (p : ℕ) → p < s.processors → PreservesEachTenure f (deeds (events_of h p))
 
 -- one event more of it
 kept_next : {s : Sizes} {g : Guards} {memory : List ℕ} {h : List Event} {f : KeptFact} → HasKept s g memory h f
@@ -486,7 +490,7 @@ kept_next {s} {g} {memory} {h} {f} x n p k does was = elim (lock_part f.words f.
     preserves is =
         let found = deed_at h n p (Release f.lock) (subst (λ i. Does h n p i) is does) refl in
         subst (λ ks. Preserves f (tenure_after f.words f.lock ks)) found.front
-        ((x.each p (x.well n (event p k) does).processor).each (length (deeds (events_of (take n h) p))) found.there)
+        (x.each p (x.well n (event p k) does).processor (length (deeds (events_of (take n h) p))) found.there)
 
     free : k ≡ Acquire f.lock → (q : ℕ) → has_lock f.lock (take n h) q ≡ false
     free is q = elim (cases_Bool (has_lock f.lock (take n h) q)) [
@@ -502,7 +506,7 @@ kept_next {s} {g} {memory} {h} {f} x n p k does was = elim (lock_part f.words f.
         (allowed_at g h n p among.address (x.keeps p) (record { kind = k; does = does; address = among.at }))
 
 -- and all of them
-kept_through : {s : Sizes} {g : Guards} {memory : List ℕ} {h : List Event} {f : KeptFact} → HasKept s g memory h f
+pub kept_through : {s : Sizes} {g : Guards} {memory : List ℕ} {h : List Event} {f : KeptFact} → HasKept s g memory h f
     → (n : ℕ) → n ≤ length h → IsKeptSoFar f memory (take n h)
 kept_through {g = g} x zero le = kept_start {g = g} x.under
 kept_through {memory = memory} {h = h} {f = f} x (suc n) le =
@@ -519,7 +523,8 @@ kept_law f s g memory h well keeps replays under each =
   where
     last : IsKeptSoFar f memory h
     last = subst (IsKeptSoFar f memory) (take-length h)
-        (kept_through (record { well = well; keeps = keeps; replays = replays; under = under; each = each }) (length h) (le_refl (length h)))
+        (kept_through (record { well = well; keeps = keeps; replays = replays; under = under; each = λ p less. (each p less).each }) (length h)
+        (le_refl (length h)))
 
     none : last.since ≡ []
     none = last.free (λ q. elim (cases_lt q s.processors) [

@@ -1,5 +1,8 @@
+pub mod Acting
+pub mod Balances
 pub mod Deeds
 pub mod Grids
+pub mod GuardedRuns
 pub mod Guards
 pub mod Kept
 pub mod Laws
@@ -11,3 +14,4 @@ pub mod SeatCalls
 pub mod Sitting
 pub mod Tables
 pub mod Tenures
+pub mod Totals

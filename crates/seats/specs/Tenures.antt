@@ -84,3 +84,20 @@ abbrev pub KeptLaw : KeptFact → Type 0
 KeptLaw f = (s : Sizes) (g : Guards) (memory : List ℕ) (h : List Event) → WellFormed s h → AllKeepTo g h → Replays memory h
     → IsKeptUnder g memory f → ((p : ℕ) → p < s.processors → PreservesByTenures f (deeds (events_of h p)))
     → f.holds (memory_after memory h) (accesses_among f.words (deeds h))
+
+-- these accesses loaded from a memory of which the fact held
+pub record HaveReadKept (f : KeptFact) (ks : List Kind) : Type 0 where
+  pub memory : List ℕ
+  pub before : List Kind
+  pub held : f.holds memory before
+  pub answers : AnswersFrom memory ks
+
+-- so did each tenure that has ended. Said of what one processor did, this supposes that all others preserve the fact
+abbrev pub ReadsKept : KeptFact → List Kind → Type 0
+ReadsKept f ks = (i : ℕ) → slice_get ks i ≡ Some (Release f.lock) → HaveReadKept f (tenure_after f.words f.lock (take i ks))
+
+-- if all preserve it, then it was so
+abbrev pub KeptReadsLaw : KeptFact → Type 0
+KeptReadsLaw f = (s : Sizes) (g : Guards) (memory : List ℕ) (h : List Event) → WellFormed s h → AllKeepTo g h → Replays memory h
+    → IsKeptUnder g memory f → ((p : ℕ) → p < s.processors → PreservesByTenures f (deeds (events_of h p)))
+    → (p : ℕ) → ReadsKept f (deeds (events_of h p))

@@ -17,6 +17,9 @@ pub enum SeatFault {
     /// The layout doesn't let the processor access this address in its phase, with the locks that it holds.
     #[error("the layout doesn't allow this access of address {0}")]
     NotAllowed(usize),
+    /// The layout leaves this address open to all. Only [`run_guarded`](crate::run_guarded) answers this.
+    #[error("the layout leaves address {0} open to all")]
+    Open(usize),
     /// Each processor waits, and what it waits for has come for none.
     #[error("all processors wait for one another")]
     Stuck,

@@ -1,5 +1,6 @@
 //! Laws, as contracts of functions that do nothing: the check proves each by its name.
-ghost use Rattle.seats.specs.Prelude.{GridsLaw, KeptFact, KeptLaw, PhaseGuardLaw, RoundsLaw, TableGuardLaw};
+ghost use Rattle.seats.specs.Prelude.{AddedLaw, BalanceLaw, GridsLaw, KeptFact, KeptLaw, KeptReadsLaw, PhaseGuardLaw, RoundsLaw};
+ghost use Rattle.seats.specs.Prelude.{TableGuardLaw};
 
 /// If each processor keeps to the guards in what it does, then no two accesses of a word race, but of one that was open
 /// to all.
@@ -33,4 +34,21 @@ pub fn rounds_law()
 /// the last one that was made is the start after as many steps.
 pub fn grids_law()
     ensures { GridsLaw }
+{}
+
+/// If the fact holds at first, and each tenure of the lock preserves it, then each tenure loads from a memory of which it holds.
+/// So a processor that acquires the lock may take the fact for granted, if the others preserve it.
+pub fn kept_reads_law<K: LockKeeps>()
+    ensures { KeptReadsLaw K.fact }
+{}
+
+/// A word under a lock is what it was at first and what all processors say that they have added to it, modulo 2^32.
+pub fn added_law()
+    ensures { AddedLaw }
+{}
+
+/// If some words under a lock come to as much as others, then a tenure that adds as much to the one side as to the other
+/// preserves that, modulo 2^32.
+pub fn balance_law()
+    ensures { BalanceLaw }
 {}

@@ -36,12 +36,15 @@ mod seat;
 mod sitting;
 #[cfg(test)]
 mod tests;
+mod typed;
+mod words;
 
 pub use fault::{ProcessorFault, SeatFault};
 pub use grids::Grids;
 pub use guard::Guard;
 pub use layout::Layout;
 pub use program::{Program, sit};
-pub use running::{ProgramRun, run};
+pub use running::{GuardedRun, ProgramRun, run, run_guarded};
 pub use seat::Seat;
 pub use sitting::Sitting;
+pub use typed::Word;

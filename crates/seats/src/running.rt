@@ -2,13 +2,13 @@
 ghost use Rattle.std.specs.Prelude.{◌≡◌, Err, IfOk};
 ghost use Rattle.cluster.specs.Copies.Sound.{AreSoundSizes};
 ghost use Rattle.book.specs.declared.refused.Refused.TheVariants.{BadSize};
-ghost use Rattle.seats.specs.Prelude.{IsProgramRun};
+ghost use Rattle.seats.specs.Prelude.{IsGuardedRun, IsProgramRun};
 ghost use Rattle.seats.specs.declared.fault.SeatFault.TheVariants as fault;
 
 mod threads;
 
 use self::threads::{Workers, work_all};
-use crate::fault::ProcessorFault;
+use crate::fault::{ProcessorFault, SeatFault};
 use crate::layout::Layout;
 use crate::program::Program;
 use cluster::{BookLock, Cluster, Journal};
@@ -64,4 +64,56 @@ pub fn run<P: Program, R: Threads + Wait + Sync>(
     }
     let journal = cluster.finish(processors);
     Ok(ProgramRun { answers, journal })
+}
+
+/// What came of a program whose layout leaves no word open to all.
+#[derive(Drop)]
+pub struct GuardedRun<X> {
+    /// What each processor's thread answered, by rising number.
+    pub answers: Vec<X>,
+    /// The words at the end, by address.
+    pub memory: Vec<u32>,
+    /// The whole history.
+    pub journal: Journal,
+}
+
+/// Runs the program as [`run`] does, by a layout that leaves no word open to all, and answers the memory at the end, too. Nothing
+/// races, and all replies are those of one flat memory.
+///
+/// # Errors
+///
+/// [`Open`](SeatFault::Open) with the first address that is open to all, before anything is run. Else as [`run`], and
+/// [`NoMemory`](cluster::Refused::NoMemory) if there is none for the words.
+pub fn run_guarded<P: Program, R: Threads + Wait + Sync>(
+    rt: &R,
+    alloc: Global,
+    processors: usize,
+    pages: usize,
+    words: usize,
+    locks: usize,
+    flags: usize,
+    layout: &Layout,
+    program: &P,
+) -> Result<GuardedRun<P::Answer>, ProcessorFault>
+    ensures { IfOk result (λ r. IsGuardedRun layout.now P.did
+        (record { processors = processors; pages = pages; words = words; locks = locks; flags = flags })
+        r.answers.items r.memory.items r.journal) }
+{
+    if let Some(address) = layout.first_open() {
+        return Err(ProcessorFault {
+            processor: 0,
+            fault: SeatFault::Open(address),
+        });
+    }
+    let ran = run(
+        rt, alloc, processors, pages, words, locks, flags, layout, program,
+    )?;
+    match ran.journal.replay()? {
+        Some(memory) => Ok(GuardedRun {
+            answers: ran.answers,
+            memory,
+            journal: ran.journal,
+        }),
+        None => unreachable!(),
+    }
 }

@@ -86,7 +86,7 @@ impl<'a, S: Sitting> Seat<'a, S> {
     }
 
     /// Whether the layout lets it access the address now.
-    fn may_access(&self, address: usize, stores: bool) -> bool
+    pub(crate) fn may_access(&self, address: usize, stores: bool) -> bool
         ensures { result ≡ may_seat_access S.at self.now address stores }
     {
         match self.layout.guard(self.table, address) {

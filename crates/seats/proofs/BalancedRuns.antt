@@ -1,0 +1,94 @@
+-- Runs by a layout that leaves no word open to all, whose locks keep facts: what a client says of one.
+use Rattle.std.proofs.Common.{ℕ, ◌≡◌, ◌+◌, ◌%◌, ◌^◌, inl, inr, Bool, true, false, Some, List, [], ◌∷◌, ◌++◌, get_or, replicate, slice_get, refl, sym, ap, subst, ◌∙◌, sum_by, arith}
+use Rattle.std.specs.Prelude.{◌==◌, ◌||◌}
+use Rattle.std.proofs.lemmas.Bool.{cases_Bool, eq-eqb, eqb-true}
+use Rattle.std.specs.Option.{unwrap_or}
+use Rattle.std.proofs.lemmas.Option.{unwrap_or-slice_get}
+use Rattle.std.proofs.lemmas.List.Sums.{sum_by-cons}
+use Rattle.base.proofs.SliceSets.{index-zeros}
+use Rattle.journal.specs.declared.event.Kind.{Kind}
+use Rattle.journal.specs.Events.{events_of}
+use Rattle.journal.specs.Log.{Log}
+use Rattle.journal.specs.Sizes.{Sizes, addresses}
+use Rattle.seats.specs.declared.guard.Guard.TheVariants.{Under}
+use Rattle.seats.specs.Balances.{balance_fact, is_one_of, sum_at}
+use Rattle.seats.specs.Deeds.{deeds}
+use Rattle.seats.specs.GuardedRuns.{IsGuardedRun}
+use Rattle.seats.specs.Guards.{Guards}
+use Rattle.seats.specs.Tables.{GuardTables, guards_of}
+use Rattle.seats.specs.Tenures.{IsBetweenTenures, IsKeptUnder, KeptFact, PreservesByTenures, ReadsKept, accesses_among}
+use Rattle.seats.proofs.GuardedRuns.{answered_there}
+use Rattle.seats.proofs.KeptByPrograms.{program_keeps}
+use Rattle.seats.proofs.KeptReads.{kept_reads_law}
+
+module _ {X : Type 0} {g : GuardTables} {did : ℕ → List Kind → X → Type 0} {s : Sizes} {answers : List X} {memory : List ℕ} {j : Log}
+    (f : KeptFact) (run : IsGuardedRun g did s answers memory j) (under : IsKeptUnder (guards_of g) (replicate (addresses s) 0) f)
+    (says : (p : ℕ) (ks : List Kind) (x : X) → did p ks x → PreservesByTenures f ks) where
+  -- the fact holds of the memory at the end
+  pub run_keeps : f.holds memory (accesses_among f.words (deeds run.ran.history))
+  run_keeps = subst (λ m. f.holds m (accesses_among f.words (deeds run.ran.history))) (sym run.memory_is)
+      (program_keeps f run.ran run.closed under says)
+
+  -- each tenure of each processor loaded from a memory of which it held
+  pub run_reads_kept : (p : ℕ) → ReadsKept f (deeds (events_of run.ran.history p))
+  run_reads_kept p =
+      kept_reads_law f s (guards_of g) (replicate (addresses s) 0) run.ran.history run.ran.faithful.well_formed run.ran.kept run.flat under
+      (λ q less. let answer = answered_there run.ran q less in says q (deeds (events_of run.ran.history q)) answer.0 answer.1.1) p
+
+-- these words are under the lock in each phase
+abbrev pub AreUnder : Guards → ℕ → List ℕ → Type 0
+AreUnder g l [] = Unit {0}
+AreUnder g l (a ∷ others) = ((n : ℕ) → g n a ≡ Some (Under l)) × AreUnder g l others
+
+one_under : (g : Guards) (l : ℕ) (words : List ℕ) → AreUnder g l words → (n a : ℕ) → is_one_of words a ≡ true → g n a ≡ Some (Under l)
+one_under g l [] all n a mine = absurd (cc)
+one_under g l (b ∷ others) all n a mine = elim (cases_Bool (b == a)) [
+  | inl same ↦ subst (λ c. g n c ≡ Some (Under l)) (eqb-true b a same) (all.0 n)
+  | inr apart ↦ one_under g l others all.1 n a (rw apart at mine)
+]
+
+either : (a b : Bool) → (a || b) ≡ true → (P : Type 0) → (a ≡ true → P) → (b ≡ true → P) → P
+either true b e P one other = one refl
+either false b e P one other = other e
+
+-- the same words, added up
+sum_same : (before after : List ℕ) (words : List ℕ) → ((a : ℕ) → is_one_of words a ≡ true → get_or before a 0 ≡ get_or after a 0)
+    → sum_at before words ≡ sum_at after words
+sum_same before after [] same = refl
+sum_same before after (a ∷ others) same =
+    let rest = sum_same before after others (λ b mine. same b (more b mine)) in
+    let here = same a (rw (eq-eqb a a refl) refl) in
+    let one = sum_by-cons (λ b. get_or before b 0) a others in
+    let two = sum_by-cons (λ b. get_or after b 0) a others in
+    omega arith
+  where
+    more : (b : ℕ) → is_one_of others b ≡ true → is_one_of (a ∷ others) b ≡ true
+    more b mine = elim (cases_Bool (a == b)) [ inl same ↦ rw same refl | inr apart ↦ rw apart mine ]
+
+sum_zeros : (n : ℕ) (words : List ℕ) → sum_at (replicate n 0) words ≡ 0
+sum_zeros n [] = refl
+sum_zeros n (a ∷ others) =
+    let rest = sum_zeros n others in
+    let here = index-zeros n a in
+    let one = sum_by-cons (λ b. get_or (replicate n 0) b 0) a others in
+    omega arith
+
+read_same : (before after : List ℕ) (a : ℕ) → slice_get before a ≡ slice_get after a → get_or before a 0 ≡ get_or after a 0
+read_same before after a is = sym (unwrap_or-slice_get before a 0) ∙ ap (λ o. unwrap_or o 0) is ∙ unwrap_or-slice_get after a 0
+
+-- a balance is kept under its lock, if its words are under it
+pub balance_under : (g : Guards) (n l : ℕ) (left right : List ℕ) → AreUnder g l left → AreUnder g l right
+    → IsKeptUnder g (replicate n 0) (balance_fact l left right)
+balance_under g n l left right lefts rights = record {
+  under = λ m a mine. either (is_one_of left a) (is_one_of right a) mine (g m a ≡ Some (Under l))
+      (one_under g l left lefts m a) (one_under g l right rights m a);
+  own = λ before after ks same held.
+      let one = sum_same before after left (λ a mine. read_same before after a (same a (rw mine refl))) in
+      let two = sum_same before after right (λ a mine. read_same before after a (same a (on_right (is_one_of left a) (is_one_of right a) mine))) in
+      omega arith;
+  first = let one = sum_zeros n left in let two = sum_zeros n right in omega arith;
+}
+  where
+    on_right : (a b : Bool) → b ≡ true → (a || b) ≡ true
+    on_right true b e = refl
+    on_right false b e = e

@@ -1,0 +1,67 @@
+-- Runs by a layout that leaves no word open to all: what a client says of one.
+use Rattle.std.proofs.Common.{ℕ, ◌≡◌, ◌+◌, ◌*◌, ◌%◌, ◌^◌, ◌<◌, inl, inr, true, Some, List, [], length, replicate, slice_get, refl, sym, ap, subst, ◌∙◌, arith}
+use Rattle.base.proofs.SliceSets.{slice_get-replicate}
+use Rattle.std.proofs.lemmas.Option.{slice_get_cases}
+use Rattle.journal.specs.declared.event.Event.{Event}
+use Rattle.journal.specs.declared.event.Kind.{Kind}
+use Rattle.journal.specs.Events.{events_of}
+use Rattle.journal.specs.FlatMemory.{Replays, memory_after}
+use Rattle.journal.specs.Log.{Log}
+use Rattle.journal.specs.Sizes.{Sizes, addresses}
+use Rattle.cluster.specs.FaithfulJournals.{IsJournalOf}
+use Rattle.seats.specs.declared.guard.Guard.TheVariants.{Of, Under}
+use Rattle.seats.specs.Deeds.{deeds}
+use Rattle.seats.specs.GuardedRuns.{IsGuardedRun}
+use Rattle.seats.specs.ProgramRuns.{IsProgramRun}
+use Rattle.seats.specs.Tables.{GuardTables, IsPut, NoneOpen, guard_in, guards_of, is_between}
+use Rattle.seats.specs.Totals.{HasAdded, total_of}
+use Rattle.seats.proofs.KeptByPrograms.{flat_run, replayed_whole, under_put}
+use Rattle.seats.proofs.TotalsInHistories.{added_law}
+
+-- a journal of which nothing was cut off replays if the history does
+pub journal_replays : {s : Sizes} {h : List Event} {j : Log} → IsJournalOf s [] h j → Replays (replicate (addresses s) 0) h
+    → Replays j.base.memory j.events
+journal_replays {s} {h} {j} x flat =
+    subst (λ m. Replays m j.events) (sym (x.holds.base.after.memory ∙ ap (λ n. replicate n 0) x.addresses_are))
+    (subst (Replays (replicate (addresses s) 0)) x.holds.history flat)
+
+-- the end of a run
+pub guarded_run : {X : Type 0} {g : GuardTables} {did : ℕ → List Kind → X → Type 0} {s : Sizes} {answers : List X} {memory : List ℕ}
+    {j : Log} → IsProgramRun g did s answers j → NoneOpen g → memory ≡ memory_after j.base.memory j.events
+    → IsGuardedRun g did s answers memory j
+guarded_run ran closed is = record {
+  ran = ran;
+  closed = closed;
+  flat = flat_run ran closed;
+  memory_is = is ∙ replayed_whole ran.journal;
+}
+
+-- each of its processors answered, and did what the program says of this answer
+pub answered_there : {X : Type 0} {g : GuardTables} {did : ℕ → List Kind → X → Type 0} {s : Sizes} {answers : List X} {j : Log}
+    (ran : IsProgramRun g did s answers j) (p : ℕ) → p < s.processors
+    → (x : X) × ((slice_get answers p ≡ Some x) × did p (deeds (events_of ran.history p)) x)
+answered_there {answers = answers} ran p less = elim (slice_get_cases answers p).1 [
+  | inl found ↦ (found.0, (found.2, ran.done p found.0 found.2))
+  | inr past ↦ absurd (let all = ran.all in omega (arith, less, past.0))
+]
+
+-- a word under a lock at the end: what each says that it has added to it
+pub added_in_all : {X : Type 0} {g : GuardTables} {did : ℕ → List Kind → X → Type 0} {s : Sizes} {answers : List X}
+    {memory : List ℕ} {j : Log} (l a : ℕ) (run : IsGuardedRun g did s answers memory j) → a < addresses s
+    → ((n : ℕ) → guards_of g n a ≡ Some (Under l)) → (amounts : ℕ → ℕ)
+    → ((p : ℕ) (ks : List Kind) (x : X) → slice_get answers p ≡ Some x → did p ks x → HasAdded l a (amounts p) ks)
+    → (last : ℕ) × (slice_get memory a ≡ Some last) × (last % 2 ^ 32 ≡ total_of amounts s.processors % 2 ^ 32)
+added_in_all {g = g} {did = did} {s = s} {answers = answers} l a run within under amounts says =
+    let ran = run.ran in
+    let end = added_law s (guards_of g) (replicate (addresses s) 0) ran.history ran.faithful.well_formed ran.kept run.flat l a 0 under
+    (slice_get-replicate (addresses s) 0 a within) amounts
+    (λ p less. let answer = answered_there ran p less in says p (deeds (events_of ran.history p)) answer.0 answer.1.0 answer.1.1) in
+    (end.0, ap (λ m. slice_get m a) run.memory_is ∙ end.1, (let sum = end.2 in omega arith))
+
+-- a layout of one table, of which some addresses were put under a lock
+pub under_new : {old g : GuardTables} {count from to l : ℕ} → old ≡ record { tables = replicate 1 (replicate count (Of 0)); round = 0 }
+    → IsPut old 0 from to (Under l) g → (a : ℕ) → is_between from to a ≡ true → a < count → (n : ℕ)
+    → guards_of g n a ≡ Some (Under l)
+under_new {count = count} is put a between within n =
+    under_put (ap (λ t. length t.tables) is) (ap (λ t. t.round) is) put n a between
+    (ap (λ t. guard_in t 0 a) is ∙ slice_get-replicate count (Of 0) a within)

@@ -1,0 +1,5 @@
+use Rattle.seats.proofs.Balances.{balance_law as balanced}
+use Rattle.seats.proofs.laws.balance_law.Goals as goal
+
+pub returns : goal.returns
+returns c = balanced

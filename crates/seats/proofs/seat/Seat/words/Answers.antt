@@ -1,0 +1,31 @@
+use Rattle.std.proofs.Common.{[], length, ap, ◌∙◌, arith}
+use Rattle.std.proofs.lemmas.List.{length_push}
+use Rattle.seats.proofs.Acting.{acted_nothing, faulted, loaded_more, loaded_none}
+use Rattle.seats.proofs.seat.Seat.words.Goals as goal
+
+pub returns-in_err-words-clause-err : goal.returns-in_err-words-clause-err
+returns-in_err-words-clause-err g c = faulted c.from_residual.result ([], acted_nothing c.args.self.now)
+
+pub returns-in_err-word-clause-err : goal.returns-in_err-word-clause-err
+returns-in_err-word-clause-err g c =
+    let words = c.loop-address.words.items in
+    faulted c.from_residual-in_err-word.result
+    (words, loaded_none c.args.from words c.loop-address.invariant.acted c.in_err-word.ensures.err)
+
+pub loop-address-preserved : goal.loop-address-preserved
+loop-address-preserved g c =
+    let inv = c.loop-address.invariant in
+    let words = c.loop-address.words in
+    let pushed = c.push_reserved.ensures in
+    let long = inv.long in
+    let was = words.ok.0 in
+    let new = c.push_reserved.new.self.ok.0 in
+    let more = length_push words.items c.in_ok-word.word in
+    let both = ap length pushed.items in
+    record {
+      acted = rw pushed.items (loaded_more c.args.from c.loop-address.address c.in_ok-word.word words.items (omega arith) inv.acted
+          c.in_ok-word.ensures.ok);
+      long = omega arith;
+      room = let room = inv.room in let same = pushed.capacity in omega arith;
+      awaits = c.in_ok-word.ensures.ok.inside.awaits_is ∙ inv.awaits;
+    }
