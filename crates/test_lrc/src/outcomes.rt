@@ -12,7 +12,7 @@ mod failing;
 mod output;
 
 use conformance::{Cause, LockChoice, RunFault};
-use explore::{Progress, Silent, explore};
+use explore::{Detail, Progress, Silent, explore};
 use failing::Failing;
 use lrc_explore::ExploreFault;
 use lrc_sample::sampling::{Sampled, sample};
@@ -49,7 +49,7 @@ fn says_states(rt: HostRuntime) -> Result<(), Fail> {
     let alloc = rt.alloc();
     let script = script_of(alloc)?;
     let mut last = Last(0);
-    explore(alloc, &script, 1000, &mut last)?;
+    explore(alloc, &script, Detail::All, 1000, &mut last)?;
     assert_eq!(rt; last.0, 2);
     Ok(())
 }
@@ -57,7 +57,7 @@ fn says_states(rt: HostRuntime) -> Result<(), Fail> {
 /// Whether the text of a search is one write to this output, and a failure of it is told just where there is one.
 fn is_search_written(alloc: Global, out: Output) -> Result<bool, Fail> {
     let script = script_of(alloc)?;
-    let explored = explore(alloc, &script, 1000, &mut Silent)?;
+    let explored = explore(alloc, &script, Detail::All, 1000, &mut Silent)?;
     let mut out = out;
     let told = match lrc_explore::render(alloc, &script, &explored, &mut out) {
         Ok(()) => !out.fails(),
