@@ -1,3 +1,2 @@
 pub mod Accounts
-pub mod BankRuns
 pub mod Prelude

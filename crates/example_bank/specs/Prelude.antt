@@ -1,3 +1,2 @@
 -- The words that contracts name, passed on from one place. Declares nothing.
-pub use Rattle.example_bank.specs.Accounts.{HasPaid, UnderLock}
-pub use Rattle.example_bank.specs.BankRuns.{IsBankRun}
+pub use Rattle.example_bank.specs.Accounts.{HasBanked, HasPaid, IsBankRun, bank_fact}

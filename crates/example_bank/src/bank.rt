@@ -1,7 +1,7 @@
-//! What each processor does: pays in, and moves.
-ghost use Rattle.std.specs.Prelude.{ℕ, ◌+◌, OnOk};
+//! What each processor does: pays in, moves, and at the end looks whether the bank balances.
+ghost use Rattle.std.specs.Prelude.{IfOk};
 ghost use Rattle.seats.specs.Prelude.{seat_deeds};
-ghost use Rattle.example_bank.specs.Prelude.{HasPaid};
+ghost use Rattle.example_bank.specs.Prelude.{HasBanked, HasPaid};
 
 use seats::{Program, Seat, SeatFault, Sitting};
 
@@ -19,47 +19,38 @@ const SECOND: usize = 1;
 const PAID: usize = 2;
 /// Words.
 pub(crate) const WORDS: usize = 3;
+/// One coin less, modulo 2^32.
+const ONE_LESS: u32 = u32::MAX;
 
 /// The bank, which four processors use.
 pub(crate) struct Bank;
 
 impl Program for Bank {
-    type Answer = ();
+    /// Whether the bank balanced when it looked.
+    type Answer = bool;
 
-    ghost did = { λ processor deeds answer. HasPaid 250 deeds };
+    // It has paid in 250 coins; and supposing that the others keep the bank balanced, too, it found it so.
+    ghost did = { HasBanked };
 
-    /// Pays coins in, and moves as many.
-    fn work<S: Sitting>(&self, seat: &mut Seat<'_, S>) -> Result<(), SeatFault> {
+    fn work<S: Sitting>(&self, seat: &mut Seat<'_, S>) -> Result<bool, SeatFault> {
         for round in 0..ROUNDS {
-            pay_in(seat)?;
-            transfer(seat)?;
+            // A coin into the first account, and then one from there to the second.
+            seat.add_two(LOCK, (FIRST, 1), (PAID, 1))?;
+            seat.add_two(LOCK, (FIRST, ONE_LESS), (SECOND, 1))?;
         }
-        Ok(())
+        balances(seat)
     }
 }
 
-/// Pays a coin into the first account.
-fn pay_in<S: Sitting>(seat: &mut Seat<'_, S>) -> Result<(), SeatFault>
-    ensures { OnOk result ((n : ℕ) → HasPaid n (seat_deeds seat.old) → HasPaid (n + 1) (seat_deeds seat.new)) }
+/// Whether the accounts come to what was paid in.
+fn balances<S: Sitting>(seat: &mut Seat<'_, S>) -> Result<bool, SeatFault>
+    requires { HasPaid 250 (seat_deeds seat.old) }
+    ensures { IfOk result (λ balanced. HasBanked seat.new.number (seat_deeds seat.new) balanced) }
 {
     seat.lock(LOCK)?;
-    let account = seat.load(FIRST)?;
-    seat.store(FIRST, account.wrapping_add(1))?;
+    let first = seat.load(FIRST)?;
+    let second = seat.load(SECOND)?;
     let paid = seat.load(PAID)?;
-    seat.store(PAID, paid.wrapping_add(1))?;
     seat.unlock(LOCK)?;
-    Ok(())
-}
-
-/// Moves a coin from the first account to the second.
-fn transfer<S: Sitting>(seat: &mut Seat<'_, S>) -> Result<(), SeatFault>
-    ensures { OnOk result ((n : ℕ) → HasPaid n (seat_deeds seat.old) → HasPaid n (seat_deeds seat.new)) }
-{
-    seat.lock(LOCK)?;
-    let from = seat.load(FIRST)?;
-    seat.store(FIRST, from.wrapping_sub(1))?;
-    let to = seat.load(SECOND)?;
-    seat.store(SECOND, to.wrapping_add(1))?;
-    seat.unlock(LOCK)?;
-    Ok(())
+    Ok(first.wrapping_add(second) == paid)
 }

@@ -1,2 +1,0 @@
-mod Accounts
-mod BankRuns
