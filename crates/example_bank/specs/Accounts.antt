@@ -6,7 +6,7 @@ use Rattle.seats.specs.Balances.{balance_fact}
 use Rattle.seats.specs.GuardedRuns.{IsGuardedRun}
 use Rattle.seats.specs.Tables.{GuardTables}
 use Rattle.seats.specs.Tenures.{IsBetweenTenures, KeptFact, ReadsKept}
-use Rattle.seats.specs.Totals.{HasAdded}
+use Rattle.seats.specs.Totals.{AddsUpTo}
 
 -- the accounts, at addresses 0 and 1, come to what was paid in, which is at 2
 abbrev pub bank_fact : KeptFact
@@ -15,7 +15,7 @@ bank_fact = balance_fact 0 (0 ∷ 1 ∷ []) (2 ∷ [])
 -- each tenure preserved that, and by all of them so many coins were paid in
 pub record HasPaid (n : ℕ) (ks : List Kind) : Type 0 where
   pub between : IsBetweenTenures bank_fact ks
-  pub paid : HasAdded 0 2 n ks
+  pub paid : AddsUpTo 0 2 n ks
 
 -- so a processor did with 250 coins; and supposing that the others preserve the balance, too, it found the bank balanced
 abbrev pub HasBanked : ℕ → List Kind → Bool → Type 0

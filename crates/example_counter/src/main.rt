@@ -11,7 +11,7 @@
 #![tactic(auto)]
 
 ghost use Rattle.std.specs.Prelude.{◌≡◌, ◌%◌, ◌^◌, IfOk};
-ghost use Rattle.seats.specs.Prelude.{HasAdded};
+ghost use Rattle.seats.specs.Prelude.{AddsUpTo};
 
 use anyhow::Result;
 use seats::{Guard, Layout, ProcessorFault, Program, Seat, SeatFault, Sitting};
@@ -35,7 +35,7 @@ impl Program for Counter {
     type Answer = ();
 
     // To the word at address 0, under lock 0, it has added 250.
-    ghost did = { λ processor deeds answer. HasAdded 0 0 250 deeds };
+    ghost did = { λ processor deeds answer. AddsUpTo 0 0 250 deeds };
 
     fn work<S: Sitting>(&self, seat: &mut Seat<'_, S>) -> Result<(), SeatFault> {
         for round in 0..ROUNDS {

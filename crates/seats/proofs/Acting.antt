@@ -11,7 +11,7 @@ use Rattle.seats.specs.Deeds.{is_deed}
 use Rattle.seats.specs.SeatCalls.{AccessesPage, HasDone, IsLeftUndone, held_through}
 use Rattle.seats.specs.Sitting.{seat_deeds}
 use Rattle.seats.specs.Tenures.{whole_tenure}
-use Rattle.seats.specs.Totals.{HasAdded, adding}
+use Rattle.seats.specs.Totals.{AddsUpTo, adding}
 use Rattle.seats.proofs.Totals.{added_both, added_by, added_by_tenure}
 
 -- whatever is answered
@@ -128,10 +128,10 @@ in_part_unreleased lock ks locked acted (inl undone) = record {
 in_part_unreleased lock ks locked acted (inr begun) = absurd (let ends = begun.ends in cc)
 
 -- what was added before, and by this
-pub added_acted : {m n : Local} {l a k x : ℕ} (ks : List Kind) → HasActed m n ks → HasAdded l a x ks → HasAdded l a k (seat_deeds m)
-    → HasAdded l a (k + x) (seat_deeds n)
+pub added_acted : {m n : Local} {l a k x : ℕ} (ks : List Kind) → HasActed m n ks → AddsUpTo l a x ks → AddsUpTo l a k (seat_deeds m)
+    → AddsUpTo l a (k + x) (seat_deeds n)
 added_acted {m} {n} {l} {a} {k} {x} ks acted more was =
-    subst (HasAdded l a (k + x)) (sym acted.deeds_are) (added_both (seat_deeds m) ks was more)
+    subst (AddsUpTo l a (k + x)) (sym acted.deeds_are) (added_both (seat_deeds m) ks was more)
 
 -- one word more
 loads_push : (a : ℕ) (vs : List ℕ) (v : ℕ) → loads_from a (vs ++ v ∷ []) ≡ loads_from a vs ++ Load (length vs + a) v ∷ []

@@ -15,7 +15,7 @@ use Rattle.seats.specs.Acting.{HasActed}
 use Rattle.seats.specs.Balances.{BalanceLaw, KeepsBalance, adds_two, balance_fact, is_one_of, sum_at}
 use Rattle.seats.specs.Sitting.{seat_deeds}
 use Rattle.seats.specs.Tenures.{AnswersFrom, IsBetweenTenures, Preserves, are_among, whole_tenure}
-use Rattle.seats.specs.Totals.{HasAdded, WordTally, adding, new_tally, tally_on, tally_store, tally_then}
+use Rattle.seats.specs.Totals.{AddsUpTo, WordTally, adding, new_tally, tally_on, tally_store, tally_then}
 use Rattle.seats.proofs.Acting.{added_acted}
 use Rattle.seats.proofs.KeptByPrograms.{between_tenure}
 use Rattle.seats.proofs.Totals.{added_both, added_by, added_tenure, sighted_before, tally_store_known}
@@ -86,7 +86,7 @@ word_after l a memory t (k ∷ ks) knows answers sighted =
     omega arith
 
 -- what a tenure adds to a word
-word_added : (l a n : ℕ) (memory : List ℕ) (ks : List Kind) → AnswersFrom memory ks → HasAdded l a n ks
+word_added : (l a n : ℕ) (memory : List ℕ) (ks : List Kind) → AnswersFrom memory ks → AddsUpTo l a n ks
     → get_or (written flat_write memory ks) a 0 % 2 ^ 32 ≡ (get_or memory a 0 + n) % 2 ^ 32
 word_added l a n memory ks answers added =
     let all = word_after l a memory new_tally ks (λ w is. absurd (none-some w is)) answers added.sighted in
@@ -95,7 +95,7 @@ word_added l a n memory ks answers added =
 
 -- and to several
 sum_added : (l : ℕ) (amounts : ℕ → ℕ) (memory : List ℕ) (ks : List Kind) → AnswersFrom memory ks
-    → ((a : ℕ) → HasAdded l a (amounts a) ks) → (addresses : List ℕ)
+    → ((a : ℕ) → AddsUpTo l a (amounts a) ks) → (addresses : List ℕ)
     → sum_at (written flat_write memory ks) addresses % 2 ^ 32 ≡ (sum_at memory addresses + sum_by amounts addresses) % 2 ^ 32
 sum_added l amounts memory ks answers added [] = refl
 sum_added l amounts memory ks answers added (a ∷ rest) =
@@ -115,7 +115,7 @@ balance_law l left right amounts ks added even memory before held answers =
 
 -- so does a whole tenure
 pub balance_tenure : {m n : Local} {l : ℕ} (left right : List ℕ) (amounts : ℕ → ℕ) (ks : List Kind) → HasActed m n (whole_tenure l ks)
-    → ((a : ℕ) → HasAdded l a (amounts a) ks) → sum_by amounts left % 2 ^ 32 ≡ sum_by amounts right % 2 ^ 32
+    → ((a : ℕ) → AddsUpTo l a (amounts a) ks) → sum_by amounts left % 2 ^ 32 ≡ sum_by amounts right % 2 ^ 32
     → are_among (λ a. is_one_of left a || is_one_of right a) ks ≡ true
     → IsBetweenTenures (balance_fact l left right) (seat_deeds m) → IsBetweenTenures (balance_fact l left right) (seat_deeds n)
 balance_tenure {m} {n} {l} left right amounts ks acted added even among was =
@@ -123,12 +123,12 @@ balance_tenure {m} {n} {l} left right amounts ks acted added even among was =
     (between_tenure (seat_deeds m) ks was among (balance_law l left right amounts ks added even))
 
 -- what is added to two words
-added_two : (l c a v x b w y : ℕ) → HasAdded l c (adds_two a x b y c) (adding a v x ++ adding b w y)
+added_two : (l c a v x b w y : ℕ) → AddsUpTo l c (adds_two a x b y c) (adding a v x ++ adding b w y)
 added_two l c a v x b w y = added_both (adding a v x) (adding b w y) (added_by l c a v x) (added_by l c b w y)
 
 -- to one of them in a tenure, and to all in the end
 pub two_added : {m n : Local} {l k : ℕ} (a v x b w y c : ℕ) (lock : ℕ) → HasActed m n (whole_tenure lock (adding a v x ++ adding b w y))
-    → HasAdded l c k (seat_deeds m) → HasAdded l c (k + adds_two a x b y c) (seat_deeds n)
+    → AddsUpTo l c k (seat_deeds m) → AddsUpTo l c (k + adds_two a x b y c) (seat_deeds n)
 two_added {l = l} a v x b w y c lock acted was =
     added_acted (whole_tenure lock (adding a v x ++ adding b w y)) acted
     (added_tenure lock (adding a v x ++ adding b w y) (added_two l c a v x b w y)) was

@@ -14,7 +14,7 @@ use Rattle.seats.specs.Deeds.{deeds}
 use Rattle.seats.specs.GuardedRuns.{IsGuardedRun}
 use Rattle.seats.specs.ProgramRuns.{IsProgramRun}
 use Rattle.seats.specs.Tables.{GuardTables, IsPut, NoneOpen, guard_in, guards_of, is_between}
-use Rattle.seats.specs.Totals.{HasAdded, total_of}
+use Rattle.seats.specs.Totals.{AddsUpTo, total_of}
 use Rattle.seats.proofs.KeptByPrograms.{flat_run, replayed_whole, under_put}
 use Rattle.seats.proofs.TotalsInHistories.{added_law}
 
@@ -49,7 +49,7 @@ answered_there {answers = answers} ran p less = elim (slice_get_cases answers p)
 pub added_in_all : {X : Type 0} {g : GuardTables} {did : ℕ → List Kind → X → Type 0} {s : Sizes} {answers : List X}
     {memory : List ℕ} {j : Log} (l a : ℕ) (run : IsGuardedRun g did s answers memory j) → a < addresses s
     → ((n : ℕ) → guards_of g n a ≡ Some (Under l)) → (amounts : ℕ → ℕ)
-    → ((p : ℕ) (ks : List Kind) (x : X) → slice_get answers p ≡ Some x → did p ks x → HasAdded l a (amounts p) ks)
+    → ((p : ℕ) (ks : List Kind) (x : X) → slice_get answers p ≡ Some x → did p ks x → AddsUpTo l a (amounts p) ks)
     → (last : ℕ) × (slice_get memory a ≡ Some last) × (last % 2 ^ 32 ≡ total_of amounts s.processors % 2 ^ 32)
 added_in_all {g = g} {did = did} {s = s} {answers = answers} l a run within under amounts says =
     let ran = run.ran in

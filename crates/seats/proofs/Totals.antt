@@ -6,7 +6,7 @@ use Rattle.std.proofs.lemmas.Option.{none-some}
 use Rattle.journal.specs.declared.event.Kind.{Kind}
 use Rattle.journal.specs.declared.event.Kind.TheVariants.{Load, Store, Ask, Acquire, Release}
 use Rattle.seats.specs.Tenures.{whole_tenure}
-use Rattle.seats.specs.Totals.{HasAdded, WordTally, adding, new_tally, tally_of, tally_on, tally_store, tally_then}
+use Rattle.seats.specs.Totals.{AddsUpTo, WordTally, adding, new_tally, tally_of, tally_on, tally_store, tally_then}
 
 pub tally_on-append : (l a : ℕ) (t : WordTally) (ks ls : List Kind)
     → tally_on l a t (ks ++ ls) ≡ tally_on l a (tally_on l a t ks) ls
@@ -100,11 +100,11 @@ beside_new b = record {
 }
 
 -- nothing was added yet
-pub added_nothing : (l a : ℕ) → HasAdded l a 0 []
+pub added_nothing : (l a : ℕ) → AddsUpTo l a 0 []
 added_nothing l a = record { sighted = refl; sum = refl }
 
 -- and what was added adds up
-pub added_both : {l a m n : ℕ} (ks ls : List Kind) → HasAdded l a m ks → HasAdded l a n ls → HasAdded l a (m + n) (ks ++ ls)
+pub added_both : {l a m n : ℕ} (ks ls : List Kind) → AddsUpTo l a m ks → AddsUpTo l a n ls → AddsUpTo l a (m + n) (ks ++ ls)
 added_both {l} {a} {m} {n} ks ls first next =
     let all = beside_on l a ls (beside_new (tally_of l a ks)) in
     let put = all.put next.sighted in
@@ -119,29 +119,29 @@ added_both {l} {a} {m} {n} ks ls first next =
     }
 
 -- a load and the store of the word with a number added, to this word or another
-pub added_by : (l a b v n : ℕ) → HasAdded l a (if b == a then n else 0) (adding b v n)
+pub added_by : (l a b v n : ℕ) → AddsUpTo l a (if b == a then n else 0) (adding b v n)
 added_by l a b v n = elim (cases_Bool (b == a)) [
   | inl same ↦ rw same (record { sighted = rw same refl; sum = rw same (omega arith) })
   | inr other ↦ rw other (record { sighted = rw other refl; sum = rw other refl })
 ]
 
 -- what locks and releases adds nothing
-added_asked : (l a m : ℕ) → HasAdded l a 0 (Ask m ∷ Acquire m ∷ [])
+added_asked : (l a m : ℕ) → AddsUpTo l a 0 (Ask m ∷ Acquire m ∷ [])
 added_asked l a m = record { sighted = refl; sum = refl }
 
-added_released : (l a m : ℕ) → HasAdded l a 0 (Release m ∷ [])
+added_released : (l a m : ℕ) → AddsUpTo l a 0 (Release m ∷ [])
 added_released l a m = elim (cases_Bool (m == l)) [
   | inl own ↦ record { sighted = rw own refl; sum = rw own refl }
   | inr apart ↦ record { sighted = rw apart refl; sum = rw apart refl }
 ]
 
 -- what is added in a tenure of any lock
-pub added_tenure : {l a n : ℕ} (m : ℕ) (ks : List Kind) → HasAdded l a n ks → HasAdded l a n (whole_tenure m ks)
+pub added_tenure : {l a n : ℕ} (m : ℕ) (ks : List Kind) → AddsUpTo l a n ks → AddsUpTo l a n (whole_tenure m ks)
 added_tenure {l} {a} {n} m ks x =
     let same : 0 + n + 0 ≡ n = omega arith in
-    subst (λ k. HasAdded l a k (whole_tenure m ks)) same
+    subst (λ k. AddsUpTo l a k (whole_tenure m ks)) same
     (added_both (Ask m ∷ Acquire m ∷ ks) (Release m ∷ []) (added_both (Ask m ∷ Acquire m ∷ []) ks (added_asked l a m) x)
     (added_released l a m))
 
-pub added_by_tenure : (l a m b v n : ℕ) → HasAdded l a (if b == a then n else 0) (whole_tenure m (adding b v n))
+pub added_by_tenure : (l a m b v n : ℕ) → AddsUpTo l a (if b == a then n else 0) (whole_tenure m (adding b v n))
 added_by_tenure l a m b v n = added_tenure m (adding b v n) (added_by l a b v n)

@@ -22,7 +22,7 @@ use Rattle.seats.specs.declared.guard.Guard.TheVariants.{Under}
 use Rattle.seats.specs.Deeds.{deeds}
 use Rattle.seats.specs.Guards.{Guards, holds_after, lets_access}
 use Rattle.seats.specs.Laws.{AllKeepTo}
-use Rattle.seats.specs.Totals.{AddedLaw, HasAdded, WordTally, new_tally, tally_of, tally_store, tally_then, total_of}
+use Rattle.seats.specs.Totals.{AddedLaw, AddsUpTo, WordTally, new_tally, tally_of, tally_store, tally_then, total_of}
 use Rattle.seats.proofs.Deeds.{own_deeds-append}
 use Rattle.seats.proofs.Guarded.{allowed_at}
 use Rattle.seats.proofs.Guards.{holds_is}

@@ -2,7 +2,7 @@
 use Rattle.std.specs.Prelude.{ℕ, ◌≡◌, ◌+◌, ◌%◌, ◌^◌, ◌==◌, ◌||◌, Bool, true, false, if◌then◌else◌, List, [], ◌∷◌, slice_index, sum_by}
 use Rattle.journal.specs.declared.event.Kind.{Kind}
 use Rattle.seats.specs.Tenures.{KeptFact, Preserves}
-use Rattle.seats.specs.Totals.{HasAdded}
+use Rattle.seats.specs.Totals.{AddsUpTo}
 
 -- whether this is one of these
 abbrev pub is_one_of : List ℕ → ℕ → Bool
@@ -33,5 +33,5 @@ pub record KeepsBalance (left right : List ℕ) (a x b y : ℕ) : Type 0 where
 
 -- a tenure that adds as much to the one side as to the other preserves the balance
 abbrev pub BalanceLaw : Type 0
-BalanceLaw = (l : ℕ) (left right : List ℕ) (amounts : ℕ → ℕ) (ks : List Kind) → ((a : ℕ) → HasAdded l a (amounts a) ks)
+BalanceLaw = (l : ℕ) (left right : List ℕ) (amounts : ℕ → ℕ) (ks : List Kind) → ((a : ℕ) → AddsUpTo l a (amounts a) ks)
     → sum_by amounts left % 2 ^ 32 ≡ sum_by amounts right % 2 ^ 32 → Preserves (balance_fact l left right) ks

@@ -47,7 +47,7 @@ tally_of l a ks = tally_on l a new_tally ks
 
 -- each of its stores to the word is of one that it has loaded or stored since it acquired the lock, and by all of them n was
 -- added, modulo 2^32
-pub record HasAdded (l a n : ℕ) (ks : List Kind) : Type 0 where
+pub record AddsUpTo (l a n : ℕ) (ks : List Kind) : Type 0 where
   pub sighted : (tally_of l a ks).blind ≡ false
   pub sum : ((tally_of l a ks).taken + n) % 2 ^ 32 ≡ (tally_of l a ks).put % 2 ^ 32
 
@@ -65,6 +65,6 @@ total_of a (suc n) = total_of a n + a n
 abbrev pub AddedLaw : Type 0
 AddedLaw = (s : Sizes) (g : Guards) (memory : List ℕ) (h : List Event) → WellFormed s h → AllKeepTo g h → Replays memory h
     → (l a first : ℕ) → ((n : ℕ) → g n a ≡ Some (Under l)) → slice_get memory a ≡ Some first
-    → (amounts : ℕ → ℕ) → ((p : ℕ) → p < s.processors → HasAdded l a (amounts p) (deeds (events_of h p)))
+    → (amounts : ℕ → ℕ) → ((p : ℕ) → p < s.processors → AddsUpTo l a (amounts p) (deeds (events_of h p)))
     → (last : ℕ) × (slice_get (memory_after memory h) a ≡ Some last)
     × (last % 2 ^ 32 ≡ (first + total_of amounts s.processors) % 2 ^ 32)

@@ -3,7 +3,7 @@ ghost use Rattle.std.specs.Prelude.{◌≡◌, ◌+◌, ◌-◌, ◌/◌, ◌∷
 ghost use Rattle.book.specs.declared.refused.Refused.{Refused as ARefusal};
 ghost use Rattle.journal.specs.declared.event.Kind.TheVariants as kind;
 ghost use Rattle.cluster.specs.Prelude.{ask_refusal};
-ghost use Rattle.seats.specs.Prelude.{AccessesPage, HasActed, HasActedInPart, HasAdded, IsBetweenTenures, KeepsBalance, adding};
+ghost use Rattle.seats.specs.Prelude.{AccessesPage, HasActed, HasActedInPart, AddsUpTo, IsBetweenTenures, KeepsBalance, adding};
 ghost use Rattle.seats.specs.Prelude.{adds_two, balance_fact, loads_from, may_seat_access, seat_access_refusal, seat_deeds, whole_tenure};
 ghost use Rattle.seats.specs.declared.fault.SeatFault.TheVariants as fault;
 
@@ -25,8 +25,8 @@ impl<'a, S: Sitting> Seat<'a, S> {
         ensures awaits { self.new.awaits ≡ self.old.awaits }
         ensures barred { may_seat_access S.at self.old address true ≡ false
             → (result ≡ Err (fault.NotAllowed address)) × (self.new ≡ self.old) }
-        ensures sum { OnOk result ((l a n : ℕ) → HasAdded l a n (seat_deeds self.old)
-            → HasAdded l a (n + (if address == a then number else 0)) (seat_deeds self.new)) }
+        ensures sum { OnOk result ((l a n : ℕ) → AddsUpTo l a n (seat_deeds self.old)
+            → AddsUpTo l a (n + (if address == a then number else 0)) (seat_deeds self.new)) }
     {
         if !self.may_access(address, true) {
             return Err(SeatFault::NotAllowed(address));
@@ -39,15 +39,15 @@ impl<'a, S: Sitting> Seat<'a, S> {
     /// Adds the number to the word at the address under the lock, modulo 2^32: acquires the lock, for which it waits, loads the
     /// word, stores it with the number added, and releases the lock. Answers the word as it was.
     ///
-    /// Nothing else need be shown for the word's total: that is what all have added (`HasAdded`, `added_law`). It faults as
+    /// Nothing else need be shown for the word's total: that is what all have added (`AddsUpTo`, `added_law`). It faults as
     /// [`lock`](Seat::lock), [`increase`](Seat::increase) and [`unlock`](Seat::unlock) do, and then has done a beginning of this:
     /// it may hold the lock.
     pub fn add(&mut self, lock: usize, address: usize, number: u32) -> Result<u32, SeatFault>
         ensures ok { IfOk result (λ v. HasActed self.old self.new (whole_tenure lock (adding address v number))) }
         ensures err { OnErr result ((v : ℕ) × HasActedInPart self.old self.new (whole_tenure lock (adding address v number))) }
         ensures idle { OnOk result (self.new.awaits ≡ None) }
-        ensures sum { OnOk result ((l a n : ℕ) → HasAdded l a n (seat_deeds self.old)
-            → HasAdded l a (n + (if address == a then number else 0)) (seat_deeds self.new)) }
+        ensures sum { OnOk result ((l a n : ℕ) → AddsUpTo l a n (seat_deeds self.old)
+            → AddsUpTo l a (n + (if address == a then number else 0)) (seat_deeds self.new)) }
         ensures outside { (e : ARefusal) → ask_refusal self.old lock ≡ Some e
             → (result ≡ Err (fault.Refused e)) × (self.new ≡ self.old) }
     {
@@ -72,8 +72,8 @@ impl<'a, S: Sitting> Seat<'a, S> {
             (whole_tenure lock (adding first.0 v first.1 ++ adding second.0 w second.1))) }
         ensures err { OnErr result ((v w : ℕ) × HasActedInPart self.old self.new
             (whole_tenure lock (adding first.0 v first.1 ++ adding second.0 w second.1))) }
-        ensures sum { OnOk result ((l a n : ℕ) → HasAdded l a n (seat_deeds self.old)
-            → HasAdded l a (n + adds_two first.0 first.1 second.0 second.1 a) (seat_deeds self.new)) }
+        ensures sum { OnOk result ((l a n : ℕ) → AddsUpTo l a n (seat_deeds self.old)
+            → AddsUpTo l a (n + adds_two first.0 first.1 second.0 second.1 a) (seat_deeds self.new)) }
         ensures balance { OnOk result ((left right : List ℕ) → KeepsBalance left right first.0 first.1 second.0 second.1
             → IsBetweenTenures (balance_fact lock left right) (seat_deeds self.old)
             → IsBetweenTenures (balance_fact lock left right) (seat_deeds self.new)) }

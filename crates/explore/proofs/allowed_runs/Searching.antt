@@ -20,14 +20,20 @@ use Rattle.explore.specs.AllowedBeginnings.{AreCallsFollowed, AreCallsNext, AreL
 use Rattle.explore.specs.AllowedRoom.{beginnings_to_look_at}
 use Rattle.explore.specs.AllowedSearch.{AreAllowedApart, CanShowAllowed, IsAllowedFollowed, IsAllowedFront, IsAllowedLookedAt, IsAllowedSearched, IsNotLost, allowed_found}
 use Rattle.explore.specs.Explored.{explored_outcome}
-use Rattle.explore.specs.Outcomes.{AreOutcomeReplies}
+use Rattle.explore.specs.Outcomes.{AreOutcomeReplies, outcome_replies_in}
 use Rattle.explore.specs.Searched.{IsAmongSearched}
 use Rattle.explore.specs.Prefixes.Calling.{calling_section_steps, calling_shown_by}
 use Rattle.explore.proofs.Machines.{machine_some_at}
 use Rattle.explore.proofs.prefixes.Calling.{prefix_calling_follows_length}
-use Rattle.explore.proofs.Searched.{search_same_replies}
+use Rattle.explore.proofs.ToldReplies.{told_same_rows}
 use Rattle.explore.proofs.allowed_runs.First.{allowed_all_show, allowed_one_shows}
 use Rattle.explore.proofs.allowed_runs.NextCalls.{allowed_front, allowed_next}
+
+-- what the loads of a history answer is one
+allowed_same_replies : (s : Plan) (g : List Event) (a b : List (List ℕ)) → AreOutcomeReplies s g a → AreOutcomeReplies s g b → a ≡ b
+allowed_same_replies s g a b first second =
+    told_same_rows s.processors (λ p. outcome_replies_in (calls_of g p)) a b (record { long = first.long; each = first.each })
+    (record { long = second.long; each = second.each })
 
 -- g with one event more is longer
 allowed_longer : (g : List Event) (e : Event) → length (g ++ e ∷ []) ≡ length g + 1
@@ -368,7 +374,7 @@ allowed_whole_shows : (s : Plan) (g : List Event) (replies r : List (List ℕ)) 
 allowed_whole_shows s g replies r lawful follows are shows = go shows.more shows.run shows.are
   where
     go : (w : List Event) → IsAllowedRun s (g ++ w) → AreOutcomeReplies s (g ++ w) r → replies ≡ r
-    go [] run these = search_same_replies s g replies r are (subst (λ h. AreOutcomeReplies s h r) (append-nil g) these)
+    go [] run these = allowed_same_replies s g replies r are (subst (λ h. AreOutcomeReplies s h r) (append-nil g) these)
     go (e ∷ w) run these =
         absurd (allowed_whole_ends s g e lawful follows
         (allowed_front s (g ++ e ∷ []) w (subst (IsAllowedBeginning s) (sym (append_assoc g (e ∷ []) w)) run.beginning)))
