@@ -1,6 +1,6 @@
-//! A layout of its own tables, used in turn; programs on threads.
+//! A layout of its own tables, used in turn; programs on threads; what is made of a seat's calls.
 
-use crate::{Guard, Layout, ProcessorFault, Program, Seat, SeatFault, Sitting, run};
+use crate::{Guard, Layout, ProcessorFault, Program, Seat, SeatFault, Sitting, run, run_guarded};
 use cluster::Refused;
 use std::alloc::{AllocError, Global};
 use std::sync::Wait;
@@ -176,5 +176,96 @@ fn seats_keep_to_layouts(rt: HostRuntime) -> Result<(), AllocError> {
         fault_of(&rt, alloc, &none, &Errand::Keep) == Some(beyond),
         "a word without a guard"
     );
+    Ok(())
+}
+
+/// Each adds to word 2 under lock 0, meets the others, and answers that word, and 0 if what is behind it isn't.
+#[derive(Drop)]
+struct Adder {
+    alloc: Global,
+}
+
+impl Program for Adder {
+    type Answer = u32;
+
+    ghost did = { λ processor deeds answer. Unit {0} };
+
+    fn work<S: Sitting>(&self, seat: &mut Seat<'_, S>) -> Result<u32, SeatFault> {
+        seat.add(0, 2, 5)?;
+        seat.add_two(0, (2, 1), (2, u32::MAX))?;
+        seat.barrier()?;
+        seat.lock(0)?;
+        let words = seat.words(self.alloc, 2, 4)?;
+        seat.unlock(0)?;
+        match words.as_slice() {
+            [sum, 0] => Ok(*sum),
+            _ => Ok(0),
+        }
+    }
+}
+
+/// Each stores values of other types to a word of its own, and answers the word of the last one, and 0 if it loads another value.
+struct Viewer;
+
+impl Program for Viewer {
+    type Answer = u32;
+
+    ghost did = { λ processor deeds answer. Unit {0} };
+
+    fn work<S: Sitting>(&self, seat: &mut Seat<'_, S>) -> Result<u32, SeatFault> {
+        let own = seat.number();
+        seat.store_as(own, true)?;
+        let yes: bool = seat.load_as(own)?;
+        let one: u32 = seat.load_as(own)?;
+        seat.store_as(own, -7i32)?;
+        let less: i32 = seat.load_as(own)?;
+        if yes && one == 1 && less == -7 {
+            seat.load(own)
+        } else {
+            Ok(0)
+        }
+    }
+}
+
+#[test]
+fn words_are_added_to(rt: HostRuntime) -> Result<(), ProcessorFault> {
+    let alloc = rt.alloc();
+    let layout = two_phases(alloc)?;
+    let ran = run_guarded(&rt, alloc, 2, 1, 64, 1, 0, &layout, &Adder { alloc })?;
+    assert!(rt;
+        ran.answers.as_slice() == [10, 10].as_slice(),
+        "what both added"
+    );
+    assert!(rt;
+        ran.memory.get(2).copied() == Some(10),
+        "the same at the end"
+    );
+    assert!(rt; ran.memory.len() == 64, "all words");
+    Ok(())
+}
+
+#[test]
+fn words_are_of_other_types(rt: HostRuntime) -> Result<(), ProcessorFault> {
+    let alloc = rt.alloc();
+    let layout = two_phases(alloc)?;
+    let ran = run_guarded(&rt, alloc, 2, 1, 64, 1, 0, &layout, &Viewer)?;
+    assert!(rt;
+        ran.answers.as_slice() == [4294967289, 4294967289].as_slice(),
+        "7 less than none, modulo 2^32"
+    );
+    Ok(())
+}
+
+#[test]
+fn open_words_are_told(rt: HostRuntime) -> Result<(), AllocError> {
+    let alloc = rt.alloc();
+    let mut layout = Layout::new(alloc, 64, 0, 1)?;
+    layout.put(0, 5, 6, Guard::Open);
+    let open = ProcessorFault {
+        processor: 0,
+        fault: SeatFault::Open(5),
+    };
+    let ran = run_guarded(&rt, alloc, 2, 1, 64, 1, 0, &layout, &Viewer);
+    assert!(rt; ran.err() == Some(open), "the first word that is open");
     Ok(())
 }
