@@ -1,6 +1,8 @@
 //! A layout of its own tables, used in turn; programs on threads; what is made of a seat's calls.
 
-use crate::{Guard, Layout, ProcessorFault, Program, Seat, SeatFault, Sitting, run, run_guarded};
+use crate::{
+    Grids, Guard, Layout, ProcessorFault, Program, Seat, SeatFault, Sitting, run, run_guarded,
+};
 use cluster::Refused;
 use std::alloc::{AllocError, Global};
 use std::sync::Wait;
@@ -23,6 +25,31 @@ fn tables_come_in_turn(rt: HostRuntime) -> Result<(), AllocError> {
     );
     assert!(rt; layout.next(2) == 1, "the round again");
     assert!(rt; layout.first_open() == Some(1), "an open word");
+    Ok(())
+}
+
+/// Each round makes one grid, block by block, from the other, which all may load. The last block has a cell less.
+#[test]
+fn grids_are_made_in_turn(rt: HostRuntime) -> Result<(), AllocError> {
+    let layout = Grids { cells: 5, share: 2 }.layout(rt.alloc(), 3)?;
+    assert!(rt;
+        layout.guard(0, 1) == Some(Guard::Of(0)) && layout.guard(0, 4) == Some(Guard::Of(2)),
+        "blocks of the first grid"
+    );
+    assert!(rt;
+        layout.guard(0, 5) == Some(Guard::Shared) && layout.guard(0, 9) == Some(Guard::Shared),
+        "the second grid is read"
+    );
+    assert!(rt;
+        layout.guard(1, 0) == Some(Guard::Shared) && layout.guard(1, 4) == Some(Guard::Shared),
+        "the first grid is read"
+    );
+    assert!(rt;
+        layout.guard(1, 5) == Some(Guard::Of(0)) && layout.guard(1, 8) == Some(Guard::Of(1)),
+        "blocks of the second grid"
+    );
+    assert!(rt; layout.guard(1, 10).is_none(), "past the grids");
+    assert!(rt; layout.next(1) == 0, "the rounds again");
     Ok(())
 }
 
