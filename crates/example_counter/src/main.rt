@@ -3,9 +3,10 @@
 //!
 //! Each of four processors adds one to a shared word, again and again. At the end the program prints the word.
 //!
-//! **What is proved**: the word is 4 × 250, modulo 2^32 (`count`). A processor says how much it has added to the word (`did`), and `Seat::add`
-//! says of itself how much that is; so the proof is a loop's invariant and a line for the end. Besides, what `seats::run_guarded`
-//! promises: no two accesses race, since each processor keeps to the layout and no word of it is open to all.
+//! **What is proved**: the word is 4 × 250, modulo 2^32 (`count`). A processor says how much it has added to the word
+//! (`did`), and `Seat::add` says of itself how much that is; so the proof is a loop's invariant and a line for the end.
+//! Besides, what `seats::run_guarded` promises: no two accesses race, since each processor keeps to the layout and no word
+//! of it is open to all.
 //!
 //! **What is only tested**: that it answers.
 #![tactic(auto)]
