@@ -161,13 +161,17 @@ static void script_faults(void)
                                    && is_filled(&fault, sizeof fault));
 }
 
-/* Eight processors ask for one lock: the states take more than there is. */
+/* Eight processors ask for one lock, four times each: the states take more than there is. */
 static void memory_refused(void)
 {
-    char script[1024] = "cluster 8 1 1 1\n", section[64];
+    char script[2048] = "cluster 8 1 1 1\n", lines[64];
     for (int processor = 0; processor < 8; processor++) {
-        sprintf(section, "p %d\nacquire 0\nadd 0 %d\nrelease 0\n", processor, 1 << processor);
-        strcat(script, section);
+        sprintf(lines, "p %d\n", processor);
+        strcat(script, lines);
+        sprintf(lines, "acquire 0\nadd 0 %d\nrelease 0\n", 1 << 4 * (processor % 4));
+        for (int section = 0; section < 4; section++) {
+            strcat(script, lines);
+        }
     }
     strcat(script, "show 0\n");
     cevandle_exploration found;
