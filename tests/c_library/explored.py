@@ -2,7 +2,7 @@
 """explored.py EXPLORED [PROGRAM]: compares what the library for C tells of scripts' schedules with what `lrc explore` prints.
 
 EXPLORED is the program of explored.c. What it prints has to be what the cases of tests/program want of `explore` and of refused
-scripts, without what the library doesn't tell: schedules, words, and who keeps a processor waiting. So it has to be with
+scripts, without what the library doesn't tell: schedules, words, who keeps a processor waiting, and what the rules allow. So it has to be with
 what PROGRAM prints of each script of examples/ and of drawn ones, where PROGRAM is built. And of each of these it has to be what
 the plain enumeration of tests/exploring finds. The last line is `N passed, M failed`.
 """
@@ -23,6 +23,7 @@ from schedules import enumerate_all  # noqa: E402
 from texts import results_of  # noqa: E402
 
 DRAWN = 200
+BY_RULES = re.compile(r"outcomes .* by the rules( so far)?|beginnings .*")
 UNTOLD = re.compile(r", held by .*|, which nobody .*| for processor .*")
 
 
@@ -39,7 +40,7 @@ def told(text):
     kept, accesses = [], 0
     for line in text.splitlines():
         is_event = line.startswith("event ")
-        if line.startswith("  words ") or is_event and not accesses:
+        if line.startswith("  words ") or BY_RULES.fullmatch(line) or is_event and not accesses:
             continue
         accesses = 2 if line == "race" else accesses - is_event
         kept.append(UNTOLD.sub("", line))
@@ -85,7 +86,7 @@ def by_rules(text, said):
     if found.race is not None:
         return compared(said[:1], ["verdict racy"])
     hangs = "hangs never" if found.hang is None else "hangs"
-    results = results_of(script, found, "words")
+    results = results_of(script, found.outcomes, "words")
     return compared(said[:3], ["verdict race-free under every schedule", f"outcomes {len(results)}", hangs])
 
 

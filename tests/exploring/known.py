@@ -3,6 +3,7 @@ import random
 
 import scripts
 import texts
+from allowed import all_allowed
 from schedules import Enumeration, Memory, enumerate_all, first_race
 
 MESSAGE = "cluster 2 1 2 0 1/p 0/store 0 5/set 0/p 1/await 0/load 0/show 0/"
@@ -65,8 +66,35 @@ TOLD = {
 
 def is_told_as_by_hand(detail):
     script = scripts.read(BOTH.replace("/", "\n"))
-    results = texts.results_of(script, enumerate_all(script), detail)
+    results = texts.results_of(script, enumerate_all(script).outcomes, detail)
     return [texts.outcome_line(result).strip() for result in results] == TOLD[detail]
+
+
+# What the rules allow of racy scripts, by each `load`.
+ALLOWED = [
+    (BUFFERING, ["words 0 1 replies p0 0 p1 0"]),
+    # Two stores without order: each is a latest one.
+    ("cluster 2 1 1 0/p 0/store 0 1/p 1/store 0 2/show 0/", ["words 0 1", "words 0 2"]),
+    # Two loads with nothing between them may answer one each.
+    ("cluster 3 1 1 0/p 0/store 0 1/barrier/p 1/store 0 2/barrier/p 2/barrier/load 0/load 0/show 0/",
+     [f"words 0 {last} replies p2 {one} {two}" for one in (1, 2) for two in (1, 2) for last in (1, 2)]),
+    # Whoever has lock 1 first: only if that is processor 1 has the other's load the store in its past.
+    (CHAIN, ["words 0 9 replies p2 0", "words 0 9 replies p2 9"]),
+]
+
+
+def is_allowed_as_by_hand(row):
+    text, wanted = row
+    script = scripts.read(text.replace("/", "\n"))
+    results = texts.results_of(script, all_allowed(script, 10000), "loads")
+    return sorted(texts.outcome_line(it).strip() for it in results) == sorted(wanted)
+
+
+def is_allowed_as_flat(seed):
+    """Of a script that doesn't race the rules have to allow what flat memory shows. None where there are too many beginnings."""
+    script = scripts.draw(seed)
+    found, allowed = enumerate_all(script), all_allowed(script, 500)
+    return None if found.race is not None or allowed is None else allowed == found.outcomes
 
 
 def is_as_by_hand(row):
@@ -154,11 +182,12 @@ def damages(script, found, detail):
         yield "a schedule cut short", without(race - 1)
         yield "events missing at its beginning", lines[:1] + lines[2:]
         yield "one event for both", lines[:race + 1] + [lines[race + 2]] * 2 + lines[race + 3:]
+        yield from allowed_damages(lines, found)
         return
     yield "racy", ["verdict racy", *lines[2:]]
     yield "given up", ["verdict undecided", *lines[1:]]
     yield "outcomes so far", [lines[0], lines[1] + " so far", *lines[2:]]
-    count = len(texts.results_of(script, found, detail))
+    count = len(texts.results_of(script, found.outcomes, detail))
     for other in texts.DETAILS:
         if (told := texts.write(script, found, other).splitlines()) != lines:
             yield f"told by {other}", told
@@ -179,6 +208,19 @@ def damages(script, found, detail):
         yield "a wait left out", without(len(lines) - 2)
 
 
+def allowed_damages(lines, found):
+    """The text of a racy script, damaged where it tells what the rules allow."""
+    place = next(it for it, line in enumerate(lines) if line.endswith(" by the rules") or line.endswith(" so far"))
+    front, told, last = lines[:place], lines[place + 1:-1], lines[-1]
+    yield "the rules not told", front
+    yield "no beginnings", front + [lines[place], *told]
+    if found.allowed:
+        yield "allowed so far", [*front, lines[place] + " so far", *told, last]
+        yield "an allowed outcome left out", [*front, f"outcomes {len(told) - 1} by the rules", *told[1:], last]
+        yield "an allowed outcome twice", [*front, f"outcomes {len(told) + 1} by the rules", told[0], *told, last]
+        yield "another allowed word", [*front, lines[place], told[0].replace("words ", "words 1", 1), *told[1:], last]
+
+
 def is_refused(script, found, lines, detail):
     """Whether the damaged text is refused."""
     try:
@@ -192,6 +234,7 @@ def is_judged(seed):
     """Whether the right text of a drawn script is let through, by each detail, and each damaged one is refused."""
     script = scripts.draw(seed)
     found = enumerate_all(script)
+    found.allowed = all_allowed(script, 500)
     for detail in texts.DETAILS:
         try:
             texts.judge(script, found, texts.write(script, found, detail), detail)
@@ -208,11 +251,17 @@ def trials():
         yield f"by hand: {row[0]}", is_as_by_hand(row)
     for detail in texts.DETAILS:
         yield f"{detail} by hand", is_told_as_by_hand(detail)
+    for row in ALLOWED:
+        yield f"allowed by hand: {row[0]}", is_allowed_as_by_hand(row)
     for seed in range(200):
         yield f"a walk of script {seed}", is_one_walk(seed)
     for seed in range(100):
         held = is_every_path(seed, 1000)
         if held is not None:
             yield f"every path of script {seed}", held
+    for seed in range(100):
+        held = is_allowed_as_flat(seed)
+        if held is not None:
+            yield f"allowed as flat of script {seed}", held
     for seed in range(100):
         yield f"texts of script {seed}", is_judged(seed)

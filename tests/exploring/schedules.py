@@ -145,6 +145,7 @@ class Enumerated:
     race: list = None  # events of which the last one races; None where no schedule races
     hang: list = None  # events after which nothing can come; None where no schedule hangs
     outcomes: set = field(default_factory=set)  # of each whole run its processors' replies
+    allowed: set = None  # the same of each run that the rules allow (allowed.py); None where that isn't known
     states: int = 0
 
 

@@ -23,6 +23,8 @@ class Answer:
     waits: list = None  # lines
     race: list = None  # events
     racing: list = None  # the two lines
+    allowed: list = None  # (words, replies) of each outcome by the rules
+    allowed_all: bool = False  # the rules allow no others
 
 
 class Lines:
@@ -48,13 +50,13 @@ class Lines:
         return lines
 
     def end(self):
-        self.next(r"states [1-9][0-9]*")
         if self.lines:
             raise Wrong(f"{self.lines[0]!r} behind the end")
 
 
-def read(text):
-    """What the text says. Wrong where it isn't of the form that docs/SCRIPTS.md has."""
+def read(text, by_rules=True):
+    """What the text says; of a racy script also what the rules allow, unless that isn't asked for. Wrong where it isn't of the form that
+    docs/SCRIPTS.md has."""
     lines = Lines(text)
     verdict = lines.next(r"verdict (race-free) under every schedule|verdict (racy|undecided)")
     answer = Answer(next(part for part in verdict.groups() if part))
@@ -68,8 +70,19 @@ def read(text):
         answer.are_all = count[2] is None
         answer.outcomes = [read_outcome(lines.next("  (words .*)")[1]) for _ in range(int(count[1]))]
         read_hang(lines, answer, "hangs never|hangs undecided|hangs")
+    lines.next(r"states [1-9][0-9]*")
+    if answer.verdict == "racy" and by_rules:
+        read_allowed(lines, answer)
     lines.end()
     return answer
+
+
+def read_allowed(lines, answer):
+    """What the rules allow."""
+    count = lines.next(r"outcomes (0|[1-9][0-9]*) by the rules( so far)?")
+    answer.allowed_all = count[2] is None
+    answer.allowed = [read_outcome(lines.next("  (words .*)")[1]) for _ in range(int(count[1]))]
+    lines.next(r"beginnings [1-9][0-9]*")
 
 
 def read_hang(lines, answer, pattern):
@@ -158,9 +171,9 @@ def wait_lines(memory):
     return [f"processor {processor} waits {wait}" for processor, wait in waits if wait is not None]
 
 
-def results_of(script, found, detail):
+def results_of(script, outcomes, detail):
     """What the outcomes show, each once, told by this detail, in the order of the text."""
-    return [shown_of(script, told) for told in sorted({told_of(script, replies, detail) for replies in found.outcomes})]
+    return [shown_of(script, told) for told in sorted({told_of(script, replies, detail) for replies in outcomes})]
 
 
 def write(script, found, detail):
@@ -168,15 +181,23 @@ def write(script, found, detail):
     if found.race is not None:
         places = first_race(found.race)
         ends = ["race"] + [found.race[place].line(place) for place in places]
-        lines = ["verdict racy", *event_lines(found.race), *ends]
+        lines = ["verdict racy", *event_lines(found.race), *ends, f"states {found.states}", *allowed_lines(script, found, detail)]
     else:
-        results = results_of(script, found, detail)
+        results = results_of(script, found.outcomes, detail)
         lines = ["verdict race-free under every schedule", f"outcomes {len(results)}", *map(outcome_line, results)]
         if found.hang is None:
             lines.append("hangs never")
         else:
             lines += ["hangs", *event_lines(found.hang), *wait_lines(ran(script, found.hang))]
-    return "".join(line + "\n" for line in lines + [f"states {found.states}"])
+        lines.append(f"states {found.states}")
+    return "".join(line + "\n" for line in lines)
+
+
+def allowed_lines(script, found, detail):
+    """The lines of what the rules allow; none of them if there are too many beginnings."""
+    results = results_of(script, found.allowed or [], detail)
+    count = f"outcomes {len(results)} by the rules" + " so far" * (found.allowed is None)
+    return [count, *map(outcome_line, results), "beginnings 1"]
 
 
 def event_lines(events):
@@ -191,6 +212,7 @@ def judge(script, found, text, detail):
         raise Wrong(f"{answer.verdict} where {verdict} is found")
     if verdict == "racy":
         judge_race(script, answer)
+        judge_allowed(script, found, answer, detail)
     else:
         judge_outcomes(script, found, answer, detail)
         if answer.never_hangs != (found.hang is None) or (answer.hang is None) != (found.hang is None):
@@ -210,12 +232,22 @@ def judge_race(script, answer):
 
 
 def judge_outcomes(script, found, answer, detail):
-    wanted = results_of(script, found, detail)
-    if not answer.are_all:
+    expect_all(answer.outcomes, answer.are_all, results_of(script, found.outcomes, detail))
+
+
+def judge_allowed(script, found, answer, detail):
+    """What the rules allow has to be what the enumeration by them finds, unless that has too many beginnings."""
+    if found.allowed is not None:
+        expect_all(answer.allowed, answer.allowed_all, results_of(script, found.allowed, detail))
+
+
+def expect_all(outcomes, are_all, wanted):
+    """These have to be all outcomes, in their order."""
+    if not are_all:
         raise Wrong("outcomes so far")
-    if sorted(answer.outcomes) != sorted(wanted):
-        raise Wrong(f"outcomes {answer.outcomes} where {wanted} are found")
-    if answer.outcomes != wanted:
+    if sorted(outcomes) != sorted(wanted):
+        raise Wrong(f"outcomes {outcomes} where {wanted} are found")
+    if outcomes != wanted:
         raise Wrong(f"outcomes in another order than {wanted}")
 
 

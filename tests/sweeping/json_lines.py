@@ -60,7 +60,7 @@ def wait_line(wait):
 def explore_text(objects):
     """The text of `explore`, of lines on who waits only how they begin."""
     *others, end = objects
-    by = {name: [it for it in others if it["told"] == name] for name in ("race", "outcome", "hang")}
+    by = {name: [it for it in others if it["told"] == name] for name in ("race", "outcome", "hang", "allowed", "rules")}
     expect(end["told"] == "end" and sum(map(len, by.values())) == len(others), f"that is the end: {end}")
     hangs = [line for hang in by["hang"]
              for line in ["hangs", *map(line_of, hang["events"]), *map(wait_line, hang["waits"])]]
@@ -68,6 +68,8 @@ def explore_text(objects):
         [race] = by["race"]
         yield from ["verdict racy", *map(line_of, race["events"]), "race",
                     *(line_of(race["events"][race[name]]) for name in ("first", "second")), *hangs]
+        yield f"states {end['states']}"
+        yield from allowed_text(by["allowed"], *by["rules"])
     else:
         expect(end["outcomes"] == len(by["outcome"]), f"each outcome is told: {end}")
         yield NO_VERDICTS[end["verdict"]]
@@ -75,7 +77,15 @@ def explore_text(objects):
         yield from ("  " + results_of(it) for it in by["outcome"])
         expect((end["hangs"] == "hangs") == bool(hangs), f"the hang is told: {end}")
         yield from hangs or [f"hangs {end['hangs']}"]
-    yield f"states {end['states']}"
+        yield f"states {end['states']}"
+
+
+def allowed_text(allowed, rules):
+    """What the rules allow of a racy script, as `explore` prints it."""
+    expect(rules["outcomes"] == len(allowed), f"each allowed outcome is told: {rules}")
+    yield f"outcomes {rules['outcomes']} by the rules" + " so far" * (not rules["all"])
+    yield from ("  " + results_of(it) for it in allowed)
+    yield f"beginnings {rules['beginnings']}"
 
 
 def why(lie):

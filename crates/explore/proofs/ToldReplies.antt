@@ -1,11 +1,12 @@
 -- Which replies are told and kept, with a call more.
 -- A step that adds stands behind a load, so the reply that it adds to is that of the call before it.
-use Rattle.std.proofs.Common.{ℕ, zero, suc, ◌≡◌, ◌+◌, ◌<◌, ◌≤◌, map, slice_index_or, inl, inr, Bool, true, false, cond, List, [], ◌∷◌, ◌++◌, length, Some, IsTrue, slice_get, refl, sym, ap, ap₂, subst, ◌∙◌, length-append, append_assoc, append-nil, arith}
+use Rattle.std.proofs.Common.{ℕ, add-one, take, zero, suc, ◌≡◌, ◌+◌, ◌<◌, ◌≤◌, map, slice_index_or, inl, inr, Bool, true, false, cond, List, [], ◌∷◌, ◌++◌, length, Some, IsTrue, slice_get, refl, sym, ap, ap₂, subst, ◌∙◌, length-append, append_assoc, append-nil, arith}
 use Rattle.std.specs.Prelude.{None, Option, ⊤, not}
 use Rattle.std.proofs.lemmas.Bool.{le-leb, cases_lt, false≢true}
-use Rattle.std.proofs.lemmas.List.{length-map}
+use Rattle.std.proofs.lemmas.List.{length-map, length-take-le}
 use Rattle.std.proofs.lemmas.List.Sums.{fold-append}
-use Rattle.std.proofs.lemmas.Option.{none-some, same_Some}
+use Rattle.std.proofs.lemmas.Option.{none-some, same_Some, slice_get_within}
+use Rattle.base.proofs.SlicesAndCounts.{take-suc_at}
 use Rattle.base.proofs.SliceSets.{slice_sets_same}
 use Rattle.journal.specs.declared.event.Kind.{Kind}
 use Rattle.journal.specs.declared.event.Kind.TheVariants as kind
@@ -78,6 +79,17 @@ told_next t p steps n calls k =
     told_append t p steps n calls (k ∷ [])
     ∙ ap (λ rest. told_replies t p steps n calls ++ rest)
     (append-nil (told_reply (is_told_by t.detail (told_words t p) steps (n + length calls)) k))
+
+-- of the first calls, and one more
+pub told_one_more : (t : OutcomeTelling) (p : ℕ) (steps : List ScriptCall) (calls : List Kind) (n : ℕ) (k : Kind) → slice_get calls n ≡ Some k
+    → told_replies t p steps 0 (take (n + 1) calls)
+    ≡ told_replies t p steps 0 (take n calls) ++ told_reply (is_told_by t.detail (told_words t p) steps n) k
+told_one_more t p steps calls n k at =
+    let within = slice_get_within calls n k at in
+    let long : 0 + length (take n calls) ≡ n = omega (arith, length-take-le n calls (omega arith)) in
+    rw (add-one, take-suc_at calls n k at)
+    (told_next t p steps 0 (take n calls) k
+    ∙ ap (λ m. told_replies t p steps 0 (take n calls) ++ told_reply (is_told_by t.detail (told_words t p) steps m) k) long)
 
 -- the reply that the next step adds to is that of the call before it
 told_pending_next : (step : Option ScriptCall) (calls : List Kind) (k : Kind)

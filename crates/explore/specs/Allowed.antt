@@ -1,5 +1,5 @@
 -- What runs of a script may show by the rules of the memory alone, whether it races or not.
-use Rattle.std.specs.Prelude.{ℕ, ◌≡◌, ◌+◌, ◌<◌, false, IsTrue, List, length, map}
+use Rattle.std.specs.Prelude.{ℕ, ◌≡◌, ◌+◌, false, IsTrue, List, length, map}
 use Rattle.base.specs.InOrderOnce.{Has, IsOnce}
 use Rattle.journal.specs.declared.event.Event.{Event}
 use Rattle.journal.specs.ExplainedAnswers.{Explained}
@@ -11,7 +11,8 @@ use Rattle.conformance.specs.Follows.{Follows, plan_sizes}
 use Rattle.explore.specs.declared.allowed.AllowedOutcomes.{AllowedOutcomes}
 use Rattle.explore.specs.AllowedRoom.{beginnings_to_look_at}
 use Rattle.explore.specs.Explored.{explored_outcome}
-use Rattle.explore.specs.Outcomes.{AreOutcomeReplies}
+use Rattle.explore.specs.declared.told.Detail.{Detail}
+use Rattle.explore.specs.Told.{AreToldReplies, telling_of_script}
 
 -- processors have begun the script, each load answers a latest store of its past, and nothing is fetched
 pub record IsAllowedBeginning (s : Plan) (g : List Event) : Type 0 where
@@ -25,9 +26,10 @@ pub record IsAllowedRun (s : Plan) (g : List Event) : Type 0 where
   pub beginning : IsAllowedBeginning s g
   pub follows : Follows s g
 
--- some such run shows this: the loads by which processor 0 shows the words at the end answer as loads do, each a latest store
-abbrev pub IsAllowedOutcome : Plan → List (List ℕ) → Type 0
-IsAllowedOutcome s replies = (g : List Event) × IsAllowedRun s g × AreOutcomeReplies s g replies
+-- some such run shows this, told by this detail: the loads by which processor 0 shows the words at the end answer as loads do, each a
+-- latest store
+abbrev pub IsAllowedOutcome : Plan → Detail → List (List ℕ) → Type 0
+IsAllowedOutcome s d replies = (g : List Event) × IsAllowedRun s g × AreToldReplies s (telling_of_script s d) g replies
 
 -- such runs have so many beginnings at least
 pub record HasAllowedBeginnings (s : Plan) (n : ℕ) : Type 0 where
@@ -36,12 +38,12 @@ pub record HasAllowedBeginnings (s : Plan) (n : ℕ) : Type 0 where
   pub once : IsOnce beginnings
   pub each : (g : List Event) → Has beginnings g → IsAllowedBeginning s g
 
--- what an answer says, if so many beginnings were asked for: it looked at so many; the rules allow each outcome, and each is there
+-- what an answer by this detail says, if so many beginnings were asked for: it looked at so many; the rules allow each outcome, and each is there
 -- once; if they are said to be all, the rules allow nothing else; and if they aren't, there are more beginnings than were to be looked at
-pub record AreAllowedOutcomes (s : Plan) (most : ℕ) (answer : AllowedOutcomes) : Type 0 where
+pub record AreAllowedOutcomes (s : Plan) (d : Detail) (most : ℕ) (answer : AllowedOutcomes) : Type 0 where
   pub looked_at : HasAllowedBeginnings s answer.beginnings
-  pub each : (replies : List (List ℕ)) → Has (map explored_outcome answer.outcomes.items) replies → IsAllowedOutcome s replies
+  pub each : (replies : List (List ℕ)) → Has (map explored_outcome answer.outcomes.items) replies → IsAllowedOutcome s d replies
   pub once : IsOnce (map explored_outcome answer.outcomes.items)
-  pub all : IsTrue answer.are_all → (replies : List (List ℕ)) → IsAllowedOutcome s replies
+  pub all : IsTrue answer.are_all → (replies : List (List ℕ)) → IsAllowedOutcome s d replies
       → Has (map explored_outcome answer.outcomes.items) replies
   pub given_up : answer.are_all ≡ false → HasAllowedBeginnings s (beginnings_to_look_at s most + 1)

@@ -12,8 +12,8 @@ ghost use Rattle.explore.specs.Allowed.{IsAllowedBeginning};
 ghost use Rattle.explore.specs.AllowedBeginnings.{AreCallsFollowed, AreCallsNext, ArePlainCalls, IsCallFollowed, MayBeLengthened};
 ghost use Rattle.explore.specs.AllowedBeginnings.{MayCallNext, MayFollowCall, MayFollowCalls, TellsAllowed, allowed_events};
 ghost use Rattle.explore.specs.Machines.{AreLawfulMachineSteps, machine_rows};
-ghost use Rattle.explore.specs.Outcomes.{AreOutcomeReplies};
 ghost use Rattle.explore.specs.Prefixes.Calling.{replyless_call};
+ghost use Rattle.explore.specs.Told.{AreToldReplies};
 ghost use Rattle.explore.specs.Waiting.{IsLikeWaiting};
 
 use crate::allowed_answers::allowed_answers;
@@ -21,6 +21,7 @@ use crate::allowed_calls::{
     allowed_call_of, allowed_calls_made, allowed_replies, allowed_reply_before,
 };
 use crate::prefixes::ScriptCall;
+use crate::told::OutcomeTelling;
 use crate::waiting::Waiting;
 use base::MOST_PROCESSORS;
 use journal::{Event, Kind};
@@ -126,12 +127,18 @@ impl AllowedBeginning {
         true
     }
 
-    /// What the loads of each of so many processors have answered. The only error is running out of memory.
-    pub fn replies(&self, alloc: Global, processors: usize) -> Result<Vec<Vec<u32>>, AllocError>
-        ensures { IfOk result (λ v. (s : Plan) → s.processors ≡ processors
-            → AreOutcomeReplies s (allowed_events self.now) (machine_rows v.items)) }
+    /// What is told of the loads of each processor. The only error is running out of memory.
+    pub fn replies(
+        &self,
+        alloc: Global,
+        telling: OutcomeTelling,
+        steps: &[Vec<ScriptCall>],
+    ) -> Result<Vec<Vec<u32>>, AllocError>
+        requires told { (s : Plan) × AreLawfulMachineSteps s steps.now × TellsAllowed s self.now }
+        ensures { IfOk result (λ v. (s : Plan) → AreLawfulMachineSteps s steps.now → TellsAllowed s self.now
+            → AreToldReplies s telling (allowed_events self.now) (machine_rows v.items)) }
     {
-        let replies = allowed_replies(alloc, &self.events, processors)?;
+        let replies = allowed_replies(alloc, telling, &self.events, steps)?;
         Ok(replies)
     }
 

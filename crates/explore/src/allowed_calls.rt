@@ -1,13 +1,17 @@
 //! What processors have called among some events, and what they call next.
-ghost use Rattle.std.specs.Prelude.{◌≡◌, ◌↔◌, ◌<◌, ◌==◌, ◌++◌, ℕ, IfOk, OnOk, [], ◌∷◌, cond, count_by, length, slice_get, Some};
+ghost use Rattle.std.specs.Prelude.{◌≡◌, ◌↔◌, ◌<◌, ◌≤◌, ◌==◌, ◌++◌, ℕ, IfOk, OnOk, [], ◌∷◌, cond, count_by, length, slice_get, Some};
 ghost use Rattle.std.specs.Global.{Vec as AVec};
 ghost use Rattle.journal.specs.declared.event.Event.{Event as AnEvent};
 ghost use Rattle.journal.specs.declared.event.Kind.{Kind as AKind};
+ghost use Rattle.conformance.specs.FlatRuns.{FlatRunHasNoFetch};
 ghost use Rattle.conformance.specs.Follows.{calls_of};
-ghost use Rattle.explore.specs.Outcomes.{outcome_replies_in};
+ghost use Rattle.explore.specs.declared.prefixes.script_call.ScriptCall.{ScriptCall as AStep};
 ghost use Rattle.explore.specs.Prefixes.Calling.{IsCallOfStep, last_reply_of_calls, replyless_call, reply_after_call};
+ghost use Rattle.explore.specs.Told.{told_replies};
 
 use crate::prefixes::ScriptCall;
+use crate::told::OutcomeTelling;
+use crate::told_replies::told_replies_of;
 use journal::{Event, Kind};
 use std::alloc::{AllocError, Global};
 
@@ -54,46 +58,67 @@ pub fn allowed_reply_before(events: &[Event], processor: usize) -> u32
     reply
 }
 
-/// Puts the reply of the event at the end, if it is a load by the processor.
-fn keep_reply_of(replies: &mut Vec<u32>, event: Event, processor: usize) -> Result<(), AllocError>
-    ensures { OnOk result (replies.new.items
-        ≡ replies.old.items ++ cond (event.processor == processor) (outcome_replies_in (event.kind ∷ [])) []) }
+/// Puts the event's kind at the end, if it is the processor's.
+fn keep_call_of(calls: &mut Vec<Kind>, event: Event, processor: usize) -> Result<(), AllocError>
+    ensures { OnOk result (calls.new.items ≡ calls.old.items ++ cond (event.processor == processor) (event.kind ∷ []) []) }
 {
-    match event.kind {
-        Kind::Load(_, word) if event.processor == processor => replies.push(word)?,
-        _ => {}
+    if event.processor == processor {
+        calls.push(event.kind)?;
     }
     Ok(())
 }
 
-/// What the processor's loads among these events answered, in order. The only error is running out of memory.
-pub fn allowed_replies_of(
+/// What the processor called among these events, in order, if nothing was fetched. The only error is running out of memory.
+fn allowed_calls_of(
     alloc: Global,
     events: &[Event],
     processor: usize,
-) -> Result<Vec<u32>, AllocError>
-    ensures { IfOk result (λ v. v.items ≡ outcome_replies_in (calls_of events.now processor)) }
+) -> Result<Vec<Kind>, AllocError>
+    requires { FlatRunHasNoFetch events.now }
+    ensures { IfOk result (λ v. v.items ≡ calls_of events.now processor) }
 {
-    let mut replies = Vec::new(alloc);
+    let mut calls = Vec::new(alloc);
     for event in events {
-        keep_reply_of(&mut replies, *event, processor)?;
+        keep_call_of(&mut calls, *event, processor)?;
     }
-    Ok(replies)
+    Ok(calls)
 }
 
-/// Of each of so many processors, what its loads among these events answered. The only error is running out of memory.
+/// What is told of the processor's loads among these events. Its steps are these. The only error is running out of memory.
+fn allowed_replies_of(
+    alloc: Global,
+    telling: OutcomeTelling,
+    events: &[Event],
+    processor: usize,
+    steps: &[ScriptCall],
+) -> Result<Vec<u32>, AllocError>
+    requires fetchless { FlatRunHasNoFetch events.now }
+    requires few { length (calls_of events.now processor) ≤ length steps.now }
+    ensures { IfOk result (λ v. v.items ≡ told_replies telling processor steps.now 0 (calls_of events.now processor)) }
+{
+    let calls = allowed_calls_of(alloc, events, processor)?;
+    told_replies_of(alloc, telling, processor, steps, &calls)
+}
+
+/// Of each processor, what is told of its loads among these events. Its steps are one of these rows. The only error is running out of
+/// memory.
 pub fn allowed_replies(
     alloc: Global,
+    telling: OutcomeTelling,
     events: &[Event],
-    processors: usize,
+    steps: &[Vec<ScriptCall>],
 ) -> Result<Vec<Vec<u32>>, AllocError>
-    ensures long { IfOk result (λ v. length v.items ≡ processors) }
-    ensures each { IfOk result (λ v. (p : ℕ) (row : AVec ℕ) → slice_get v.items p ≡ Some row
-        → row.items ≡ outcome_replies_in (calls_of events.now p)) }
+    requires fetchless { FlatRunHasNoFetch events.now }
+    requires few { (p : ℕ) (row : AVec AStep) → slice_get steps.now p ≡ Some row
+        → length (calls_of events.now p) ≤ length row.items }
+    ensures long { IfOk result (λ v. length v.items ≡ length steps.now) }
+    ensures each { IfOk result (λ v. (p : ℕ) (row : AVec AStep) (told : AVec ℕ) → slice_get steps.now p ≡ Some row
+        → slice_get v.items p ≡ Some told → told.items ≡ told_replies telling p row.items 0 (calls_of events.now p)) }
 {
     let mut all = Vec::new(alloc);
-    for processor in 0..processors {
-        all.push(allowed_replies_of(alloc, events, processor)?)?;
+    for processor in 0..steps.len() {
+        let row = &steps[processor];
+        all.push(allowed_replies_of(alloc, telling, events, processor, row)?)?;
     }
     Ok(all)
 }

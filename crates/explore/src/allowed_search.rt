@@ -5,6 +5,7 @@ ghost use Rattle.explore.specs.Allowed.{AreAllowedOutcomes};
 ghost use Rattle.explore.specs.AllowedBeginnings.{TellsAllowed, allowed_events};
 ghost use Rattle.explore.specs.AllowedSearch.{IsAllowedFollowed, IsAllowedLookedAt, IsAllowedSearched};
 ghost use Rattle.explore.specs.Machines.{AreLawfulMachineSteps};
+ghost use Rattle.explore.specs.declared.told.Detail.{Detail as ADetail};
 
 use crate::allowed::AllowedOutcomes;
 use crate::allowed_answers::allowed_sources;
@@ -15,6 +16,7 @@ use crate::explored::ScriptOutcome;
 use crate::prefixes::{ScriptCall, steps_of_script};
 use crate::progress::Progress;
 use crate::search::{add_outcome, search_outcomes_listed};
+use crate::told::{Detail, OutcomeTelling};
 use indexmap::IndexSet;
 use lrc_script::script::Script;
 use std::alloc::{AllocError, Global};
@@ -32,7 +34,7 @@ pub struct AllowedSearch {
 impl AllowedSearch {
     /// Before the first event. The only error is running out of memory.
     fn new(alloc: Global) -> Result<AllowedSearch, AllocError>
-        ensures { IfOk result (λ x. (s : Plan) → IsAllowedSearched s 0 x) }
+        ensures { IfOk result (λ x. (s : Plan) (d : ADetail) → IsAllowedSearched s d 0 x) }
     {
         let mut pending = Vec::new(alloc);
         pending.push(AllowedBeginning::new(alloc))?;
@@ -52,7 +54,7 @@ impl AllowedSearch {
     ) -> Result<(), AllocError>
         requires steps { AreLawfulMachineSteps (plan_of script.now) steps.now }
         requires told { TellsAllowed (plan_of script.now) beginning.now }
-        ensures { OnOk result (IsAllowedFollowed (plan_of script.now) (allowed_events beginning.now) self.old self.new) }
+        ensures { OnOk result ((d : ADetail) → IsAllowedFollowed (plan_of script.now) d (allowed_events beginning.now) self.old self.new) }
     {
         let sources = allowed_sources(alloc, script, beginning.events())?;
         let calls = beginning.next_calls(steps);
@@ -60,20 +62,23 @@ impl AllowedSearch {
         beginning.follow_all(alloc, &sources, &chosen, &mut self.pending)
     }
 
-    /// Looks at a beginning: what it shows is noted if it is whole, else what may come next after it is to be looked at.
+    /// Looks at a beginning: what it shows, told by this detail, is noted if it is whole, else what may come next after it is to be
+    /// looked at.
     fn look_at(
         &mut self,
         alloc: Global,
         script: &Script,
         steps: &[Vec<ScriptCall>],
+        detail: Detail,
         beginning: &AllowedBeginning,
     ) -> Result<(), AllocError>
         requires steps { AreLawfulMachineSteps (plan_of script.now) steps.now }
         requires told { TellsAllowed (plan_of script.now) beginning.now }
-        ensures { OnOk result (IsAllowedLookedAt (plan_of script.now) (allowed_events beginning.now) self.old self.new) }
+        ensures { OnOk result (IsAllowedLookedAt (plan_of script.now) detail (allowed_events beginning.now) self.old self.new) }
     {
         if beginning.is_whole(steps) {
-            let replies = beginning.replies(alloc, script.processors)?;
+            let telling = OutcomeTelling::of_script(script, detail);
+            let replies = beginning.replies(alloc, telling, steps)?;
             return add_outcome(&mut self.outcomes, ScriptOutcome { replies });
         }
         self.follow(alloc, script, steps, beginning)
@@ -85,18 +90,19 @@ impl AllowedSearch {
         alloc: Global,
         script: &Script,
         steps: &[Vec<ScriptCall>],
+        detail: Detail,
         most: usize,
         progress: &mut P,
     ) -> Result<usize, AllocError>
         requires steps { AreLawfulMachineSteps (plan_of script.now) steps.now }
-        requires searched { IsAllowedSearched (plan_of script.now) 0 self.old }
-        ensures searched { IfOk result (λ n. IsAllowedSearched (plan_of script.now) n self.new) }
+        requires searched { IsAllowedSearched (plan_of script.now) detail 0 self.old }
+        ensures searched { IfOk result (λ n. IsAllowedSearched (plan_of script.now) detail n self.new) }
         ensures most { IfOk result (λ n. (n ≡ most) ⊎ (self.new.pending.items ≡ [])) }
     {
         for looked in 0..most {
-            progress.found(looked);
+            progress.looked_at(looked);
             match self.pending.pop() {
-                Some(beginning) => self.look_at(alloc, script, steps, &beginning)?,
+                Some(beginning) => self.look_at(alloc, script, steps, detail, &beginning)?,
                 None => return Ok(looked),
             }
         }
@@ -104,7 +110,7 @@ impl AllowedSearch {
     }
 }
 
-/// Looks for all that runs of the script may show by the rules of the memory alone: each load answers a latest store of its past, or 0
+/// Looks for all that runs of the script may show by the rules of the memory alone, told by this detail: each load answers a latest store of its past, or 0
 /// if its past has none. It gives up after `most` beginnings of runs, or after as many as are done in some seconds (`beginnings_that_fit`). The only error is running out of memory.
 ///
 /// Nothing is said of which of it this memory shows: that applies the records of intervals in the order in which these were closed, and
@@ -116,16 +122,17 @@ impl AllowedSearch {
 pub fn allowed_outcomes<P: Progress>(
     alloc: Global,
     script: &Script,
+    detail: Detail,
     most: usize,
     progress: &mut P,
 ) -> Result<AllowedOutcomes, AllocError>
     requires { IsLawful (plan_of script.now) }
-    ensures { IfOk result (AreAllowedOutcomes (plan_of script.now) most) }
+    ensures { IfOk result (AreAllowedOutcomes (plan_of script.now) detail most) }
 {
     let steps = steps_of_script(alloc, script)?;
     let most = beginnings_to_look_at(script, most);
     let mut search = AllowedSearch::new(alloc)?;
-    let beginnings = search.look_at_all(alloc, script, &steps, most, progress)?;
+    let beginnings = search.look_at_all(alloc, script, &steps, detail, most, progress)?;
     let are_all = search.pending.is_empty();
     let outcomes = mem::replace(&mut search.outcomes, IndexSet::new(alloc));
     Ok(AllowedOutcomes {

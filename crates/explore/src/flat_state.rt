@@ -11,12 +11,13 @@ ghost use Rattle.explore.specs.Prefixes.Calling.{IsCallOfStep, last_reply_of_cal
 ghost use Rattle.explore.specs.Prefixes.Prelude.{IsFlatBeginning};
 ghost use Rattle.explore.specs.Machines.{AreLawfulMachineSteps, MachineStepReads, SameMachineState, IsMachineRunning, IsMachineStep, Knows};
 ghost use Rattle.explore.specs.Machines.{machine_rows, machine_last_or};
-ghost use Rattle.explore.specs.Told.{is_told_sum, told_reply, told_steps, telling_of_script};
+ghost use Rattle.explore.specs.Told.{is_told_sum, told_steps, telling_of_script};
 ghost use Rattle.explore.specs.Until.{HasFinalWords};
 ghost use Rattle.explore.specs.Waiting.{AreAwaited};
 
 use crate::prefixes::ScriptCall;
 use crate::told::{Detail, OutcomeTelling, is_told_sum, told_step};
+use crate::told_replies::keep_told_reply;
 use crate::waiting::Waiting;
 use base::MOST_PROCESSORS;
 use journal::Kind;
@@ -71,18 +72,6 @@ fn let_go(replies: &mut Vec<u32>, is_sum: bool)
     }
 }
 
-/// Puts the reply of a load at the end, if it is to be kept.
-fn keep_reply(replies: &mut Vec<u32>, kept: bool, kind: Kind) -> Result<(), AllocError>
-    ensures { OnOk result (replies.new.items ≡ replies.old.items ++ told_reply kept kind) }
-{
-    if let Kind::Load(_, word) = kind {
-        if kept {
-            replies.push(word)?;
-        }
-    }
-    Ok(())
-}
-
 /// Writes a store's word.
 fn write(memory: &mut [u32], kind: Kind)
     requires { AddressInRange (length memory.old) kind }
@@ -119,10 +108,7 @@ impl FlatState {
         ensures telling { IfOk result (λ m. m.telling ≡ telling_of_script (plan_of script.now) detail) }
     {
         Ok(FlatState {
-            telling: OutcomeTelling {
-                detail,
-                shown: script.shown.len(),
-            },
+            telling: OutcomeTelling::of_script(script, detail),
             done: [0; MOST_PROCESSORS],
             replies: no_replies(alloc, script.processors)?,
             memory: vec![in alloc; 0; script.pages * script.words]?,
@@ -200,8 +186,8 @@ impl FlatState {
         self.waiting.note(processor, kind)?;
         let replies = &mut self.replies[processor];
         let_go(replies, is_told_sum(told_step(row, place)));
-        keep_reply(replies, is_told, kind)?;
-        keep_reply(replies, is_told_sum(told_step(row, place + 1)), kind)?;
+        keep_told_reply(replies, is_told, kind)?;
+        keep_told_reply(replies, is_told_sum(told_step(row, place + 1)), kind)?;
         write(&mut self.memory, kind);
         self.done[processor] += 1;
         Ok(())

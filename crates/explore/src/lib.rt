@@ -38,6 +38,7 @@ mod showing;
 mod states;
 mod text_facts;
 mod told;
+mod told_replies;
 mod until;
 mod wait;
 mod waiting;

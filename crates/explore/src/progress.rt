@@ -1,9 +1,12 @@
 //! How far a search is.
 
-/// Is told now and then how many states a search has found. What it does with that is no part of the answer.
+/// Is told now and then how far a search is. What it does with that is no part of the answer.
 pub trait Progress {
     /// So many states were found so far.
     fn found(&mut self, states: usize);
+
+    /// So many beginnings of runs were looked at so far, by the rules of the memory.
+    fn looked_at(&mut self, _beginnings: usize) {}
 }
 
 /// Says nothing.

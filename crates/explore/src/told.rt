@@ -1,9 +1,11 @@
 //! Which replies of loads outcomes tell.
 ghost use Rattle.std.specs.Prelude.{◌≡◌, ◌<◌, length, slice_get};
 ghost use Rattle.explore.specs.Outcomes.{FullOutcomesLaw};
-ghost use Rattle.explore.specs.Told.{is_told_by, is_told_sum, told_words};
+ghost use Rattle.lrc_script.specs.Prelude.{plan_of};
+ghost use Rattle.explore.specs.Told.{is_told_by, is_told_sum, telling_of_script, told_words};
 
 use crate::prefixes::ScriptCall;
+use lrc_script::script::Script;
 
 /// How much of a run its outcome tells.
 #[derive(Clone, Copy)]
@@ -46,6 +48,16 @@ pub fn is_told_sum(step: Option<ScriptCall>) -> bool
 }
 
 impl OutcomeTelling {
+    /// What outcomes of the script tell by this detail.
+    pub fn of_script(script: &Script, detail: Detail) -> OutcomeTelling
+        ensures { result ≡ telling_of_script (plan_of script.now) detail }
+    {
+        OutcomeTelling {
+            detail,
+            shown: script.shown.len(),
+        }
+    }
+
     /// How many words the processor shows at the end.
     fn told_words(self, processor: usize) -> usize
         ensures { result ≡ told_words self processor }

@@ -1,5 +1,5 @@
 //! How far a command is, said on standard error if that is a terminal: how many runs of a sample are done, how many
-//! states a search has found.
+//! states a search has found, or beginnings it has looked at.
 ghost use Rattle.std.specs.Prelude.{◌<◌, IfOk};
 ghost use Rattle.std.specs.Thread.{IsSync};
 ghost use Rattle.lrc_script.specs.Prelude.{IsLawful, plan_of};
@@ -57,7 +57,7 @@ impl<'a> Pauses<'a> {
     }
 }
 
-/// Says now and then how many states a search has found.
+/// Says now and then how many states a search has found, or how many beginnings it has looked at.
 #[derive(Drop)]
 pub(crate) struct Found<'a> {
     pauses: Pauses<'a>,
@@ -76,6 +76,12 @@ impl Progress for Found<'_> {
     fn found(&mut self, states: usize) {
         if self.pauses.is_over() {
             let _ = eprintln!(self.pauses.rt; "lrc: {states} states");
+        }
+    }
+
+    fn looked_at(&mut self, beginnings: usize) {
+        if self.pauses.is_over() {
+            let _ = eprintln!(self.pauses.rt; "lrc: {beginnings} beginnings");
         }
     }
 }

@@ -4,4 +4,4 @@ pub use Rattle.lrc_commands.specs.JudgedTraces.{HasTraceText, IsFaithfulTrace, I
 pub use Rattle.lrc_commands.specs.JudgedTraces.{judged_model, judgement_in}
 pub use Rattle.lrc_commands.specs.Sampled.{IsSampleAnswer, IsSampleWritten, IsSampled, lock_asked}
 pub use Rattle.lrc_commands.specs.Explained.{IsEndAsked, IsExplained, IsRunExplained, ExplainedWritten, is_halted}
-pub use Rattle.lrc_commands.specs.Searched.{IsSearchAnswer, IsSearchAsked, IsSearchWritten, IsShowingAnswer, IsShowingAsked, SearchWritten, search_detail}
+pub use Rattle.lrc_commands.specs.Searched.{IsAllowedAnswer, IsAllowedFound, IsFoundWritten, IsSearchAnswer, IsSearchAsked, IsSearchWritten, IsShowingAnswer, IsShowingAsked, SearchWritten, search_detail}

@@ -4,12 +4,15 @@ ghost use Rattle.std.specs.Io.KnownBytes.{Keeps};
 ghost use Rattle.lrc_script.specs.Prelude.{IsLawful, plan_of};
 ghost use Rattle.lrc_program.specs.Prelude.{IsNoScript};
 ghost use Rattle.lrc_commands.specs.Prelude.{IsStatusBeforeAnswer, IsInputsStatus, IsSearchAnswer, IsSearchAsked, IsSearchWritten, SearchWritten};
-ghost use Rattle.lrc_commands.specs.Prelude.{IsShowingAnswer, IsShowingAsked, search_detail};
+ghost use Rattle.lrc_commands.specs.Prelude.{IsAllowedAnswer, IsAllowedFound, IsFoundWritten, IsShowingAnswer, IsShowingAsked, search_detail};
 
 use crate::fault::StudyFault;
-use explore::{Detail, Explored, ExploredUntil, Progress, explore, explore_until};
-use lrc_explore::{render, render_showing, unshown_address};
-use lrc_json::{write_explored, write_showing};
+use explore::{
+    AllowedOutcomes, Detail, Explored, ExploredUntil, Progress, Verdict, allowed_outcomes, explore,
+    explore_until,
+};
+use lrc_explore::{render, render_allowed, render_showing, unshown_address};
+use lrc_json::{write_allowed, write_explored, write_showing};
 use lrc_options::options::{ExploreOptions, OutcomeDetail};
 use lrc_program::program::read_script;
 use lrc_script::script::Script;
@@ -68,7 +71,69 @@ fn write_answer<W: Write>(
     Ok(render_showing(alloc, script, explored, out)?)
 }
 
-/// Looks at all schedules of a script, and writes what was found. Answers whether nothing is open.
+/// Writes what was found of all schedules of a racy script, and what the rules of the memory allow, as text or as JSON.
+fn write_search_allowed<W: Write>(
+    alloc: Global,
+    json: bool,
+    script: &Script,
+    explored: &Explored,
+    allowed: &AllowedOutcomes,
+    out: &mut W,
+) -> Result<(), StudyFault>
+    ensures written { OnOk result (IsAllowedAnswer json (W.contents out.old) (W.contents out.new) explored.now allowed.now) }
+    ensures runs { IfErr result (λ fault. IsInputsStatus fault → ⊥) }
+    ensures early { IfErr result
+        (λ fault. IsStatusBeforeAnswer fault → Keeps (W.contents out.old) (W.contents out.new)) }
+{
+    if json {
+        return Ok(write_allowed(alloc, &script.shown, explored, allowed, out)?);
+    }
+    Ok(render_allowed(alloc, script, explored, allowed, out)?)
+}
+
+/// Looks for all that the rules of the memory allow of a racy script, and writes it with what was found of its schedules. Answers whether
+/// nothing is open.
+fn print_allowed<W: Write, P: Progress>(
+    alloc: Global,
+    options: &ExploreOptions,
+    script: &Script,
+    explored: &Explored,
+    out: &mut W,
+    progress: &mut P,
+) -> Result<bool, StudyFault>
+    requires { IsLawful (plan_of script.now) }
+    ensures written { IfOk result (λ decided. IsAllowedFound options.now.outcomes options.now.most decided options.now.json
+        (plan_of script.now) explored.now (W.contents out.old) (W.contents out.new)) }
+    ensures runs { IfErr result (λ fault. IsInputsStatus fault → ⊥) }
+    ensures early { IfErr result
+        (λ fault. IsStatusBeforeAnswer fault → Keeps (W.contents out.old) (W.contents out.new)) }
+{
+    let detail = search_detail(options.outcomes);
+    let allowed = allowed_outcomes(alloc, script, detail, options.most as usize, progress)?;
+    write_search_allowed(alloc, options.json, script, explored, &allowed, out)?;
+    Ok(allowed.are_all)
+}
+
+/// Writes what was found of all schedules of a script. Answers whether nothing is open.
+fn print_found<W: Write>(
+    alloc: Global,
+    options: &ExploreOptions,
+    script: &Script,
+    explored: &Explored,
+    out: &mut W,
+) -> Result<bool, StudyFault>
+    ensures written { IfOk result (λ decided. IsFoundWritten decided options.now.json explored.now
+        (W.contents out.old) (W.contents out.new)) }
+    ensures runs { IfErr result (λ fault. IsInputsStatus fault → ⊥) }
+    ensures early { IfErr result
+        (λ fault. IsStatusBeforeAnswer fault → Keeps (W.contents out.old) (W.contents out.new)) }
+{
+    write_search(alloc, options.json, script, explored, out)?;
+    Ok(explored.is_settled())
+}
+
+/// Looks at all schedules of a script, and writes what was found; of a racy one what the rules of the memory allow, too. Answers whether
+/// nothing is open.
 fn print_search<W: Write, P: Progress>(
     alloc: Global,
     options: &ExploreOptions,
@@ -85,8 +150,10 @@ fn print_search<W: Write, P: Progress>(
 {
     let detail = search_detail(options.outcomes);
     let explored = explore(alloc, script, detail, options.most as usize, progress)?;
-    write_search(alloc, options.json, script, &explored, out)?;
-    Ok(explored.is_settled())
+    match &explored.verdict {
+        Verdict::Racy(_) => print_allowed(alloc, options, script, &explored, out, progress),
+        _ => print_found(alloc, options, script, &explored, out),
+    }
 }
 
 /// Looks for a run of a script that ends with the words that the options give, and writes what was found. Answers whether
@@ -161,8 +228,8 @@ fn explore_script<S: Read, W: Write, P: Progress>(
     print_asked(alloc, options, &script, out, progress)
 }
 
-/// Looks at all schedules of the script of `source`, or for a run that ends with the words that the options give, and writes
-/// what was found to `out`, or why nothing was to `err`; answers the exit status. The file that the options name isn't opened here. `progress` is told now and then how many states were found.
+/// Looks at all schedules of the script of `source`, and for what the rules of the memory allow if it is racy, or for a run that ends
+/// with the words that the options give, and writes what was found to `out`, or why nothing was to `err`; answers the exit status. The file that the options name isn't opened here. `progress` is told now and then how far the search is.
 pub fn explore_program<S: Read, W: Write, E: Write, P: Progress>(
     alloc: Global,
     options: &ExploreOptions,

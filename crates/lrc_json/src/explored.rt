@@ -128,8 +128,8 @@ fn hangs_of(hanging: &Hanging) -> &'static str {
 }
 
 /// The verdict, how far outcomes and hangs are known, and how many states were found. Of a script that races no outcome is
-/// told, and whether it hangs only where it does.
-fn end_of(alloc: Global, explored: &Explored) -> Result<Members, AllocError> {
+/// told, and whether it hangs only where it does. The only error is running out of memory.
+pub fn explored_end(alloc: Global, explored: &Explored) -> Result<Members, AllocError> {
     let mut members = Members::telling(alloc, "end")?;
     members.put_text("verdict", verdict_of(&explored.verdict))?;
     members.put_number("states", explored.states)?;
@@ -142,17 +142,28 @@ fn end_of(alloc: Global, explored: &Explored) -> Result<Members, AllocError> {
     Ok(members)
 }
 
+/// Adds the lines of what was found of a script that shows these addresses, but for the end. The only error is running out of memory.
+pub fn put_explored(
+    text: &mut String,
+    alloc: Global,
+    shown: &[usize],
+    explored: &Explored,
+) -> Result<(), AllocError> {
+    match &explored.verdict {
+        Verdict::Racy(racy) => put_line(text, alloc, race_of(alloc, racy)?)?,
+        _ => put_outcomes(text, alloc, shown, explored)?,
+    }
+    if let Hanging::Hangs(hang) = &explored.hanging {
+        put_line(text, alloc, hang_of(alloc, hang)?)?;
+    }
+    Ok(())
+}
+
 /// The lines of what was found of a script that shows these addresses.
 fn text_of(alloc: Global, shown: &[usize], explored: &Explored) -> Result<String, AllocError> {
     let mut text = String::new(alloc);
-    match &explored.verdict {
-        Verdict::Racy(racy) => put_line(&mut text, alloc, race_of(alloc, racy)?)?,
-        _ => put_outcomes(&mut text, alloc, shown, explored)?,
-    }
-    if let Hanging::Hangs(hang) = &explored.hanging {
-        put_line(&mut text, alloc, hang_of(alloc, hang)?)?;
-    }
-    put_line(&mut text, alloc, end_of(alloc, explored)?)?;
+    put_explored(&mut text, alloc, shown, explored)?;
+    put_line(&mut text, alloc, explored_end(alloc, explored)?)?;
     Ok(text)
 }
 

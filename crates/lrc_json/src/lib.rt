@@ -7,6 +7,7 @@
 //! **What is only tested** (`tests/json`): which objects it has.
 #![tactic(auto)]
 
+mod allowed;
 mod checked;
 mod events;
 mod explored;
@@ -17,6 +18,7 @@ mod showing;
 mod values;
 mod writing;
 
+pub use allowed::write_allowed;
 pub use checked::write_checked;
 pub use explored::write_explored;
 pub use fault::JsonFault;

@@ -104,6 +104,9 @@ none of them races, each run of the script is one of them. What is printed:
   verdict racy             then the events of a schedule that races, its two accesses behind `race`, and a
                            schedule that can't go on, if one was met
   states N                 N states were found
+Of a racy script, behind that, what the memory's rules allow: each load answers a latest store of its past.
+  outcomes N by the rules  N results, a line each, as above; with `so far`, there may be others
+  beginnings N             N beginnings of runs were looked at for that
 With --until, in place of the verdict race-free and what stands below it:
   until shown              a run ends with these words; then what it shows, as above, and
     schedule S             `lrc step --schedule S` shows it

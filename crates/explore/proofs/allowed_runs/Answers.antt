@@ -1,19 +1,17 @@
 -- The values that a load may answer are those of its latest stores, or 0 if it has none.
-use Rattle.std.proofs.Common.{ℕ, zero, suc, ◌≡◌, ◌≢◌, ◌+◌, ◌<◌, ◌≤◌, ◌⊎◌, ◌↔◌, inl, inr, List, [], ◌∷◌, ◌++◌, Option, Some, length, slice_get, refl, sym, ap, subst, ◌∙◌, arith}
+use Rattle.std.proofs.Common.{ℕ, ◌≡◌, ◌≢◌, ◌+◌, ◌⊎◌, ◌↔◌, inl, inr, List, [], ◌∷◌, ◌++◌, Option, Some, length, slice_get, refl, sym, ap, subst, ◌∙◌, arith}
 use Rattle.std.proofs.lemmas.Bool.{cases_eq}
-use Rattle.std.proofs.lemmas.Option.{none-some, same_Some, slice_get_within}
+use Rattle.std.proofs.lemmas.Option.{same_Some, slice_get_within}
 use Rattle.base.specs.InOrderOnce.{Has, IsOnce}
 use Rattle.base.proofs.Joined.{has-append, has-cons, has-nil, in_order-append, in_order-nil, joined_in_order_single}
 use Rattle.journal.specs.declared.event.Event.{Event}
-use Rattle.journal.specs.declared.event.Kind.{Kind}
 use Rattle.journal.specs.declared.event.Kind.TheVariants.{Load, Store}
 use Rattle.journal.specs.DidEvent.{did, event}
 use Rattle.journal.specs.Events.{At}
 use Rattle.journal.specs.ExplainedAnswers.{IsAnswer, LatestStore}
-use Rattle.journal.proofs.Order.CountedAndNumbered.{numbered_at_same, numbered_at_shorter, numbered_at_within}
+use Rattle.journal.proofs.Order.CountedAndNumbered.{numbered_at_same, numbered_at_shorter}
 use Rattle.journal.proofs.Order.HappensBefore.{before_goes_forward}
 use Rattle.judge.specs.Sources.Latest.{IsLatest}
-use Rattle.judge.specs.Sources.Answers.{IsAnswerValue}
 use Rattle.judge.proofs.sources.Answering.{answering_latest_at, answers_law}
 use Rattle.explore.specs.AllowedAnswers.{AreStoredAt, HasAnswerMore, IsStoredAt, answer_stored}
 

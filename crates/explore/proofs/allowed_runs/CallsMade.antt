@@ -1,52 +1,31 @@
 -- What a processor has called, after one event more.
-use Rattle.std.proofs.Common.{ℕ, ◌≡◌, ◌≢◌, ◌+◌, ◌<◌, ◌⊎◌, inl, inr, Bool, true, false, cond, ◌==◌, List, [], ◌∷◌, ◌++◌, count_by, length, take, Some, slice_get, refl, sym, ap, subst, ◌∙◌, append-nil, length-append, arith, add-one}
+use Rattle.std.proofs.Common.{ℕ, ◌≡◌, ◌≢◌, ◌+◌, inl, inr, false, cond, ◌==◌, List, [], ◌∷◌, ◌++◌, count_by, length, take, Some, slice_get, refl, sym, ap, subst, ◌∙◌, length-append, arith, add-one}
 use Rattle.std.proofs.lemmas.Bool.{cases_eq, cond-true, cond-false, eq-eqb, ne_eqb}
 use Rattle.base.proofs.SlicesAndCounts.{count_by-append, slice_push_induction, take-suc_at}
 use Rattle.journal.specs.declared.event.Event.{Event}
 use Rattle.journal.specs.declared.event.Kind.{Kind}
-use Rattle.journal.specs.declared.event.Kind.TheVariants as kind
 use Rattle.journal.proofs.Order.CountedAndNumbered.{numbered_at_last, numbered_at_longer}
 use Rattle.conformance.specs.FlatRuns.{FlatRunHasNoFetch}
 use Rattle.conformance.specs.Follows.{calls_of, is_fetch}
-use Rattle.conformance.proofs.Calls.{calls_of_one, calls_of_one-fetch, calls_of_one-others, followed_calls-append, followed_calls-own, followed_calls-others}
-use Rattle.explore.specs.Outcomes.{outcome_replies_in}
-use Rattle.explore.proofs.Replies.{outcome_replies_in-append}
+use Rattle.conformance.proofs.Calls.{calls_of_one, calls_of_one-others, followed_calls-append, followed_calls-own, followed_calls-others}
 
--- a fetch gives no reply
-allowed_fetch_replies : (k : Kind) → is_fetch k ≡ true → outcome_replies_in (k ∷ []) ≡ []
-allowed_fetch_replies (kind.Load a v) fetch = absurd cc
-allowed_fetch_replies _ fetch = refl
-
-bool_is : (b : Bool) → (b ≡ true) ⊎ (b ≡ false)
-bool_is true = inl refl
-bool_is false = inr refl
-
--- the replies of one event
-allowed_replies_one : (e : Event) (p : ℕ)
-    → outcome_replies_in (calls_of (e ∷ []) p) ≡ cond (e.processor == p) (outcome_replies_in (e.kind ∷ [])) []
-allowed_replies_one e p = elim (cases_eq e.processor p) [
-  | inl is ↦ elim (bool_is (is_fetch e.kind)) [
-    | inl fetch ↦
-        ap outcome_replies_in (calls_of_one-fetch e.processor p e.kind fetch) ∙ sym (allowed_fetch_replies e.kind fetch)
-        ∙ sym (cond-true (e.processor == p) (outcome_replies_in (e.kind ∷ [])) [] (eq-eqb e.processor p is))
-    | inr call ↦
-        ap outcome_replies_in (subst (λ q. calls_of (e ∷ []) q ≡ e.kind ∷ []) is (calls_of_one e.processor e.kind call))
-        ∙ sym (cond-true (e.processor == p) (outcome_replies_in (e.kind ∷ [])) [] (eq-eqb e.processor p is))
-  ]
+-- what one event calls
+allowed_call_one : (e : Event) (p : ℕ) → is_fetch e.kind ≡ false → calls_of (e ∷ []) p ≡ cond (e.processor == p) (e.kind ∷ []) []
+allowed_call_one e p call = elim (cases_eq e.processor p) [
+  | inl is ↦
+      subst (λ q. calls_of (e ∷ []) q ≡ e.kind ∷ []) is (calls_of_one e.processor e.kind call)
+      ∙ sym (cond-true (e.processor == p) (e.kind ∷ []) [] (eq-eqb e.processor p is))
   | inr isnt ↦
-      ap outcome_replies_in (calls_of_one-others e.processor p e.kind isnt)
-      ∙ sym (cond-false (e.processor == p) (outcome_replies_in (e.kind ∷ [])) [] (ne_eqb e.processor p isnt))
+      calls_of_one-others e.processor p e.kind isnt
+      ∙ sym (cond-false (e.processor == p) (e.kind ∷ []) [] (ne_eqb e.processor p isnt))
 ]
 
 -- of the first events and one more
-pub allowed_replies_next : (g : List Event) (n : ℕ) (e : Event) (p : ℕ) → slice_get g n ≡ Some e
-    → outcome_replies_in (calls_of (take (n + 1) g) p)
-    ≡ outcome_replies_in (calls_of (take n g) p) ++ cond (e.processor == p) (outcome_replies_in (e.kind ∷ [])) []
-allowed_replies_next g n e p at =
+pub allowed_calls_next : (g : List Event) (n : ℕ) (e : Event) (p : ℕ) → slice_get g n ≡ Some e → is_fetch e.kind ≡ false
+    → calls_of (take (n + 1) g) p ≡ calls_of (take n g) p ++ cond (e.processor == p) (e.kind ∷ []) []
+allowed_calls_next g n e p at call =
     rw (add-one, take-suc_at g n e at)
-    (ap outcome_replies_in (followed_calls-append (take n g) (e ∷ []) p)
-    ∙ outcome_replies_in-append (calls_of (take n g) p) (calls_of (e ∷ []) p)
-    ∙ ap (λ xs. outcome_replies_in (calls_of (take n g) p) ++ xs) (allowed_replies_one e p))
+    (followed_calls-append (take n g) (e ∷ []) p ∙ ap (λ ks. calls_of (take n g) p ++ ks) (allowed_call_one e p call))
 
 -- a processor's events are its calls, if nothing is fetched
 pub allowed_calls_counted : (g : List Event) (p : ℕ) → FlatRunHasNoFetch g

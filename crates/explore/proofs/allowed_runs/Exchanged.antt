@@ -1,8 +1,8 @@
 -- Two neighbours without a link, in either order: happens-before is the same, but for their two places. So is what loads answer.
-use Rattle.std.proofs.Common.{ℕ, zero, suc, ◌≡◌, ◌≢◌, ◌+◌, ◌<◌, ◌≤◌, ◌⊎◌, ◌↔◌, inl, inr, Bool, true, false, cond, ◌==◌, List, [], ◌∷◌, ◌++◌, Some, length, take, slice_get, refl, sym, ap, subst, ◌∙◌, append_assoc, arith}
+use Rattle.std.proofs.Common.{ℕ, zero, suc, ◌≡◌, ◌≢◌, ◌+◌, ◌<◌, ◌⊎◌, inl, inr, Bool, cond, ◌==◌, List, [], ◌∷◌, ◌++◌, Some, length, take, slice_get, refl, sym, ap, subst, ◌∙◌, arith}
 use Rattle.std.proofs.lemmas.Bool.{cases_eq, cases_lt, cond-true, cond-false, eq-eqb, ne_eqb}
 use Rattle.std.proofs.lemmas.List.{take-append-le}
-use Rattle.std.proofs.lemmas.Option.{none-some, same_Some}
+use Rattle.std.proofs.lemmas.Option.{same_Some}
 use Rattle.std.proofs.Math.Seq.{take-append-add, take-append_seam}
 use Rattle.base.proofs.SlicesAndCounts.{slice_append_cases, slice_get-append_left, slice_get-append_right}
 use Rattle.journal.specs.declared.event.Event.{Event}
@@ -10,11 +10,10 @@ use Rattle.journal.specs.declared.event.Kind.{Kind}
 use Rattle.journal.specs.declared.event.Kind.TheVariants.{Load, Store}
 use Rattle.journal.specs.DidEvent.{event}
 use Rattle.journal.specs.Events.{At, count_of, is_arrive, is_depart}
-use Rattle.journal.specs.ExplainedAnswers.{Explained, IsAnswer}
-use Rattle.journal.specs.HappensBeforeEdges.{Edge, EdgesMeetAt, HappensBefore, Link}
+use Rattle.journal.specs.ExplainedAnswers.{Explained}
+use Rattle.journal.specs.HappensBeforeEdges.{Edge, HappensBefore, Link}
 use Rattle.journal.specs.HappensBeforeEdges.HappensBefore.{edge, on}
 use Rattle.journal.specs.HappensBeforeEdges.Link.{same, lets, meets}
-use Rattle.journal.specs.WellFormed.{Does}
 use Rattle.journal.proofs.Order.CountedAndNumbered.{count_of-append}
 use Rattle.journal.proofs.Times.Times.{count_of-one_time}
 

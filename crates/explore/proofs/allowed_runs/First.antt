@@ -1,15 +1,13 @@
 -- An event that commutes with all that others may do may as well come first: a run becomes one that shows the same.
-use Rattle.std.proofs.Common.{ℕ, zero, suc, ◌≡◌, ◌≢◌, ◌+◌, ◌<◌, ◌⊎◌, ◌↔◌, inl, inr, Bool, true, false, List, [], ◌∷◌, ◌++◌, Option, Some, length, slice_get, slice_index_or, refl, sym, ap, ap₂, subst, ◌∙◌, append_assoc, append-nil, arith}
+use Rattle.std.proofs.Common.{ℕ, suc, ◌≡◌, ◌≢◌, ◌+◌, ◌⊎◌, inl, inr, true, List, [], ◌∷◌, ◌++◌, Option, Some, length, slice_get, slice_index_or, refl, sym, ap, subst, ◌∙◌, append_assoc, append-nil, arith}
 use Rattle.std.specs.Prelude.{None}
-use Rattle.std.specs.Global.{Vec}
-use Rattle.std.proofs.lemmas.Bool.{cases_eq, false≢true}
-use Rattle.std.proofs.lemmas.List.{take-append-le}
-use Rattle.std.proofs.lemmas.Option.{none-some, same_Some, slice_get_within}
+use Rattle.std.proofs.lemmas.Bool.{false≢true}
+use Rattle.std.proofs.lemmas.Option.{same_Some, slice_get_within}
 use Rattle.std.proofs.Math.Seq.{take-append-add, take-append_seam}
 use Rattle.journal.specs.declared.event.Event.{Event}
 use Rattle.journal.specs.declared.event.Kind.{Kind}
 use Rattle.journal.specs.declared.event.Kind.TheVariants as kind
-use Rattle.journal.specs.DidEvent.{did, event}
+use Rattle.journal.specs.DidEvent.{event}
 use Rattle.journal.specs.Events.{At, count_of, events_of, is_arrive, is_depart}
 use Rattle.journal.specs.HappensBeforeEdges.{LetsThrough, Link}
 use Rattle.journal.specs.HappensBeforeEdges.Link.{same, lets, meets}
@@ -26,10 +24,12 @@ use Rattle.conformance.specs.Follows.{Follows, FollowsSection, calls_of, call_ki
 use Rattle.conformance.proofs.Calls.{calls_of_others, calls_part-append, followed_calls-append}
 use Rattle.explore.specs.declared.prefixes.script_call.ScriptCall.{ScriptCall}
 use Rattle.explore.specs.declared.prefixes.script_call.ScriptCall.TheVariants.{Call, Adds}
+use Rattle.explore.specs.declared.told.Detail.{Detail}
+use Rattle.explore.specs.declared.told.OutcomeTelling.{OutcomeTelling}
 use Rattle.explore.specs.Allowed.{IsAllowedBeginning, IsAllowedRun}
 use Rattle.explore.specs.AllowedBeginnings.{AreCallsNext, ArePlainCalls, IsChosenEvent, IsOneCallChosen, MayCallNext, commutes_with_all}
 use Rattle.explore.specs.AllowedSearch.{CanShowAllowed}
-use Rattle.explore.specs.Outcomes.{AreOutcomeReplies, outcome_replies_in}
+use Rattle.explore.specs.Told.{AreToldReplies, telling_of_script, told_replies, told_steps}
 use Rattle.explore.specs.Prefixes.Calling.{IsCalledNext, IsCallOfStep, calling_section_steps, calling_shown_by, last_reply_of_calls, replyless_call}
 use Rattle.explore.proofs.Machines.{machine_some_at}
 use Rattle.explore.proofs.prefixes.Calling.{prefix_calling_follows_length}
@@ -178,11 +178,11 @@ allowed_run_same s g h parts allowed follows = record {
   follows = λ p section at. subst (FollowsSection section (calling_shown_by s p)) (ap call_kinds (parts p)) (follows p section at);
 }
 
-allowed_replies_same : (s : Plan) (g h : List Event) (replies : List (List ℕ)) → AreSameParts g h → AreOutcomeReplies s g replies
-    → AreOutcomeReplies s h replies
-allowed_replies_same s g h replies parts are = record {
+allowed_replies_same : (s : Plan) (t : OutcomeTelling) (g h : List Event) (replies : List (List ℕ)) → AreSameParts g h → AreToldReplies s t g replies
+    → AreToldReplies s t h replies
+allowed_replies_same s t g h replies parts are = record {
   long = are.long;
-  each = λ p lt. are.each p lt ∙ ap (λ es. Some (outcome_replies_in (call_kinds es))) (parts p);
+  each = λ p lt. are.each p lt ∙ ap (λ es. Some (told_replies t p (told_steps s p) 0 (call_kinds es))) (parts p);
 }
 
 -- calls of one step are the same but for replies
@@ -195,9 +195,9 @@ allowed_commutes_replyless : (k : Kind) → commutes_with_all (replyless_call k)
 allowed_commutes_replyless (kind.Load a v) = refl
 allowed_commutes_replyless _ = refl
 
-module _ (s : Plan) (g : List Event) (nexts chosen : List (Option Kind)) (replies : List (List ℕ)) (lawful : IsLawful s)
+module _ (s : Plan) (detail : Detail) (g : List Event) (nexts chosen : List (Option Kind)) (replies : List (List ℕ)) (lawful : IsLawful s)
     (calls : AreCallsNext s g nexts) (plain : ArePlainCalls nexts) (one : IsOneCallChosen nexts chosen)
-    (shown : CanShowAllowed s g replies) where
+    (shown : CanShowAllowed s detail g replies) where
   allowed_one_may : MayCallNext s g one.processor one.call
   allowed_one_may =
       (calls one.processor one.call).0
@@ -239,7 +239,7 @@ module _ (s : Plan) (g : List Event) (nexts chosen : List (Option Kind)) (replie
 
   allowed_one_moved : (before after : List Event) (own : Event) → shown.more ≡ before ++ own ∷ after → own.processor ≡ one.processor
       → ((m : ℕ) (f : Event) → At before m f → f.processor ≢ one.processor)
-      → (e : Event) × IsChosenEvent s g chosen e × CanShowAllowed s (g ++ e ∷ []) replies
+      → (e : Event) × IsChosenEvent s g chosen e × CanShowAllowed s detail (g ++ e ∷ []) replies
   allowed_one_moved before after own are mine away =
       let whole = subst (λ w. IsAllowedBeginning s (g ++ w)) are shown.run.beginning in
       let split : g ++ (before ++ own ∷ after) ≡ ((g ++ before) ++ own ∷ []) ++ after =
@@ -272,25 +272,25 @@ module _ (s : Plan) (g : List Event) (nexts chosen : List (Option Kind)) (replie
         record {
           more = before ++ after;
           run = allowed_run_same s (g ++ shown.more) ((g ++ own ∷ []) ++ (before ++ after)) parts allowed shown.run.follows;
-          are = allowed_replies_same s (g ++ shown.more) ((g ++ own ∷ []) ++ (before ++ after)) replies parts shown.are;
+          are = allowed_replies_same s (telling_of_script s detail) (g ++ shown.more) ((g ++ own ∷ []) ++ (before ++ after)) replies parts shown.are;
         },
       )
 
   -- what a run shows is shown after the chosen call
-  pub allowed_one_shows : (e : Event) × IsChosenEvent s g chosen e × CanShowAllowed s (g ++ e ∷ []) replies
+  pub allowed_one_shows : (e : Event) × IsChosenEvent s g chosen e × CanShowAllowed s detail (g ++ e ∷ []) replies
   allowed_one_shows = elim (reduced_reaching_first_of shown.more one.processor) [
     | inl found ↦ allowed_one_moved found.before found.after found.own found.are found.mine found.away
     | inr none ↦ absurd (allowed_one_none none)
   ]
 
 -- or, if all calls are followed, after one of them
-pub allowed_all_show : (s : Plan) (g : List Event) (nexts : List (Option Kind)) (replies : List (List ℕ)) → AreCallsNext s g nexts
-    → ¬ Follows s g → CanShowAllowed s g replies
-    → (e : Event) × IsChosenEvent s g nexts e × CanShowAllowed s (g ++ e ∷ []) replies
-allowed_all_show s g nexts replies calls unfinished shown = go shown.more shown.run shown.are
+pub allowed_all_show : (s : Plan) (detail : Detail) (g : List Event) (nexts : List (Option Kind)) (replies : List (List ℕ)) → AreCallsNext s g nexts
+    → ¬ Follows s g → CanShowAllowed s detail g replies
+    → (e : Event) × IsChosenEvent s g nexts e × CanShowAllowed s detail (g ++ e ∷ []) replies
+allowed_all_show s detail g nexts replies calls unfinished shown = go shown.more shown.run shown.are
   where
-    go : (w : List Event) → IsAllowedRun s (g ++ w) → AreOutcomeReplies s (g ++ w) replies
-        → (e : Event) × IsChosenEvent s g nexts e × CanShowAllowed s (g ++ e ∷ []) replies
+    go : (w : List Event) → IsAllowedRun s (g ++ w) → AreToldReplies s (telling_of_script s detail) (g ++ w) replies
+        → (e : Event) × IsChosenEvent s g nexts e × CanShowAllowed s detail (g ++ e ∷ []) replies
     go [] run are = absurd (unfinished (subst (Follows s) (append-nil g) run.follows))
     go (e ∷ w) run are =
         let again = sym (append_assoc g (e ∷ []) w) in
@@ -301,5 +301,5 @@ allowed_all_show s g nexts replies calls unfinished shown = go shown.more shown.
             chosen_at = (calls e.processor e.kind).1 ((allowed_next s g e.processor e.kind).0 next).1;
             next = next;
           },
-          record { more = w; run = longer; are = subst (λ j. AreOutcomeReplies s j replies) again are },
+          record { more = w; run = longer; are = subst (λ j. AreToldReplies s (telling_of_script s detail) j replies) again are },
         )

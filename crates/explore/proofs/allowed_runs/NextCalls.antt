@@ -1,5 +1,5 @@
 -- Which events may come next after a beginning that the rules allow, exactly.
-use Rattle.std.proofs.Common.{ℕ, ◌≡◌, ◌≢◌, ◌+◌, ◌<◌, ◌≤◌, ◌↔◌, inl, inr, Bool, false, List, [], ◌∷◌, ◌++◌, ◌==◌, count_by, length, Some, slice_get, refl, sym, ap, subst, ◌∙◌, arith}
+use Rattle.std.proofs.Common.{ℕ, ◌≡◌, ◌≢◌, ◌<◌, ◌≤◌, ◌↔◌, inl, inr, false, List, [], ◌∷◌, ◌++◌, length, Some, slice_get, refl, sym, ap, subst, ◌∙◌, arith}
 use Rattle.std.specs.Global.{Vec}
 use Rattle.std.proofs.lemmas.Option.{none-some, same_Some, slice_get_within, slice_get-get_or}
 use Rattle.std.proofs.lemmas.List.Elements.{All-get_or}
@@ -10,7 +10,6 @@ use Rattle.journal.specs.declared.event.Event.{Event}
 use Rattle.journal.specs.declared.event.Kind.{Kind}
 use Rattle.journal.specs.declared.event.Kind.TheVariants as kind
 use Rattle.journal.specs.DidEvent.{did, event}
-use Rattle.journal.specs.Events.{At}
 use Rattle.journal.specs.ExplainedAnswers.{Explained, IsAnswer}
 use Rattle.journal.specs.InRange.{AddressesInRange, ProcessorsInRange}
 use Rattle.journal.specs.Sizes.{Sizes}
@@ -25,7 +24,6 @@ use Rattle.explore.specs.declared.prefixes.script_call.ScriptCall.{ScriptCall}
 use Rattle.explore.specs.declared.prefixes.script_call.ScriptCall.TheVariants.{Call, Adds}
 use Rattle.explore.specs.Allowed.{IsAllowedBeginning}
 use Rattle.explore.specs.AllowedBeginnings.{AnswersAllowed, MayCallNext}
-use Rattle.explore.specs.Machines.{AreLawfulMachineSteps}
 use Rattle.explore.specs.Prefixes.Calling.{IsCalledNext, IsCallOfStep, calling_section_steps, calling_shown_by, last_reply_of_calls, replyless_call}
 use Rattle.explore.proofs.Lengths.{begun_length_few, length_total, lengths_total_few, section_length_few, shown_length_few}
 use Rattle.explore.proofs.Machines.{IsMachineRow, machine_kind_address, machine_row_proper, machine_step_call}

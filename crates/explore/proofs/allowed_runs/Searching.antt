@@ -1,5 +1,5 @@
 -- A search by the rules, beginning by beginning: what is seen is there once, and what the rules allow isn't lost.
-use Rattle.std.proofs.Common.{ℕ, zero, suc, ◌≡◌, ◌≢◌, ◌+◌, ◌<◌, ◌≤◌, ◌⊎◌, ◌↔◌, inl, inr, Bool, false, ◌==◌, List, [], ◌∷◌, ◌++◌, Option, Some, length, map, slice_get, refl, sym, ap, subst, ◌∙◌, append_assoc, append-nil, length-append, arith}
+use Rattle.std.proofs.Common.{ℕ, zero, suc, ◌≡◌, ◌≢◌, ◌+◌, ◌<◌, ◌⊎◌, inl, inr, false, ◌==◌, List, [], ◌∷◌, ◌++◌, Option, Some, length, map, slice_get, refl, sym, ap, subst, ◌∙◌, append_assoc, append-nil, length-append, arith}
 use Rattle.std.specs.Prelude.{None, slice_index_or}
 use Rattle.std.proofs.lemmas.Bool.{eq-eqb, eqb-true, false≢true}
 use Rattle.std.proofs.lemmas.List.{map-append}
@@ -15,12 +15,14 @@ use Rattle.conformance.specs.Follows.{Follows, calls_of}
 use Rattle.explore.specs.declared.allowed.AllowedOutcomes.{AllowedOutcomes}
 use Rattle.explore.specs.declared.allowed_beginning.AllowedBeginning.{AllowedBeginning}
 use Rattle.explore.specs.declared.allowed_search.AllowedSearch.{AllowedSearch}
+use Rattle.explore.specs.declared.told.Detail.{Detail}
+use Rattle.explore.specs.declared.told.OutcomeTelling.{OutcomeTelling}
 use Rattle.explore.specs.Allowed.{AreAllowedOutcomes, HasAllowedBeginnings, IsAllowedBeginning, IsAllowedOutcome, IsAllowedRun}
-use Rattle.explore.specs.AllowedBeginnings.{AreCallsFollowed, AreCallsNext, AreLengthened, ArePlainCalls, IsCallChoice, IsChosenEvent, MayCallNext, TellsAllowed, allowed_events}
+use Rattle.explore.specs.AllowedBeginnings.{AreCallsFollowed, AreCallsNext, ArePlainCalls, IsCallChoice, IsChosenEvent, MayCallNext, TellsAllowed, allowed_events}
 use Rattle.explore.specs.AllowedRoom.{beginnings_to_look_at}
 use Rattle.explore.specs.AllowedSearch.{AreAllowedApart, CanShowAllowed, IsAllowedFollowed, IsAllowedFront, IsAllowedLookedAt, IsAllowedSearched, IsNotLost, allowed_found}
 use Rattle.explore.specs.Explored.{explored_outcome}
-use Rattle.explore.specs.Outcomes.{AreOutcomeReplies, outcome_replies_in}
+use Rattle.explore.specs.Told.{AreToldReplies, telling_of_script, told_replies, told_steps}
 use Rattle.explore.specs.Searched.{IsAmongSearched}
 use Rattle.explore.specs.Prefixes.Calling.{calling_section_steps, calling_shown_by}
 use Rattle.explore.proofs.Machines.{machine_some_at}
@@ -30,10 +32,9 @@ use Rattle.explore.proofs.allowed_runs.First.{allowed_all_show, allowed_one_show
 use Rattle.explore.proofs.allowed_runs.NextCalls.{allowed_front, allowed_next}
 
 -- what the loads of a history answer is one
-allowed_same_replies : (s : Plan) (g : List Event) (a b : List (List ℕ)) → AreOutcomeReplies s g a → AreOutcomeReplies s g b → a ≡ b
-allowed_same_replies s g a b first second =
-    told_same_rows s.processors (λ p. outcome_replies_in (calls_of g p)) a b (record { long = first.long; each = first.each })
-    (record { long = second.long; each = second.each })
+allowed_same_replies : (s : Plan) (t : OutcomeTelling) (g : List Event) (a b : List (List ℕ)) → AreToldReplies s t g a → AreToldReplies s t g b → a ≡ b
+allowed_same_replies s t g a b first second =
+    told_same_rows s.processors (λ p. told_replies t p (told_steps s p) 0 (calls_of g p)) a b first second
 
 -- g with one event more is longer
 allowed_longer : (g : List Event) (e : Event) → length (g ++ e ∷ []) ≡ length g + 1
@@ -190,9 +191,9 @@ module _ (seen rest : List (List Event)) (g : List Event) (events : List Event) 
   }
 
 -- before the first event
-pub allowed_searched_start : (s : Plan) (b : AllowedBeginning) (x : AllowedSearch) → x.pending.items ≡ b ∷ [] → x.outcomes.keys ≡ []
-    → TellsAllowed s b → allowed_events b ≡ [] → IsAllowedSearched s 0 x
-allowed_searched_start s b x is none known empty = record {
+pub allowed_searched_start : (s : Plan) (detail : Detail) (b : AllowedBeginning) (x : AllowedSearch) → x.pending.items ≡ b ∷ [] → x.outcomes.keys ≡ []
+    → TellsAllowed s b → allowed_events b ≡ [] → IsAllowedSearched s detail 0 x
+allowed_searched_start s detail b x is none known empty = record {
   seen = [];
   many = refl;
   seen_each = λ g has. absurd (has-nil g has);
@@ -213,16 +214,16 @@ allowed_searched_start s b x is none known empty = record {
     record {
       more = outcome.0;
       run = subst (λ g. IsAllowedRun s (g ++ outcome.0)) (sym empty) outcome.1;
-      are = subst (λ g. AreOutcomeReplies s (g ++ outcome.0) replies) (sym empty) outcome.2;
+      are = subst (λ g. AreToldReplies s (telling_of_script s detail) (g ++ outcome.0) replies) (sym empty) outcome.2;
     },
   );
 }
 
 -- one more beginning is looked at
-pub allowed_searched_next : (s : Plan) (n : ℕ) (b : AllowedBeginning) (rest : List AllowedBeginning) (x y z : AllowedSearch)
-    → IsAllowedSearched s n x → x.pending.items ≡ rest ++ b ∷ [] → y.pending.items ≡ rest → y.outcomes ≡ x.outcomes
-    → IsAllowedLookedAt s (allowed_events b) y z → IsAllowedSearched s (n + 1) z
-allowed_searched_next s n b rest x y z old was now same looked = record {
+pub allowed_searched_next : (s : Plan) (detail : Detail) (n : ℕ) (b : AllowedBeginning) (rest : List AllowedBeginning) (x y z : AllowedSearch)
+    → IsAllowedSearched s detail n x → x.pending.items ≡ rest ++ b ∷ [] → y.pending.items ≡ rest → y.outcomes ≡ x.outcomes
+    → IsAllowedLookedAt s detail (allowed_events b) y z → IsAllowedSearched s detail (n + 1) z
+allowed_searched_next s detail n b rest x y z old was now same looked = record {
   seen = old.seen ++ (allowed_events b) ∷ [];
   many = (let one = length-append old.seen ((allowed_events b) ∷ []) in let count = old.many in omega (arith, one, count));
   seen_each = λ h has. elim ((has-append old.seen ((allowed_events b) ∷ []) h).0 has) [
@@ -241,7 +242,7 @@ allowed_searched_next s n b rest x y z old was now same looked = record {
   ];
   each = λ replies has. elim (looked.each replies has) [
     | inl before ↦ old.each replies (found_before replies before)
-    | inr allowed ↦ allowed
+    | inr own ↦ (allowed_events b, own.0, own.1)
   ];
   once = looked.once (subst (λ ks. IsOnce (map explored_outcome ks)) (sym (ap (λ o. o.keys) same)) old.once);
   none_lost = λ replies outcome. elim (old.none_lost replies outcome) [
@@ -269,8 +270,8 @@ allowed_searched_next s n b rest x y z old was now same looked = record {
     found_after : (replies : List (List ℕ)) → Has (allowed_found x) replies → Has (allowed_found y) replies
     found_after replies has = subst (λ o. Has (map explored_outcome o.keys) replies) (sym same) has
 
-    still : (replies : List (List ℕ)) (other : AllowedBeginning) → Has x.pending.items other → CanShowAllowed s (allowed_events other) replies
-        → IsNotLost s z replies
+    still : (replies : List (List ℕ)) (other : AllowedBeginning) → Has x.pending.items other → CanShowAllowed s detail (allowed_events other) replies
+        → IsNotLost s detail z replies
     still replies other has shows = elim ((has-append rest (b ∷ []) other).0 (subst (λ (bs : List AllowedBeginning). Has bs other) was has)) [
       | inl before ↦ inr (
         other,
@@ -278,7 +279,7 @@ allowed_searched_next s n b rest x y z old was now same looked = record {
         shows,
       )
       | inr last ↦ elim ((has-cons b [] other).0 last) [
-        | inl own ↦ elim (looked.none_lost replies (subst (λ (c : AllowedBeginning). CanShowAllowed s (allowed_events c) replies) (sym own) shows)) [
+        | inl own ↦ elim (looked.none_lost replies (subst (λ (c : AllowedBeginning). CanShowAllowed s detail (allowed_events c) replies) (sym own) shows)) [
           | inl found ↦ inl found
           | inr on ↦
               (let there = (has-map (λ (e : Event). (allowed_events b) ++ e ∷ []) looked.events ((allowed_events b) ++ on.0 ∷ [])).1 (on.0, on.1, refl) in
@@ -288,7 +289,7 @@ allowed_searched_next s n b rest x y z old was now same looked = record {
                 child.0,
                 subst (λ (bs : List AllowedBeginning). Has bs child.0) (sym behind)
                     ((has-append rest looked.lengthened.more child.0).1 (inr child.1)),
-                subst (λ h. CanShowAllowed s h replies) (sym child.2) on.2,
+                subst (λ h. CanShowAllowed s detail h replies) (sym child.2) on.2,
               ))
         ]
         | inr none ↦ absurd (has-nil other none)
@@ -296,9 +297,9 @@ allowed_searched_next s n b rest x y z old was now same looked = record {
     ]
 
 -- the same of a search that has the same
-pub allowed_searched_same : (s : Plan) (n : ℕ) (x y : AllowedSearch) → y.pending.items ≡ x.pending.items → y.outcomes ≡ x.outcomes
-    → IsAllowedSearched s n x → IsAllowedSearched s n y
-allowed_searched_same s n x y pending outcomes old = record {
+pub allowed_searched_same : (s : Plan) (detail : Detail) (n : ℕ) (x y : AllowedSearch) → y.pending.items ≡ x.pending.items → y.outcomes ≡ x.outcomes
+    → IsAllowedSearched s detail n x → IsAllowedSearched s detail n y
+allowed_searched_same s detail n x y pending outcomes old = record {
   seen = old.seen;
   many = old.many;
   seen_each = old.seen_each;
@@ -313,16 +314,16 @@ allowed_searched_same s n x y pending outcomes old = record {
 }
 
 -- if nothing is open, what was found is all
-pub allowed_searched_all : (s : Plan) (n : ℕ) (x : AllowedSearch) → IsAllowedSearched s n x → x.pending.items ≡ []
-    → (replies : List (List ℕ)) → IsAllowedOutcome s replies → Has (allowed_found x) replies
-allowed_searched_all s n x searched none replies outcome = elim (searched.none_lost replies outcome) [
+pub allowed_searched_all : (s : Plan) (detail : Detail) (n : ℕ) (x : AllowedSearch) → IsAllowedSearched s detail n x → x.pending.items ≡ []
+    → (replies : List (List ℕ)) → IsAllowedOutcome s detail replies → Has (allowed_found x) replies
+allowed_searched_all s detail n x searched none replies outcome = elim (searched.none_lost replies outcome) [
   | inl found ↦ found
   | inr waits ↦ absurd (has-nil waits.0 (subst (λ (bs : List AllowedBeginning). Has bs waits.0) none waits.1))
 ]
 
 -- what has been seen are beginnings
-pub allowed_searched_many : (s : Plan) (n : ℕ) (x : AllowedSearch) → IsAllowedSearched s n x → HasAllowedBeginnings s n
-allowed_searched_many s n x searched = record {
+pub allowed_searched_many : (s : Plan) (detail : Detail) (n : ℕ) (x : AllowedSearch) → IsAllowedSearched s detail n x → HasAllowedBeginnings s n
+allowed_searched_many s detail n x searched = record {
   beginnings = searched.seen;
   many = searched.many;
   once = searched.apart.once;
@@ -330,9 +331,9 @@ allowed_searched_many s n x searched = record {
 }
 
 -- and if something is open, there is one more
-pub allowed_searched_more : (s : Plan) (n : ℕ) (x : AllowedSearch) (b : AllowedBeginning) → IsAllowedSearched s n x → Has x.pending.items b
+pub allowed_searched_more : (s : Plan) (detail : Detail) (n : ℕ) (x : AllowedSearch) (b : AllowedBeginning) → IsAllowedSearched s detail n x → Has x.pending.items b
     → HasAllowedBeginnings s (n + 1)
-allowed_searched_more s n x b searched has = record {
+allowed_searched_more s detail n x b searched has = record {
   beginnings = searched.seen ++ allowed_events b ∷ [];
   many = (let one = length-append searched.seen (allowed_events b ∷ []) in let count = searched.many in omega (arith, one, count));
   once =
@@ -369,21 +370,21 @@ allowed_whole_ends s g e lawful follows next =
     omega (arith, within, all)
 
 -- so it shows one thing
-allowed_whole_shows : (s : Plan) (g : List Event) (replies r : List (List ℕ)) → IsLawful s → Follows s g → AreOutcomeReplies s g replies
-    → CanShowAllowed s g r → replies ≡ r
-allowed_whole_shows s g replies r lawful follows are shows = go shows.more shows.run shows.are
+allowed_whole_shows : (s : Plan) (detail : Detail) (g : List Event) (replies r : List (List ℕ)) → IsLawful s → Follows s g → AreToldReplies s (telling_of_script s detail) g replies
+    → CanShowAllowed s detail g r → replies ≡ r
+allowed_whole_shows s detail g replies r lawful follows are shows = go shows.more shows.run shows.are
   where
-    go : (w : List Event) → IsAllowedRun s (g ++ w) → AreOutcomeReplies s (g ++ w) r → replies ≡ r
-    go [] run these = allowed_same_replies s g replies r are (subst (λ h. AreOutcomeReplies s h r) (append-nil g) these)
+    go : (w : List Event) → IsAllowedRun s (g ++ w) → AreToldReplies s (telling_of_script s detail) (g ++ w) r → replies ≡ r
+    go [] run these = allowed_same_replies s (telling_of_script s detail) g replies r are (subst (λ h. AreToldReplies s (telling_of_script s detail) h r) (append-nil g) these)
     go (e ∷ w) run these =
         absurd (allowed_whole_ends s g e lawful follows
         (allowed_front s (g ++ e ∷ []) w (subst (IsAllowedBeginning s) (sym (append_assoc g (e ∷ []) w)) run.beginning)))
 
 -- a whole beginning shows what it shows, and nothing comes next
-pub allowed_looked_whole : (s : Plan) (b : AllowedBeginning) (replies : List (List ℕ)) (x y : AllowedSearch) → IsLawful s → TellsAllowed s b
-    → Follows s (allowed_events b) → AreOutcomeReplies s (allowed_events b) replies → y.pending ≡ x.pending
-    → IsAmongSearched (allowed_found x) (allowed_found y) replies → IsAllowedLookedAt s (allowed_events b) x y
-allowed_looked_whole s b replies x y lawful tells follows are pending among = record {
+pub allowed_looked_whole : (s : Plan) (detail : Detail) (b : AllowedBeginning) (replies : List (List ℕ)) (x y : AllowedSearch) → IsLawful s → TellsAllowed s b
+    → Follows s (allowed_events b) → AreToldReplies s (telling_of_script s detail) (allowed_events b) replies → y.pending ≡ x.pending
+    → IsAmongSearched (allowed_found x) (allowed_found y) replies → IsAllowedLookedAt s detail (allowed_events b) x y
+allowed_looked_whole s detail b replies x y lawful tells follows are pending among = record {
   events = [];
   events_once = in_order-nil (λ (c d : Event). c ≢ d);
   lengthened = record {
@@ -401,7 +402,10 @@ allowed_looked_whole s b replies x y lawful tells follows are pending among = re
     | inr new ↦ elim ((has-append (allowed_found x) (replies ∷ []) r).0 (subst (λ rs. Has rs r) new.1 has)) [
       | inl before ↦ inl before
       | inr last ↦ elim ((has-cons replies [] r).0 last) [
-        | inl own ↦ inr (subst (IsAllowedOutcome s) own (allowed_events b, record { beginning = tells.beginning; follows = follows }, are))
+        | inl own ↦ inr (
+          record { beginning = tells.beginning; follows = follows },
+          subst (AreToldReplies s (telling_of_script s detail) (allowed_events b)) own are,
+        )
         | inr none ↦ absurd (has-nil r none)
       ]
     ]
@@ -416,7 +420,7 @@ allowed_looked_whole s b replies x y lawful tells follows are pending among = re
           | inr none ↦ has-nil d none
         ]))
   ];
-  none_lost = λ r shows. inl (subst (Has (allowed_found y)) (allowed_whole_shows s (allowed_events b) replies r lawful follows are shows) found);
+  none_lost = λ r shows. inl (subst (Has (allowed_found y)) (allowed_whole_shows s detail (allowed_events b) replies r lawful follows are shows) found);
 }
   where
     found : Has (allowed_found y) replies
@@ -427,8 +431,8 @@ allowed_looked_whole s b replies x y lawful tells follows are pending among = re
     ]
 
 -- and else what comes next has it
-pub allowed_looked_on : (s : Plan) (g : List Event) (x y : AllowedSearch) → ¬ Follows s g → IsAllowedFollowed s g x y → IsAllowedLookedAt s g x y
-allowed_looked_on s g x y unfinished on = record {
+pub allowed_looked_on : (s : Plan) (detail : Detail) (g : List Event) (x y : AllowedSearch) → ¬ Follows s g → IsAllowedFollowed s detail g x y → IsAllowedLookedAt s detail g x y
+allowed_looked_on s detail g x y unfinished on = record {
   events = on.events;
   events_once = on.events_once;
   lengthened = on.lengthened;
@@ -458,10 +462,10 @@ allowed_choice_may s g nexts chosen calls plain choice p call at =
         ap (λ q. slice_index_or nexts q None) is.0 ∙ one.at ∙ ap Some (sym is.1)
 
 -- and what a run shows is shown after one of them
-pub allowed_followed : (s : Plan) (g : List Event) (nexts chosen : List (Option Kind)) (x y : AllowedSearch) → IsLawful s
+pub allowed_followed : (s : Plan) (detail : Detail) (g : List Event) (nexts chosen : List (Option Kind)) (x y : AllowedSearch) → IsLawful s
     → AreCallsNext s g nexts → ArePlainCalls nexts → IsCallChoice nexts chosen → y.outcomes ≡ x.outcomes
-    → AreCallsFollowed s g chosen x.pending.items y.pending.items → IsAllowedFollowed s g x y
-allowed_followed s g nexts chosen x y lawful calls plain choice outcomes followed = record {
+    → AreCallsFollowed s g chosen x.pending.items y.pending.items → IsAllowedFollowed s detail g x y
+allowed_followed s detail g nexts chosen x y lawful calls plain choice outcomes followed = record {
   events = followed.events;
   events_once = followed.chosen.once;
   lengthened = followed.lengthened;
@@ -471,25 +475,25 @@ allowed_followed s g nexts chosen x y lawful calls plain choice outcomes followe
       (one.0, (followed.chosen.each one.0).1 one.1, one.2);
 }
   where
-    after : IsCallChoice nexts chosen → (r : List (List ℕ)) → ¬ Follows s g → CanShowAllowed s g r
-        → (e : Event) × IsChosenEvent s g chosen e × CanShowAllowed s (g ++ e ∷ []) r
+    after : IsCallChoice nexts chosen → (r : List (List ℕ)) → ¬ Follows s g → CanShowAllowed s detail g r
+        → (e : Event) × IsChosenEvent s g chosen e × CanShowAllowed s detail (g ++ e ∷ []) r
     after (inl same) r unfinished shows =
-        let one = allowed_all_show s g nexts r calls unfinished shows in
+        let one = allowed_all_show s detail g nexts r calls unfinished shows in
         (one.0, subst (λ cs. IsChosenEvent s g cs one.0) (sym same) one.1, one.2)
-    after (inr one) r unfinished shows = allowed_one_shows s g nexts chosen r lawful calls plain one shows
+    after (inr one) r unfinished shows = allowed_one_shows s detail g nexts chosen r lawful calls plain one shows
 
 -- what the search answers
-pub allowed_answered : (s : Plan) (most n : ℕ) (x : AllowedSearch) (answer : AllowedOutcomes) → IsAllowedSearched s n x
+pub allowed_answered : (s : Plan) (detail : Detail) (most n : ℕ) (x : AllowedSearch) (answer : AllowedOutcomes) → IsAllowedSearched s detail n x
     → (n ≡ beginnings_to_look_at s most) ⊎ (x.pending.items ≡ []) → answer.beginnings ≡ n
     → map explored_outcome answer.outcomes.items ≡ allowed_found x → answer.are_all ≡ (length x.pending.items == 0)
-    → AreAllowedOutcomes s most answer
-allowed_answered s most n x answer searched end count outcomes all = record {
-  looked_at = subst (HasAllowedBeginnings s) (sym count) (allowed_searched_many s n x searched);
+    → AreAllowedOutcomes s detail most answer
+allowed_answered s detail most n x answer searched end count outcomes all = record {
+  looked_at = subst (HasAllowedBeginnings s) (sym count) (allowed_searched_many s detail n x searched);
   each = λ r has. searched.each r (subst (λ os. Has os r) outcomes has);
   once = subst IsOnce (sym outcomes) searched.once;
   all = λ yes r outcome.
       subst (λ os. Has os r) (sym outcomes)
-      (allowed_searched_all s n x searched (empty x.pending.items (eqb-true (length x.pending.items) 0 (sym all ∙ yes))) r outcome);
+      (allowed_searched_all s detail n x searched (empty x.pending.items (eqb-true (length x.pending.items) 0 (sym all ∙ yes))) r outcome);
   given_up = λ isnt. go x.pending.items refl isnt;
 }
   where
@@ -502,7 +506,7 @@ allowed_answered s most n x answer searched end count outcomes all = record {
     go [] is isnt =
         absurd (false≢true (sym isnt ∙ all ∙ eq-eqb (length x.pending.items) 0 (ap (λ (bs : List AllowedBeginning). length bs) is)))
     go (b ∷ bs) is isnt =
-        let one = allowed_searched_more s n x b searched (subst (λ (cs : List AllowedBeginning). Has cs b) (sym is) (0, refl)) in
+        let one = allowed_searched_more s detail n x b searched (subst (λ (cs : List AllowedBeginning). Has cs b) (sym is) (0, refl)) in
         elim end [
           | inl reached ↦ subst (λ m. HasAllowedBeginnings s (m + 1)) reached one
           | inr none ↦ absurd (has-nil b (subst (λ (cs : List AllowedBeginning). Has cs b) (sym is ∙ none) (0, refl)))

@@ -9,7 +9,7 @@ pub returns : goal.returns
 returns g c =
     let x = c.look_at_all.new.self in
     let long : vec_len x.pending ≡ length x.pending.items = omega arith in
-    allowed_answered (plan_of c.args.script.now) c.args.most c.in_ok-beginnings.beginnings x _ c.in_ok-beginnings.ensures.searched
+    allowed_answered (plan_of c.args.script.now) c.args.detail c.args.most c.in_ok-beginnings.beginnings x _ c.in_ok-beginnings.ensures.searched
     (elim c.in_ok-beginnings.ensures.most [
       | inl reached ↦ inl (reached ∙ c.beginnings_to_look_at-most.ensures)
       | inr none ↦ inr none

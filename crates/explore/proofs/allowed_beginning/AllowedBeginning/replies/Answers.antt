@@ -1,19 +1,55 @@
-use Rattle.std.proofs.Common.{◌<◌, Some, length, ap, sym, ◌∙◌, arith}
+use Rattle.std.proofs.Common.{ℕ, ◌≡◌, ◌<◌, ◌≤◌, List, Some, length, slice_get, ap, sym, subst, ◌∙◌, arith}
+use Rattle.std.specs.Global.{Vec}
+use Rattle.conformance.specs.FlatRuns.{FlatRunHasNoFetch}
 use Rattle.conformance.specs.Follows.{calls_of}
-use Rattle.explore.specs.Outcomes.{outcome_replies_in}
-use Rattle.explore.proofs.Machines.{machine_some_at}
+use Rattle.journal.specs.declared.event.Event.{Event}
+use Rattle.lrc_script.specs.Plan.{Plan}
+use Rattle.explore.specs.declared.allowed_beginning.AllowedBeginning.{AllowedBeginning}
+use Rattle.explore.specs.declared.prefixes.script_call.ScriptCall.{ScriptCall}
+use Rattle.explore.specs.AllowedBeginnings.{TellsAllowed, allowed_events}
+use Rattle.explore.specs.Machines.{AreLawfulMachineSteps}
+use Rattle.explore.specs.Prefixes.Calling.{calling_shown_by}
+use Rattle.explore.specs.Told.{told_replies, told_steps}
+use Rattle.explore.proofs.Lengths.{begun_length_few}
+use Rattle.explore.proofs.Machines.{machine_row_steps, machine_row_told, machine_some_at}
 use Rattle.explore.proofs.Replies.{length-machine_rows, replies_row_at}
 use Rattle.explore.proofs.allowed_beginning.AllowedBeginning.replies.Goals as goal
 
+-- no processor has made more calls than its steps say
+few : (s : Plan) (b : AllowedBeginning) (steps : List (Vec ScriptCall)) → AreLawfulMachineSteps s steps → TellsAllowed s b
+    → (p : ℕ) (row : Vec ScriptCall) → slice_get steps p ≡ Some row → length (calls_of (allowed_events b) p) ≤ length row.items
+few s b steps lawful tells p row at =
+    let of = machine_row_steps s steps p row lawful.are at in
+    let begun = begun_length_few of.section (calling_shown_by s p) (calls_of (allowed_events b) p) (tells.beginning.begins p of.section of.at) in
+    let are = ap (λ (xs : List ScriptCall). length xs) of.are in
+    omega (arith, begun, are)
+
+pub allowed_replies-requires-clause-fetchless : goal.allowed_replies-requires-clause-fetchless
+allowed_replies-requires-clause-fetchless c =
+    subst FlatRunHasNoFetch (sym c.deref.ensures.value) c.requires.told.2.beginning.no_fetch
+
+pub allowed_replies-requires-clause-few : goal.allowed_replies-requires-clause-few
+allowed_replies-requires-clause-few c = λ p row at.
+    subst (λ g. length (calls_of g p) ≤ length row.items) (sym c.deref.ensures.value)
+    (few c.requires.told.0 c.args.self.now c.args.steps.now c.requires.told.1 c.requires.told.2 p row at)
+
 pub returns : goal.returns
-returns c = λ s many.
+returns c = λ s lawful tells.
     let rows = c.in_ok-replies.replies.items in
+    let long = c.in_ok-replies.ensures.long in
+    let steps_long = lawful.are.long in
+    let sections = lawful.lawful.but_uneven.one_each in
+    let many = length-machine_rows rows in
     record {
-      long = length-machine_rows rows ∙ c.in_ok-replies.ensures.long ∙ sym many;
+      long = omega (arith, long, steps_long, sections, many);
       each = λ p lt.
-          let long = c.in_ok-replies.ensures.long in
-          let within : p < length rows = omega (arith, lt, long, many) in
+          let within : p < length rows = omega (arith, lt, long, steps_long, sections) in
           let row = machine_some_at rows p within in
+          let inside : p < length c.args.steps.now = omega (arith, lt, steps_long, sections) in
+          let own = machine_some_at c.args.steps.now p inside in
+          let told = machine_row_told s p own.0 (machine_row_steps s c.args.steps.now p own.0 lawful.are own.1) in
           replies_row_at rows p row.0 row.1
-          ∙ ap Some (c.in_ok-replies.ensures.each p row.0 row.1 ∙ ap (λ g. outcome_replies_in (calls_of g p)) c.deref.ensures.value);
+          ∙ ap (λ (r : List ℕ). Some r) (c.in_ok-replies.ensures.each p own.0 row.0 own.1 row.1
+          ∙ ap (λ (xs : List ScriptCall). told_replies c.args.telling p xs 0 (calls_of c.deref.result.now p)) told
+          ∙ ap (λ (g : List Event). told_replies c.args.telling p (told_steps s p) 0 (calls_of g p)) c.deref.ensures.value);
     }

@@ -26,11 +26,11 @@ follow_all-requires c =
     )
 
 pub returns : goal.returns
-returns c = on_ok_weaker c.follow_all.result (λ followed.
+returns c = on_ok_weaker c.follow_all.result (λ followed detail.
     let s = plan_of c.args.script.now in
     let calls = c.next_calls-calls.ensures.calls s c.requires.steps c.requires.told in
     let choice = c.allowed_choice-chosen.ensures.choice in
-    allowed_followed s (allowed_events c.args.beginning.now) c.next_calls-calls.result c.allowed_choice-chosen.result c.args.self.now _
+    allowed_followed s detail (allowed_events c.args.beginning.now) c.next_calls-calls.result c.allowed_choice-chosen.result c.args.self.now _
     c.requires.steps.lawful calls c.next_calls-calls.ensures.plain choice refl
     (followed s (record {
       lawful = c.requires.steps.lawful;

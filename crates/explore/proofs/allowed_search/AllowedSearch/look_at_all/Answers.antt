@@ -14,11 +14,11 @@ look_at-requires-clause-told g c =
 
 pub returns-in-None-clause-searched : goal.returns-in-None-clause-searched
 returns-in-None-clause-searched g c =
-    allowed_searched_same (plan_of c.args.script.now) c.loop-looked.looked c.loop-looked.self _
+    allowed_searched_same (plan_of c.args.script.now) c.args.detail c.loop-looked.looked c.loop-looked.self _
     (sym (c.in-None.ensures.items ∙ append-nil c.pop.new.self.items)) refl c.loop-looked.invariant
 
 pub loop-looked-preserved : goal.loop-looked-preserved
 loop-looked-preserved g c =
-    allowed_searched_next (plan_of c.args.script.now) c.loop-looked.looked c.in-Some.beginning c.pop.new.self.items c.loop-looked.self
+    allowed_searched_next (plan_of c.args.script.now) c.args.detail c.loop-looked.looked c.in-Some.beginning c.pop.new.self.items c.loop-looked.self
     (record { pending = c.pop.new.self; outcomes = c.loop-looked.self.outcomes }) c.look_at.new.self c.loop-looked.invariant c.in-Some.ensures.items
     refl refl c.in_ok-look_at-in-Some.ensures

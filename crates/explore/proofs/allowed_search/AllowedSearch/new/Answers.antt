@@ -3,6 +3,6 @@ use Rattle.explore.proofs.allowed_runs.Searching.{allowed_searched_start}
 use Rattle.explore.proofs.allowed_search.AllowedSearch.new.Goals as goal
 
 pub returns : goal.returns
-returns c = λ s.
-    allowed_searched_start s c.new.result _ (c.in_ok-push.ensures.items ∙ ap (λ bs. bs ++ c.new.result ∷ []) c.new-pending.ensures.items)
+returns c = λ s detail.
+    allowed_searched_start s detail c.new.result _ (c.in_ok-push.ensures.items ∙ ap (λ bs. bs ++ c.new.result ∷ []) c.new-pending.ensures.items)
     c.new-2.ensures.empty (c.new.ensures.told s) c.new.ensures.empty

@@ -4,7 +4,8 @@ use Rattle.base.proofs.SliceSets.{index-zeros}
 use Rattle.lrc_script.specs.Plan.{plan_of}
 use Rattle.explore.proofs.prefixes.Beginnings.{beginning_empty}
 use Rattle.explore.specs.Prefixes.Calling.{calling_shown_by}
-use Rattle.explore.specs.Told.{AreKeptReplies, telling_of_script}
+use Rattle.explore.specs.declared.told.OutcomeTelling.{OutcomeTelling}
+use Rattle.explore.specs.Told.{AreKeptReplies}
 use Rattle.explore.proofs.ToldReplies.{told_kept_first}
 use Rattle.explore.proofs.flat_state.FlatState.new.Goals as goal
 
@@ -21,12 +22,12 @@ returns-clause-knows c =
       beginning = beginning_empty s;
       long = refl;
       done = λ p lt. index-zeros 16 p;
-      shown = omega (arith, c.len.ensures);
-      replies = subst (AreKeptReplies s (telling_of_script s c.args.detail) []) (sym c.in_ok-no_replies.ensures) (record {
+      shown = ap (λ (t : OutcomeTelling). t.shown) c.of_script.ensures;
+      replies = subst (AreKeptReplies s c.of_script.result []) (sym c.in_ok-no_replies.ensures) (record {
         long = length-replicate s.processors [];
         each = λ p lt.
             always_empty s.processors p lt
-            ∙ ap Some (sym (told_kept_first (telling_of_script s c.args.detail) p (slice_index_or s.sections p []) (calling_shown_by s p)));
+            ∙ ap Some (sym (told_kept_first c.of_script.result p (slice_index_or s.sections p []) (calling_shown_by s p)));
       });
       memory = c.in_ok-vec.ensures.items_if_clones_equal (λ x is. is);
       waiting = c.new.ensures;

@@ -189,19 +189,19 @@ returns-clause-knows c = λ s g lawful knows next.
           let vs = m.replies.items in
           let v = c.index_mut-replies.result.now in
           let here = machine_read_at vs p v lt c.index_mut-replies.ensures.value in
-          replies_next s m.telling g p vs v within here knows.replies k c.keep_reply-2.new.replies (machine_next_call s g p k next)
+          replies_next s m.telling g p vs v within here knows.replies k c.keep_told_reply-2.new.replies (machine_next_call s g p k next)
           (own_kept s g m c.args.steps.now p k row lawful knows next at v.items c.let_go.new.replies.items
-          c.keep_reply.new.replies.items c.keep_reply-2.new.replies.items
+          c.keep_told_reply.new.replies.items c.keep_told_reply-2.new.replies.items
           (row_replies s m.telling g p vs v within here knows.replies)
           (λ front reply is.
           c.let_go.ensures front reply (is
           ∙ ap (λ b. front ++ cond b (reply ∷ []) []) (sym (c.is_told_sum.ensures
           ∙ ap is_told_sum (c.told_step.ensures ∙ ap (λ xs. slice_get xs place) c.deref-2.ensures.value)))))
-          (c.in_ok-keep_reply.ensures
+          (c.in_ok-keep_told_reply.ensures
           ∙ ap (λ b. c.let_go.new.replies.items ++ told_reply b k)
           (c.is_told-is_told.ensures ∙ ap (λ xs. is_told_by m.telling.detail (told_words m.telling p) xs place) c.deref.ensures.value))
-          (c.in_ok-keep_reply-2.ensures
-          ∙ ap (λ b. c.keep_reply.new.replies.items ++ told_reply b k) (c.is_told_sum-2.ensures
+          (c.in_ok-keep_told_reply-2.ensures
+          ∙ ap (λ b. c.keep_told_reply.new.replies.items ++ told_reply b k) (c.is_told_sum-2.ensures
           ∙ ap is_told_sum (c.told_step-2.ensures ∙ ap (λ xs. slice_get xs (place + 1)) c.deref-3.ensures.value)))));
       memory =
           with_items_is m.memory c.write.new.memory kept ∙ c.write.ensures

@@ -2,9 +2,8 @@ use Rattle.std.proofs.Common.{◌++◌, ◌==◌, [], ◌∷◌, cond, slice_ind
 use Rattle.std.proofs.lemmas.Option.{slice_get-get_or}
 use Rattle.journal.specs.declared.event.Kind.TheVariants.{Load}
 use Rattle.journal.specs.DidEvent.{event}
-use Rattle.explore.specs.Outcomes.{outcome_replies_in}
-use Rattle.explore.proofs.allowed_runs.CallsMade.{allowed_replies_next}
-use Rattle.explore.proofs.allowed_calls.allowed_replies_of.Goals as goal
+use Rattle.explore.proofs.allowed_runs.CallsMade.{allowed_calls_next}
+use Rattle.explore.proofs.allowed_calls.allowed_calls_of.Goals as goal
 
 pub loop-event-preserved : goal.loop-event-preserved
 loop-event-preserved c =
@@ -12,6 +11,6 @@ loop-event-preserved c =
     let events = c.args.events.now in
     let e = slice_index_or events n (event 0 (Load 0 0)) in
     let at = slice_get-get_or events n (event 0 (Load 0 0)) c.loop-event-test.true in
-    c.in_ok-keep_reply_of.ensures
-    ∙ ap (λ xs. xs ++ cond (e.processor == c.args.processor) (outcome_replies_in (e.kind ∷ [])) []) c.loop-event.invariant
-    ∙ sym (allowed_replies_next events n e c.args.processor at)
+    c.in_ok-keep_call_of.ensures
+    ∙ ap (λ ks. ks ++ cond (e.processor == c.args.processor) (e.kind ∷ []) []) c.loop-event.invariant
+    ∙ sym (allowed_calls_next events n e c.args.processor at (c.requires n e at))
