@@ -1,3 +1,2 @@
-pub mod Rows
-pub mod Runs
+pub mod Plates
 pub mod Prelude

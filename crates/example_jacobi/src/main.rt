@@ -1,62 +1,97 @@
-//! `example_jacobi`: the memory under a program of one's own, told in docs/EMBEDDING.md.
+//! `example_jacobi`: a plate that four processors cool, told in docs/EMBEDDING.md.
 //!
-//! Four processors, a thread each, cool a plate that is hot at its upper border (Jacobi's method): a sweep makes each
-//! word of one grid from the four words round it in the other. At the end each adds its rows to a total under a lock.
-//! The program prints that total, and the one that a plain loop comes to.
+//! The plate is hot at its upper border. A sweep makes each word inside the mean of the four round it, by Jacobi's method, and
+//! behind each all meet at the barrier. At the end the program prints the plate.
 //!
-//! **What is proved**, by `run`, of each total that it answers, whatever the threads did: the journal has the whole
-//! history, which has no race by the layout, and all its replies are those of one flat memory; the total is the reply of
-//! processor 0's last load; and no processor stored but in its own rows and to the total.
-//!
-//! **What is only tested**: that all of this is done, and that both totals are the same.
+//! **What is proved**, by `run`: the plate that it answers is the start after ten sweeps of a pure function (`swept`). **What
+//! is only tested**: that it answers.
 #![tactic(auto)]
 
-ghost use Rattle.std.specs.Prelude.{IfOk};
-ghost use Rattle.example_jacobi.specs.Prelude.{IsRun};
+ghost use Rattle.std.specs.Prelude.{◌≡◌, IfOk};
+ghost use Rattle.seats.specs.Prelude.{HasMadeRounds, stencil_after, stencil_rounds};
+ghost use Rattle.example_jacobi.specs.Prelude.{is_border, plate};
 
-mod jacobi;
-mod phases;
-mod plain;
-
-use crate::jacobi::{COLUMNS, PAGES, PROCESSORS, Plate};
-use crate::phases::phases;
 use anyhow::Result;
-use cluster::Journal;
-use std::alloc::{AllocError, Global};
+use seats::{Grids, ProcessorFault, Program, Seat, SeatFault, Sitting, Stencil};
+use std::alloc::Global;
 use std::sync::Wait;
 use std::thread::Threads;
-use thiserror::Error;
 
-/// Why a run fails.
-#[derive(Clone, Copy, Debug, Error)]
-pub enum JacobiFault {
-    /// A processor came to no end.
-    #[error("{0}")]
-    Faulted(#[from] seats::ProcessorFault),
-    /// The layout leaves this word open to all, so two accesses of it might race.
-    #[error("word {0} is open to all")]
-    Open(usize),
-    /// Memory was refused.
-    #[error("out of memory")]
-    NoMemory(#[from] AllocError),
+/// Processors.
+const PROCESSORS: usize = 4;
+/// Words of a row, which is a page.
+const COLUMNS: usize = 8;
+/// Words of the plate, in 14 rows.
+const CELLS: usize = 112;
+/// The plate before and after a sweep. Each processor makes three rows and a half.
+const GRIDS: Grids = Grids {
+    cells: CELLS,
+    share: 28,
+};
+
+/// What each processor's thread does.
+struct Plate;
+
+impl Program for Plate {
+    type Answer = ();
+
+    // It has made its block in eleven rounds: the start, and ten sweeps.
+    ghost did = { λ processor deeds answer. HasMadeRounds (stencil_rounds plate) processor 11 deeds };
+
+    fn work<S: Sitting>(&self, seat: &mut Seat<'_, S>) -> Result<(), SeatFault> {
+        for round in 0..11 {
+            GRIDS.make(seat, round, self)?;
+            seat.barrier()?;
+        }
+        Ok(())
+    }
 }
 
-/// Cools the plate with four processors on threads of their own. Answers the total that processor 0 loads at the end, and
-/// the journal of all that was done.
-fn run<R: Threads + Wait + Sync>(rt: &R, alloc: Global) -> Result<(u32, Journal), JacobiFault>
-    ensures { IfOk result (λ r. IsRun r.0 r.1) }
-{
-    let layout = phases(alloc)?;
-    if let Some(word) = layout.first_open() {
-        return Err(JacobiFault::Open(word));
+impl Stencil for Plate {
+    ghost steps = { plate };
+
+    fn first(&self, cell: usize) -> u32 {
+        if cell < COLUMNS { 1_000_000 } else { 0 }
     }
-    // One lock, and no flags.
-    let ran = seats::run(rt, alloc, PROCESSORS, PAGES, COLUMNS, 1, 0, &layout, &Plate)?;
-    Ok((ran.answers[0], ran.journal))
+
+    fn next<S: Sitting>(
+        &self,
+        seat: &mut Seat<'_, S>,
+        round: usize,
+        cell: usize,
+    ) -> Result<u32, SeatFault> {
+        if is_border(cell) {
+            return GRIDS.load(seat, round, cell);
+        }
+        let above = u64::from(GRIDS.load(seat, round, cell - COLUMNS)?);
+        let below = u64::from(GRIDS.load(seat, round, cell + COLUMNS)?);
+        let left = u64::from(GRIDS.load(seat, round, cell - 1)?);
+        let right = u64::from(GRIDS.load(seat, round, cell + 1)?);
+        Ok(((above + below + left + right) / 4) as u32)
+    }
+}
+
+/// Whether the cell is at the border.
+fn is_border(cell: usize) -> bool
+    ensures { result ≡ is_border cell }
+{
+    cell < COLUMNS || CELLS - COLUMNS <= cell || cell % COLUMNS == 0 || cell % COLUMNS == 7
+}
+
+/// Cools the plate with four processors on threads of their own.
+fn run<R: Threads + Wait + Sync>(rt: &R, alloc: Global) -> Result<Vec<u32>, ProcessorFault>
+    ensures { IfOk result (λ words. words.items ≡ stencil_after plate 10) }
+{
+    let layout = GRIDS.layout(alloc, PROCESSORS)?;
+    // A page for each row of both grids, no locks, no flags.
+    let mut ran = seats::run_guarded(rt, alloc, PROCESSORS, 28, COLUMNS, 0, 0, &layout, &Plate)?;
+    // The tenth sweep has made the first grid.
+    ran.memory.truncate(CELLS);
+    Ok(ran.memory)
 }
 
 fn main(rt: HostRuntime) -> Result<()> {
-    let (total, _journal) = run(&rt, rt.alloc())?;
-    println!(rt; "total {total}, by a plain loop {}", plain::total())?;
+    let plate = run(&rt, rt.alloc())?;
+    println!(rt; "{plate:?}")?;
     Ok(())
 }

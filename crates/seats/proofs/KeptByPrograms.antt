@@ -27,13 +27,6 @@ use Rattle.seats.specs.Tenures.{HaveReadKept, IsBetweenTenures, IsKeptUnder, Kep
 use Rattle.seats.proofs.Guards.{held_on-append}
 use Rattle.seats.proofs.Tenures.{IsAccessAmong, among_held, among_tenure, kept_law, tenure_on-append}
 
--- nothing was done yet
-pub between_nothing : (f : KeptFact) → IsBetweenTenures f []
-between_nothing f = record {
-  preserves = record { each = λ i at. absurd (none-some (Release f.lock) at); ended = refl };
-  closed = refl;
-}
-
 pub and_both : (a b : Bool) → (a && b) ≡ true → (a ≡ true) × (b ≡ true)
 and_both true b e = (refl, e)
 and_both false b e = absurd (cc)

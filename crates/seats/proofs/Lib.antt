@@ -10,7 +10,6 @@ mod ProgramRuns
 mod Kept
 pub mod Tenures
 pub mod KeptByPrograms
-pub mod KeptTotals
 pub mod Rounds
 pub mod Totals
 pub mod TotalsInHistories

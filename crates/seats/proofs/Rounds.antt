@@ -5,6 +5,7 @@
 -- So at the end it is that after all rounds. (RoundsLaw)
 -- What a program shows of its own calls. (MakingRounds)
 -- Two grids, one of which each round makes from the other. (GridRounds)
+-- Grids whose words are made one by one. (StencilRounds)
 pub mod PhaseAccesses
 pub mod RoundMade
 pub mod RoundSteps
@@ -12,5 +13,6 @@ pub mod RoundsLaw
 pub mod MakingRounds
 pub mod GridRounds
 pub mod EvenRounds
+pub mod StencilRounds
 pub mod ClosedLayouts
 pub mod RoundsByPrograms

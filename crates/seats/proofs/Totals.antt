@@ -99,11 +99,7 @@ beside_new b = record {
   blind = λ sighted. refl;
 }
 
--- nothing was added yet
-pub added_nothing : (l a : ℕ) → AddsUpTo l a 0 []
-added_nothing l a = record { sighted = refl; sum = refl }
-
--- and what was added adds up
+-- what was added adds up
 pub added_both : {l a m n : ℕ} (ks ls : List Kind) → AddsUpTo l a m ks → AddsUpTo l a n ls → AddsUpTo l a (m + n) (ks ++ ls)
 added_both {l} {a} {m} {n} ks ls first next =
     let all = beside_on l a ls (beside_new (tally_of l a ks)) in

@@ -26,7 +26,6 @@ use Rattle.seats.specs.Totals.{AddedLaw, AddsUpTo, WordTally, new_tally, tally_o
 use Rattle.seats.proofs.Deeds.{own_deeds-append}
 use Rattle.seats.proofs.Guarded.{allowed_at}
 use Rattle.seats.proofs.Guards.{holds_is}
-use Rattle.seats.proofs.KeptTotals.{total_same}
 use Rattle.seats.proofs.ProgramRuns.{nobody_past}
 use Rattle.seats.proofs.Tenures.{OneHolds, fetched_deeds, has_lock, memory_push, not_both, others_deeds, others_lock, own_deeds, own_lock, replayed}
 use Rattle.seats.proofs.Totals.{sighted_before, tally_on-append, tally_store_known}
@@ -44,6 +43,12 @@ own_tally l a j p k =
 others_tally : (l a : ℕ) (j : List Event) (p q : ℕ) (k : Kind) → q ≢ p
     → tally_in l a (j ++ event p k ∷ []) q ≡ tally_in l a j q
 others_tally l a j p q k apart = ap (tally_of l a) (others_deeds j p q k apart)
+
+-- the same numbers, added up
+total_same : (a b : ℕ → ℕ) (n : ℕ) → ((p : ℕ) → p < n → a p ≡ b p) → total_of a n ≡ total_of b n
+total_same a b zero same = refl
+total_same a b (suc n) same =
+    let rest = total_same a b n (λ p less. same p (omega arith)) in let last = same n (omega arith) in cc
 
 -- totals that differ in one number
 total_but_one : (f g : ℕ → ℕ) (p n : ℕ) → p < n → ((q : ℕ) → q ≢ p → f q ≡ g q) → total_of f n + g p ≡ total_of g n + f p

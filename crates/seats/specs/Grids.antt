@@ -61,10 +61,14 @@ abbrev pub steps : (List ℕ → List ℕ) → ℕ → List ℕ → List ℕ
 steps f zero words = words
 steps f (suc n) words = f (steps f n words)
 
--- the start fills a grid, a step keeps it full, and the processors' blocks cover it
-pub record AreGrids (x : GridSteps) (processors : ℕ) : Type 0 where
+-- the start fills a grid, and a step keeps it full
+pub record AreFullGrids (x : GridSteps) : Type 0 where
   pub start : length x.start ≡ x.cells
   pub step : (words : List ℕ) → length words ≡ x.cells → length (x.step words) ≡ x.cells
+
+-- and the processors' blocks cover it
+pub record AreGrids (x : GridSteps) (processors : ℕ) : Type 0 where
+  pub full : AreFullGrids x
   pub shared : x.cells ≤ processors * x.share
 
 -- after the start and n steps, the grid that was made last is the start after n steps

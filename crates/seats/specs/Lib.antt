@@ -12,6 +12,7 @@ pub mod ProgramRuns
 pub mod Rounds
 pub mod SeatCalls
 pub mod Sitting
+pub mod Stencils
 pub mod Tables
 pub mod Tenures
 pub mod Totals

@@ -15,5 +15,6 @@ pub use Rattle.seats.specs.SeatCalls.{StaysSeated, WaitsStill, closing_deeds, se
 pub use Rattle.seats.specs.Loads.{LoadsValue}
 pub use Rattle.seats.specs.Grids.{GridsLaw, grid_at, grid_rounds, block_end, block_start, grid_made, grid_read}
 pub use Rattle.seats.specs.Rounds.{HasMadeRounds, RoundsLaw}
+pub use Rattle.seats.specs.Stencils.{HasMadeBlock, LoadsGrid, StencilSteps, stencil_after, stencil_rounds, stencil_word}
 pub use Rattle.seats.specs.Tenures.{IsBetweenTenures, KeptFact, KeptLaw, KeptReadsLaw, whole_tenure}
 pub use Rattle.seats.specs.Totals.{AddedLaw, AddsUpTo, adding}

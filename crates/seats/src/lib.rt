@@ -34,6 +34,7 @@ mod program;
 mod running;
 mod seat;
 mod sitting;
+mod stencil;
 #[cfg(test)]
 mod tests;
 mod typed;
@@ -47,4 +48,5 @@ pub use program::{Program, sit};
 pub use running::{GuardedRun, ProgramRun, run, run_guarded};
 pub use seat::Seat;
 pub use sitting::Sitting;
+pub use stencil::Stencil;
 pub use typed::Word;

@@ -1,6 +1,6 @@
 -- Rounds on two grids: what each leaves, and what they come to.
 use Rattle.std.proofs.Common.{ℕ, ◌≡◌, ◌+◌, ◌*◌, ◌-◌, ◌<◌, ◌≤◌, ◌⊎◌, inl, inr, Bool, true, false, Some, List, [], ◌∷◌, ◌++◌, length, take, drop, length-append, length-drop, slice_get, zero, suc, refl, sym, ap, subst, ◌∙◌, arith}
-use Rattle.std.specs.Prelude.{slice_index_or}
+use Rattle.std.specs.Prelude.{slice_index}
 use Rattle.std.proofs.Math.Nat.{suc-mul}
 use Rattle.std.proofs.Math.Seq.{drop-append_seam, take-append_seam, take-length}
 use Rattle.std.proofs.lemmas.Bool.{cases_lt}
@@ -9,10 +9,11 @@ use Rattle.std.proofs.lemmas.Option.{get_or_from_slice_get}
 use Rattle.base.proofs.SlicesAndCounts.{slice_get-append_left, slice_get-append_right, slice_get-drop, slice_get-take}
 use Rattle.journal.specs.declared.event.Kind.TheVariants.{Load, Store}
 use Rattle.cluster.specs.Copies.Local.{Local}
-use Rattle.seats.specs.Grids.{AreGrids, GridSteps, GridsLaw, block_end, block_start, grid_at, grid_made, grid_next, grid_read, grid_rounds, grids_after, is_even, steps}
+use Rattle.seats.specs.Grids.{AreFullGrids, AreGrids, GridSteps, GridsLaw, block_end, block_start, grid_at, grid_made, grid_next, grid_read, grid_rounds, grids_after, is_even, steps}
 use Rattle.seats.specs.Loads.{LoadsValue}
 use Rattle.seats.specs.Rounds.{AreCovered, IsMaking, rounds_after}
 use Rattle.seats.specs.SeatCalls.{AccessesPage}
+use Rattle.seats.specs.Stencils.{LoadsGrid}
 use Rattle.seats.proofs.Rounds.MakingRounds.{between_in, making_next}
 use Rattle.seats.proofs.Rounds.RoundMade.{rounds_long}
 use Rattle.seats.proofs.Rounds.RoundsLaw.{rounds_law}
@@ -32,10 +33,10 @@ word_right : (xs ys : List ℕ) (n i : ℕ) → length xs ≡ n → slice_get (x
 word_right xs ys n i is = ap (λ m. slice_get (xs ++ ys) (m + i)) (sym is) ∙ slice_get-append_right xs ys i
 
 -- what a round makes is as long as a grid
-next_long : (x : GridSteps) (processors n : ℕ) (words : List ℕ) → AreGrids x processors → length words ≡ x.cells
+next_long : (x : GridSteps) (n : ℕ) (words : List ℕ) → AreFullGrids x → length words ≡ x.cells
     → length (grid_next x n words) ≡ x.cells
-next_long x processors zero words are long = are.start
-next_long x processors (suc n) words are long = are.step words long
+next_long x zero words full long = full.start
+next_long x (suc n) words full long = full.step words long
 
 -- the lengths of a memory's grids
 record AreLong (x : GridSteps) (n : ℕ) (memory : List ℕ) : Type 0 where
@@ -44,16 +45,15 @@ record AreLong (x : GridSteps) (n : ℕ) (memory : List ℕ) : Type 0 where
   pub next_of_first : length (grid_next x n (grid_at x.cells 0 memory)) ≡ x.cells
   pub next_of_second : length (grid_next x n (grid_at x.cells x.cells memory)) ≡ x.cells
 
-are_long : (x : GridSteps) (processors n : ℕ) (memory : List ℕ) → AreGrids x processors → length memory ≡ x.cells + x.cells
-    → AreLong x n memory
-are_long x processors n memory are long =
+are_long : (x : GridSteps) (n : ℕ) (memory : List ℕ) → AreFullGrids x → length memory ≡ x.cells + x.cells → AreLong x n memory
+are_long x n memory full long =
     let first = grid_long x.cells 0 memory (omega (arith, long)) in
     let second = grid_long x.cells x.cells memory (omega (arith, long)) in
     record {
       first = first;
       second = second;
-      next_of_first = next_long x processors n (grid_at x.cells 0 memory) are first;
-      next_of_second = next_long x processors n (grid_at x.cells x.cells memory) are second;
+      next_of_first = next_long x n (grid_at x.cells 0 memory) full first;
+      next_of_second = next_long x n (grid_at x.cells x.cells memory) full second;
     }
 
 -- a round's memory has as many words
@@ -118,14 +118,14 @@ grid_block cells share (suc q) i less within = elim (cases_lt i (q * share)) [
 -- each round makes a grid, and leaves the other
 pub grids_covered : (x : GridSteps) (processors : ℕ) → AreGrids x processors → AreCovered (grid_rounds x) processors
 grids_covered x processors are = record {
-  long = λ n memory long. grids_long x n memory (are_long x processors n memory are long);
+  long = λ n memory long. grids_long x n memory (are_long x n memory are.full long);
   each = λ n memory a long less. elim (grid_cell x.cells n a less) [
     | inl made ↦ (let shared = are.shared in
         let found = grid_block x.cells x.share processors made.0 made.1 (let i = made.1 in omega (arith, i, shared)) in
         let low = found.2 in let high = found.3 in let is = made.2 in
         inl (found.0, found.1, between_in _ _ a (omega (arith, low, is)) (omega (arith, high, is))))
     | inr left ↦ inr (subst (λ i. slice_get (grids_after x n memory) i ≡ slice_get memory i) (sym left.2)
-        (grid_word_left x n left.0 memory (are_long x processors n memory are long) left.1))
+        (grid_word_left x n left.0 memory (are_long x n memory are.full long) left.1))
   ];
 }
 
@@ -155,11 +155,11 @@ read_next cells n = by (is_even n) refl
 -- after the start and n steps
 grids_steps : (x : GridSteps) (processors n : ℕ) (memory : List ℕ) → AreGrids x processors → length memory ≡ x.cells + x.cells
     → grid_at x.cells (grid_made x.cells n) (rounds_after (grid_rounds x) (suc n) memory) ≡ steps x.step n x.start
-grids_steps x processors zero memory are long = grid_turn x 0 memory (are_long x processors 0 memory are long)
+grids_steps x processors zero memory are long = grid_turn x 0 memory (are_long x 0 memory are.full long)
 grids_steps x processors (suc n) memory are long =
     let before = rounds_after (grid_rounds x) (suc n) memory in
     grid_turn x (suc n) before
-    (are_long x processors (suc n) before are (rounds_long (grid_rounds x) processors (suc n) memory (grids_covered x processors are) long))
+    (are_long x (suc n) before are.full (rounds_long (grid_rounds x) processors (suc n) memory (grids_covered x processors are) long))
     ∙ ap x.step (ap (λ from. grid_at x.cells from before) (read_next x.cells n) ∙ grids_steps x processors n memory are long)
 
 pub grids_law : GridsLaw
@@ -168,8 +168,8 @@ grids_law x n s g memory h are in_rounds =
     ∙ grids_steps x s.processors n memory are in_rounds.long
 
 -- a cell that was loaded
-pub loads_cell : {m n : Local} {page i v : ℕ} (cells from : ℕ) → i < cells → AccessesPage m n page (Load (from + i) v ∷ [])
-    → LoadsValue from (from + cells) (λ memory. slice_index_or (grid_at cells from memory) i 0) m n v
+loads_cell : {m n : Local} {page i v : ℕ} (cells from : ℕ) → i < cells → AccessesPage m n page (Load (from + i) v ∷ [])
+    → LoadsValue from (from + cells) (λ memory. slice_index (grid_at cells from memory) i) m n v
 loads_cell {i = i} {v = v} cells from less done = record {
   loads = Load (from + i) v ∷ [];
   within = ((omega arith, omega (arith, less)), tt);
@@ -178,21 +178,27 @@ loads_cell {i = i} {v = v} cells from less done = record {
       (grid_word cells from i memory less ∙ answers.0);
 }
 
+-- of the grid that a round reads
+pub loads_read : {m n : Local} {page i v from : ℕ} (cells round : ℕ) → from ≡ grid_read cells round → i < cells
+    → AccessesPage m n page (Load (from + i) v ∷ []) → LoadsGrid cells round (λ words. slice_index words i) m n v
+loads_read {m} {n} {i = i} {v = v} {from = from} cells round is less done =
+    subst (λ a. LoadsValue a (a + cells) (λ memory. slice_index (grid_at cells a memory) i) m n v) is (loads_cell cells from less done)
+
 -- where a processor stands in a round
-pub record IsAtCell (x : GridSteps) (processors first cell : ℕ) : Type 0 where
-  pub are : AreGrids x processors
+pub record IsAtCell (x : GridSteps) (first cell : ℕ) : Type 0 where
+  pub full : AreFullGrids x
   pub begun : first ≤ cell
   pub less : cell < x.cells
 
 -- one cell more that was worked out of the grid that is read
-pub making_cell : {x : GridSteps} {n processors first cell page v : ℕ} {f : List ℕ → ℕ} {old m c d : Local}
-    → IsAtCell x processors first cell
+pub making_cell : {x : GridSteps} {n first cell page v : ℕ} {f : List ℕ → ℕ} {old m c d : Local}
+    → IsAtCell x first cell
     → IsMaking (grid_rounds x) n (grid_made x.cells n + first) (grid_made x.cells n + cell) old m
     → LoadsValue (grid_read x.cells n) (grid_read x.cells n + x.cells) (λ memory. f (grid_at x.cells (grid_read x.cells n) memory)) m c v
     → AccessesPage c d page (Store (grid_made x.cells n + cell) v ∷ [])
     → ((words : List ℕ) → length words ≡ x.cells → slice_get (grid_next x n words) cell ≡ Some (f words))
     → IsMaking (grid_rounds x) n (grid_made x.cells n + first) (grid_made x.cells n + (cell + 1)) old d
-making_cell {x} {n} {processors} {first} {cell} {page} {v} {f} {old} {m} {c} {d} at was loaded stored next =
+making_cell {x} {n} {first} {cell} {page} {v} {f} {old} {m} {c} {d} at was loaded stored next =
     subst (λ i. IsMaking (grid_rounds x) n (grid_made x.cells n + first) i old d)
     (let e : suc (grid_made x.cells n + cell) ≡ grid_made x.cells n + (cell + 1) = omega arith in e)
     (making_next was (omega (arith, le), inside, apart) loaded stored value)
@@ -218,7 +224,7 @@ making_cell {x} {n} {processors} {first} {cell} {page} {v} {f} {old} {m} {c} {d}
     value : (memory : List ℕ) → length memory ≡ x.cells + x.cells → slice_get (grids_after x n memory) (grid_made x.cells n + cell)
         ≡ Some (f (grid_at x.cells (grid_read x.cells n) memory))
     value memory long =
-        let all = are_long x processors n memory at.are long in
+        let all = are_long x n memory at.full long in
         grid_word_made x n cell memory all at.less
         ∙ next (grid_at x.cells (grid_read x.cells n) memory) (read_long all)
       where

@@ -1,16 +1,18 @@
 -- What a run of a program in rounds comes to.
-use Rattle.std.proofs.Common.{ℕ, ◌≡◌, ◌+◌, ◌<◌, List, replicate, suc, ap, ◌∙◌}
+use Rattle.std.proofs.Common.{ℕ, ◌≡◌, ◌+◌, ◌*◌, ◌<◌, ◌≤◌, List, replicate, suc, ap, subst, ◌∙◌, arith}
 use Rattle.std.proofs.lemmas.List.{length-replicate}
 use Rattle.journal.specs.declared.event.Kind.{Kind}
-use Rattle.journal.specs.FlatMemory.{memory_after}
 use Rattle.journal.specs.Log.{Log}
 use Rattle.journal.specs.Sizes.{Sizes, addresses}
-use Rattle.seats.specs.Grids.{AreGrids, GridSteps, grid_at, grid_made, grid_rounds, steps}
+use Rattle.seats.specs.Grids.{AreGrids, grid_at, grid_made}
+use Rattle.seats.specs.GuardedRuns.{IsGuardedRun}
 use Rattle.seats.specs.ProgramRuns.{IsProgramRun}
 use Rattle.seats.specs.Rounds.{AreCovered, HasMadeRounds, IsInRounds, Rounds}
+use Rattle.seats.specs.Stencils.{StencilSteps, stencil_after, stencil_grids, stencil_rounds}
 use Rattle.seats.specs.Tables.{GuardTables, NoneOpen, guards_of, table_at}
-use Rattle.seats.proofs.KeptByPrograms.{answered, flat_run, replayed_whole}
+use Rattle.seats.proofs.KeptByPrograms.{answered, flat_run}
 use Rattle.seats.proofs.Rounds.GridRounds.{grids_covered, grids_law}
+use Rattle.seats.proofs.Rounds.StencilRounds.{stencil_full}
 
 -- its processors say that they have made their words in n rounds
 pub program_in_rounds : {X : Type 0} {g : GuardTables} {did : ℕ → List Kind → X → Type 0} {s : Sizes} {answers : List X} {j : Log}
@@ -28,13 +30,16 @@ program_in_rounds {g = g} {s = s} r n ran closed sizes covered says = record {
   each = λ p less. (let answer = answered ran p less in says p _ answer.0 answer.1);
 }
 
--- on two grids: the one that was made last, as the journal's replay has it, is the start after n steps
-pub program_grids : {X : Type 0} {g : GuardTables} {did : ℕ → List Kind → X → Type 0} {s : Sizes} {answers : List X} {j : Log}
-    (x : GridSteps) (n : ℕ) (ran : IsProgramRun g did s answers j) → NoneOpen g
-    → (0 < s.processors) × (addresses s ≡ x.cells + x.cells) → AreGrids x s.processors
-    → ((p : ℕ) (ks : List Kind) (y : X) → did p ks y → HasMadeRounds (grid_rounds x) p (suc n) ks)
-    → grid_at x.cells (grid_made x.cells n) (memory_after j.base.memory j.events) ≡ steps x.step n x.start
-program_grids {g = g} {s = s} {j = j} x n ran closed sizes are says =
-    ap (grid_at x.cells (grid_made x.cells n)) (replayed_whole ran.journal)
-    ∙ grids_law x n s (guards_of g) (replicate (addresses s) 0) ran.history are
-    (program_in_rounds (grid_rounds x) (suc n) ran closed sizes (grids_covered x s.processors are) says)
+-- on two grids whose words are made one by one: the one that was made last is the start after n steps
+pub stencil_run : {X : Type 0} {g : GuardTables} {did : ℕ → List Kind → X → Type 0} {s : Sizes} {answers : List X} {memory : List ℕ}
+    {j : Log} (x : StencilSteps) (n : ℕ) (run : IsGuardedRun g did s answers memory j)
+    → (0 < s.processors) × (addresses s ≡ x.cells + x.cells) × (x.cells ≤ s.processors * x.share)
+    → ((p : ℕ) (ks : List Kind) (y : X) → did p ks y → HasMadeRounds (stencil_rounds x) p (n + 1) ks)
+    → grid_at x.cells (grid_made x.cells n) memory ≡ stencil_after x n
+unfolding stencil_after
+stencil_run {g = g} {s = s} x n run sizes says =
+    let are : AreGrids (stencil_grids x) s.processors = record { full = stencil_full x; shared = sizes.2 } in
+    ap (grid_at x.cells (grid_made x.cells n)) run.memory_is
+    ∙ grids_law (stencil_grids x) n s (guards_of g) (replicate (addresses s) 0) run.ran.history are
+    (program_in_rounds (stencil_rounds x) (suc n) run.ran run.closed (sizes.0, sizes.1) (grids_covered (stencil_grids x) s.processors are)
+    (λ p ks y did. subst (λ i. HasMadeRounds (stencil_rounds x) p i ks) (let e : n + 1 ≡ suc n = omega arith in e) (says p ks y did)))

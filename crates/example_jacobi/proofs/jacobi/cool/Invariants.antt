@@ -1,7 +1,0 @@
--- It has kept to its rows so far.
-use Rattle.seats.specs.Sitting.{seat_deeds}
-use Rattle.example_jacobi.specs.Rows.{KeepsToRows}
-use Rattle.example_jacobi.proofs.jacobi.cool.Given as goal
-
-abbrev pub invariant-loop-count : goal.invariant-loop-count
-invariant-loop-count g l = KeepsToRows g.S.Sitting.at.number (seat_deeds l.seat)

@@ -1,7 +1,0 @@
--- It has kept to its rows so far.
-use Rattle.seats.specs.Sitting.{seat_deeds}
-use Rattle.example_jacobi.specs.Rows.{KeepsToRows}
-use Rattle.example_jacobi.proofs.jacobi.sweep.Given as goal
-
-abbrev pub invariant-loop-cell : goal.invariant-loop-cell
-invariant-loop-cell g l = KeepsToRows g.S.Sitting.at.number (seat_deeds l.seat)
