@@ -1,8 +1,8 @@
 -- What the bank's lock keeps, and what a run comes to.
-use Rattle.std.specs.Prelude.{ℕ, ◌≡◌, ◌+◌, ◌%◌, ◌^◌, Bool, true, Some, [], ◌∷◌, List, slice_get}
+use Rattle.std.specs.Prelude.{ℕ, ◌≡◌, ◌%◌, ◌^◌, Bool, true, Some, [], ◌∷◌, List, slice_get}
 use Rattle.journal.specs.declared.event.Kind.{Kind}
 use Rattle.journal.specs.Log.{Log}
-use Rattle.seats.specs.Balances.{balance_fact}
+use Rattle.seats.specs.Balances.{balance_fact, sum_at}
 use Rattle.seats.specs.GuardedRuns.{IsGuardedRun}
 use Rattle.seats.specs.Tables.{GuardTables}
 use Rattle.seats.specs.Tenures.{IsBetweenTenures, KeptFact, ReadsKept}
@@ -26,9 +26,5 @@ HasBanked p ks balanced = HasPaid 250 ks × (ReadsKept bank_fact ks → balanced
 pub record IsBankRun (memory : List ℕ) (answers : List Bool) (j : Log) : Type 0 where
   pub layout : GuardTables
   pub ran : IsGuardedRun layout HasBanked (record { processors = 4; pages = 1; words = 3; locks = 1; flags = 0 }) answers memory j
-  pub first : ℕ
-  pub second : ℕ
-  pub first_is : slice_get memory 0 ≡ Some first
-  pub second_is : slice_get memory 1 ≡ Some second
-  pub sum : (first + second) % 2 ^ 32 ≡ 1000
+  pub sum : sum_at memory (0 ∷ 1 ∷ []) % 2 ^ 32 ≡ 1000
   pub balanced : (p : ℕ) (b : Bool) → slice_get answers p ≡ Some b → b ≡ true

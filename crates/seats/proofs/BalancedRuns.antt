@@ -1,25 +1,30 @@
 -- Runs by a layout that leaves no word open to all, whose locks keep facts: what a client says of one.
-use Rattle.std.proofs.Common.{ℕ, ◌≡◌, ◌+◌, ◌%◌, ◌^◌, inl, inr, Bool, true, false, Some, List, [], ◌∷◌, ◌++◌, get_or, replicate, slice_get, refl, sym, ap, subst, ◌∙◌, sum_by, arith}
-use Rattle.std.specs.Prelude.{◌==◌, ◌||◌}
+use Rattle.std.proofs.Common.{ℕ, ◌≡◌, ◌<◌, ◌≤◌, ◌+◌, ◌%◌, ◌^◌, inl, inr, Bool, true, false, Some, List, [], ◌∷◌, ◌++◌, get_or, replicate, slice_get, refl, sym, ap, subst, ◌∙◌, sum_by, arith}
+use Rattle.std.specs.Prelude.{◌==◌, ◌&&◌, ◌||◌, nat_le, nat_lt}
+use Rattle.std.proofs.lemmas.Bool.Decides.{nat_tests}
 use Rattle.std.proofs.lemmas.Bool.{cases_Bool, eq-eqb, eqb-true}
 use Rattle.std.specs.Option.{unwrap_or}
 use Rattle.std.proofs.lemmas.Option.{unwrap_or-slice_get}
 use Rattle.std.proofs.lemmas.List.Sums.{sum_by-cons}
 use Rattle.base.proofs.SliceSets.{index-zeros}
 use Rattle.journal.specs.declared.event.Kind.{Kind}
+use Rattle.cluster.specs.Copies.Local.{Local}
 use Rattle.journal.specs.Events.{events_of}
 use Rattle.journal.specs.Log.{Log}
 use Rattle.journal.specs.Sizes.{Sizes, addresses}
-use Rattle.seats.specs.declared.guard.Guard.TheVariants.{Under}
+use Rattle.seats.specs.declared.guard.Guard.TheVariants.{Of, Under}
 use Rattle.seats.specs.Balances.{balance_fact, is_one_of, sum_at}
 use Rattle.seats.specs.Deeds.{deeds}
 use Rattle.seats.specs.GuardedRuns.{IsGuardedRun}
 use Rattle.seats.specs.Guards.{Guards}
-use Rattle.seats.specs.Tables.{GuardTables, guards_of}
+use Rattle.seats.specs.Sitting.{seat_deeds}
+use Rattle.seats.specs.Tables.{GuardTables, IsPut, guards_of, is_between}
 use Rattle.seats.specs.Tenures.{IsBetweenTenures, IsKeptUnder, KeptFact, PreservesByTenures, ReadsKept, accesses_among}
-use Rattle.seats.proofs.GuardedRuns.{answered_there}
-use Rattle.seats.proofs.KeptByPrograms.{program_keeps}
+use Rattle.seats.specs.Totals.{AddsUpTo, total_of}
+use Rattle.seats.proofs.GuardedRuns.{added_in_all, answered_there, under_new}
+use Rattle.seats.proofs.KeptByPrograms.{HasDoneSince, and_both, program_keeps}
 use Rattle.seats.proofs.KeptReads.{kept_reads_law}
+use Rattle.seats.proofs.Totals.{added_both}
 
 module _ {X : Type 0} {g : GuardTables} {did : ℕ → List Kind → X → Type 0} {s : Sizes} {answers : List X} {memory : List ℕ} {j : Log}
     (f : KeptFact) (run : IsGuardedRun g did s answers memory j) (under : IsKeptUnder (guards_of g) (replicate (addresses s) 0) f)
@@ -39,6 +44,21 @@ module _ {X : Type 0} {g : GuardTables} {did : ℕ → List Kind → X → Type 
 abbrev pub AreUnder : Guards → ℕ → List ℕ → Type 0
 AreUnder g l [] = Unit {0}
 AreUnder g l (a ∷ others) = ((n : ℕ) → g n a ≡ Some (Under l)) × AreUnder g l others
+
+-- addresses from one up to before another
+abbrev pub are_between : ℕ → ℕ → List ℕ → Bool
+are_between from to [] = true
+are_between from to (a ∷ others) = is_between from to a && are_between from to others
+
+-- in a layout of one table, in which they were put under it
+pub are_under_new : {old g : GuardTables} {count from to l : ℕ} → old ≡ record { tables = replicate 1 (replicate count (Of 0)); round = 0 }
+    → IsPut old 0 from to (Under l) g → to ≤ count → (words : List ℕ) → are_between from to words ≡ true → AreUnder (guards_of g) l words
+are_under_new is put within [] all = tt
+are_under_new {from = from} {to = to} is put within (a ∷ others) all =
+    let parts = and_both (is_between from to a) (are_between from to others) all in
+    let last = and_both (nat_le from a) (nat_lt a to) parts.0 in
+    let less : a < to = grind (arith, nat_tests) in
+    (under_new is put a parts.0 (omega arith), are_under_new is put within others parts.1)
 
 one_under : (g : Guards) (l : ℕ) (words : List ℕ) → AreUnder g l words → (n a : ℕ) → is_one_of words a ≡ true → g n a ≡ Some (Under l)
 one_under g l [] all n a mine = absurd (cc)
@@ -92,3 +112,23 @@ balance_under g n l left right lefts rights = record {
     on_right : (a b : Bool) → b ≡ true → (a || b) ≡ true
     on_right true b e = refl
     on_right false b e = e
+
+-- words that come to as much as another come to what all have added to that
+pub balance_total : {X : Type 0} {g : GuardTables} {did : ℕ → List Kind → X → Type 0} {s : Sizes} {answers : List X} {memory : List ℕ}
+    {j : Log} {l : ℕ} (left : List ℕ) (a : ℕ) (run : IsGuardedRun g did s answers memory j) → a < addresses s
+    → AreUnder (guards_of g) l left × AreUnder (guards_of g) l (a ∷ []) → (amounts : ℕ → ℕ)
+    → ((p : ℕ) (ks : List Kind) (x : X) → did p ks x → PreservesByTenures (balance_fact l left (a ∷ [])) ks × AddsUpTo l a (amounts p) ks)
+    → sum_at memory left % 2 ^ 32 ≡ total_of amounts s.processors % 2 ^ 32
+balance_total {g = g} {s = s} {memory = memory} {l = l} left a run within under amounts says =
+    let even = run_keeps (balance_fact l left (a ∷ [])) run (balance_under (guards_of g) (addresses s) l left (a ∷ []) under.0 under.1)
+    (λ p ks x did. (says p ks x did).0) in
+    let one = sum_by-cons (λ b. get_or memory b 0) a [] in
+    let added = added_in_all l a run within under.1.0 amounts (λ p ks x at did. (says p ks x did).1) in
+    omega arith
+
+-- what adds nothing leaves what was added
+pub added_since : {a n : Local} {ks : List Kind} {l word m : ℕ} → HasDoneSince a n ks → AddsUpTo l word 0 ks
+    → AddsUpTo l word m (seat_deeds a) → AddsUpTo l word m (seat_deeds n)
+added_since {a} {ks = ks} {l = l} {word = word} {m = m} done none was =
+    subst (AddsUpTo l word m) (sym done.deeds_are)
+    (subst (λ k. AddsUpTo l word k (seat_deeds a ++ ks)) (let e : m + 0 ≡ m = omega arith in e) (added_both (seat_deeds a) ks was none))

@@ -1,11 +1,14 @@
 -- Runs by a layout that leaves no word open to all: what a client says of one.
 use Rattle.std.proofs.Common.{ℕ, ◌≡◌, ◌+◌, ◌*◌, ◌%◌, ◌^◌, ◌<◌, inl, inr, true, Some, List, [], length, replicate, slice_get, refl, sym, ap, subst, ◌∙◌, arith}
+use Rattle.std.specs.Prelude.{slice_index}
+use Rattle.std.proofs.lemmas.List.{length-replicate}
+use Rattle.base.proofs.LastWritten.{length-written}
 use Rattle.base.proofs.SliceSets.{slice_get-replicate}
-use Rattle.std.proofs.lemmas.Option.{slice_get_cases}
+use Rattle.std.proofs.lemmas.Option.{get_or_from_slice_get, slice_get_cases}
 use Rattle.journal.specs.declared.event.Event.{Event}
 use Rattle.journal.specs.declared.event.Kind.{Kind}
 use Rattle.journal.specs.Events.{events_of}
-use Rattle.journal.specs.FlatMemory.{Replays, memory_after}
+use Rattle.journal.specs.FlatMemory.{Replays, flat_write, memory_after}
 use Rattle.journal.specs.Log.{Log}
 use Rattle.journal.specs.Sizes.{Sizes, addresses}
 use Rattle.cluster.specs.FaithfulJournals.{IsJournalOf}
@@ -29,12 +32,16 @@ journal_replays {s} {h} {j} x flat =
 pub guarded_run : {X : Type 0} {g : GuardTables} {did : ℕ → List Kind → X → Type 0} {s : Sizes} {answers : List X} {memory : List ℕ}
     {j : Log} → IsProgramRun g did s answers j → NoneOpen g → memory ≡ memory_after j.base.memory j.events
     → IsGuardedRun g did s answers memory j
-guarded_run ran closed is = record {
-  ran = ran;
-  closed = closed;
-  flat = flat_run ran closed;
-  memory_is = is ∙ replayed_whole ran.journal;
-}
+guarded_run {s = s} ran closed is =
+    let whole = is ∙ replayed_whole ran.journal in
+    record {
+      ran = ran;
+      closed = closed;
+      flat = flat_run ran closed;
+      memory_is = whole;
+      long = ap length whole ∙ length-written (λ (e : Event). flat_write e.kind) (replicate (addresses s) 0) ran.history
+          ∙ length-replicate (addresses s) 0;
+    }
 
 -- each of its processors answered, and did what the program says of this answer
 pub answered_there : {X : Type 0} {g : GuardTables} {did : ℕ → List Kind → X → Type 0} {s : Sizes} {answers : List X} {j : Log}
@@ -50,13 +57,15 @@ pub added_in_all : {X : Type 0} {g : GuardTables} {did : ℕ → List Kind → X
     {memory : List ℕ} {j : Log} (l a : ℕ) (run : IsGuardedRun g did s answers memory j) → a < addresses s
     → ((n : ℕ) → guards_of g n a ≡ Some (Under l)) → (amounts : ℕ → ℕ)
     → ((p : ℕ) (ks : List Kind) (x : X) → slice_get answers p ≡ Some x → did p ks x → AddsUpTo l a (amounts p) ks)
-    → (last : ℕ) × (slice_get memory a ≡ Some last) × (last % 2 ^ 32 ≡ total_of amounts s.processors % 2 ^ 32)
-added_in_all {g = g} {did = did} {s = s} {answers = answers} l a run within under amounts says =
+    → slice_index memory a % 2 ^ 32 ≡ total_of amounts s.processors % 2 ^ 32
+added_in_all {g = g} {did = did} {s = s} {answers = answers} {memory = memory} l a run within under amounts says =
     let ran = run.ran in
     let end = added_law s (guards_of g) (replicate (addresses s) 0) ran.history ran.faithful.well_formed ran.kept run.flat l a 0 under
     (slice_get-replicate (addresses s) 0 a within) amounts
     (λ p less. let answer = answered_there ran p less in says p (deeds (events_of ran.history p)) answer.0 answer.1.0 answer.1.1) in
-    (end.0, ap (λ m. slice_get m a) run.memory_is ∙ end.1, (let sum = end.2 in omega arith))
+    let read = get_or_from_slice_get memory a end.0 0 (ap (λ m. slice_get m a) run.memory_is ∙ end.1) in
+    let sum = end.2 in
+    omega arith
 
 -- a layout of one table, of which some addresses were put under a lock
 pub under_new : {old g : GuardTables} {count from to l : ℕ} → old ≡ record { tables = replicate 1 (replicate count (Of 0)); round = 0 }

@@ -149,6 +149,15 @@ since_tenure {a} {b} {m} {n} {l} {ks} locked was released = record {
       ∙ append_assoc (seat_deeds a) (Ask l ∷ Acquire l ∷ []) (ks ++ Release l ∷ []);
 }
 
+-- a tenure that leaves what the lock keeps as it was: it has read a memory of which the fact held, if that is so of each tenure
+pub read_tenure : {f : KeptFact} {a n : Local} (mid : List Kind) → IsBetweenTenures f (seat_deeds a)
+    → HasDoneSince a n (whole_tenure f.lock mid) → are_among f.words mid ≡ true → Preserves f mid
+    → IsBetweenTenures f (seat_deeds n) × (ReadsKept f (seat_deeds n) → HaveReadKept f mid)
+read_tenure {f} {a} mid was done all preserves = (
+  subst (IsBetweenTenures f) (sym done.deeds_are) (between_tenure (seat_deeds a) mid was all preserves),
+  λ reads. read_behind (seat_deeds a) mid was all (subst (ReadsKept f) done.deeds_are reads),
+)
+
 -- its replies are those of one flat memory
 pub flat_run : {X : Type 0} {g : GuardTables} {did : ℕ → List Kind → X → Type 0} {s : Sizes} {answers : List X} {j : Log}
     (ran : IsProgramRun g did s answers j) → NoneOpen g → Replays (replicate (addresses s) 0) ran.history

@@ -1,5 +1,5 @@
 -- Runs of a program by a layout that leaves no word open to all.
-use Rattle.std.specs.Prelude.{ℕ, ◌≡◌, List, replicate}
+use Rattle.std.specs.Prelude.{ℕ, ◌≡◌, List, length, replicate}
 use Rattle.journal.specs.declared.event.Kind.{Kind}
 use Rattle.journal.specs.FlatMemory.{Replays, memory_after}
 use Rattle.journal.specs.Log.{Log}
@@ -14,3 +14,4 @@ pub record IsGuardedRun {X : Type 0} (g : GuardTables) (did : ℕ → List Kind 
   pub closed : NoneOpen g
   pub flat : Replays (replicate (addresses s) 0) ran.history
   pub memory_is : memory ≡ memory_after (replicate (addresses s) 0) ran.history
+  pub long : length memory ≡ addresses s
