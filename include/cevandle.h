@@ -33,7 +33,7 @@ enum cevandle_code {
 #define CEVANDLE_NONE UINT64_MAX
 
 /* The sizes of the memory: at most 16 processors, 64 pages of 64 words, 32 locks and 32 flags. Its addresses are the numbers
- * below pages times words. */
+ * below pages times words. cevandle_judge takes up to 2^20 addresses: pages times words, each at most 2^20. */
 typedef struct cevandle_sizes {
     uint32_t processors, pages, words, locks, flags;
 } cevandle_sizes;

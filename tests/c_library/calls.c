@@ -148,8 +148,8 @@ static void refusals(cevandle_event *many)
     const cevandle_event bad[] = {by(0, 11, 0, 0)};
     cevandle_sizes sizes[] = {SIZES, SIZES, SIZES, SIZES, SIZES, SIZES};
     sizes[0].processors = 17;
-    sizes[1].pages = 65;
-    sizes[2].words = 65;
+    sizes[1].pages = (1u << 19) + 1;
+    sizes[2].words = (1u << 19) + 1;
     sizes[3].locks = 33;
     sizes[4].flags = 33;
     sizes[5].pages = UINT32_MAX;

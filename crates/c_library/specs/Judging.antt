@@ -1,7 +1,7 @@
 -- What is answered of a history that is to be judged.
 use Rattle.std.specs.Prelude.{◌≡◌, ◌≤◌, List, length, map}
 use Rattle.base.specs.Limits.{most_held}
-use Rattle.judge.specs.Sizes.{AreSizesSmall}
+use Rattle.judge.specs.Sizes.{AreSizesJudged}
 use Rattle.lrc_check.specs.declared.checked.Checked.{Checked}
 use Rattle.lrc_check.specs.Checked.{IsChecked}
 use Rattle.c_library.specs.declared.call_fault.CallFault.{CallFault}
@@ -15,7 +15,7 @@ use Rattle.c_library.specs.Told.{told_of}
 
 -- all that was handed in has a meaning
 pub record CanBeJudged (s : GivenSizes) (r : GivenRules) (es : List GivenEvent) : Type 0 where
-  pub small : AreSizesSmall (given_sizes s)
+  pub small : AreSizesJudged (given_sizes s)
   pub rules : AreRules r
   pub few : length es ≤ most_held
   pub known : HaveKinds es
@@ -29,9 +29,9 @@ pub record IsToldOf (s : GivenSizes) (r : GivenRules) (es : List GivenEvent) (to
 
 -- the fault is that of the first thing handed in that has no meaning; of memory, if all have one
 abbrev pub IsJudgeFault : GivenSizes → GivenRules → List GivenEvent → CallFault → Type 0
-IsJudgeFault s r es BadSizes = ¬ AreSizesSmall (given_sizes s)
-IsJudgeFault s r es BadRules = AreSizesSmall (given_sizes s) × (¬ AreRules r)
-IsJudgeFault s r es TooMany = AreSizesSmall (given_sizes s) × AreRules r × (¬ (length es ≤ most_held))
-IsJudgeFault s r es BadEvent = AreSizesSmall (given_sizes s) × AreRules r × (length es ≤ most_held) × (¬ HaveKinds es)
+IsJudgeFault s r es BadSizes = ¬ AreSizesJudged (given_sizes s)
+IsJudgeFault s r es BadRules = AreSizesJudged (given_sizes s) × (¬ AreRules r)
+IsJudgeFault s r es TooMany = AreSizesJudged (given_sizes s) × AreRules r × (¬ (length es ≤ most_held))
+IsJudgeFault s r es BadEvent = AreSizesJudged (given_sizes s) × AreRules r × (length es ≤ most_held) × (¬ HaveKinds es)
 IsJudgeFault s r es NoMemory = CanBeJudged s r es
 IsJudgeFault s r es _ = ⊥

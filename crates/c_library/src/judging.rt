@@ -19,7 +19,7 @@ fn judge(
     ensures refused { IfErr result (IsJudgeFault sizes rules events.now) }
 {
     let judged = sizes.sizes();
-    if !judged.are_small() {
+    if !judged.are_judged() {
         return Err(CallFault::BadSizes);
     }
     if !rules.are_known() {

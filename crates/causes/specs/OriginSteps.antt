@@ -22,7 +22,7 @@ pub record IsOriginLookedUp (j : List Event) (x : LookedUp) : Type 0 where
   pub index : IsIndex j x.index
   pub stores : AreStoreRows j (length j) x.stores
   pub processors : ProcessorsInRange most_processors j
-  pub few : x.stores.addresses ≤ 2 ^ 12
+  pub few : x.stores.addresses ≤ 2 ^ 20
 
 -- the fetch stands at its place, and what it brings lies between its timestamps
 pub record IsOriginFetch (s : Sizes) (j : List Event) (x : PageFetch) : Type 0 where

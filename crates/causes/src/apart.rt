@@ -8,6 +8,7 @@ ghost use Rattle.causes.specs.Prelude.{IsRaceApart};
 
 use crate::heard::heard;
 use crate::locks::locks_at;
+use journal::Event;
 use judge::History;
 use std::alloc::{AllocError, Global};
 
@@ -27,9 +28,38 @@ pub struct RaceApart {
     pub second_locks: Vec<usize>,
 }
 
-/// What keeps the two accesses of this race of the history apart. The only error is running out of memory.
+/// What keeps the two accesses of this race of the events apart, which so many processors made, at most `MOST_PROCESSORS`, with
+/// so many locks. The only error is running out of memory.
 ///
 /// It takes time in the order of the events up to the second access times the processors and the locks.
+pub fn accesses_apart(
+    alloc: Global,
+    processors: usize,
+    locks: usize,
+    events: &[Event],
+    race: (usize, usize),
+) -> Result<RaceApart, AllocError>
+    requires few { length events.now ≤ most_in_history }
+    requires few_processors { processors ≤ most_processors }
+    requires processors { ProcessorsInRange processors events.now }
+    requires race { Race events.now race.0 race.1 }
+    ensures { IfOk result (IsRaceApart locks events.now race.0 race.1) }
+{
+    let (first, second) = race;
+    let by = events[first].processor;
+    let heard = heard(alloc, processors, events, by, second)?;
+    let first_locks = locks_at(alloc, events, first, locks)?;
+    let second_locks = locks_at(alloc, events, second, locks)?;
+    Ok(RaceApart {
+        first,
+        second,
+        heard,
+        first_locks,
+        second_locks,
+    })
+}
+
+/// What keeps the two accesses of this race of the history apart, as `accesses_apart` answers it.
 pub fn race_apart(
     alloc: Global,
     history: &History<'_>,
@@ -38,18 +68,6 @@ pub fn race_apart(
     requires { Race history.now.events race.0 race.1 }
     ensures { IfOk result (IsRaceApart history.now.sizes.locks history.now.events race.0 race.1) }
 {
-    let events = history.events();
     let sizes = history.sizes();
-    let (first, second) = race;
-    let by = events[first].processor;
-    let heard = heard(alloc, sizes.processors, events, by, second)?;
-    let first_locks = locks_at(alloc, events, first, sizes.locks)?;
-    let second_locks = locks_at(alloc, events, second, sizes.locks)?;
-    Ok(RaceApart {
-        first,
-        second,
-        heard,
-        first_locks,
-        second_locks,
-    })
+    accesses_apart(alloc, sizes.processors, sizes.locks, history.events(), race)
 }

@@ -106,7 +106,7 @@ pub(crate) fn fetch_at(gaps: &Gaps, place: usize, reader: usize, page: usize) ->
         place,
         reader,
         page,
-        from: *gaps.last_fetch(reader, page),
+        from: gaps.last_fetch(reader, page),
         to: *gaps.time(reader),
     }
 }

@@ -56,7 +56,7 @@ mod waiting;
 mod ways;
 mod written;
 
-pub use apart::{RaceApart, race_apart};
+pub use apart::{RaceApart, accesses_apart, race_apart};
 pub use edge::edges;
 pub use event_dues::{Due, dues};
 pub use explaining::{Explanation, explain};

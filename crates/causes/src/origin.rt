@@ -1,10 +1,10 @@
 //! Where the words of copies come from: of each load, the store whose word stands in its processor's copy.
-ghost use Rattle.std.specs.Prelude.{◌≡◌, ℕ, ◌+◌, ◌*◌, ◌<◌, ◌≤◌, [], IfOk, List, None, Option, Some, length, slice_get, take, vec_len};
+ghost use Rattle.std.specs.Prelude.{◌≡◌, ◌^◌, ℕ, ◌+◌, ◌*◌, ◌<◌, ◌≤◌, [], IfOk, List, None, Option, Some, length, slice_get, take, vec_len};
 ghost use Rattle.base.specs.Prelude.{most_processors};
 ghost use Rattle.journal.specs.declared.event.Event.{Event};
 ghost use Rattle.journal.specs.Events.{At};
 ghost use Rattle.journal.specs.Sizes.{Sizes as SizesOf};
-ghost use Rattle.judge.specs.Prelude.{AreSizesSmall, IsEventInSizes, TellsGaps, most_in_history, sizes_of};
+ghost use Rattle.judge.specs.Prelude.{AreSizesJudged, IsEventInSizes, TellsGaps, most_in_history, sizes_of};
 ghost use Rattle.causes.specs.declared.origin.WordOrigin.{WordOrigin};
 ghost use Rattle.causes.specs.Prelude.{AreOrigins, AreOriginsBefore, AreOriginsPartFetched, IsOriginFetch};
 ghost use Rattle.causes.specs.Prelude.{IsOriginLookedUp, IsOriginAfter, IsOriginAt};
@@ -56,7 +56,7 @@ fn fetch_origins(
         × AreOriginsBefore s j fetch.now.place words.old }
     requires page { fetch.now.page * size + size ≤ looked.now.stores.addresses }
     requires reader { fetch.now.reader < most_processors }
-    requires few { looked.now.stores.addresses ≤ 4096 }
+    requires few { looked.now.stores.addresses ≤ 2 ^ 20 }
     ensures { (s : SizesOf) (j : List Event) → IsOriginLookedUp j looked.now → IsOriginFetch s j fetch.now → size ≡ s.words
         → AreOriginsBefore s j fetch.now.place words.old
         → AreOriginsPartFetched s j fetch.now.place fetch.now.reader (fetch.now.page * size)

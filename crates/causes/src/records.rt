@@ -4,7 +4,7 @@ ghost use Rattle.base.specs.Prelude.{most_processors};
 ghost use Rattle.journal.specs.declared.event.Event.{Event};
 ghost use Rattle.journal.specs.Events.{At, interval_at};
 ghost use Rattle.journal.specs.Prelude.{is_closing};
-ghost use Rattle.judge.specs.Prelude.{AreSizesSmall, IsEventInSizes, TellsGaps, most_in_history, sizes_of};
+ghost use Rattle.judge.specs.Prelude.{AreSizesJudged, IsEventInSizes, TellsGaps, most_in_history, sizes_of};
 ghost use Rattle.causes.specs.Prelude.{AreClosedRecords, AreRecordWordsBelow, AreStoreRows, IsLastOfInterval, IsNoneOfInterval, IsRecordIndex};
 
 use crate::notices::stores_in;
@@ -42,7 +42,7 @@ fn last_value(
     interval: u32,
 ) -> Option<u32>
     requires rows { AreStoreRows events.now (length events.now) stores.now }
-    requires few { stores.now.addresses ≤ 2 ^ 12 }
+    requires few { stores.now.addresses ≤ 2 ^ 20 }
     requires address { address < stores.now.addresses }
     requires by { by < most_processors }
     requires interval { interval + 1 < 2 ^ 32 }
@@ -70,7 +70,7 @@ fn record_words(
     interval: u32,
 ) -> Result<Vec<(usize, u32)>, AllocError>
     requires rows { AreStoreRows events.now (length events.now) stores.now }
-    requires few { stores.now.addresses ≤ 2 ^ 12 }
+    requires few { stores.now.addresses ≤ 2 ^ 20 }
     requires addresses { first + size ≤ stores.now.addresses }
     requires by { by < most_processors }
     requires interval { interval + 1 < 2 ^ 32 }
@@ -92,7 +92,7 @@ impl RecordIndex {
         sizes: Sizes,
         events: &[Event],
     ) -> Result<RecordIndex, AllocError>
-        requires sizes { AreSizesSmall (sizes_of sizes) }
+        requires sizes { AreSizesJudged (sizes_of sizes) }
         requires few { length events.now ≤ most_in_history }
         requires within { (k : ℕ) (e : Event) → At events.now k e → IsEventInSizes (sizes_of sizes) e }
         ensures { IfOk result (IsRecordIndex (sizes_of sizes) events.now) }

@@ -38,7 +38,7 @@ pub(crate) fn fetch_span(gaps: &Gaps, reader: usize, page: usize) -> Span
         reader,
         first: page,
         end: page + 1,
-        from: *gaps.last_fetch(reader, page),
+        from: gaps.last_fetch(reader, page),
         to: *gaps.time(reader),
     }
 }

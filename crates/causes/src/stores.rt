@@ -58,7 +58,7 @@ fn last_store_under(stores: &[NumberedStore], limit: u32) -> Option<NumberedStor
 impl StoreRows {
     /// None of so many addresses. The only error is running out of memory.
     fn new(alloc: Global, addresses: usize) -> Result<StoreRows, AllocError>
-        requires { addresses ≤ 2 ^ 12 }
+        requires { addresses ≤ 2 ^ 20 }
         ensures rows { IfOk result (λ x. (j : List Event) → AreStoreRows j 0 x) }
         ensures addresses { IfOk result (λ x. x.addresses ≡ addresses) }
     {
@@ -70,7 +70,7 @@ impl StoreRows {
     fn add(&mut self, events: &[Event], numbers: &[u32], place: usize) -> Result<(), AllocError>
         requires place { place < length events.now }
         requires numbers { AreTakingNumbers events.now numbers.now }
-        requires few { self.old.addresses ≤ 2 ^ 12 }
+        requires few { self.old.addresses ≤ 2 ^ 20 }
         requires processors { ProcessorsInRange most_processors events.now }
         requires addresses { AddressesInRange self.old.addresses events.now }
         requires so_far { AreStoreRows events.now place self.old }
@@ -96,7 +96,7 @@ impl StoreRows {
         events: &[Event],
     ) -> Result<StoreRows, AllocError>
         requires few { length events.now ≤ most_in_history }
-        requires few_addresses { addresses ≤ 2 ^ 12 }
+        requires few_addresses { addresses ≤ 2 ^ 20 }
         requires processors { ProcessorsInRange most_processors events.now }
         requires addresses { AddressesInRange addresses events.now }
         ensures rows { IfOk result (AreStoreRows events.now (length events.now)) }
@@ -113,7 +113,7 @@ impl StoreRows {
     /// The processor's last store to the address of an interval below the limit.
     pub(crate) fn last(&self, address: usize, processor: usize, limit: u32) -> Option<NumberedStore>
         requires rows { (j : List Event) × AreStoreRows j (length j) self.now }
-        requires few { self.now.addresses ≤ 2 ^ 12 }
+        requires few { self.now.addresses ≤ 2 ^ 20 }
         requires address { address < self.now.addresses }
         requires processor { processor < most_processors }
         ensures { (row : Vec NumberedStore) × (slice_get self.now.rows.items (gap_tally_row_index address processor) ≡ Some row)

@@ -1,10 +1,10 @@
 //! Which words of its processor's copies each event writes, and from which stores they are.
-ghost use Rattle.std.specs.Prelude.{◌≡◌, ℕ, ◌+◌, ◌*◌, ◌<◌, ◌≤◌, [], IfOk, List, length, vec_len};
+ghost use Rattle.std.specs.Prelude.{◌≡◌, ◌^◌, ℕ, ◌+◌, ◌*◌, ◌<◌, ◌≤◌, [], IfOk, List, length, vec_len};
 ghost use Rattle.base.specs.Prelude.{most_processors};
 ghost use Rattle.journal.specs.declared.event.Event.{Event};
 ghost use Rattle.journal.specs.Events.{At};
 ghost use Rattle.journal.specs.Sizes.{Sizes as SizesOf};
-ghost use Rattle.judge.specs.Prelude.{AreSizesSmall, IsEventInSizes, TellsGaps, most_in_history, sizes_of};
+ghost use Rattle.judge.specs.Prelude.{AreSizesJudged, IsEventInSizes, TellsGaps, most_in_history, sizes_of};
 ghost use Rattle.causes.specs.Prelude.{AreAllWritten, AreOriginsBefore, AreWritten, AreWrittenAmong, IsOriginLookedUp, IsStoreWrittenAt, IsWrittenRange};
 
 use crate::brought::LookedUp;
@@ -35,7 +35,7 @@ pub(crate) struct WrittenRange {
 
 /// The addresses at which this event may write: that which it stores to, those of the page that it fetches, or none.
 fn written_range(event: Event, sizes: Sizes) -> WrittenRange
-    requires small { AreSizesSmall (sizes_of sizes) }
+    requires small { AreSizesJudged (sizes_of sizes) }
     requires within { IsEventInSizes (sizes_of sizes) event }
     ensures within { result.end ≤ sizes.pages * sizes.words }
     ensures all { (j : List Event) (k : ℕ) → ((m : ℕ) (e : Event) → At j m e → IsEventInSizes (sizes_of sizes) e)
@@ -74,7 +74,7 @@ fn written_among(
     range: WrittenRange,
 ) -> Result<Vec<WrittenWord>, AllocError>
     requires reader { reader < most_processors }
-    requires few { range.end ≤ 4096 }
+    requires few { range.end ≤ 2 ^ 20 }
     requires long { range.end * most_processors ≤ length words.now }
     ensures { IfOk result (λ v. (s : SizesOf) (j : List Event) → AreOriginsBefore s j (place + 1) words.now
         → AreWrittenAmong s j place reader range v.items) }
@@ -98,7 +98,7 @@ fn written_at(
     sizes: Sizes,
 ) -> Result<Vec<WrittenWord>, AllocError>
     requires place { place < length events.now }
-    requires sizes { AreSizesSmall (sizes_of sizes) }
+    requires sizes { AreSizesJudged (sizes_of sizes) }
     requires within { (k : ℕ) (e : Event) → At events.now k e → IsEventInSizes (sizes_of sizes) e }
     requires words { AreOriginsBefore (sizes_of sizes) events.now (place + 1) words.now }
     ensures { IfOk result (λ v. AreWritten (sizes_of sizes) events.now place v.items) }

@@ -1,5 +1,5 @@
 -- Rows of numbers: how many lie between two, and what adding does to tallies.
-use Rattle.std.proofs.Common.{ℕ, suc, zero, ◌≡◌, ◌≢◌, ◌+◌, ◌-◌, ◌<◌, ◌≤◌, ◌⊎◌, ◌↔◌, not, min, nat_lt, inl, inr, Bool, true, false, cond, List, [], ◌∷◌, ◌++◌, Some, length, map, filter, count_by, slice_get, refl, sym, ap, ◌∙◌, subst, true≢false, arith, length-append}
+use Rattle.std.proofs.Common.{ℕ, suc, zero, ◌≡◌, ◌≢◌, ◌+◌, ◌-◌, ◌<◌, ◌≤◌, ◌⊎◌, ◌↔◌, not, min, nat_lt, inl, inr, Bool, true, false, cond, List, [], ◌∷◌, ◌++◌, Some, length, map, filter, count_by, slice_get, vec_len, refl, sym, ap, ◌∙◌, subst, true≢false, arith, length-append}
 use Rattle.std.proofs.lemmas.Bool.{cases_eq, cases_lt, ltb-true, lt-ltb, le-ltb, and_parts, and_from}
 use Rattle.std.proofs.lemmas.Option.{none-some}
 use Rattle.std.proofs.lemmas.List.Sums.{sum_by-cons, length-filter}
@@ -197,7 +197,7 @@ tally_next {A} {P = P} {Q = Q} {f = f} {M = M} {N = N} {most = most} {old = old}
 
     keep : (f y < tally_mark old (gap_tally_row_index x q)) × (new ≡ old) → IsGapTallyOfValues Q f N (most + 1) new
     keep h = subst (λ t. IsGapTallyOfValues Q f N (most + 1) t) (sym h.1) (record {
-      rows = λ m r within. row_same (P m r) (Q m r) f (gap_tally_numbers old.rows.items (gap_tally_row_index m r)) (all m r) (is.rows m r within);
+      rows = λ m r within. row_same (P m r) (Q m r) f (gap_tally_numbers old (gap_tally_row_index m r)) (all m r) (is.rows m r within);
       marks = λ a r within. record {
         below = λ k g. (is.marks a r within).below k (elim (marked.others a r k g) [
           | inl o ↦ o
@@ -207,6 +207,8 @@ tally_next {A} {P = P} {Q = Q} {f = f} {M = M} {N = N} {most = most} {old = old}
         last = λ some. marked.same a r (tally_mark old (gap_tally_row_index a r) - 1) ((is.marks a r within).last some);
       };
       few = λ r. (let few = is.few r in omega arith);
+      few_rows = (let few = is.few_rows in omega arith);
+      few_marks = (let few = is.few_marks in omega arith);
     })
       where
         all : (m r : ℕ) (z : A) → P m r z ↔ Q m r z
@@ -219,7 +221,13 @@ tally_next {A} {P = P} {Q = Q} {f = f} {M = M} {N = N} {most = most} {old = old}
         )
 
     add : IsAddedToGapTally old new (gap_tally_row_index n q) (gap_tally_row_index x q) (f y) → IsGapTallyOfValues Q f N (most + 1) new
-    add a = record { rows = rows; marks = marks; few = few }
+    add a = record {
+      rows = rows;
+      marks = marks;
+      few = few;
+      few_rows = (let more = a.more_rows in let old_few = is.few_rows in omega arith);
+      few_marks = (let more = a.more_marks in let old_few = is.few_marks in omega arith);
+    }
       where
         fresh : ¬ P n q y
         fresh h = let less = (is.marks x q lt).below (f y) (link.0 h) in let le = a.fresh in omega arith
@@ -230,21 +238,21 @@ tally_next {A} {P = P} {Q = Q} {f = f} {M = M} {N = N} {most = most} {old = old}
           λ h. elim h [ inl o ↦ more.same n q z o | inr s ↦ subst (Q n q) (sym s) more.now ],
         )
 
-        here : IsRowOfGapTally (Q n q) f (gap_tally_numbers new.rows.items (gap_tally_row_index n q))
+        here : IsRowOfGapTally (Q n q) f (gap_tally_numbers new (gap_tally_row_index n q))
         here =
             subst (IsRowOfGapTally (Q n q) f) (sym a.more)
-            (row_next (P n q) (Q n q) f (gap_tally_numbers old.rows.items (gap_tally_row_index n q)) y one fresh past (is.rows n q lt))
+            (row_next (P n q) (Q n q) f (gap_tally_numbers old (gap_tally_row_index n q)) y one fresh past (is.rows n q lt))
 
-        rows : (m r : ℕ) → r < 16 → IsRowOfGapTally (Q m r) f (gap_tally_numbers new.rows.items (gap_tally_row_index m r))
+        rows : (m r : ℕ) → r < 16 → IsRowOfGapTally (Q m r) f (gap_tally_numbers new (gap_tally_row_index m r))
         rows m r within = elim (cases_eq (gap_tally_row_index m r) (gap_tally_row_index n q)) [
           | inl same ↦
               (let first : n ≡ m = omega arith in
               let second : q ≡ r = omega arith in
-              subst (λ z. IsRowOfGapTally (Q z r) f (gap_tally_numbers new.rows.items (gap_tally_row_index z r))) first
-              (subst (λ z. IsRowOfGapTally (Q n z) f (gap_tally_numbers new.rows.items (gap_tally_row_index n z))) second here))
+              subst (λ z. IsRowOfGapTally (Q z r) f (gap_tally_numbers new (gap_tally_row_index z r))) first
+              (subst (λ z. IsRowOfGapTally (Q n z) f (gap_tally_numbers new (gap_tally_row_index n z))) second here))
           | inr apart ↦
               subst (IsRowOfGapTally (Q m r) f) (sym (a.others (gap_tally_row_index m r) apart))
-              (row_same (P m r) (Q m r) f (gap_tally_numbers old.rows.items (gap_tally_row_index m r))
+              (row_same (P m r) (Q m r) f (gap_tally_numbers old (gap_tally_row_index m r))
               (others_row m r (λ s. apart (let first = s.0 in let second = s.1 in omega arith))) (is.rows m r within))
         ]
 
@@ -269,12 +277,12 @@ tally_next {A} {P = P} {Q = Q} {f = f} {M = M} {N = N} {most = most} {old = old}
               (mark_kept b r (λ s. apart (let first = s.0 in let second = s.1 in omega arith)) (is.marks b r within))
         ]
 
-        few : (r : ℕ) → length (gap_tally_numbers new.rows.items r) ≤ most + 1
+        few : (r : ℕ) → length (gap_tally_numbers new r) ≤ most + 1
         few r = elim (cases_eq r (gap_tally_row_index n q)) [
           | inl same ↦
-              (let long = length-append (gap_tally_numbers old.rows.items (gap_tally_row_index n q)) (f y ∷ []) in
+              (let long = length-append (gap_tally_numbers old (gap_tally_row_index n q)) (f y ∷ []) in
               let old_few = is.few (gap_tally_row_index n q) in
-              let P : ℕ → Type 0 = λ z. length (gap_tally_numbers new.rows.items z) ≤ most + 1 in
+              let P : ℕ → Type 0 = λ z. length (gap_tally_numbers new z) ≤ most + 1 in
               let Q : List ℕ → Type 0 = λ zs. length zs ≤ most + 1 in
               subst P (sym same) (subst Q (sym a.more) (omega arith)))
           | inr apart ↦
@@ -288,12 +296,14 @@ pub tally_same : {A : Type 0} {P : ℕ → ℕ → A → Type 0} (Q : ℕ → �
     → ((m r : ℕ) (z : A) → P m r z ↔ Q m r z) → ((m r k : ℕ) → M m r k ↔ N m r k) → IsGapTallyOfValues P f M most t
     → IsGapTallyOfValues Q f N (most + 1) t
 tally_same {P = P} Q {f = f} N {t = t} same marks is = record {
-  rows = λ m r lt. row_same (P m r) (Q m r) f (gap_tally_numbers t.rows.items (gap_tally_row_index m r)) (same m r) (is.rows m r lt);
+  rows = λ m r lt. row_same (P m r) (Q m r) f (gap_tally_numbers t (gap_tally_row_index m r)) (same m r) (is.rows m r lt);
   marks = λ a r lt. record {
     below = λ k h. (is.marks a r lt).below k ((marks a r k).1 h);
     last = λ some. (marks a r (tally_mark t (gap_tally_row_index a r) - 1)).0 ((is.marks a r lt).last some);
   };
   few = λ r. (let few = is.few r in omega arith);
+  few_rows = (let few = is.few_rows in omega arith);
+  few_marks = (let few = is.few_marks in omega arith);
 }
 
 -- a row of no values
@@ -307,14 +317,17 @@ row_none {A} P f row is none = subst (IsRowOfGapTally P f) (sym is) (record {
 })
 
 -- a tally of no values
-pub tally_none : {A : Type 0} (P : ℕ → ℕ → A → Type 0) (f : A → ℕ) (M : ℕ → ℕ → ℕ → Type 0) (most : ℕ) (t : Tally)
-    → ((r : ℕ) → gap_tally_numbers t.rows.items r ≡ []) → ((m : ℕ) → tally_mark t m ≡ 0) → ((m r : ℕ) (z : A) → ¬ P m r z)
-    → ((m r k : ℕ) → ¬ M m r k) → IsGapTallyOfValues P f M most t
-tally_none P f M most t empty zeros none unmarked = record {
-  rows = λ m r lt. row_none (P m r) f (gap_tally_numbers t.rows.items (gap_tally_row_index m r)) (empty (gap_tally_row_index m r)) (none m r);
+pub tally_none : {A : Type 0} (P : ℕ → ℕ → A → Type 0) (f : A → ℕ) (M : ℕ → ℕ → ℕ → Type 0) (t : Tally)
+    → (vec_len t.rows.kept ≡ 0) × (vec_len t.marks.kept ≡ 0)
+    → ((r : ℕ) → gap_tally_numbers t r ≡ []) → ((m : ℕ) → tally_mark t m ≡ 0) → ((m r : ℕ) (z : A) → ¬ P m r z)
+    → ((m r k : ℕ) → ¬ M m r k) → IsGapTallyOfValues P f M 0 t
+tally_none P f M t bare empty zeros none unmarked = record {
+  rows = λ m r lt. row_none (P m r) f (gap_tally_numbers t (gap_tally_row_index m r)) (empty (gap_tally_row_index m r)) (none m r);
   marks = λ a r lt. record {
     below = λ k h. absurd (unmarked a r k h);
     last = λ some. absurd (some (zeros (gap_tally_row_index a r)));
   };
-  few = λ r. subst (λ (ks : List ℕ). length ks ≤ most) (sym (empty r)) (omega arith);
+  few = λ r. subst (λ (ks : List ℕ). length ks ≤ 0) (sym (empty r)) (omega arith);
+  few_rows = (let none = bare.0 in omega arith);
+  few_marks = (let none = bare.1 in omega arith);
 }

@@ -1,4 +1,6 @@
 pub mod Refusing
+pub mod SizesJudged
+pub mod SparseTables
 pub mod FrontNoting
 pub mod FrontAsking
 pub mod Fronts

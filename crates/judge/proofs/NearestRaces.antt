@@ -1,11 +1,10 @@
 -- Each processor's last accesses, and the race that is nearest to an event.
-use Rattle.std.proofs.Common.{◌≡◌, ◌≢◌, ℕ, ◌+◌, ◌<◌, ◌≤◌, ◌⊎◌, inl, inr, ◌↔◌, Bool, IsTrue, List, [], ◌∷◌, ◌++◌, length, take, Option, Some, slice_get, slice_set, subst, sym, refl, ap, ◌∙◌, arith, length-append}
-use Rattle.std.specs.Prelude.{None, IfSome, slice_index_or}
+use Rattle.std.proofs.Common.{◌≡◌, ◌≢◌, ℕ, ◌+◌, ◌<◌, ◌≤◌, ◌⊎◌, inl, inr, ◌↔◌, Bool, IsTrue, List, [], ◌∷◌, ◌++◌, length, take, Option, Some, subst, sym, refl, ap, ◌∙◌, arith, length-append}
+use Rattle.std.specs.Prelude.{None, IfSome}
 use Rattle.std.proofs.lemmas.Bool.{cases_eq, cases_lt, eq-eqb, eqb-true}
-use Rattle.std.proofs.lemmas.Option.{same_Some, none-some, slice_get-get_or}
+use Rattle.std.proofs.lemmas.Option.{same_Some, none-some}
 use Rattle.std.proofs.Math.Seq.{take-append_seam}
 use Rattle.base.proofs.SlicesAndCounts.{slice_push_cases}
-use Rattle.base.proofs.SliceSets.{slice_get-set_found, slice_get-set_other}
 use Rattle.journal.specs.declared.event.Event.{Event}
 use Rattle.journal.specs.declared.event.Kind.{Kind}
 use Rattle.journal.specs.declared.event.Kind.TheVariants.{Load, Store}
@@ -21,6 +20,8 @@ use Rattle.journal.proofs.Passes.ReachedNextRaces.{race_by_time, race_events}
 use Rattle.judge.specs.declared.races.Access.{Access}
 use Rattle.judge.specs.NearestRaces.{AreLastRacingAccesses, IsLastRacingAccess, IsLastRacingAccessOf, IsLastUncountedByRaces, IsNearestRace, IsNearestTo, IsUncountedByRaces, SomeUncountedByRaces, races_with_access_to, races_with_store_to}
 use Rattle.judge.specs.Sources.Tells.{source_row_of}
+use Rattle.judge.specs.declared.sparse_table.SparseTable.{SparseTable}
+use Rattle.judge.specs.SparseTables.{IsSparseWith, sparse_at}
 
 -- an event of another processor or kind leaves the last access
 pub race_last_access_others : (j : List Event) (e : Event) (is : Kind → Bool) (q : ℕ) (o : Option Access)
@@ -62,38 +63,37 @@ race_last_access_next j p k is x counts place interval = record {
     front = ap (λ n. take n (did j p k)) place ∙ take-append_seam j (event p k ∷ [])
 
 -- an event of no such kind leaves the rows
-pub nearest_race_rows_left : (j : List Event) (e : Event) (of : ℕ → Kind → Bool) (rows : List (Option Access))
+pub nearest_race_rows_left : (j : List Event) (e : Event) (of : ℕ → Kind → Bool) (rows : ℕ → Option Access)
     → ((a : ℕ) → ¬ IsTrue (of a e.kind)) → AreLastRacingAccesses j of rows → AreLastRacingAccesses (j ++ e ∷ []) of rows
-nearest_race_rows_left j e of rows away are a q o lt at =
-    race_last_access_others j e (of a) q o (λ same. away a) (are a q o lt at)
+nearest_race_rows_left j e of rows away are a q lt =
+    race_last_access_others j e (of a) q (rows (source_row_of a q)) (λ same. away a) (are a q lt)
 
 -- an access of a is kept in its row
-pub nearest_race_rows_kept : {j : List Event} (p : ℕ) {a : ℕ} (k : Kind) {of : ℕ → Kind → Bool} (rows : List (Option Access)) (x : Access)
-    → p < 16 → IsTrue (of a k) → ((b : ℕ) → IsTrue (of b k) → a ≡ b) → x.place ≡ length j
-    → x.interval ≡ count_of is_closing j p → AreLastRacingAccesses j of rows
-    → AreLastRacingAccesses (did j p k) of (slice_set rows (source_row_of a p) (Some x))
-nearest_race_rows_kept {j = j} p {a = a} k {of = of} rows x few counts one place interval are b q o lt at =
+pub nearest_race_rows_kept : (j : List Event) (p : ℕ) (a : ℕ) (k : Kind) (of : ℕ → Kind → Bool) {old new : SparseTable Access} {x : Access}
+    → ((b : ℕ) → IsTrue (of b k) → a ≡ b) → IsLastRacingAccess (did j p k) (of a) p x
+    → IsSparseWith old new (source_row_of a p) x → p < 16 → AreLastRacingAccesses j of (sparse_at old)
+    → AreLastRacingAccesses (did j p k) of (sparse_at new)
+nearest_race_rows_kept j p a k of {old = old} {new = new} {x = x} one last written few are b q lt =
     elim (cases_eq (source_row_of b q) (source_row_of a p)) [
       | inl same ↦
           (let address : a ≡ b = omega arith in
           let processor : p ≡ q = omega arith in
-          let is : Some x ≡ o = slice_get-set_found rows (source_row_of a p) (Some x) o
-          (ap (slice_get (slice_set rows (source_row_of a p) (Some x))) (sym same) ∙ at) in
+          let is : Some x ≡ sparse_at new (source_row_of b q) = sym (ap (sparse_at new) same ∙ written.now) in
           subst (IsLastRacingAccessOf (did j p k) (of b) q) is
           (subst (λ n. IsLastRacingAccess (did j p k) (of n) q x) address
-          (subst (λ n. IsLastRacingAccess (did j p k) (of a) n x) processor
-          (race_last_access_next j p k (of a) x counts place interval))))
+          (subst (λ n. IsLastRacingAccess (did j p k) (of a) n x) processor last)))
       | inr other ↦
-          race_last_access_others j (event p k) (of b) q o
+          subst (IsLastRacingAccessOf (did j p k) (of b) q) (sym (written.others (source_row_of b q) other))
+          (race_last_access_others j (event p k) (of b) q (sparse_at old (source_row_of b q))
           (λ processor yes_is. (let address = one b yes_is in other (omega arith)))
-          (are b q o lt (sym (slice_get-set_other rows (source_row_of a p) (source_row_of b q) (Some x) other) ∙ at))
+          (are b q lt))
     ]
 
 -- before the first event there is none
-pub nearest_race_rows_start : (of : ℕ → Kind → Bool) (rows : List (Option Access)) → ((r : ℕ) (o : Option Access) → slice_get rows r ≡ Some o → None ≡ o)
+pub nearest_race_rows_start : (of : ℕ → Kind → Bool) (rows : ℕ → Option Access) → ((r : ℕ) → rows r ≡ None)
     → AreLastRacingAccesses [] of rows
-nearest_race_rows_start of rows none a q o lt at =
-    subst (IsLastRacingAccessOf [] (of a) q) (none (source_row_of a q) o at) (λ i k does counts. none-some (event q k) does)
+nearest_race_rows_start of rows none a q lt =
+    subst (IsLastRacingAccessOf [] (of a) q) (sym (none (source_row_of a q))) (λ i k does counts. none-some (event q k) does)
 
 -- ---- the kinds
 
@@ -165,7 +165,7 @@ race_store_conflicts_all f p a v = (there f.kind refl, back f.kind refl)
 -- ---- the last access whose interval a timestamp doesn't count
 
 -- one processor more
-pub nearest_race_uncounted_none : (rows : List (Option Access)) (row : ℕ) (t : ℕ → ℕ) (p n : ℕ) (o : Option ℕ)
+pub nearest_race_uncounted_none : (rows : ℕ → Option Access) (row : ℕ) (t : ℕ → ℕ) (p n : ℕ) (o : Option ℕ)
     → IsLastUncountedByRaces rows row t p n o → ((i : ℕ) → ¬ IsUncountedByRaces rows row t p n i)
     → IsLastUncountedByRaces rows row t p (n + 1) o
 nearest_race_uncounted_none rows row t p n None before none = λ i x. elim (cases_lt x.by n) [
@@ -183,14 +183,13 @@ nearest_race_uncounted_none rows row t p n (Some k) before none = (
 )
 
 -- two of one row are one
-nearest_race_uncounted_one : (rows : List (Option Access)) (row : ℕ) (t : ℕ → ℕ) (p q i m : ℕ) → IsUncountedByRaces rows row t p q i
+nearest_race_uncounted_one : (rows : ℕ → Option Access) (row : ℕ) (t : ℕ → ℕ) (p q i m : ℕ) → IsUncountedByRaces rows row t p q i
     → IsUncountedByRaces rows row t p q m → i ≡ m
 nearest_race_uncounted_one rows row t p q i m x y =
-    let same : x.access ≡ y.access = same_Some x.access y.access
-    (same_Some (Some x.access) (Some y.access) (sym x.at ∙ y.at)) in
+    let same : x.access ≡ y.access = same_Some x.access y.access (sym x.at ∙ y.at) in
     sym x.place ∙ (ap (λ (z : Access). z.place) same ∙ y.place)
 
-pub nearest_race_uncounted_some : {rows : List (Option Access)} {row : ℕ} {t : ℕ → ℕ} {p n place : ℕ} (k : ℕ) (o : Option ℕ)
+pub nearest_race_uncounted_some : {rows : ℕ → Option Access} {row : ℕ} {t : ℕ → ℕ} {p n place : ℕ} (k : ℕ) (o : Option ℕ)
     → IsLastUncountedByRaces rows row t p n o → IsUncountedByRaces rows row t p n place → place ≤ k → IfSome o (λ m. m ≤ k)
     → (k ≡ place) ⊎ (o ≡ Some k) → IsLastUncountedByRaces rows row t p (n + 1) (Some k)
 nearest_race_uncounted_some {rows = rows} {row = row} {t = t} {p = p} {n = n} {place = place} k None before here le old one = (
@@ -226,12 +225,11 @@ nearest_race_uncounted_some {rows = rows} {row = row} {t = t} {p = p} {n = n} {p
 
 -- what is given: the row has the last accesses of the first n processors, all there are, that conflict with e, and t is the
 -- timestamp before it
-pub record IsRaceRowFor (j : List Event) (e : Event) (is : Kind → Bool) (t : ℕ → ℕ) (rows : List (Option Access)) (row n : ℕ) : Type 0 where
+pub record IsRaceRowFor (j : List Event) (e : Event) (is : Kind → Bool) (t : ℕ → ℕ) (rows : ℕ → Option Access) (row n : ℕ) : Type 0 where
   pub conflicts : (f : Event) → Conflict f e ↔ IsTrue (is f.kind)
   pub range : ProcessorsInRange n j
   pub time : IsTimeOf j e.processor t
-  pub last : (q : ℕ) (o : Option Access) → q < n → slice_get rows (row + q) ≡ Some o → IsLastRacingAccessOf j is q o
-  pub within : row + n ≤ length rows
+  pub last : (q : ℕ) → q < n → IsLastRacingAccessOf j is q (rows (row + q))
 
 race_tells : (j : List Event) (e f : Event) (t : ℕ → ℕ) (i : ℕ) → At j i f → f.processor ≢ e.processor → Conflict f e
     → IsTimeOf j e.processor t → Race (j ++ e ∷ []) i (length j) ↔ (t f.processor ≤ interval_at j f.processor i)
@@ -244,10 +242,10 @@ race_tells j e f t i at apart conflict time =
     ((λ r. (let le = tells.0 r in omega arith)), (λ le. tells.1 (omega arith)))
 
 -- an access whose interval isn't counted races
-uncounted_races : {j : List Event} {e : Event} {is : Kind → Bool} {t : ℕ → ℕ} {rows : List (Option Access)} {row n q i : ℕ}
+uncounted_races : {j : List Event} {e : Event} {is : Kind → Bool} {t : ℕ → ℕ} {rows : ℕ → Option Access} {row n q i : ℕ}
     → IsRaceRowFor j e is t rows row n → q < n → IsUncountedByRaces rows row t e.processor q i → Race (j ++ e ∷ []) i (length j)
 uncounted_races {j = j} {e = e} {is = is} {t = t} {q = q} given lt x =
-    let last : IsLastRacingAccess j is q x.access = given.last q (Some x.access) lt x.at in
+    let last : IsLastRacingAccess j is q x.access = subst (IsLastRacingAccessOf j is q) x.at (given.last q lt) in
     let f : Event = event q last.kind in
     let tells = race_tells j e f t x.access.place last.does x.apart ((given.conflicts f).1 last.counts) given.time in
     let same = last.interval in
@@ -255,14 +253,14 @@ uncounted_races {j = j} {e = e} {is = is} {t = t} {q = q} given lt x =
     subst (λ m. Race (j ++ e ∷ []) m (length j)) x.place (tells.1 (omega arith))
 
 -- and what races is up to such an access
-record RacesUpToUncounted (rows : List (Option Access)) (row : ℕ) (t : ℕ → ℕ) (p n i : ℕ) : Type 0 where
+record RacesUpToUncounted (rows : ℕ → Option Access) (row : ℕ) (t : ℕ → ℕ) (p n i : ℕ) : Type 0 where
   place : ℕ
   some : SomeUncountedByRaces rows row t p n place
   up_to : i ≤ place
 
-races_up_to : {j : List Event} {e : Event} {is : Kind → Bool} {t : ℕ → ℕ} {rows : List (Option Access)} {row n i : ℕ}
+races_up_to : {j : List Event} {e : Event} {is : Kind → Bool} {t : ℕ → ℕ} {rows : ℕ → Option Access} {row n i : ℕ}
     → IsRaceRowFor j e is t rows row n → Race (j ++ e ∷ []) i (length j) → RacesUpToUncounted rows row t e.processor n i
-races_up_to {j = j} {e = e} {is = is} {t = t} {rows = rows} {row = row} {n = n} {i = i} given r = go (slice_index_or rows (row + f.processor) None) there
+races_up_to {j = j} {e = e} {is = is} {t = t} {rows = rows} {row = row} {n = n} {i = i} given r = go (rows (row + f.processor)) refl
   where
     f : Event
     f = r.first
@@ -282,13 +280,10 @@ races_up_to {j = j} {e = e} {is = is} {t = t} {rows = rows} {row = row} {n = n} 
     counts : IsTrue (is f.kind)
     counts = (given.conflicts f).0 both.1
 
-    there : slice_get rows (row + f.processor) ≡ Some (slice_index_or rows (row + f.processor) None)
-    there = let long = given.within in slice_get-get_or rows (row + f.processor) None (omega (arith, few))
-
-    go : (o : Option Access) → slice_get rows (row + f.processor) ≡ Some o → RacesUpToUncounted rows row t e.processor n i
-    go None none = absurd (given.last f.processor None few none i f.kind at counts)
+    go : (o : Option Access) → rows (row + f.processor) ≡ o → RacesUpToUncounted rows row t e.processor n i
+    go None none = absurd (subst (IsLastRacingAccessOf j is f.processor) none (given.last f.processor few) i f.kind at counts)
     go (Some x) some =
-        let last : IsLastRacingAccess j is f.processor x = given.last f.processor (Some x) few some in
+        let last : IsLastRacingAccess j is f.processor x = subst (IsLastRacingAccessOf j is f.processor) some (given.last f.processor few) in
         let le : i ≤ x.place = last.last i f.kind at counts in
         let low = (race_tells j e f t i at both.0 both.1 given.time).0 r in
         let up = count_of-mono is_closing j i x.place f.processor le in
@@ -303,7 +298,7 @@ races_up_to {j = j} {e = e} {is = is} {t = t} {rows = rows} {row = row} {n = n} 
           up_to = le;
         }
 
-pub nearest_race_is : {j : List Event} {e : Event} {is : Kind → Bool} {t : ℕ → ℕ} {rows : List (Option Access)} {row n : ℕ} (o : Option ℕ) → IsRaceRowFor j e is t rows row n → IsLastUncountedByRaces rows row t e.processor n o → IsNearestTo j e o
+pub nearest_race_is : {j : List Event} {e : Event} {is : Kind → Bool} {t : ℕ → ℕ} {rows : ℕ → Option Access} {row n : ℕ} (o : Option ℕ) → IsRaceRowFor j e is t rows row n → IsLastUncountedByRaces rows row t e.processor n o → IsNearestTo j e o
 nearest_race_is None given none =
     λ i r. let x = races_up_to given r in none x.place x.some
 nearest_race_is {is = is} (Some k) given last = (

@@ -7,7 +7,7 @@ use Rattle.journal.specs.Events.{At, count_of, is_arrive, is_depart}
 use Rattle.journal.specs.WellFormed.{Does, Holds, LastIs}
 use Rattle.judge.specs.declared.front.LastEvent.{LastEvent}
 use Rattle.judge.specs.declared.front.Frontier.{Frontier}
-use Rattle.judge.specs.Sizes.{AreSizesSmall, sizes_of}
+use Rattle.judge.specs.Sizes.{AreSizesJudged, sizes_of}
 
 -- p has done nothing
 abbrev pub TellsNothingDone : List Event → ℕ → Type 0
@@ -23,7 +23,7 @@ TellsFlagSet j f = (k : ℕ) × (q : ℕ) × Does j k q (Set f)
 
 -- the front tells this history so far
 pub record FrontTellsHistory (j : List Event) (x : Frontier) : Type 0 where
-  pub sizes : AreSizesSmall (sizes_of x.sizes)
+  pub sizes : AreSizesJudged (sizes_of x.sizes)
   pub place : x.place ≡ length j
   pub long : length x.last ≡ 16
   pub lasts : (p : ℕ) → TellsLastOf j p (slice_index_or x.last p None)

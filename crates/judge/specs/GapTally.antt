@@ -1,24 +1,31 @@
 -- Numbers of intervals in rows, and what they say.
-use Rattle.std.specs.Prelude.{ℕ, ◌≡◌, ◌≢◌, ◌+◌, ◌*◌, ◌-◌, ◌<◌, ◌≤◌, ◌⊎◌, ◌↔◌, ◌&&◌, not, nat_lt, Bool, Option, Some, None, List, [], ◌∷◌, ◌++◌, length, map, slice_get, slice_index}
-use Rattle.std.specs.Global.{Vec}
+use Rattle.std.specs.Prelude.{ℕ, ◌≡◌, ◌≢◌, ◌+◌, ◌*◌, ◌-◌, ◌<◌, ◌≤◌, ◌⊎◌, ◌↔◌, ◌&&◌, not, nat_lt, Bool, Option, Some, None, List, [], ◌∷◌, ◌++◌, length, map, vec_len}
 use Rattle.base.specs.InOrderOnce.{Has, InOrder, IsOnce}
 use Rattle.judge.specs.declared.tally.Tally.{Tally}
+use Rattle.judge.specs.SparseTables.{IsSparse, sparse_at, sparse_room, sparse_row}
 
 -- where the row of page or address n and processor q stands
 abbrev pub gap_tally_row_index : ℕ → ℕ → ℕ
 gap_tally_row_index n q = n * 16 + q
 
-abbrev pub gap_tally_numbers_in : Option (Vec ℕ) → List ℕ
-gap_tally_numbers_in None = []
-gap_tally_numbers_in (Some row) = row.items
+-- the numbers of row r
+abbrev pub gap_tally_numbers : Tally → ℕ → List ℕ
+gap_tally_numbers t r = sparse_row t.rows r
 
--- the numbers of row r, none past the last row
-abbrev pub gap_tally_numbers : List (Vec ℕ) → ℕ → List ℕ
-gap_tally_numbers rows r = gap_tally_numbers_in (slice_get rows r)
+abbrev pub tally_mark_in : Option ℕ → ℕ
+tally_mark_in None = 0
+tally_mark_in (Some mark) = mark
 
--- the mark at place m, 0 past the last one
+-- the mark at place m, 0 where there is none
 abbrev pub tally_mark : Tally → ℕ → ℕ
-tally_mark t m = slice_index t.marks.items m
+tally_mark t m = tally_mark_in (sparse_at t.marks m)
+
+-- there is room for so many rows and marks
+pub record IsTallyFor (rows marks : ℕ) (t : Tally) : Type 0 where
+  pub rows_sparse : IsSparse t.rows
+  pub marks_sparse : IsSparse t.marks
+  pub rows_room : rows ≤ sparse_room t.rows
+  pub marks_room : marks ≤ sparse_room t.marks
 
 -- k is from `from` on and below `to`
 abbrev pub is_gap_tally_between : ℕ → ℕ → ℕ → Bool
@@ -27,10 +34,12 @@ is_gap_tally_between from to k = not (nat_lt k from) && nat_lt k to
 -- the number k stands last in the row now, and is marked
 pub record IsAddedToGapTally (old new : Tally) (row m k : ℕ) : Type 0 where
   pub fresh : tally_mark old m ≤ k
-  pub more : gap_tally_numbers new.rows.items row ≡ gap_tally_numbers old.rows.items row ++ k ∷ []
-  pub others : (r : ℕ) → r ≢ row → gap_tally_numbers new.rows.items r ≡ gap_tally_numbers old.rows.items r
+  pub more : gap_tally_numbers new row ≡ gap_tally_numbers old row ++ k ∷ []
+  pub others : (r : ℕ) → r ≢ row → gap_tally_numbers new r ≡ gap_tally_numbers old r
   pub marked : tally_mark new m ≡ k + 1
   pub others_marked : (i : ℕ) → i ≢ m → tally_mark new i ≡ tally_mark old i
+  pub more_rows : vec_len new.rows.kept ≤ vec_len old.rows.kept + 1
+  pub more_marks : vec_len new.marks.kept ≤ vec_len old.marks.kept + 1
 
 -- the number k is added, unless it was for this mark
 abbrev pub AddsToGapTally : Tally → Tally → ℕ → ℕ → ℕ → Type 0
@@ -52,6 +61,8 @@ pub record IsGapTallyMark (marked : ℕ → Type 0) (m : ℕ) : Type 0 where
 -- the rows have these values, by page and processor; the marks are of these numbers
 pub record IsGapTallyOfValues {A : Type 0} (values : ℕ → ℕ → A → Type 0) (interval : A → ℕ) (marked : ℕ → ℕ → ℕ → Type 0)
     (most : ℕ) (t : Tally) : Type 0 where
-  pub rows : (n q : ℕ) → q < 16 → IsRowOfGapTally (values n q) interval (gap_tally_numbers t.rows.items (gap_tally_row_index n q))
+  pub rows : (n q : ℕ) → q < 16 → IsRowOfGapTally (values n q) interval (gap_tally_numbers t (gap_tally_row_index n q))
   pub marks : (x q : ℕ) → q < 16 → IsGapTallyMark (marked x q) (tally_mark t (gap_tally_row_index x q))
-  pub few : (r : ℕ) → length (gap_tally_numbers t.rows.items r) ≤ most
+  pub few : (r : ℕ) → length (gap_tally_numbers t r) ≤ most
+  pub few_rows : vec_len t.rows.kept ≤ most
+  pub few_marks : vec_len t.marks.kept ≤ most

@@ -1,5 +1,5 @@
 -- What is kept of a history to count the gaps of fetches.
-use Rattle.std.specs.Prelude.{ℕ, ◌≡◌, ◌≢◌, ◌*◌, ◌/◌, ◌^◌, ◌<◌, ◌≤◌, ◌↔◌, List, length, vec_len}
+use Rattle.std.specs.Prelude.{ℕ, ◌≡◌, ◌≢◌, ◌*◌, ◌/◌, ◌^◌, ◌<◌, ◌≤◌, ◌↔◌, Option, Some, None, List, length, replicate, slice_index, vec_len}
 use Rattle.journal.specs.declared.event.Event.{Event}
 use Rattle.journal.specs.declared.event.Kind.TheVariants.{Store}
 use Rattle.journal.specs.Sizes.{Sizes}
@@ -7,13 +7,14 @@ use Rattle.journal.specs.Events.{count_of, interval_at, is_closing}
 use Rattle.journal.specs.WellFormed.{Does}
 use Rattle.journal.specs.InRange.{ProcessorsInRange}
 use Rattle.journal.specs.Clocks.{AreClocks}
-use Rattle.journal.specs.ClockEntry.{entry}
 use Rattle.journal.specs.BroughtCopy.{Brought}
 use Rattle.journal.specs.PageImages.{HasImageCount, StoredInGapOfImage}
 use Rattle.judge.specs.declared.gaps.CountedGap.{CountedGap}
 use Rattle.judge.specs.declared.gaps.Gaps.{Gaps}
-use Rattle.judge.specs.Sizes.{AreSizesSmall, sizes_of}
-use Rattle.judge.specs.GapTally.{IsGapTallyOfValues, gap_tally_row_index}
+use Rattle.judge.specs.Sizes.{AreSizesJudged, sizes_of}
+use Rattle.judge.specs.GapTally.{IsGapTallyOfValues, IsTallyFor, gap_tally_row_index}
+use Rattle.judge.specs.SparseTables.{IsSparse, sparse_at, sparse_room}
+use Rattle.judge.specs.declared.sparse_table.SparseTable.{SparseTable}
 
 -- q stores at address a in its interval k
 abbrev pub GapStoresAt : List Event → ℕ → ℕ → ℕ → Type 0
@@ -33,21 +34,30 @@ pub record GapFetchedUpTo (s : Sizes) (j : List Event) (p n : ℕ) (m : ℕ → 
       → Brought j p n i ↔ (interval_at j q i < m q)
   pub within : (q : ℕ) → m q ≤ count_of is_closing j q
 
+-- a timestamp that is kept, zeros where none is
+abbrev pub gap_fetch_clock : Option (List ℕ) → List ℕ
+gap_fetch_clock None = replicate 16 0
+gap_fetch_clock (Some time) = time
+
+-- the timestamp of a processor at its last fetch of a page, as it is kept in their row
+abbrev pub gap_fetch_time : SparseTable (List ℕ) → ℕ → ℕ → ℕ
+gap_fetch_time fetched row q = slice_index (gap_fetch_clock (sparse_at fetched row)) q
+
 -- what is kept is the history's
 pub record AreGapsOf (j : List Event) (g : Gaps) : Type 0 where
-  pub fetched : (n p : ℕ) → p < 16 → GapFetchedUpTo (sizes_of g.sizes) j p n (entry g.fetched.items (gap_tally_row_index n p))
+  pub fetched : (n p : ℕ) → p < 16 → GapFetchedUpTo (sizes_of g.sizes) j p n (gap_fetch_time g.fetched (gap_tally_row_index n p))
   pub intervals : IsGapTallyOfValues (GapStoresInPage (sizes_of g.sizes) j) (λ k. k) (GapStoresInPage (sizes_of g.sizes) j) (length j)
       g.intervals
   pub words : IsGapTallyOfValues (GapStoresWord (sizes_of g.sizes) j) (λ x. x.0) (GapStoresAt j) (length j) g.words
+  pub few : vec_len g.fetched.kept ≤ length j
 
--- there is a row for each page and processor, and a mark of words for each address and processor
+-- there is room for a row for each page and processor, and for a mark of words for each address and processor
 pub record AreGapsLong (g : Gaps) : Type 0 where
-  pub sizes : AreSizesSmall (sizes_of g.sizes)
-  pub fetched : vec_len g.fetched ≡ g.sizes.pages * 16
-  pub intervals : vec_len g.intervals.rows ≡ g.sizes.pages * 16
-  pub marks : vec_len g.intervals.marks ≡ g.sizes.pages * 16
-  pub words : vec_len g.words.rows ≡ g.sizes.pages * 16
-  pub words_marks : vec_len g.words.marks ≡ (g.sizes.pages * g.sizes.words) * 16
+  pub sizes : AreSizesJudged (sizes_of g.sizes)
+  pub fetched : IsSparse g.fetched
+  pub fetched_room : g.sizes.pages * 16 ≤ sparse_room g.fetched
+  pub intervals : IsTallyFor (g.sizes.pages * 16) (g.sizes.pages * 16) g.intervals
+  pub words : IsTallyFor (g.sizes.pages * 16) ((g.sizes.pages * g.sizes.words) * 16) g.words
 
 -- no more than that many processors can have
 pub record AreGapCountsFew (parts : ℕ) (c : CountedGap) : Type 0 where

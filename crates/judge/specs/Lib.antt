@@ -1,4 +1,5 @@
 pub mod Sizes
+pub mod SparseTables
 pub mod Lax
 pub mod Why
 pub mod FrontTells

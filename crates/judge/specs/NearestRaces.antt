@@ -1,5 +1,5 @@
 -- The race that is nearest to an event: what is kept of accesses to find it.
-use Rattle.std.specs.Prelude.{ℕ, ◌≡◌, ◌≢◌, ◌==◌, ◌+◌, ◌*◌, ◌<◌, ◌≤◌, Bool, false, IsTrue, Option, Some, MatchOption, List, [], ◌∷◌, ◌++◌, length, slice_get, vec_len}
+use Rattle.std.specs.Prelude.{ℕ, ◌≡◌, ◌≢◌, ◌==◌, ◌+◌, ◌*◌, ◌<◌, ◌≤◌, Bool, false, IsTrue, Option, Some, MatchOption, List, [], ◌∷◌, ◌++◌, length}
 use Rattle.journal.specs.declared.event.Event.{Event}
 use Rattle.journal.specs.declared.event.Kind.{Kind}
 use Rattle.journal.specs.declared.event.Kind.TheVariants.{Load, Store}
@@ -11,6 +11,7 @@ use Rattle.journal.specs.Races.{Race}
 use Rattle.judge.specs.declared.races.Access.{Access}
 use Rattle.judge.specs.declared.races.Races.{Races}
 use Rattle.judge.specs.Sources.Tells.{source_row_of}
+use Rattle.judge.specs.SparseTables.{IsSparseFor, sparse_at}
 
 -- the pair with the least second place, and among these the greatest first one
 pub record IsNearestRace (j : List Event) (i k : ℕ) : Type 0 where
@@ -48,35 +49,34 @@ IsLastRacingAccessOf j is q o =
     MatchOption o ((i : ℕ) (k : Kind) → Does j i q k → ¬ IsTrue (is k)) (IsLastRacingAccess j is q)
 
 -- the rows have these last events, by address and processor
-abbrev pub AreLastRacingAccesses : List Event → (ℕ → Kind → Bool) → List (Option Access) → Type 0
-AreLastRacingAccesses j of rows =
-    (a q : ℕ) (o : Option Access) → q < 16 → slice_get rows (source_row_of a q) ≡ Some o → IsLastRacingAccessOf j (of a) q o
+abbrev pub AreLastRacingAccesses : List Event → (ℕ → Kind → Bool) → (ℕ → Option Access) → Type 0
+AreLastRacingAccesses j of rows = (a q : ℕ) → q < 16 → IsLastRacingAccessOf j (of a) q (rows (source_row_of a q))
 
 -- q's access in the row that begins at `row` is at place i, and p's timestamp t doesn't count its interval
-pub record IsUncountedByRaces (rows : List (Option Access)) (row : ℕ) (t : ℕ → ℕ) (p q i : ℕ) : Type 0 where
+pub record IsUncountedByRaces (rows : ℕ → Option Access) (row : ℕ) (t : ℕ → ℕ) (p q i : ℕ) : Type 0 where
   pub access : Access
   pub apart : q ≢ p
-  pub at : slice_get rows (row + q) ≡ Some (Some access)
+  pub at : rows (row + q) ≡ Some access
   pub later : t q ≤ access.interval
   pub place : access.place ≡ i
 
 -- some processor below n has one there
-pub record SomeUncountedByRaces (rows : List (Option Access)) (row : ℕ) (t : ℕ → ℕ) (p n i : ℕ) : Type 0 where
+pub record SomeUncountedByRaces (rows : ℕ → Option Access) (row : ℕ) (t : ℕ → ℕ) (p n i : ℕ) : Type 0 where
   pub by : ℕ
   pub below : by < n
   pub is : IsUncountedByRaces rows row t p by i
 
 -- the last of those that the first n processors have
-abbrev pub IsLastUncountedByRaces : List (Option Access) → ℕ → (ℕ → ℕ) → ℕ → ℕ → Option ℕ → Type 0
+abbrev pub IsLastUncountedByRaces : (ℕ → Option Access) → ℕ → (ℕ → ℕ) → ℕ → ℕ → Option ℕ → Type 0
 IsLastUncountedByRaces rows row t p n o = MatchOption o ((i : ℕ) → ¬ SomeUncountedByRaces rows row t p n i)
     (λ i. SomeUncountedByRaces rows row t p n i × ((m : ℕ) → SomeUncountedByRaces rows row t p n m → m ≤ i))
 
 -- what is kept of the accesses is the history's
 pub record RaceAccessesAreKept (j : List Event) (x : Races) : Type 0 where
-  pub stores : AreLastRacingAccesses j races_with_store_to x.stores.items
-  pub accesses : AreLastRacingAccesses j races_with_access_to x.accesses.items
-  pub stores_long : vec_len x.stores ≡ x.addresses * 16
-  pub accesses_long : vec_len x.accesses ≡ x.addresses * 16
+  pub stores : AreLastRacingAccesses j races_with_store_to (sparse_at x.stores)
+  pub accesses : AreLastRacingAccesses j races_with_access_to (sparse_at x.accesses)
+  pub stores_sparse : IsSparseFor (x.addresses * 16) (length j) x.stores
+  pub accesses_sparse : IsSparseFor (x.addresses * 16) (length j) x.accesses
 
 -- what is kept tells the races of this history so far
 pub record AreRacesOf (j : List Event) (x : Races) : Type 0 where

@@ -8,7 +8,7 @@ ghost use Rattle.journal.specs.declared.event.Kind.TheVariants.{Acquire, Ask, Aw
 ghost use Rattle.journal.specs.Sizes.{Sizes as TheSizes};
 ghost use Rattle.journal.specs.WellFormed.{KindInRange};
 ghost use Rattle.journal.specs.Prelude.{Holds, event, is_arrive, is_depart};
-ghost use Rattle.judge.specs.Prelude.{AreSizesSmall, TellsFirstAsk, IsInTurn, IsWhyVerdict, LaxMayFollow, TellsNobodyAsks, FrontTellsHistory};
+ghost use Rattle.judge.specs.Prelude.{AreSizesJudged, TellsFirstAsk, IsInTurn, IsWhyVerdict, LaxMayFollow, TellsNobodyAsks, FrontTellsHistory};
 ghost use Rattle.judge.specs.Prelude.{AwaitsKind, tells_holder_after, tells_flag_set_after, sizes_of};
 
 use crate::kinds::{awaited_after, is_same};
@@ -77,7 +77,7 @@ fn count(
 
 /// Takes note of who acquires or releases a lock.
 fn hold(holders: &mut [Option<usize>; MOST_LOCKS], event: Event)
-    requires { (s : TheSizes) × AreSizesSmall s × KindInRange s event.kind }
+    requires { (s : TheSizes) × AreSizesJudged s × KindInRange s event.kind }
     ensures { (l : ℕ) → slice_index_or holders.new l None
         ≡ tells_holder_after (slice_index_or holders.old l None) l event.processor event.kind }
 {
@@ -90,7 +90,7 @@ fn hold(holders: &mut [Option<usize>; MOST_LOCKS], event: Event)
 
 /// Takes note of a flag that is set.
 fn set(flags: &mut [bool; MOST_FLAGS], kind: Kind)
-    requires { (s : TheSizes) × AreSizesSmall s × KindInRange s kind }
+    requires { (s : TheSizes) × AreSizesJudged s × KindInRange s kind }
     ensures { (f : ℕ) → slice_index_or flags.new f false
         ≡ tells_flag_set_after (slice_index_or flags.old f false) f kind }
 {
@@ -102,7 +102,7 @@ fn set(flags: &mut [bool; MOST_FLAGS], kind: Kind)
 impl Frontier {
     /// Before the first event.
     pub fn new(sizes: Sizes) -> Frontier
-        requires { AreSizesSmall (sizes_of sizes) }
+        requires { AreSizesJudged (sizes_of sizes) }
         ensures tells { FrontTellsHistory [] result }
         ensures sizes { result.sizes ≡ sizes }
     {

@@ -6,10 +6,11 @@ ghost use Rattle.journal.specs.declared.event.Event.{Event};
 ghost use Rattle.journal.specs.PageImages.{GapCounts};
 ghost use Rattle.journal.specs.declared.event.Kind.TheVariants.{Fetch, Store};
 ghost use Rattle.journal.specs.Prelude.{HasImageCount, IsTimeOf, did};
-ghost use Rattle.judge.specs.Prelude.{AreGapCountsFew, AreGapsOf, AreGapsLong, AreSizesSmall, GapCountsAmong, IsEventInSizes, TellsGaps, sizes_of};
-ghost use Rattle.judge.specs.Prelude.{GapFetchedUpTo, GapStoresInPage, gap_tally_row_index, most_in_history};
+ghost use Rattle.judge.specs.Prelude.{AreGapCountsFew, AreGapsOf, AreGapsLong, AreSizesJudged, GapCountsAmong, IsEventInSizes, TellsGaps, sizes_of};
+ghost use Rattle.judge.specs.Prelude.{GapFetchedUpTo, GapStoresInPage, gap_tally_row_index, most_in_history, most_judged_addresses};
 
 use crate::sizes::Sizes;
+use crate::sparse_table::SparseTable;
 use crate::tally::Tally;
 use base::MOST_PROCESSORS;
 use journal::{Clock, Clocks, Event, Kind};
@@ -26,14 +27,14 @@ pub(crate) struct CountedGap {
 /// A history, taken an event at a time, of which it tells what copies of pages lack: what a fetch that comes next has to
 /// count, and in which of its intervals a processor stores in a page.
 ///
-/// It takes memory in the order of the pages' words times the processors, and four bytes for each first store of an
-/// interval to a page or to a word.
+/// It takes memory for the words that are stored to and the pages that are fetched, by processor, and four bytes for each first
+/// store of an interval to a page or to a word.
 #[derive(Drop)]
 pub struct Gaps {
     pub(crate) sizes: Sizes,
     pub(crate) clocks: Clocks,
     /// Of each page and processor the timestamp that the processor had at its last fetch of the page; zeros before.
-    pub(crate) fetched: Vec<Clock>,
+    pub(crate) fetched: SparseTable<Clock>,
     /// Of each page and processor the intervals in which it stores in the page, each once.
     pub(crate) intervals: Tally,
     /// The same, each once for each word.
@@ -75,7 +76,7 @@ impl CountedGap {
 /// Where it is kept what there is of a page or address and a processor.
 fn row_at(number: usize, processor: usize) -> usize
     requires processor { processor < most_processors }
-    requires number { number ≤ 2 ^ 12 }
+    requires number { number ≤ most_judged_addresses }
     ensures { result ≡ gap_tally_row_index number processor }
 {
     number * MOST_PROCESSORS + processor
@@ -91,7 +92,7 @@ fn writers_of(records: usize) -> usize
 impl Gaps {
     /// Before the first event. The only error is running out of memory.
     pub fn new(alloc: Global, sizes: Sizes) -> Result<Gaps, AllocError>
-        requires { AreSizesSmall (sizes_of sizes) }
+        requires { AreSizesJudged (sizes_of sizes) }
         ensures tells { IfOk result (TellsGaps []) }
         ensures sizes { IfOk result (λ g. g.sizes ≡ sizes) }
     {
@@ -100,7 +101,7 @@ impl Gaps {
         Ok(Gaps {
             sizes,
             clocks: Clocks::new(alloc, sizes.processors)?,
-            fetched: vec![in alloc; [0; MOST_PROCESSORS]; rows]?,
+            fetched: SparseTable::new(alloc, rows)?,
             intervals: Tally::new(alloc, rows, rows)?,
             words: Tally::new(alloc, rows, marks)?,
         })
@@ -124,14 +125,17 @@ impl Gaps {
 
     /// The timestamp that the processor had at its last fetch of the page; zeros before it. It tells which stores of others
     /// its fetches of the page have brought.
-    pub fn last_fetch(&self, processor: usize, page: usize) -> &Clock
+    pub fn last_fetch(&self, processor: usize, page: usize) -> Clock
         requires tells { (j : List Event) × TellsGaps j self.now }
         requires processor { processor < most_processors }
         requires page { page < self.now.sizes.pages }
         ensures { (j : List Event) → TellsGaps j self.now
-            → GapFetchedUpTo (sizes_of self.now.sizes) j processor page (slice_index result.now) }
+            → GapFetchedUpTo (sizes_of self.now.sizes) j processor page (slice_index result) }
     {
-        &self.fetched[row_at(page, processor)]
+        match self.fetched.get(row_at(page, processor)) {
+            Some(time) => time,
+            None => [0; MOST_PROCESSORS],
+        }
     }
 
     /// In how many of its intervals from `from` on and below `to` the processor `by` stores in the page. They are found by
@@ -161,7 +165,7 @@ impl Gaps {
             return CountedGap::none();
         }
         let row = row_at(page, by);
-        let from = self.fetched[row_at(page, processor)][by];
+        let from = self.last_fetch(processor, page)[by];
         let to = self.clocks.of(processor)[by];
         let records = self.intervals.count(row, from, to);
         let words = self.words.count(row, from, to);
@@ -194,7 +198,7 @@ impl Gaps {
         requires address { address < self.old.sizes.pages * self.old.sizes.words }
         ensures sizes { self.new.sizes ≡ self.old.sizes }
         ensures clocks { self.new.clocks ≡ self.old.clocks }
-        ensures long { AreGapsLong self.new }
+        ensures long { OnOk result (AreGapsLong self.new) }
         ensures kept { OnOk result ((j : List Event) → TellsGaps j self.old → (v : ℕ)
             → AreGapsOf (did j processor (Store address v)) self.new) }
     {
@@ -205,17 +209,18 @@ impl Gaps {
     }
 
     /// Takes note of a fetch of the page by the processor, the next event.
-    fn fetch(&mut self, processor: usize, page: usize)
-        requires tells { (j : List Event) × TellsGaps j self.old }
+    fn fetch(&mut self, processor: usize, page: usize) -> Result<(), AllocError>
+        requires tells { (j : List Event) × TellsGaps j self.old × (length j < 2 ^ 22) }
         requires processor { processor < self.old.sizes.processors }
         requires page { page < self.old.sizes.pages }
         ensures sizes { self.new.sizes ≡ self.old.sizes }
         ensures clocks { self.new.clocks ≡ self.old.clocks }
-        ensures long { AreGapsLong self.new }
-        ensures kept { (j : List Event) → TellsGaps j self.old → (writers records words : ℕ)
-            → AreGapsOf (did j processor (Fetch writers page records words)) self.new }
+        ensures long { OnOk result (AreGapsLong self.new) }
+        ensures kept { OnOk result ((j : List Event) → TellsGaps j self.old → (writers records words : ℕ)
+            → AreGapsOf (did j processor (Fetch writers page records words)) self.new) }
     {
-        self.fetched[row_at(page, processor)] = *self.clocks.of(processor);
+        let time = *self.clocks.of(processor);
+        self.fetched.set(row_at(page, processor), time)
     }
 
     /// Keeps what the event changes, which comes next, but for the timestamps so far.
@@ -224,15 +229,12 @@ impl Gaps {
         requires within { IsEventInSizes (sizes_of self.old.sizes) event }
         ensures sizes { self.new.sizes ≡ self.old.sizes }
         ensures clocks { self.new.clocks ≡ self.old.clocks }
-        ensures long { AreGapsLong self.new }
+        ensures long { OnOk result (AreGapsLong self.new) }
         ensures kept { OnOk result ((j : List Event) → TellsGaps j self.old → AreGapsOf (j ++ event ∷ []) self.new) }
     {
         match event.kind {
             Kind::Store(address, _) => self.tally(event.processor, address),
-            Kind::Fetch { page, .. } => {
-                self.fetch(event.processor, page);
-                Ok(())
-            }
+            Kind::Fetch { page, .. } => self.fetch(event.processor, page),
             _ => Ok(()),
         }
     }

@@ -3,7 +3,7 @@ ghost use Rattle.std.specs.Prelude.{◌≡◌, ◌↔◌, ◌≤◌, ◌*◌, If
 ghost use Rattle.base.specs.Prelude.{most_held, most_processors};
 ghost use Rattle.journal.specs.Sizes.{addresses};
 ghost use Rattle.journal.specs.Prelude.{AddressesInRange, IsFirstRace, ProcessorsInRange, RaceFree};
-ghost use Rattle.judge.specs.Prelude.{AreSizesSmall, IsHistoryInSizes, IsHistoryOfJournal, IsHistoryOfSizes, IsSizedHistory};
+ghost use Rattle.judge.specs.Prelude.{AreSizesJudged, AreSizesSmall, IsHistoryInSizes, IsHistoryOfJournal, IsHistoryOfSizes, IsSizedHistory};
 ghost use Rattle.judge.specs.Prelude.{most_in_history, sizes_of, whole_history};
 
 use crate::sizes::Sizes;
@@ -89,6 +89,7 @@ impl<'a> History<'a> {
     pub fn sizes(&self) -> Sizes
         ensures value { result ≡ self.now.sizes }
         ensures small { AreSizesSmall (sizes_of result) }
+        ensures judged { AreSizesJudged (sizes_of result) }
     {
         self.sizes
     }

@@ -1,7 +1,7 @@
 //! The first event of a history that no cluster could make.
 ghost use Rattle.std.specs.Prelude.{◌≤◌, MatchOption, length};
 ghost use Rattle.base.specs.Prelude.{most_held};
-ghost use Rattle.judge.specs.Prelude.{AreSizesSmall, IsFirstIllFormed, WellFormedOrLax, sizes_of};
+ghost use Rattle.judge.specs.Prelude.{AreSizesJudged, IsFirstIllFormed, WellFormedOrLax, sizes_of};
 
 use crate::front::Frontier;
 use crate::sizes::Sizes;
@@ -23,7 +23,7 @@ pub struct IllFormed {
 /// Nothing is asked of the events' own numbers, which may be out of range. It takes no memory, and time in the order
 /// of the events times the processors.
 pub fn first_ill_formed(sizes: Sizes, events: &[Event], lax: bool) -> Option<IllFormed>
-    requires sizes { AreSizesSmall (sizes_of sizes) }
+    requires sizes { AreSizesJudged (sizes_of sizes) }
     requires few { length events.now ≤ most_held }
     ensures { MatchOption result (WellFormedOrLax lax (sizes_of sizes) events.now)
         (IsFirstIllFormed lax (sizes_of sizes) events.now) }

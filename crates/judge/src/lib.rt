@@ -33,6 +33,7 @@ mod permitted;
 mod races;
 mod sizes;
 pub mod sources;
+mod sparse_table;
 mod tally;
 mod why;
 
@@ -47,5 +48,5 @@ pub use models::MemoryModel;
 pub use owed::Owed;
 pub use permitted::Permitted;
 pub use races::Races;
-pub use sizes::Sizes;
+pub use sizes::{MOST_ADDRESSES, Sizes};
 pub use why::Why;

@@ -3,7 +3,7 @@ ghost use Rattle.std.specs.Prelude.{◌≡◌, ◌↔◌, ◌<◌, ◌≤◌, �
 ghost use Rattle.base.specs.Prelude.{most_held};
 ghost use Rattle.journal.specs.declared.event.Event.{Event};
 ghost use Rattle.journal.specs.Counted.{AreCounted};
-ghost use Rattle.judge.specs.Prelude.{AreSizesSmall, CountsItsGap, IsFirstMiscounted, IsEventInSizes, Miscounts};
+ghost use Rattle.judge.specs.Prelude.{AreSizesJudged, CountsItsGap, IsFirstMiscounted, IsEventInSizes, Miscounts};
 ghost use Rattle.judge.specs.Prelude.{TellsGaps, WellFormedOrLax, sizes_of};
 
 use crate::gaps::{CountedGap, Gaps};
@@ -75,7 +75,7 @@ pub fn first_miscounted(
     sizes: Sizes,
     events: &[Event],
 ) -> Result<Option<Miscounted>, AllocError>
-    requires sizes { AreSizesSmall (sizes_of sizes) }
+    requires sizes { AreSizesJudged (sizes_of sizes) }
     requires few { length events.now ≤ most_held }
     requires well { WellFormedOrLax true (sizes_of sizes) events.now }
     ensures { IfOk result (λ o. MatchOption o (AreCounted (sizes_of sizes) events.now)

@@ -6,7 +6,7 @@ ghost use Rattle.journal.specs.declared.event.Kind.TheVariants.{Load};
 ghost use Rattle.journal.specs.Sizes.{Sizes as TheSizes, addresses};
 ghost use Rattle.journal.specs.Prelude.{did, event as an_event};
 ghost use Rattle.judge.specs.declared.models.MemoryModel.{MemoryModel as AModel};
-ghost use Rattle.judge.specs.Prelude.{AreOwedBy, ArePermitted, AreSizesSmall, IsOwed, IsRacyWithNext, IsEventInSizes, sizes_of};
+ghost use Rattle.judge.specs.Prelude.{AreOwedBy, ArePermitted, AreSizesJudged, IsOwed, IsRacyWithNext, IsEventInSizes, sizes_of};
 
 use crate::flat_memory::FlatMemory;
 use crate::models::MemoryModel;
@@ -32,7 +32,7 @@ pub enum Owed {
 impl Owed {
     /// Before the first event of a history of these sizes. The only error is running out of memory.
     pub fn new(alloc: Global, model: MemoryModel, sizes: Sizes) -> Result<Owed, AllocError>
-        requires { AreSizesSmall (sizes_of sizes) }
+        requires { AreSizesJudged (sizes_of sizes) }
         ensures { IfOk result (AreOwedBy model (sizes_of sizes) []) }
     {
         let addresses = sizes.pages * sizes.words;

@@ -1,12 +1,13 @@
 //! The race that is nearest to an event.
-ghost use Rattle.std.specs.Prelude.{◌≡◌, ◌↔◌, ◌⊎◌, ℕ, ◌+◌, ◌*◌, ◌<◌, ◌≤◌, ◌^◌, [], ◌∷◌, ◌++◌, IfOk, IfSome, OnOk, List};
-ghost use Rattle.std.specs.Prelude.{Some, Option, length, slice_get, slice_index, take, vec_len};
+ghost use Rattle.std.specs.Prelude.{◌≡◌, ◌↔◌, ◌⊎◌, ℕ, ◌+◌, ◌<◌, ◌≤◌, ◌^◌, [], ◌∷◌, ◌++◌, IfOk, IfSome, OnOk, List};
+ghost use Rattle.std.specs.Prelude.{Some, length, slice_index, take};
 ghost use Rattle.base.specs.Prelude.{most_held, most_processors};
 ghost use Rattle.journal.specs.declared.event.Event.{Event};
 ghost use Rattle.journal.specs.Prelude.{AddressInRange, AddressesInRange, ProcessorsInRange};
-ghost use Rattle.judge.specs.declared.races.Access.{Access};
-ghost use Rattle.judge.specs.Prelude.{RaceAccessesAreKept, AreRacesOf, IsLastUncountedByRaces, IsNearestTo, IsUncountedByRaces};
+ghost use Rattle.judge.specs.Prelude.{RaceAccessesAreKept, AreRacesOf, IsLastUncountedByRaces, IsNearestTo, IsSparse, IsUncountedByRaces};
+ghost use Rattle.judge.specs.Prelude.{sparse_at};
 
+use crate::sparse_table::SparseTable;
 use base::MOST_PROCESSORS;
 use journal::{Clock, Clocks, Event, Kind};
 use std::alloc::{AllocError, Global};
@@ -23,31 +24,32 @@ pub(crate) struct Access {
 /// A history, taken an event at a time, of which it tells which of its accesses race with one that comes next.
 ///
 /// Of two accesses of a processor the later one is known to less. So each processor's last store to an address and its
-/// last access of it tell all. It takes memory in the order of the addresses times the processors.
+/// last access of it tell all. It takes memory in the order of the accesses that are kept, and a byte for each address at most.
 #[derive(Drop)]
 pub struct Races {
     processors: usize,
     addresses: usize,
     clocks: Clocks,
     /// Of each address and processor the last store.
-    stores: Vec<Option<Access>>,
+    stores: SparseTable<Access>,
     /// The last load or store.
-    accesses: Vec<Option<Access>>,
+    accesses: SparseTable<Access>,
 }
 
 /// The place of the access, if it is another processor's and the timestamp doesn't count its interval.
 fn uncounted(
-    rows: &[Option<Access>],
+    rows: &SparseTable<Access>,
     row: usize,
     time: &Clock,
     processor: usize,
     by: usize,
 ) -> Option<usize>
-    requires within { row + by < length rows.now }
+    requires sparse { IsSparse rows.now }
+    requires within { row + by < 2 ^ 64 }
     requires by { by < most_processors }
-    ensures { (i : ℕ) → (result ≡ Some i) ↔ IsUncountedByRaces rows.now row (slice_index time.now) processor by i }
+    ensures { (i : ℕ) → (result ≡ Some i) ↔ IsUncountedByRaces (sparse_at rows.now) row (slice_index time.now) processor by i }
 {
-    let access = rows[row + by]?;
+    let access = rows.get(row + by)?;
     if by == processor || access.interval < time[by] {
         None
     } else {
@@ -70,15 +72,16 @@ fn later(nearest: Option<usize>, place: usize) -> usize
 /// The last access of the row's first `count` processors that is another processor's, and whose interval the timestamp
 /// doesn't count.
 fn last_uncounted(
-    rows: &[Option<Access>],
+    rows: &SparseTable<Access>,
     row: usize,
     count: usize,
     time: &Clock,
     processor: usize,
 ) -> Option<usize>
-    requires within { row + count ≤ length rows.now }
+    requires sparse { IsSparse rows.now }
+    requires within { row + count < 2 ^ 64 }
     requires count { count ≤ most_processors }
-    ensures { IsLastUncountedByRaces rows.now row (slice_index time.now) processor count result }
+    ensures { IsLastUncountedByRaces (sparse_at rows.now) row (slice_index time.now) processor count result }
 {
     let mut nearest = None;
     for by in 0..count {
@@ -87,14 +90,6 @@ fn last_uncounted(
         }
     }
     nearest
-}
-
-/// So many rows without an access.
-fn no_accesses(alloc: Global, rows: usize) -> Result<Vec<Option<Access>>, AllocError>
-    ensures long { IfOk result (λ v. vec_len v ≡ rows) }
-    ensures none { IfOk result (λ v. (r : ℕ) (o : Option Access) → slice_get v.items r ≡ Some o → None ≡ o) }
-{
-    vec![in alloc; None; rows]
 }
 
 impl Races {
@@ -111,8 +106,8 @@ impl Races {
             processors,
             addresses,
             clocks: Clocks::new(alloc, processors)?,
-            stores: no_accesses(alloc, rows)?,
-            accesses: no_accesses(alloc, rows)?,
+            stores: SparseTable::new(alloc, rows)?,
+            accesses: SparseTable::new(alloc, rows)?,
         })
     }
 
@@ -149,8 +144,8 @@ impl Races {
         }
     }
 
-    /// Keeps the event, which comes at this place, but for the timestamps so far.
-    fn keep(&mut self, event: Event, place: usize)
+    /// Keeps the event, which comes at this place, but for the timestamps so far. The only error is running out of memory.
+    fn keep(&mut self, event: Event, place: usize) -> Result<(), AllocError>
         requires tells { (j : List Event) × AreRacesOf j self.old × (length j ≡ place) }
         requires processor { event.processor < self.old.processors }
         requires address { AddressInRange self.old.addresses event.kind }
@@ -158,21 +153,26 @@ impl Races {
         ensures clocks { self.new.clocks ≡ self.old.clocks }
         ensures processors { self.new.processors ≡ self.old.processors }
         ensures addresses { self.new.addresses ≡ self.old.addresses }
-        ensures kept { (j : List Event) → AreRacesOf j self.old → length j ≡ place
-            → RaceAccessesAreKept (j ++ event ∷ []) self.new }
+        ensures kept { OnOk result ((j : List Event) → AreRacesOf j self.old → length j ≡ place
+            → RaceAccessesAreKept (j ++ event ∷ []) self.new) }
     {
         let processor = event.processor;
-        let access = Some(Access {
+        let access = Access {
             place: place as u32,
             interval: self.clocks.of(processor)[processor],
-        });
+        };
         match event.kind {
-            Kind::Load(address, _) => self.accesses[address * MOST_PROCESSORS + processor] = access,
-            Kind::Store(address, _) => {
-                self.accesses[address * MOST_PROCESSORS + processor] = access;
-                self.stores[address * MOST_PROCESSORS + processor] = access;
+            Kind::Load(address, _) => {
+                self.accesses
+                    .set(address * MOST_PROCESSORS + processor, access)
             }
-            _ => {}
+            Kind::Store(address, _) => {
+                self.accesses
+                    .set(address * MOST_PROCESSORS + processor, access)?;
+                self.stores
+                    .set(address * MOST_PROCESSORS + processor, access)
+            }
+            _ => Ok(()),
         }
     }
 
@@ -188,7 +188,7 @@ impl Races {
         ensures processors { self.new.processors ≡ self.old.processors }
         ensures addresses { self.new.addresses ≡ self.old.addresses }
     {
-        self.keep(events[place], place);
+        self.keep(events[place], place)?;
         self.clocks.note(events, place)
     }
 }

@@ -1,13 +1,15 @@
 //! The sizes of a cluster.
 ghost use Rattle.std.specs.Prelude.{◌↔◌, IsTrue};
 ghost use Rattle.journal.specs.WellFormed.{KindInRange};
-ghost use Rattle.judge.specs.Prelude.{AreSizesSmall, IsEventInSizes, sizes_of};
+ghost use Rattle.judge.specs.Prelude.{AreSizesJudged, AreSizesSmall, IsEventInSizes, sizes_of};
 
 use base::{MOST_FLAGS, MOST_LOCKS, MOST_PAGES, MOST_WORDS};
 use journal::{Event, Kind, MOST_PROCESSORS};
 
-/// The sizes of the cluster whose history is judged: at most 16 processors, 64 pages of 64 words, 32 locks and 32
-/// flags.
+/// The most addresses of a history that is judged.
+pub const MOST_ADDRESSES: usize = 1 << 20;
+
+/// The sizes of the cluster whose history is judged: at most 16 processors, `MOST_ADDRESSES` addresses, 32 locks and 32 flags.
 #[derive(Clone, Copy, Debug, PartialEq, Eq)]
 pub struct Sizes {
     /// How many processors it has.
@@ -23,7 +25,19 @@ pub struct Sizes {
 }
 
 impl Sizes {
-    /// Whether a history of these sizes can be judged: whether they are as small as that.
+    /// Whether a history of these sizes can be judged: whether they are no larger than that.
+    pub fn are_judged(&self) -> bool
+        ensures { IsTrue result ↔ AreSizesJudged (sizes_of self.now) }
+    {
+        self.processors <= MOST_PROCESSORS
+            && self.pages <= MOST_ADDRESSES
+            && self.words <= MOST_ADDRESSES
+            && self.pages * self.words <= MOST_ADDRESSES
+            && self.locks <= MOST_LOCKS
+            && self.flags <= MOST_FLAGS
+    }
+
+    /// Whether they are the product's own: at most 16 processors, 64 pages of 64 words, 32 locks and 32 flags.
     pub fn are_small(&self) -> bool
         ensures { IsTrue result ↔ AreSizesSmall (sizes_of self.now) }
     {
@@ -36,7 +50,7 @@ impl Sizes {
 
     /// Whether the numbers that the event names are within the sizes.
     pub(crate) fn have(&self, kind: Kind) -> bool
-        requires { AreSizesSmall (sizes_of self.now) }
+        requires { AreSizesJudged (sizes_of self.now) }
         ensures { IsTrue result ↔ KindInRange (sizes_of self.now) kind }
     {
         match kind {
@@ -49,7 +63,7 @@ impl Sizes {
     }
     /// Whether the event's processor and the numbers that it names are within the sizes.
     pub fn have_event(&self, event: Event) -> bool
-        requires { AreSizesSmall (sizes_of self.now) }
+        requires { AreSizesJudged (sizes_of self.now) }
         ensures { IsTrue result ↔ IsEventInSizes (sizes_of self.now) event }
     {
         event.processor < self.processors && self.have(event.kind)

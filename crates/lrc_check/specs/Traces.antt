@@ -5,6 +5,7 @@ pub mod Lawful
 pub mod Begun
 pub mod Names
 pub mod Lines
+pub mod Heads
 pub mod Faults
 pub mod Fed
 pub mod Laws

@@ -4,7 +4,6 @@ ghost use Rattle.std.specs.Io.KnownBytes.{Appends, Keeps};
 ghost use Rattle.causes.specs.Prelude.{IsRaceApart};
 ghost use Rattle.journal.specs.Prelude.{Race};
 ghost use Rattle.lrc_check.specs.Traces.Prelude.{IsNoTrace};
-ghost use Rattle.judge.specs.Prelude.{AreSizesSmall};
 ghost use Rattle.judge.specs.Prelude.{sizes_of as judged_sizes};
 ghost use Rattle.lrc_check.specs.Traces.Prelude.{IsTrace, bare, trace_sizes_of};
 ghost use Rattle.lrc_check.specs.Prelude.{AreUnprotectedTold, CameBeforeOutput, IsChecked, IsFoundOf, IsFaultOfTrace};
@@ -12,32 +11,38 @@ ghost use Rattle.lrc_check.specs.Prelude.{are_locksets_told};
 
 use crate::checked::{Checked, Rules};
 use crate::fault::CheckFault;
-use crate::history::{history_of, sizes_for};
+use crate::history::sizes_for;
 use crate::judging::judge_history;
 use crate::locksets::unprotected_of;
 use crate::text::{Told, text_of};
-use crate::traces::trace::{LabelledTrace, Trace, read};
-use causes::{RaceApart, race_apart};
-use judge::History;
+use crate::traces::trace::{LabelledTrace, Trace, TraceSizes, read};
+use causes::{RaceApart, accesses_apart};
 use judge::locksets::Unprotected;
 use lrc_report::render::OutFault;
 use std::alloc::{AllocError, Global};
 use std::io::Write;
 
-/// What keeps the accesses of this race of the history apart; None where no race was found.
+/// What keeps the accesses of this race of the trace apart; None where no race was found.
 fn apart_of(
     alloc: Global,
-    history: &History<'_>,
+    trace: &Trace,
     race: Option<(usize, usize)>,
 ) -> Result<Option<RaceApart>, AllocError>
-    requires { IfSome race (λ r. Race history.now.events r.0 r.1) }
+    requires trace { IsTrace (trace_sizes_of trace.now.sizes) trace.now.events.items }
+    requires race { IfSome race (λ r. Race trace.now.events.items r.0 r.1) }
     ensures { IfOk result (λ o. MatchOption race (o ≡ None)
-        (λ r. IfSome o (IsRaceApart history.now.sizes.locks history.now.events r.0 r.1))) }
+        (λ r. IfSome o (IsRaceApart trace.now.sizes.locks trace.now.events.items r.0 r.1))) }
 {
-    match race {
-        Some(race) => Ok(Some(race_apart(alloc, history, race)?)),
-        None => Ok(None),
-    }
+    let Some(race) = race else {
+        return Ok(None);
+    };
+    let TraceSizes {
+        processors,
+        locks,
+        ..
+    } = trace.sizes;
+    let apart = accesses_apart(alloc, processors, locks, &trace.events, race)?;
+    Ok(Some(apart))
 }
 
 /// Writes the bytes, and has the writer pass on what it still keeps.
@@ -81,8 +86,7 @@ pub fn judge_trace(
 {
     let sizes = sizes_for(trace.sizes);
     let found = judge_history(alloc, sizes, &trace.events, rules)?;
-    let history = history_of(trace.sizes, &trace.events);
-    let race = apart_of(alloc, &history, found.race)?;
+    let race = apart_of(alloc, trace, found.race)?;
     let unprotected = unprotected_of(alloc, sizes, trace, locksets, &found)?;
     Ok(JudgedTrace {
         found,

@@ -7,7 +7,7 @@ ghost use Rattle.journal.specs.declared.event.Event.{Event};
 ghost use Rattle.journal.specs.declared.event.Kind.TheVariants.{Load};
 ghost use Rattle.judge.specs.Lax.{MayFollowOrLax};
 ghost use Rattle.judge.specs.declared.models.MemoryModel.TheVariants.{LazyRelease};
-ghost use Rattle.judge.specs.Prelude.{AreSizesSmall, CountsItsGap, IsRacyWithNext, IsEventInSizes, IsOwed, Miscounts, sizes_of};
+ghost use Rattle.judge.specs.Prelude.{AreSizesJudged, CountsItsGap, IsRacyWithNext, IsEventInSizes, IsOwed, Miscounts, sizes_of};
 ghost use Rattle.lrc_check.specs.declared.checked.TraceVerdict.TheVariants as verdict;
 ghost use Rattle.lrc_check.specs.Prelude.{AreGapsJudged, IsFaithfulAndCounted, IsChecked, IsJudgedFaithful, IsJudged, IsLie, IsNextUnexplained, IsRaceOf};
 ghost use Rattle.lrc_check.specs.Prelude.{is_checked_load as is_a_load, checked_for_race, unjudged_loads};
@@ -54,7 +54,7 @@ fn gaps_for(
     model: MemoryModel,
     lax: bool,
 ) -> Result<Option<Gaps>, AllocError>
-    requires { AreSizesSmall (sizes_of sizes) }
+    requires { AreSizesJudged (sizes_of sizes) }
     ensures { IfOk result (AreGapsJudged model lax sizes []) }
 {
     if are_counts_judged(model, lax) {
@@ -73,7 +73,7 @@ impl TraceJudge {
         model: MemoryModel,
         lax: bool,
     ) -> Result<TraceJudge, AllocError>
-        requires { AreSizesSmall (sizes_of sizes) }
+        requires { AreSizesJudged (sizes_of sizes) }
         ensures judged { IfOk result (IsJudged []) }
         ensures model { IfOk result (λ x. x.model ≡ model) }
         ensures lax { IfOk result (λ x. x.lax ≡ lax) }
@@ -321,7 +321,7 @@ pub fn judge_history(
     events: &[Event],
     rules: Rules,
 ) -> Result<Checked, AllocError>
-    requires sizes { AreSizesSmall (sizes_of sizes) }
+    requires sizes { AreSizesJudged (sizes_of sizes) }
     requires few { length events.now ≤ most_held }
     ensures { IfOk result (IsChecked rules (sizes_of sizes) events.now) }
 {

@@ -29,6 +29,7 @@ pub mod traces;
 pub use checked::{Checked, Lie, Rules, TraceVerdict, Unexplained};
 pub use checking::{JudgedTrace, check, check_trace, judge_trace};
 pub use fault::CheckFault;
+pub use history::can_be_told;
 pub use judging::{TraceJudge, judge_history};
 pub use telling::{ToldTrace, tell_trace};
 pub use text::{AnswersTold, answers_told, reason_text};

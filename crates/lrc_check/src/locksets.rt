@@ -1,6 +1,6 @@
 //! Words of a trace of which somebody forgot the lock, and their text.
 ghost use Rattle.std.specs.Prelude.{◌≡◌, IfOk};
-ghost use Rattle.judge.specs.Prelude.{AreSizesSmall, sizes_of as judged_sizes};
+ghost use Rattle.judge.specs.Prelude.{AreSizesJudged, sizes_of as judged_sizes};
 ghost use Rattle.lrc_check.specs.Traces.Prelude.{IsTrace, trace_sizes_of};
 ghost use Rattle.lrc_check.specs.Prelude.{AreUnprotectedTold, are_locksets_told, is_faithful_verdict};
 
@@ -39,7 +39,7 @@ pub(crate) fn unprotected_of(
 ) -> Result<Vec<Option<Unprotected>>, AllocError>
     requires trace { IsTrace (trace_sizes_of trace.now.sizes) trace.now.events.items }
     requires same { judged_sizes sizes ≡ trace_sizes_of trace.now.sizes }
-    requires small { AreSizesSmall (judged_sizes sizes) }
+    requires small { AreSizesJudged (judged_sizes sizes) }
     ensures { IfOk result (λ v. AreUnprotectedTold (are_locksets_told asked found.now)
         (trace_sizes_of trace.now.sizes) trace.now.events.items v.items) }
 {

@@ -1,5 +1,6 @@
 //! What of a trace is told: how far, and what is said of it.
 ghost use Rattle.std.specs.Prelude.{◌≡◌, IfOk, is_some};
+ghost use Rattle.judge.specs.Prelude.{AreSizesSmall};
 ghost use Rattle.lrc_check.specs.Traces.Prelude.{IsTrace, trace_sizes_of};
 ghost use Rattle.lrc_check.specs.Prelude.{IsTraceTold, is_lying};
 
@@ -40,14 +41,16 @@ fn lie_of(
     }
 }
 
-/// What is told of the trace, which is judged by the model, lax or not. The only error is running out of memory.
+/// What is told of the trace, which is judged by the model, lax or not. Whether it `can_be_told` is to be asked before. The only
+/// error is running out of memory.
 pub fn tell_trace(
     alloc: Global,
     labelled: &LabelledTrace,
     model: MemoryModel,
     lax: bool,
 ) -> Result<ToldTrace<'_>, AllocError>
-    requires { IsTrace (trace_sizes_of labelled.now.trace.sizes) labelled.now.trace.events.items }
+    requires trace { IsTrace (trace_sizes_of labelled.now.trace.sizes) labelled.now.trace.events.items }
+    requires small { AreSizesSmall (trace_sizes_of labelled.now.trace.sizes) }
     ensures { IfOk result
         (IsTraceTold model lax (trace_sizes_of labelled.now.trace.sizes) labelled.now.trace.events.items labelled.now.labels) }
 {

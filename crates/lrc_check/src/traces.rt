@@ -1,6 +1,6 @@
 //! Traces: journals from any system, given as text, and the reader of that text.
 //!
-//! A trace's text is a script's first line, which has the sizes, and then a line for each event, as a report prints
+//! A trace's text is a line of its sizes, as a script's first line, and then a line for each event, as a report prints
 //! them: `event 8 1 fetch 0 1 1 1`, numbered from 0, each with its line feed, and nothing else. What stands on a line
 //! behind two spaces in a row is its label (module `labels`).
 //!
@@ -19,6 +19,7 @@
 
 mod begun;
 pub mod fault;
+mod head;
 pub mod labels;
 pub mod laws;
 mod line;

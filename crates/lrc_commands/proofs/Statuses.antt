@@ -7,7 +7,7 @@ use Rattle.lrc_program.specs.declared.fault.ProgramFault.TheVariants as program
 use Rattle.lrc_program.specs.Statuses.{status_of_cause, status_of}
 use Rattle.lrc_program.proofs.Statuses.{status_some, status_of_scripts, before}
 use Rattle.lrc_commands.specs.declared.fault.StudyFault.{StudyFault}
-use Rattle.lrc_commands.specs.declared.fault.StudyFault.TheVariants.{Program, Trace, Long, Unshown, Untold}
+use Rattle.lrc_commands.specs.declared.fault.StudyFault.TheVariants.{Program, Trace, Long, Wide, Unshown, Untold}
 use Rattle.lrc_commands.specs.Statuses.{study_status_of, IsStudyStatusOf, IsInputsStatus, IsStatusBeforeAnswer}
 
 -- a fault has some status
@@ -15,6 +15,7 @@ study_status_some : (fault : StudyFault) → study_status_of fault ≢ 0
 study_status_some (Program fault) is = status_some fault is
 study_status_some (Trace line fault) is = absurd (omega (arith, is))
 study_status_some Long is = absurd (omega (arith, is))
+study_status_some Wide is = absurd (omega (arith, is))
 study_status_some (Unshown address) is = absurd (omega (arith, is))
 study_status_some Untold is = absurd (omega (arith, is))
 
@@ -23,6 +24,7 @@ status_of_inputs : (fault : StudyFault) → study_status_of fault ≡ 2 → IsIn
 status_of_inputs (Program fault) is = status_of_scripts fault is
 status_of_inputs (Trace line fault) is = tt
 status_of_inputs Long is = absurd (omega (arith, is))
+status_of_inputs Wide is = absurd (omega (arith, is))
 status_of_inputs (Unshown address) is = absurd (omega (arith, is))
 status_of_inputs Untold is = absurd (omega (arith, is))
 
@@ -31,6 +33,7 @@ pub study_status_before : (fault : StudyFault) → study_status_of fault ≢ 4 �
 study_status_before (Program fault) isnt = before fault isnt
 study_status_before (Trace line fault) isnt = tt
 study_status_before Long isnt = tt
+study_status_before Wide isnt = tt
 study_status_before (Unshown address) isnt = tt
 study_status_before Untold isnt = tt
 
@@ -54,6 +57,7 @@ study_status_small : (fault : StudyFault) → study_status_of fault ≤ 5
 study_status_small (Program fault) = program_status_small fault
 study_status_small (Trace line fault) = omega arith
 study_status_small Long = omega arith
+study_status_small Wide = omega arith
 study_status_small (Unshown address) = omega arith
 study_status_small Untold = omega arith
 

@@ -10,6 +10,7 @@ use Rattle.lrc_check.specs.Traces.Labels.{bare}
 use Rattle.lrc_check.specs.Traces.Lawful.{IsNoTrace, IsTrace}
 use Rattle.lrc_check.specs.Traces.Text.{trace_text}
 use Rattle.journal.specs.Races.{Race}
+use Rattle.judge.specs.Sizes.{AreSizesSmall}
 use Rattle.judge.specs.declared.models.MemoryModel.{MemoryModel}
 use Rattle.judge.specs.declared.models.MemoryModel.TheVariants as model
 use Rattle.lrc_check.specs.declared.checked.TraceVerdict.{TraceVerdict}
@@ -57,6 +58,14 @@ pub record IsUnfaithfulTrace (m : MemoryModel) (lax : Bool) (source : Option (Li
 abbrev pub IsToldAs : Bool → MemoryModel → Bool → Option (List ℕ) → Type 0
 IsToldAs true m lax source = IsUnfaithfulTrace m lax source
 IsToldAs false m lax source = IsFaithfulTrace m lax source
+
+-- the source had the text of a trace that can be told: its sizes are a script's at most
+pub record IsSmallTrace (source : Option (List ℕ)) : Type 0 where
+  pub sizes : Sizes
+  pub events : List Event
+  pub trace : IsTrace sizes events
+  pub text_is : HasTraceText source sizes events
+  pub small : AreSizesSmall sizes
 
 -- the source had the text of a trace that races
 pub record IsRacyTrace (source : Option (List ℕ)) : Type 0 where

@@ -2,13 +2,14 @@
 use Rattle.std.specs.Prelude.{ℕ, ◌≡◌, ◌⊎◌, ⊤}
 use Rattle.lrc_program.specs.Statuses.{IsStatusBeforeOutput, IsScriptsStatus, status_of}
 use Rattle.lrc_commands.specs.declared.fault.StudyFault.{StudyFault}
-use Rattle.lrc_commands.specs.declared.fault.StudyFault.TheVariants.{Program, Trace, Long, Unshown, Untold}
+use Rattle.lrc_commands.specs.declared.fault.StudyFault.TheVariants.{Program, Trace, Long, Wide, Unshown, Untold}
 
 -- the status of a fault
 abbrev pub study_status_of : StudyFault → ℕ
 study_status_of (Program fault) = status_of fault
 study_status_of (Trace line fault) = 2
 study_status_of Long = 4
+study_status_of Wide = 4
 study_status_of (Unshown address) = 5
 study_status_of Untold = 4
 
@@ -21,6 +22,7 @@ abbrev pub IsInputsStatus : StudyFault → Type 0
 IsInputsStatus (Program fault) = IsScriptsStatus fault
 IsInputsStatus (Trace line fault) = ⊤
 IsInputsStatus Long = ⊥
+IsInputsStatus Wide = ⊥
 IsInputsStatus (Unshown address) = ⊥
 IsInputsStatus Untold = ⊥
 

@@ -11,6 +11,7 @@ ghost use Rattle.lrc_commands.specs.declared.fault.StudyFault.TheVariants as stu
 ghost use Rattle.lrc_program.specs.declared.fault.ProgramFault.TheVariants as program;
 ghost use Rattle.lrc_commands.specs.Prelude.{IsStatusBeforeAnswer, IsInputsStatus, IsStudyStatusOf, study_status_of};
 
+use base::{MOST_PAGES, MOST_WORDS};
 use conformance::{RunFault, ScheduleFault};
 use lrc_check::CheckFault;
 use lrc_check::traces::fault::TraceFault;
@@ -37,6 +38,8 @@ pub enum StudyFault {
     Trace(usize, TraceFault),
     /// There are more bytes than any trace has.
     Long,
+    /// The trace has more pages or words than one that can be told.
+    Wide,
     /// The word at this address is asked for, and the script doesn't show it.
     Unshown(usize),
     /// A run's journal isn't one of the script's sizes, or isn't there if the run can't go on. That doesn't come of runs on a
@@ -52,6 +55,9 @@ impl StudyFault {
             StudyFault::Program(fault) => fault.lines(alloc, file, script),
             StudyFault::Trace(line, fault) => format!(in alloc; "lrc: line {line}: {fault}\n"),
             StudyFault::Long => String::from_str(alloc, "lrc: trace too long\n"),
+            StudyFault::Wide => format!(in alloc;
+                "lrc: trace too large to tell\n  explain takes at most {MOST_PAGES} pages of {MOST_WORDS} words; check judges it\n"
+            ),
             StudyFault::Unshown(address) => format!(in alloc;
                 "lrc: until: address {address} isn't shown\n  add {address} to the last line of the script, show ADDRESS ..\n"
             ),
@@ -59,15 +65,15 @@ impl StudyFault {
         }
     }
 
-    /// The exit status: 2 for a trace that is refused, 4 for one that is too long and for a run without its journal, 5 for a
-    /// word that isn't shown, else that of a run.
+    /// The exit status: 2 for a trace that is refused, 4 for one that is too long, or too large to tell, and for a run without
+    /// its journal, 5 for a word that isn't shown, else that of a run.
     fn status(self) -> u8
         ensures { result ≡ study_status_of self }
     {
         match self {
             StudyFault::Program(fault) => fault.status(),
             StudyFault::Trace(..) => 2,
-            StudyFault::Long | StudyFault::Untold => 4,
+            StudyFault::Long | StudyFault::Wide | StudyFault::Untold => 4,
             StudyFault::Unshown(_) => 5,
         }
     }

@@ -2,13 +2,13 @@
 ghost use Rattle.std.specs.Prelude.{◌≡◌, ◌≢◌, ◌⊎◌, IfErr, IfOk};
 ghost use Rattle.std.specs.Io.KnownBytes.{Keeps};
 ghost use Rattle.lrc_commands.specs.Prelude.{IsFaithfulTrace, IsInputsStatus, IsNoTraceOf, IsStatusBeforeAnswer};
-ghost use Rattle.lrc_commands.specs.Prelude.{IsToldAs, IsUnfaithfulTrace, judged_model};
+ghost use Rattle.lrc_commands.specs.Prelude.{IsSmallTrace, IsToldAs, IsUnfaithfulTrace, judged_model};
 
 use crate::checking::{UNFAITHFUL, model_for, read_trace};
 use crate::drawing::draw_trace;
 use crate::explaining::{drawing_of, extent_of};
 use crate::fault::StudyFault;
-use lrc_check::{ToldTrace, tell_trace};
+use lrc_check::{ToldTrace, can_be_told, tell_trace};
 use lrc_explain::{ToldHistory, render_trace};
 use lrc_options::options::{TellOptions, TraceModel};
 use std::alloc::Global;
@@ -48,7 +48,8 @@ fn print_told<W: Write>(
     Ok(())
 }
 
-/// Reads a trace, judges it and tells it, or draws it: whether it lies.
+/// Reads a trace, judges it and tells it, or draws it: whether it lies. One of more pages or words than a script may have isn't
+/// told.
 fn tell_source<S: Read, W: Write>(
     alloc: Global,
     options: &TellOptions,
@@ -57,11 +58,15 @@ fn tell_source<S: Read, W: Write>(
 ) -> Result<bool, StudyFault>
     ensures told { IfOk result (λ lies.
         IsToldAs lies (judged_model options.now.model) options.now.lax (S.remaining source.old)) }
+    ensures small { IfOk result (λ _. IsSmallTrace (S.remaining source.old)) }
     ensures refused { IfErr result (λ fault. IsInputsStatus fault → IsNoTraceOf (S.remaining source.old)) }
     ensures early { IfErr result
         (λ fault. IsStatusBeforeAnswer fault → Keeps (W.contents out.old) (W.contents out.new)) }
 {
     let labelled = read_trace(alloc, source)?;
+    if !can_be_told(labelled.trace.sizes) {
+        return Err(StudyFault::Wide);
+    }
     let told = tell_trace(alloc, &labelled, model_for(options.model), options.lax)?;
     print_told(alloc, options, &told, out)?;
     Ok(told.lie.is_some())
@@ -82,6 +87,8 @@ pub fn tell_program<S: Read, W: Write, E: Write>(
     // The source had a trace, and it is not.
     ensures unfaithful { result ≡ 6
         → IsUnfaithfulTrace (judged_model options.now.model) options.now.lax (S.remaining source.old) }
+    // What is told is a trace of no more pages and words than a script may have.
+    ensures small { (result ≡ 0) ⊎ (result ≡ 6) → IsSmallTrace (S.remaining source.old) }
     // What is refused as a trace is none.
     ensures refused { result ≡ 2 → IsNoTraceOf (S.remaining source.old) }
     // At any status but 4, a trace is told whole or not at all.

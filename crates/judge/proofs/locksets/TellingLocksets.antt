@@ -21,7 +21,7 @@ use Rattle.judge.specs.declared.locksets.held.HeldLocks.{HeldLocks}
 use Rattle.judge.specs.declared.locksets.finding.Unprotected.{Unprotected}
 use Rattle.judge.specs.declared.locksets.word.Guarded.{Guarded}
 use Rattle.judge.specs.declared.locksets.word.WatchedWord.{WatchedWord}
-use Rattle.judge.specs.Sizes.{AreSizesSmall}
+use Rattle.judge.specs.Sizes.{AreSizesJudged}
 use Rattle.judge.specs.Locksets.Unlocked.{unlocked_event, without_locks}
 use Rattle.judge.specs.Locksets.Held.{AreHeldLocks, HasHeldLock, IsLockSmall}
 use Rattle.judge.specs.Locksets.Pairs.{AreUnprotected, IsGuardedPair, IsUnguardedPair, IsUnprotectedBy, NeedsLock}
@@ -36,7 +36,7 @@ locksets_address_within s (Load b v) a lt is = subst (λ c. c < addresses s) (sa
 locksets_address_within s (Store b v) a lt is = subst (λ c. c < addresses s) (same_Some b a is) lt
 locksets_address_within s _ a lt is = absurd (cc is)
 
-pub locksets_lock_small : (s : Sizes) (k : Kind) → AreSizesSmall s → KindInRange s k → IsLockSmall k
+pub locksets_lock_small : (s : Sizes) (k : Kind) → AreSizesJudged s → KindInRange s k → IsLockSmall k
 locksets_lock_small s (Ask l) small lt = (let few = small.locks in omega arith)
 locksets_lock_small s (Acquire l) small lt = (let few = small.locks in omega arith)
 locksets_lock_small s (Release l) small lt = (let few = small.locks in omega arith)

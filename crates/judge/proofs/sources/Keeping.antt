@@ -1,5 +1,6 @@
 -- What is kept of stores and timestamps, as the journal goes on.
 use Rattle.std.proofs.Common.{◌≡◌, ◌≢◌, ℕ, ◌+◌, ◌-◌, ◌<◌, ◌≤◌, inl, inr, List, [], ◌∷◌, ◌++◌, length, take, Some, slice_get, slice_index, slice_set, subst, sym, refl, ap, ◌∙◌, false, arith, length-append}
+use Rattle.std.specs.Prelude.{None}
 use Rattle.std.specs.Global.{Vec}
 use Rattle.std.proofs.lemmas.Bool.{cases_eq}
 use Rattle.std.proofs.lemmas.Option.{none-some, slice_get_within}
@@ -7,7 +8,6 @@ use Rattle.std.proofs.lemmas.List.{take-append-le, get_or_append_left, get_or-se
 use Rattle.std.proofs.Math.Seq.{take-append_seam, get_or-append_seam}
 use Rattle.base.specs.InOrderOnce.{Has, InOrder}
 use Rattle.base.proofs.SlicesAndCounts.{slice_push_cases, slice_get-append_left, slice_get-last}
-use Rattle.base.proofs.SliceSets.{slice_get-set_found, slice_get-set_other}
 use Rattle.journal.specs.declared.event.Event.{Event}
 use Rattle.journal.specs.declared.event.Kind.TheVariants.{Store}
 use Rattle.journal.specs.DidEvent.{did, event}
@@ -22,7 +22,9 @@ use Rattle.journal.proofs.Times.PushesCovered.{others_keep_time, own_time_quiet}
 use Rattle.judge.specs.declared.sources.stored.Stored.{Stored}
 use Rattle.judge.specs.declared.sources.known.Known.{Known}
 use Rattle.judge.specs.Sources.Stored.{IsStoreOf, AreStored, IsStoredRecent, AreStoredKnown}
+use Rattle.judge.specs.declared.sparse_table.SparseTable.{SparseTable}
 use Rattle.judge.specs.Sources.Tells.{source_row_of}
+use Rattle.judge.specs.SparseTables.{IsSparseRowWith, sparse_at, sparse_items, sparse_row}
 
 -- more timestamps, and those that there were as before
 pub record AreMoreTimesForKeeping (old new : List (List ℕ)) : Type 0 where
@@ -228,58 +230,57 @@ keeping_stored_known_forgot j e old new times gone same are = record { recent = 
     ]
 
 -- the rows of stores, of which each has those of a processor to an address
-abbrev pub AreRowsForKeeping : List Event → List (List ℕ) → List (Vec Stored) → Type 0
-AreRowsForKeeping j times rows =
-    (a q : ℕ) (row : Vec Stored) → q < 16 → slice_get rows (source_row_of a q) ≡ Some row → AreStored j times a q row.items
+abbrev pub AreRowsForKeeping : List Event → List (List ℕ) → SparseTable (Vec Stored) → Type 0
+AreRowsForKeeping j times rows = (a q : ℕ) → q < 16 → AreStored j times a q (sparse_row rows (source_row_of a q))
 
 -- an event that is no store leaves them
-pub keeping_stored_rows_others : (j : List Event) (e : Event) (times : List (List ℕ)) (rows : List (Vec Stored))
+pub keeping_stored_rows_others : (j : List Event) (e : Event) (times : List (List ℕ)) (rows : SparseTable (Vec Stored))
     → ((a v : ℕ) → e.kind ≢ Store a v) → AreRowsForKeeping j times rows → AreRowsForKeeping (j ++ e ∷ []) times rows
-keeping_stored_rows_others j e times rows away are a q row lt at =
-    keeping_all_stored_others j e times a q row.items (λ v is. away a v (ap (λ (x : Event). x.kind) is)) (are a q row lt at)
+keeping_stored_rows_others j e times rows away are a q lt =
+    keeping_all_stored_others j e times a q (sparse_row rows (source_row_of a q))
+    (λ v is. away a v (ap (λ (x : Event). x.kind) is)) (are a q lt)
 
 keeping_stored_store_same : (a b v w p q : ℕ) → event p (Store a v) ≡ event q (Store b w) → (a ≡ b) × (p ≡ q)
 keeping_stored_store_same a b v w p q is =
     let kind = ap (λ (x : Event). x.kind) is in (cc, ap (λ (x : Event). x.processor) is)
 
 -- a store that comes next is one more of its row
-pub keeping_stored_rows_next : (j : List Event) (old new : List (List ℕ)) (rows : List (Vec Stored)) (a p v : ℕ)
-    (was now : Vec Stored) (s : Stored) → AreMoreTimesForKeeping old new → p < 16 → slice_get rows (source_row_of a p) ≡ Some was
-    → now.items ≡ was.items ++ s ∷ [] → s.place ≡ length j → s.interval ≡ count_of is_closing j p
-    → s.time < length new → IsTimeOf j p (entry new s.time) → AreRowsForKeeping j old rows
-    → AreRowsForKeeping (did j p (Store a v)) new (slice_set rows (source_row_of a p) now)
-keeping_stored_rows_next j old new rows a p v was now s more few there items place interval within time are b q row lt at =
+pub keeping_stored_rows_next : {j : List Event} (old new : List (List ℕ)) {before after : SparseTable (Vec Stored)} (a p v : ℕ)
+    {s : Stored} → AreMoreTimesForKeeping old new → p < 16 → IsSparseRowWith before after (source_row_of a p) s
+    → s.place ≡ length j → s.interval ≡ count_of is_closing j p
+    → s.time < length new → IsTimeOf j p (entry new s.time) → AreRowsForKeeping j old before
+    → AreRowsForKeeping (did j p (Store a v)) new after
+keeping_stored_rows_next {j = j} old new {before = before} {after = after} a p v {s = s} more few written place interval within time are b q lt =
     elim (cases_eq (source_row_of b q) (source_row_of a p)) [
       | inl same ↦ here same
       | inr other ↦ kept other
     ]
   where
-    here : source_row_of b q ≡ source_row_of a p → AreStored (did j p (Store a v)) new b q row.items
+    here : source_row_of b q ≡ source_row_of a p → AreStored (did j p (Store a v)) new b q (sparse_row after (source_row_of b q))
     here same =
         let one : a ≡ b = omega arith in
         let two : p ≡ q = omega arith in
-        let is = slice_get-set_found rows (source_row_of a p) now row
-        (ap (slice_get (slice_set rows (source_row_of a p) now)) (sym same) ∙ at) in
+        let was = sparse_row before (source_row_of a p) in
         let next =
-        are_stored_next j new a p v was.items s place interval within time
-        (keeping_all_stored_more j old new a p was.items more (are a p was few there)) in
-        subst (λ x. AreStored (did j p (Store a v)) new x q row.items) one
-        (subst (λ x. AreStored (did j p (Store a v)) new a x row.items) two
-        (subst (λ (x : Vec Stored). AreStored (did j p (Store a v)) new a p x.items) is
-        (subst (AreStored (did j p (Store a v)) new a p) (sym items) next)))
+        are_stored_next j new a p v was s place interval within time
+        (keeping_all_stored_more j old new a p was more (are a p few)) in
+        subst (λ x. AreStored (did j p (Store a v)) new x q (sparse_row after (source_row_of x q))) one
+        (subst (λ x. AreStored (did j p (Store a v)) new a x (sparse_row after (source_row_of a x))) two
+        (subst (AreStored (did j p (Store a v)) new a p) (sym written.now) next))
 
-    kept : source_row_of b q ≢ source_row_of a p → AreStored (did j p (Store a v)) new b q row.items
+    kept : source_row_of b q ≢ source_row_of a p → AreStored (did j p (Store a v)) new b q (sparse_row after (source_row_of b q))
     kept other =
-        let there = sym (slice_get-set_other rows (source_row_of a p) (source_row_of b q) now other) ∙ at in
-        keeping_all_stored_others j (event p (Store a v)) new b q row.items
+        let was = sparse_row before (source_row_of b q) in
+        subst (AreStored (did j p (Store a v)) new b q) (sym (written.others (source_row_of b q) other))
+        (keeping_all_stored_others j (event p (Store a v)) new b q was
         (λ w is. (let same = keeping_stored_store_same a b v w p q is in other (rw (same.0, same.1) refl)))
-        (keeping_all_stored_more j old new b q row.items more (are b q row lt there))
+        (keeping_all_stored_more j old new b q was more (are b q lt)))
 
 -- before the first event there is no store
-pub keeping_stored_rows_first : (times : List (List ℕ)) (rows : List (Vec Stored))
-    → ((n : ℕ) (row : Vec Stored) → slice_get rows n ≡ Some row → row.items ≡ []) → AreRowsForKeeping [] times rows
-keeping_stored_rows_first times rows empty a q row lt at =
-    subst (AreStored [] times a q) (sym (empty (source_row_of a q) row at)) (record {
+pub keeping_stored_rows_first : (times : List (List ℕ)) (rows : SparseTable (Vec Stored)) → ((r : ℕ) → sparse_at rows r ≡ None)
+    → AreRowsForKeeping [] times rows
+keeping_stored_rows_first times rows empty a q lt =
+    subst (AreStored [] times a q) (sym (ap sparse_items (empty (source_row_of a q)))) (record {
       each = λ n s at. absurd (none-some s at);
       rising = λ m n s t lt at to. absurd (none-some s at);
       all = λ i v does. absurd (none-some (event q (Store a v)) does);

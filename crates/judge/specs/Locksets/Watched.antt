@@ -13,7 +13,7 @@ use Rattle.judge.specs.declared.locksets.word.LockedAccess.{LockedAccess}
 use Rattle.judge.specs.declared.locksets.word.Storers.{Storers}
 use Rattle.judge.specs.declared.locksets.word.Storers.TheVariants.{Nobody, One, Several}
 use Rattle.judge.specs.declared.locksets.word.WatchedWord.{WatchedWord}
-use Rattle.judge.specs.Sizes.{AreSizesSmall}
+use Rattle.judge.specs.Sizes.{AreSizesJudged}
 use Rattle.judge.specs.Miscounted.{IsEventInSizes}
 use Rattle.judge.specs.Locksets.Unlocked.{without_locks}
 use Rattle.judge.specs.Locksets.Held.{AreHeldLocks, HeldLocksShare}
@@ -35,7 +35,7 @@ pub record IsLockedAccess (j : List Event) (a i : ℕ) (x : LockedAccess) : Type
 
 -- y is the access of a at place n, and t its processor's timestamp there, where locks order nothing
 pub record ComesNextToWord (s : Sizes) (j : List Event) (a n : ℕ) (y : LockedAccess) (t : ℕ → ℕ) : Type 0 where
-  pub small : AreSizesSmall s
+  pub small : AreSizesJudged s
   pub range : AreEventsInSizes s j
   pub access : IsLockedAccess j a n y
   pub time : IsTimeOf (take n (without_locks j)) y.processor t

@@ -5,7 +5,7 @@ ghost use Rattle.journal.specs.Sizes.{addresses};
 ghost use Rattle.journal.specs.declared.event.Event.{Event as AnEvent};
 ghost use Rattle.journal.specs.Events.{At, is_store};
 ghost use Rattle.journal.specs.Prelude.{address_of};
-ghost use Rattle.judge.specs.Prelude.{AreSizesSmall, sizes_of};
+ghost use Rattle.judge.specs.Prelude.{AreSizesJudged, sizes_of};
 ghost use Rattle.judge.specs.declared.locksets.finding.Unprotected.{Unprotected as AnUnprotected};
 ghost use Rattle.judge.specs.declared.locksets.word.WatchedWord.{WatchedWord as AWord};
 ghost use Rattle.judge.specs.Locksets.Prelude.{AreEventsInSizes, AreUnprotected, IsLockedAccess, IsLockSmall};
@@ -92,7 +92,7 @@ fn found_of(word: &WatchedWord) -> Option<Unprotected>
 impl Locksets {
     /// Before the first event of a history of these sizes. The only error is running out of memory.
     fn new(alloc: Global, sizes: Sizes) -> Result<Locksets, AllocError>
-        requires { AreSizesSmall (sizes_of sizes) }
+        requires { AreSizesJudged (sizes_of sizes) }
         ensures tells { IfOk result (λ x. (j : List AnEvent) → TellsLocksets j 0 x) }
         ensures sizes { IfOk result (λ x. x.sizes ≡ sizes) }
     {
@@ -124,11 +124,11 @@ impl Locksets {
     /// Takes note of the word that the event at this place accesses, if it accesses one. The only error is running out of
     /// memory.
     fn watch(&mut self, event: Event, place: usize) -> Result<(), AllocError>
-        requires { (j : List AnEvent) × AreSizesSmall (sizes_of self.old.sizes)
+        requires { (j : List AnEvent) × AreSizesJudged (sizes_of self.old.sizes)
             × AreEventsInSizes (sizes_of self.old.sizes) j × At j place event × TellsLocksets j place self.old }
         ensures rest { self.new ≡ record self.old { words = self.new.words } }
         ensures long { vec_len self.new.words ≡ vec_len self.old.words }
-        ensures words { OnOk result ((j : List AnEvent) → AreSizesSmall (sizes_of self.old.sizes)
+        ensures words { OnOk result ((j : List AnEvent) → AreSizesJudged (sizes_of self.old.sizes)
             → AreEventsInSizes (sizes_of self.old.sizes) j → At j place event → TellsLocksets j place self.old
             → TellsWords j (place + 1) self.new.words.items) }
     {
@@ -145,7 +145,7 @@ impl Locksets {
     fn note(&mut self, events: &[Event], firm: &[Event], place: usize) -> Result<(), AllocError>
         requires place { place < length events.now }
         requires few { length events.now ≤ most_held }
-        requires small { AreSizesSmall (sizes_of self.old.sizes) }
+        requires small { AreSizesJudged (sizes_of self.old.sizes) }
         requires range { AreEventsInSizes (sizes_of self.old.sizes) events.now }
         requires firm { firm.now ≡ without_locks events.now }
         requires tells { TellsLocksets events.now place self.old }
@@ -185,7 +185,7 @@ pub fn unprotected_words(
     events: &[Event],
 ) -> Result<Vec<Option<Unprotected>>, AllocError>
     requires few { length events.now ≤ most_held }
-    requires sizes { AreSizesSmall (sizes_of sizes) }
+    requires sizes { AreSizesJudged (sizes_of sizes) }
     requires range { AreEventsInSizes (sizes_of sizes) events.now }
     ensures long { IfOk result (λ v. vec_len v ≡ addresses (sizes_of sizes)) }
     ensures found { IfOk result (λ v. AreUnprotected events.now v.items) }

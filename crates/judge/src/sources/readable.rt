@@ -1,17 +1,18 @@
 //! What a load that comes next may answer.
 ghost use Rattle.std.specs.Prelude.{◌≡◌, ◌↔◌, ℕ, ◌+◌, ◌*◌, ◌<◌, ◌≤◌, ◌^◌, [], ◌∷◌, ◌++◌, IsTrue, IfOk, OnOk, List};
 ghost use Rattle.std.specs.Prelude.{Some, cond, length, max, slice_get, slice_index, take, vec_len};
-ghost use Rattle.std.specs.Global.{Vec};
 ghost use Rattle.base.specs.Prelude.{most_held, most_processors};
 ghost use Rattle.journal.specs.declared.event.Event.{Event};
 ghost use Rattle.journal.specs.declared.event.Kind.TheVariants.{Load, Store};
 ghost use Rattle.journal.specs.ExplainedAnswers.{IsAnswer};
 ghost use Rattle.journal.specs.Prelude.{AddressInRange, AddressesInRange, ProcessorsInRange, did};
 ghost use Rattle.judge.specs.declared.sources.stored.Stored.{Stored};
-ghost use Rattle.judge.specs.Sources.Prelude.{SourceStoresAreKept, AreLast, IsLastStoreFollowed, IsLatest, IsLastUnfollowed, AreSourceStoresOf};
+ghost use Rattle.judge.specs.Sources.Prelude.{SourceStoresAreKept, AreLast, IsLastStoreFollowed, IsLatest, IsLastUnfollowed, AreSourceStoresOf, source_row_of};
+ghost use Rattle.judge.specs.Prelude.{sparse_row};
 
 use crate::sources::known::Known;
 use crate::sources::stored::{Stored, last_below};
+use crate::sparse_table::{SparseTable, push_in_row};
 use base::MOST_PROCESSORS;
 use journal::{Clock, Clocks, Event, Kind};
 use std::alloc::{AllocError, Global};
@@ -21,9 +22,9 @@ type LastStores = [Option<Stored>; MOST_PROCESSORS];
 
 /// A history, taken an event at a time, of which it tells what a load that comes next may answer.
 ///
-/// The timestamps are vector timestamps (Mattern 1989; Fidge 1988), which tell happens-before. It takes memory in the
-/// order of the addresses times the processors, 12 bytes a store, and 64 bytes more for the first store after its
-/// processor's timestamp has changed; and what the timestamps of locks, flags and open episodes take.
+/// The timestamps are vector timestamps (Mattern 1989; Fidge 1988), which tell happens-before. It takes memory for the addresses
+/// that are stored to: 12 bytes a store, and 64 bytes more for the first store after its processor's timestamp has changed; and
+/// what the timestamps of locks, flags and open episodes take.
 #[derive(Drop)]
 pub struct Sources {
     pub(crate) processors: usize,
@@ -31,20 +32,7 @@ pub struct Sources {
     pub(crate) clocks: Clocks,
     known: Known,
     /// The stores in order: of each address a row for each processor, sixteen rows an address.
-    pub(crate) stores: Vec<Vec<Stored>>,
-}
-
-/// So many rows without a store.
-fn no_stores(alloc: Global, count: usize) -> Result<Vec<Vec<Stored>>, AllocError>
-    ensures long { IfOk result (λ v. vec_len v ≡ count) }
-    ensures empty { IfOk result (λ v. (n : ℕ) (row : Vec Stored) → slice_get v.items n ≡ Some row
-        → row.items ≡ []) }
-{
-    let mut rows = Vec::with_capacity(alloc, count)?;
-    for _ in 0..count {
-        rows.push(Vec::new(alloc))?;
-    }
-    Ok(rows)
+    pub(crate) stores: SparseTable<Vec<Stored>>,
 }
 
 /// Whether the event stores this value.
@@ -104,8 +92,21 @@ impl Sources {
             addresses,
             clocks: Clocks::new(alloc, processors)?,
             known: Known::new(alloc),
-            stores: no_stores(alloc, rows)?,
+            stores: SparseTable::new(alloc, rows)?,
         })
+    }
+
+    /// The stores of the processor `by` to the address.
+    pub(crate) fn stores_of(&self, address: usize, by: usize) -> &[Stored]
+        requires tells { (j : List Event) × AreSourceStoresOf j self.now }
+        requires address { address < self.now.addresses }
+        requires by { by < most_processors }
+        ensures { result.now ≡ sparse_row self.now.stores (source_row_of address by) }
+    {
+        match self.stores.place(address * MOST_PROCESSORS + by) {
+            Some(place) => self.stores.kept[place].as_slice(),
+            None => &[],
+        }
     }
 
     /// Each processor's last store to the address in the past of this processor.
@@ -119,7 +120,7 @@ impl Sources {
         let time = self.clocks.of(processor);
         let mut last = [None; MOST_PROCESSORS];
         for by in 0..self.processors {
-            let stores = &self.stores[address * MOST_PROCESSORS + by];
+            let stores = self.stores_of(address, by);
             last[by] = last_below(stores, intervals(time[by], by == processor));
         }
         last
@@ -213,8 +214,11 @@ impl Sources {
             interval,
             time,
         };
-        self.stores[address * MOST_PROCESSORS + processor].push(store)?;
-        Ok(())
+        push_in_row(
+            &mut self.stores,
+            address * MOST_PROCESSORS + processor,
+            store,
+        )
     }
 
     /// Keeps what the event changes, which comes at this place, but for the timestamps so far.

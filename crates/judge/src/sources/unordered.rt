@@ -10,7 +10,6 @@ ghost use Rattle.judge.specs.Sources.Prelude.{AreSourceStoresOf, AreUnorderedFro
 
 use crate::sources::readable::{Sources, is_store_of};
 use crate::sources::stored::{Stored, first_from};
-use base::MOST_PROCESSORS;
 use journal::Event;
 use std::alloc::{AllocError, Global};
 
@@ -51,7 +50,7 @@ impl Sources {
         ensures { (j : List Event) → AreSourceStoresOf j self.now → by ≢ processor
             → AreUnorderedFrom j processor address by result.0.now result.1 }
     {
-        let stores = self.stores[address * MOST_PROCESSORS + by].as_slice();
+        let stores = self.stores_of(address, by);
         let limit = self.clocks.of(processor)[by];
         (stores, first_from(stores, limit as usize))
     }

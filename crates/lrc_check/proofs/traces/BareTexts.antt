@@ -1,24 +1,21 @@
 -- No line of a trace's text has two spaces in a row, so without its labels the text is the same.
-use Rattle.std.proofs.Common.{◌≡◌, ℕ, zero, suc, ◌+◌, ◌≤◌, Bool, true, false, cond, eqb, List, [], ◌∷◌, ◌++◌, length, map, take, refl, sym, ap, subst, ◌∙◌, append_assoc, arith}
+use Rattle.std.proofs.Common.{◌≡◌, ℕ, zero, suc, ◌+◌, ◌≤◌, List, [], ◌∷◌, ◌++◌, length, map, take, refl, sym, ap, subst, ◌∙◌, append_assoc, arith}
 use Rattle.std.specs.Prelude.{codes}
 use Rattle.std.specs.List.{flat_map, AllByRecursion}
 use Rattle.std.specs.Fmt.{decimal}
 use Rattle.std.proofs.lemmas.List.{take_all}
 use Rattle.journal.specs.declared.event.Event.{Event}
 use Rattle.journal.specs.Sizes.{Sizes}
-use Rattle.lrc_script.specs.Lawful.{AreLawfulSizes}
 use Rattle.lrc_script.specs.LineFaults.{IsLineSplit, IsWordOfLine}
-use Rattle.lrc_script.specs.Text.{cluster_line}
-use Rattle.lrc_script.proofs.Reading.Lines.{line_split}
-use Rattle.lrc_script.proofs.Reading.Numbers.{AreWordNumbers}
 use Rattle.lrc_script.proofs.Reading.Words.{HasNo}
 use Rattle.lrc_report.specs.ReportText.{event_line, event_lines}
 use Rattle.lrc_check.specs.Traces.Labels.{bare, bare_line}
+use Rattle.lrc_check.specs.Traces.Heads.{head_numbers_of}
 use Rattle.lrc_check.specs.Traces.Laws.{BareLaw}
-use Rattle.lrc_check.specs.Traces.Sizes.{trace_sizes_head}
+use Rattle.lrc_check.specs.Traces.Sizes.{AreTraceSizes}
 use Rattle.lrc_check.proofs.traces.Labelling.{IsDouble, by_lines_next, double_before, unlabelled}
 use Rattle.lrc_check.proofs.traces.Lines.{trace_line_bytes, trace_line_clean, trace_line_split, line_words}
-use Rattle.lrc_check.proofs.traces.Texts.{AreSmallInTraceText, trace_head_bytes, trace_text_head_read, trace_small}
+use Rattle.lrc_check.proofs.traces.Texts.{AreSmallInTraceText, trace_head_bytes, trace_head_clean, trace_head_split, trace_small}
 
 abbrev pub HasNoDouble : List ℕ → Type 0
 HasNoDouble bytes = (k : ℕ) → ¬ IsDouble bytes k
@@ -51,31 +48,10 @@ split_bare line w ws split =
 
 -- ---- the line of the sizes
 
-numbers_small : (p n w l g : ℕ) (none : Bool) → AreWordNumbers (p ∷ n ∷ w ∷ l ∷ g ∷ [])
-    → AreWordNumbers (p ∷ n ∷ w ∷ l ∷ cond none [] (g ∷ []))
-numbers_small p n w l g true h = (h.0, (h.1.0, (h.1.1.0, (h.1.1.1.0, tt))))
-numbers_small p n w l g false h = h
-
-head_small : (s : Sizes) → AreLawfulSizes (trace_sizes_head s) → AreWordNumbers (cluster_line (trace_sizes_head s)).numbers
-head_small s h =
-    numbers_small s.processors s.pages s.words s.locks s.flags (eqb s.flags 0) (
-      omega (arith, h.most_processors),
-      (
-        omega (arith, h.most_pages),
-        (
-          omega (arith, h.most_words),
-          (
-            omega (arith, h.locks),
-            (omega (arith, h.flags), tt),
-          ),
-        ),
-      ),
-    )
-
-head_bare : (s : Sizes) → AreLawfulSizes (trace_sizes_head s) → bare_line (trace_head_bytes s) ≡ trace_head_bytes s
+head_bare : (s : Sizes) → AreTraceSizes s → bare_line (trace_head_bytes s) ≡ trace_head_bytes s
 head_bare s h =
-    split_bare (trace_head_bytes s) (codes "cluster") (map decimal (cluster_line (trace_sizes_head s)).numbers)
-    (line_split (codes "cluster") (cluster_line (trace_sizes_head s)).numbers refl (head_small s h))
+    split_bare (trace_head_bytes s) (codes "cluster") (map decimal (head_numbers_of s))
+    (trace_head_split s h)
 
 -- ---- a line, and the text
 
@@ -102,4 +78,4 @@ trace_bare s es h =
     let events = event_lines 0 es in
     bare_same ((trace_head_bytes s ++ 10 ∷ []) ++ events) (trace_head_bytes s ++ 10 ∷ events)
     (append_assoc (trace_head_bytes s) (10 ∷ []) events)
-    (line_bare (trace_head_bytes s) events (trace_text_head_read s h.sizes).one_line (head_bare s h.sizes) (events_bare 0 es (trace_small s es h)))
+    (line_bare (trace_head_bytes s) events (trace_head_clean s h.sizes) (head_bare s h.sizes) (events_bare 0 es (trace_small s es h)))

@@ -5,14 +5,13 @@ use Rattle.std.specs.Fmt.{decimal}
 use Rattle.std.proofs.lemmas.List.{append_cancel_right}
 use Rattle.journal.specs.declared.event.Event.{Event}
 use Rattle.journal.specs.Sizes.{Sizes}
-use Rattle.lrc_script.specs.Lawful.{AreLawfulSizes}
 use Rattle.lrc_script.specs.LineReading.{parts_of_line}
 use Rattle.lrc_script.proofs.Reading.Lines.{decimal_has_no}
 use Rattle.lrc_script.proofs.Reading.Words.{HasNo, HasNo-append, parts_first_word, parts_one_word}
 use Rattle.lrc_report.specs.ReportText.{cut_line, event_lines, left_text}
 use Rattle.lrc_check.specs.declared.traces.fault.TraceFault.{TraceFault}
 use Rattle.lrc_check.specs.declared.traces.fault.TraceFault.TheVariants.{Truncated, Cut, BadLine, BadNumber, NoMemory}
-use Rattle.lrc_check.specs.Traces.Sizes.{trace_sizes_head}
+use Rattle.lrc_check.specs.Traces.Sizes.{AreTraceSizes}
 use Rattle.lrc_check.specs.Traces.Text.{trace_text_head_line, trace_text}
 use Rattle.lrc_check.specs.Traces.Lines.{IsCutLine}
 use Rattle.lrc_check.specs.Traces.Faults.{TraceHeadSays, IsBadTraceLine, IsTraceFault, IsTraceFaultBehind, IsHeadFault, TraceLineSays}
@@ -21,7 +20,7 @@ use Rattle.lrc_check.proofs.traces.CutLines.{cut_bytes, cut_parts}
 use Rattle.lrc_check.proofs.traces.Lines.{trace_line_bytes, line_words, trace_line_plain_word}
 use Rattle.lrc_check.proofs.traces.Places.{trace_of_no_events}
 use Rattle.lrc_check.proofs.traces.Shapes.{trace_unshaped_first}
-use Rattle.lrc_check.proofs.traces.Texts.{trace_text_event_list, trace_head_bytes, trace_text_head_read, trace_text_parts_some, trace_parts}
+use Rattle.lrc_check.proofs.traces.Texts.{trace_text_event_list, trace_head_bytes, trace_head_clean, trace_text_parts_some, trace_parts}
 
 -- such a line, without its line feed
 abbrev pub told : ℕ → List ℕ
@@ -36,7 +35,7 @@ told_cut : (n : ℕ) → 0 < n → n < 2 ^ 32 → IsCutLine (told n)
 told_cut n some small = (n, some, small, sym (cut_bytes n some))
 
 -- the first lines of what is left of a journal
-cut_left_parts : (s : Sizes) (n : ℕ) (es : List Event) → AreLawfulSizes (trace_sizes_head s) → 0 < n → n < 2 ^ 32
+cut_left_parts : (s : Sizes) (n : ℕ) (es : List Event) → AreTraceSizes s → 0 < n → n < 2 ^ 32
     → parts_of_line 10 (trace_text_head_line s ++ (cut_line n ++ event_lines n es))
     ≡ trace_head_bytes s ∷ told n ∷ parts_of_line 10 (event_lines n es)
 cut_left_parts s n es h some small =
@@ -44,7 +43,7 @@ cut_left_parts s n es h some small =
     let left : cut_line n ++ rest ≡ told n ++ 10 ∷ rest =
     ap (λ (x : List ℕ). x ++ rest) (cut_bytes n some) ∙ append_assoc (told n) (10 ∷ []) rest in
     ap (parts_of_line 10) (append_assoc (trace_head_bytes s) (10 ∷ []) (cut_line n ++ rest))
-    ∙ parts_first_word 10 (trace_head_bytes s) (cut_line n ++ rest) (trace_text_head_read s h).one_line
+    ∙ parts_first_word 10 (trace_head_bytes s) (cut_line n ++ rest) (trace_head_clean s h)
     ∙ ap (λ (x : List (List ℕ)). trace_head_bytes s ∷ x)
     (ap (parts_of_line 10) left ∙ parts_first_word 10 (told n) rest (cut_told_clean n small))
 
@@ -101,7 +100,7 @@ among f s t (e ∷ es) bytes rest n i more some small few ne parts lines number 
 
 -- ---- the first line has no fault
 
-cut_bad_first : (f : TraceFault) (s : Sizes) (bytes : List ℕ) (more : List (List ℕ)) → AreLawfulSizes (trace_sizes_head s)
+cut_bad_first : (f : TraceFault) (s : Sizes) (bytes : List ℕ) (more : List (List ℕ)) → AreTraceSizes s
     → parts_of_line 10 bytes ≡ trace_head_bytes s ∷ more → IsBadTraceLine [] bytes (TraceHeadSays f) → ⊥
 cut_bad_first f s bytes more h parts bad =
     let lines : (bad.line ∷ parts_of_line 10 bad.more) ≡ (trace_head_bytes s ∷ more) =
@@ -109,7 +108,7 @@ cut_bad_first f s bytes more h parts bad =
     let same : trace_head_bytes s ≡ bad.line = cc in
     bad.never (s, [], trace_of_no_events s h, [], ap (λ (x : List ℕ). (x ++ 10 ∷ []) ++ []) same)
 
-cut_first_said : (f : TraceFault) (s : Sizes) (bytes line : List ℕ) (more : List (List ℕ)) → AreLawfulSizes (trace_sizes_head s)
+cut_first_said : (f : TraceFault) (s : Sizes) (bytes line : List ℕ) (more : List (List ℕ)) → AreTraceSizes s
     → f ≢ NoMemory → parts_of_line 10 bytes ≡ trace_head_bytes s ∷ line ∷ more → IsHeadFault f bytes → ⊥
 cut_first_said NoMemory s bytes line more h ne parts said = ne refl
 cut_first_said Truncated s bytes line more h ne parts said =
@@ -117,7 +116,7 @@ cut_first_said Truncated s bytes line more h ne parts said =
     omega (arith, ap (λ (x : List (List ℕ)). length x) lines)
 cut_first_said f s bytes line more h ne parts said = cut_bad_first f s bytes (line ∷ more) h parts said
 
-told_fault : (f : TraceFault) (s : Sizes) (n i : ℕ) (es : List Event) (bytes : List ℕ) → AreLawfulSizes (trace_sizes_head s) → 0 < n
+told_fault : (f : TraceFault) (s : Sizes) (n i : ℕ) (es : List Event) (bytes : List ℕ) → AreTraceSizes s → 0 < n
     → n < 2 ^ 32 → f ≢ NoMemory → bytes ≡ trace_text_head_line s ++ (cut_line n ++ event_lines n es) → IsTraceFault bytes i f
     → (i ≡ 2) × (f ≡ Cut)
 told_fault f s n i es bytes h some small ne whole (inl said) =

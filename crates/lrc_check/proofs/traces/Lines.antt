@@ -111,12 +111,12 @@ trace_line_clean_words : (ws : List (List ℕ)) → AreCleanLineWords ws → All
 trace_line_clean_words [] h = tt
 trace_line_clean_words (w ∷ ws) h = (h.0.0, trace_line_clean_words ws h.1)
 
-clean_line : (ws : List (List ℕ)) → AreCleanLineWords ws → HasNo 10 (flat_map (λ v. 32 ∷ v) ws)
+pub clean_line : (ws : List (List ℕ)) → AreCleanLineWords ws → HasNo 10 (flat_map (λ v. 32 ∷ v) ws)
 clean_line [] h = tt
 clean_line (w ∷ ws) h =
     HasNo-append 10 (32 ∷ w) (flat_map (λ v. 32 ∷ v) ws) (λ e. absurd (omega (arith, e)), h.0.1) (clean_line ws h.1)
 
-trace_line_decimals_clean : (ns : List ℕ) → AreWordNumbers ns → AreCleanLineWords (map decimal ns)
+pub trace_line_decimals_clean : (ns : List ℕ) → AreWordNumbers ns → AreCleanLineWords (map decimal ns)
 trace_line_decimals_clean [] small = tt
 trace_line_decimals_clean (n ∷ ns) small =
     let word = line_numbers_are_words (n ∷ []) (small.0, tt) in
@@ -182,7 +182,7 @@ trace_line_decimal_same i j small less e =
     let first = number_again i small in let second = number_again j less in let both = ap number_read e in
     let same : Some i ≡ Some j = cc in cc
 
-trace_line_decimals_same : (ns ms : List ℕ) → AreWordNumbers ns → AreWordNumbers ms → map decimal ns ≡ map decimal ms → ns ≡ ms
+pub trace_line_decimals_same : (ns ms : List ℕ) → AreWordNumbers ns → AreWordNumbers ms → map decimal ns ≡ map decimal ms → ns ≡ ms
 trace_line_decimals_same ns ms small less e =
     let first = numbers_again [] ns small in let second = numbers_again [] ms less in
     let both = ap (numbers_read_after []) e in

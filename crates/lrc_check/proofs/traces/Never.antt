@@ -11,12 +11,11 @@ use Rattle.journal.specs.declared.event.Kind.{Kind}
 use Rattle.journal.specs.declared.event.Kind.TheVariants as kind
 use Rattle.journal.specs.Sizes.{Sizes}
 use Rattle.journal.specs.WellFormed.{KindInRange}
-use Rattle.lrc_script.specs.Lawful.{AreLawfulSizes}
 use Rattle.lrc_script.proofs.Reading.Numbers.{AreWordNumbers}
 use Rattle.lrc_script.proofs.Reading.Words.{HasNo}
 use Rattle.lrc_check.specs.declared.traces.fault.TraceFault.{TraceFault}
 use Rattle.lrc_check.specs.declared.traces.fault.TraceFault.TheVariants.{Cut, BadLine, BadNumber, BadPlace, BadProcessor, OutOfRange, BadLock, BadFlag, TooLong}
-use Rattle.lrc_check.specs.Traces.Sizes.{trace_sizes_head}
+use Rattle.lrc_check.specs.Traces.Sizes.{AreTraceSizes}
 use Rattle.lrc_check.specs.Traces.Text.{trace_text}
 use Rattle.lrc_check.specs.Traces.Lawful.{IsTrace, IsWithinTrace}
 use Rattle.lrc_check.specs.Traces.Names.{trace_name_numbers}
@@ -35,7 +34,7 @@ never_bad_decimals_all [] small = tt
 never_bad_decimals_all (n ∷ ns) small = ((n, small.0, refl), never_bad_decimals_all ns small.1)
 
 -- none of them is no number
-never_bad_number : (ns : List ℕ) (w : List ℕ) → AreWordNumbers ns → Contains (map decimal ns) w → IsNoTraceLineNumber w → ⊥
+pub never_bad_number : (ns : List ℕ) (w : List ℕ) → AreWordNumbers ns → Contains (map decimal ns) w → IsNoTraceLineNumber w → ⊥
 never_bad_number ns w small within none =
     let P : List ℕ → Type 0 = λ v. (n : ℕ) × (n < 2 ^ 32) × (v ≡ decimal n) in
     let n =
@@ -67,7 +66,7 @@ event_never f s count place e g within room there same says =
 
 -- what was said of an event's line
 events_never : (f : TraceFault) (s : Sizes) (es : List Event) (line : List ℕ) (place : ℕ) (e : Event)
-    → AreLawfulSizes (trace_sizes_head s) → IsNextTraceTextLine s es line → IsEventLine line place e → TraceEventSays f s (length es) place e → ⊥
+    → AreTraceSizes s → IsNextTraceTextLine s es line → IsEventLine line place e → TraceEventSays f s (length es) place e → ⊥
 events_never f s es line place e h next here says =
     let small = trace_text_event_small s (length es) next.event h (omega (arith, next.room)) next.within in
     let bytes : line ≡ trace_line_bytes place e =
@@ -77,7 +76,7 @@ events_never f s es line place e h next here says =
     event_never f s (length es) place e next.event next.within next.room agree.0 agree.1 says
 
 -- the shape of the next line
-never_next_unshaped : (s : Sizes) (es : List Event) (line : List ℕ) → AreLawfulSizes (trace_sizes_head s) → (n : IsNextTraceTextLine s es line)
+never_next_unshaped : (s : Sizes) (es : List Event) (line : List ℕ) → AreTraceSizes s → (n : IsNextTraceTextLine s es line)
     → IsTraceLineShaped line (decimal (length es)) (decimal n.event.processor) (trace_name_for n.event.kind)
     (map decimal (trace_name_numbers n.event.kind))
 never_next_unshaped s es line h n =
@@ -87,13 +86,13 @@ never_next_unshaped s es line h n =
     (sym n.line_is)
     (trace_line_shaped (length es) e (trace_text_event_small s (length es) e h (omega (arith, n.room)) n.within))
 
-cut_never : (s : Sizes) (es : List Event) (line : List ℕ) → AreLawfulSizes (trace_sizes_head s) → IsNextTraceTextLine s es line → IsCutLine line → ⊥
+cut_never : (s : Sizes) (es : List Event) (line : List ℕ) → AreTraceSizes s → IsNextTraceTextLine s es line → IsCutLine line → ⊥
 cut_never s es line h next cut =
     let parts = cut_parts line cut.0 cut.1 cut.2 cut.3 in
     trace_unshaped_first line (codes "cut") (decimal cut.0 ∷ []) parts
     (λ e. omega (arith, ap (λ (x : List ℕ). length x) e)) _ _ _ _ (never_next_unshaped s es line h next)
 
-number_never : (s : Sizes) (es : List Event) (line : List ℕ) → AreLawfulSizes (trace_sizes_head s) → IsNextTraceTextLine s es line
+number_never : (s : Sizes) (es : List Event) (line : List ℕ) → AreTraceSizes s → IsNextTraceTextLine s es line
     → HasBadTraceLineNumber line → ⊥
 number_never s es line h next b =
     let e = next.event in
@@ -108,7 +107,7 @@ number_never s es line h next b =
     (subst (λ (x : List (List ℕ)). Contains x b.bad) words b.within) b.no_number
 
 -- a line of which a fault says what is wrong isn't due
-says_never : (f : TraceFault) (s : Sizes) (es : List Event) (line : List ℕ) → AreLawfulSizes (trace_sizes_head s) → IsNextTraceTextLine s es line
+says_never : (f : TraceFault) (s : Sizes) (es : List Event) (line : List ℕ) → AreTraceSizes s → IsNextTraceTextLine s es line
     → TraceLineSays f s es line → ⊥
 says_never Cut s es line h next says = cut_never s es line h next says.1
 says_never BadLine s es line h next says = says.0 _ _ _ _ (never_next_unshaped s es line h next)

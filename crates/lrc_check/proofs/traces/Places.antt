@@ -4,7 +4,6 @@ use Rattle.std.proofs.lemmas.List.{length-append}
 use Rattle.std.proofs.lemmas.List.Elements.{All-nil, All-push}
 use Rattle.journal.specs.declared.event.Event.{Event}
 use Rattle.journal.specs.Sizes.{Sizes}
-use Rattle.lrc_script.specs.Lawful.{AreLawfulSizes}
 use Rattle.lrc_script.specs.LineFaults.{HasLine}
 use Rattle.lrc_script.specs.LineReading.{IsLineCut}
 use Rattle.lrc_script.proofs.Reading.Words.{HasNo}
@@ -13,7 +12,7 @@ use Rattle.lrc_report.proofs.Lines.{lines_append}
 use Rattle.lrc_check.specs.declared.traces.fault.TraceFault.{TraceFault}
 use Rattle.lrc_check.specs.declared.traces.fault.TraceFault.TheVariants.{Truncated, NoMemory}
 use Rattle.lrc_check.specs.declared.traces.trace.Trace.{Trace}
-use Rattle.lrc_check.specs.Traces.Sizes.{trace_sizes_head, trace_sizes_of}
+use Rattle.lrc_check.specs.Traces.Sizes.{AreTraceSizes, trace_sizes_of}
 use Rattle.lrc_check.specs.Traces.Text.{trace_text_head_line, trace_text}
 use Rattle.lrc_check.specs.Traces.Lawful.{IsNoTrace, IsTrace, IsWithinTrace}
 use Rattle.lrc_check.specs.Traces.Begun.{IsTraceBegun, begun_text, trace_line_number_after}
@@ -23,7 +22,7 @@ use Rattle.lrc_check.proofs.traces.Never.{never_begins}
 use Rattle.lrc_check.proofs.traces.Texts.{trace_text_first_due, text_ends, text_feeds}
 
 -- the sizes alone
-pub trace_of_no_events : (s : Sizes) → AreLawfulSizes (trace_sizes_head s) → IsTrace s []
+pub trace_of_no_events : (s : Sizes) → AreTraceSizes s → IsTrace s []
 trace_of_no_events s h = record { sizes = h; few = omega arith; events = All-nil (IsWithinTrace s) }
 
 -- one event more

@@ -1,6 +1,9 @@
 -- The lines of a trace's text are cut apart in one way: so the text has one trace, and each of its lines is due.
-use Rattle.std.proofs.Common.{◌≡◌, ℕ, suc, ◌+◌, ◌<◌, ◌≤◌, eqb, List, [], ◌∷◌, ◌++◌, length, Ok, refl, sym, ap, subst, ◌∙◌, append_assoc, append-nil, arith}
-use Rattle.std.specs.List.{AllByRecursion}
+use Rattle.std.proofs.Common.{◌≡◌, ℕ, suc, ◌+◌, ◌<◌, ◌≤◌, Bool, true, false, cond, eqb, List, [], ◌∷◌, ◌++◌, length, map, refl, sym, ap, subst, ◌∙◌, append_assoc, append-nil, arith}
+use Rattle.std.specs.Prelude.{codes}
+use Rattle.std.specs.List.{AllByRecursion, flat_map}
+use Rattle.std.specs.Fmt.{decimal}
+use Rattle.std.proofs.lemmas.Bool.{eqb-true}
 use Rattle.std.proofs.lemmas.List.{append_cancel_right, length-append}
 use Rattle.std.proofs.lemmas.List.Elements.{recursion_from_All}
 use Rattle.std.proofs.lemmas.List.Splits.{length-slice_split}
@@ -10,22 +13,20 @@ use Rattle.journal.specs.declared.event.Kind.{Kind}
 use Rattle.journal.specs.declared.event.Kind.TheVariants as kind
 use Rattle.journal.specs.Sizes.{Sizes}
 use Rattle.journal.specs.WellFormed.{KindInRange}
-use Rattle.lrc_script.specs.Lawful.{AreLawfulSizes}
-use Rattle.lrc_script.specs.Text.{cluster_line, line_bytes}
-use Rattle.lrc_script.specs.Front.{Headed, Nothing}
-use Rattle.lrc_script.specs.LineReading.{read_after, parts_of_line}
-use Rattle.lrc_script.proofs.Lawful.{sizes_small}
-use Rattle.lrc_script.proofs.Reading.Lines.{LinePasses}
+use Rattle.lrc_script.specs.Text.{cluster_line, line_bytes, spaced}
+use Rattle.lrc_script.specs.LineFaults.{IsLineSplit}
+use Rattle.lrc_script.specs.LineReading.{parts_of_line}
+use Rattle.lrc_script.proofs.Reading.Lines.{line_numbers_flat, line_split}
 use Rattle.lrc_script.proofs.Reading.Numbers.{AreWordNumbers}
-use Rattle.lrc_script.proofs.Reading.Words.{HasNo, parts_first_word, parts_one_word}
-use Rattle.lrc_script.proofs.Front.PassedLines.{head_passes}
+use Rattle.lrc_script.proofs.Reading.Words.{HasNo, HasNo-append, parts_first_word, parts_one_word}
 use Rattle.lrc_report.specs.ReportText.{event_line, event_lines}
-use Rattle.lrc_check.specs.Traces.Sizes.{trace_sizes_head}
+use Rattle.lrc_check.specs.Traces.Sizes.{AreTraceSizes, trace_sizes_head}
+use Rattle.lrc_check.specs.Traces.Heads.{head_numbers_of}
 use Rattle.lrc_check.specs.Traces.Text.{trace_text_head_line, trace_text}
 use Rattle.lrc_check.specs.Traces.Lawful.{HasTraceWords, IsNoOtherTrace, IsTrace, IsWithinTrace}
 use Rattle.lrc_check.specs.Traces.Names.{trace_name_numbers}
 use Rattle.lrc_check.specs.Traces.Faults.{BeginsTraceText}
-use Rattle.lrc_check.proofs.traces.Lines.{AreTraceLineNumbers, trace_line_bytes, trace_line_clean, trace_line_events_differ, line_words}
+use Rattle.lrc_check.proofs.traces.Lines.{AreTraceLineNumbers, clean_line, trace_line_bytes, trace_line_clean, trace_line_decimals_clean, trace_line_decimals_same, trace_line_events_differ, trace_line_plain_word, trace_line_splits_agree, line_words}
 
 -- ---- the line of the sizes
 
@@ -33,45 +34,92 @@ use Rattle.lrc_check.proofs.traces.Lines.{AreTraceLineNumbers, trace_line_bytes,
 abbrev pub trace_head_bytes : Sizes → List ℕ
 trace_head_bytes s = line_bytes (cluster_line (trace_sizes_head s))
 
-pub trace_text_head_read : (s : Sizes) → AreLawfulSizes (trace_sizes_head s) → LinePasses Nothing (cluster_line (trace_sizes_head s)) (Headed (trace_sizes_head s))
-trace_text_head_read s h = head_passes (trace_sizes_head s) (record { sizes = h; no_sections = refl; none_shown = refl })
+trace_head_numbers_few : (p n w l g : ℕ) (none : Bool) → AreWordNumbers (p ∷ n ∷ w ∷ l ∷ g ∷ [])
+    → AreWordNumbers (p ∷ n ∷ w ∷ l ∷ cond none [] (g ∷ []))
+trace_head_numbers_few p n w l g true h = (h.0, (h.1.0, (h.1.1.0, (h.1.1.1.0, tt))))
+trace_head_numbers_few p n w l g false h = h
 
-trace_text_heads_differ : (s t : Sizes) → AreLawfulSizes (trace_sizes_head s) → AreLawfulSizes (trace_sizes_head t) → trace_head_bytes s ≡ trace_head_bytes t → s ≡ t
+pub trace_head_small : (s : Sizes) → AreTraceSizes s → AreWordNumbers (head_numbers_of s)
+trace_head_small s h =
+    let judged = h.judged in
+    trace_head_numbers_few s.processors s.pages s.words s.locks s.flags (eqb s.flags 0) (
+      omega (arith, judged.processors),
+      (
+        omega (arith, judged.pages),
+        (omega (arith, judged.words), (omega (arith, judged.locks), (omega (arith, judged.flags), tt))),
+      ),
+    )
+
+-- it is split into the word and the numbers
+pub trace_head_split : (s : Sizes) → AreTraceSizes s → IsLineSplit (trace_head_bytes s) (codes "cluster") (map decimal (head_numbers_of s))
+trace_head_split s h = line_split (codes "cluster") (head_numbers_of s) refl (trace_head_small s h)
+
+-- it is one line
+pub trace_head_clean : (s : Sizes) → AreTraceSizes s → HasNo 10 (trace_head_bytes s)
+trace_head_clean s h =
+    let ns = head_numbers_of s in
+    HasNo-append 10 (codes "cluster") (flat_map spaced ns) (trace_line_plain_word (codes "cluster") refl).1
+    (subst (HasNo 10) (sym (line_numbers_flat ns)) (clean_line (map decimal ns) (trace_line_decimals_clean ns (trace_head_small s h))))
+
+trace_head_flags_same : (f g : ℕ) (b c : Bool) → eqb f 0 ≡ b → eqb g 0 ≡ c → cond b [] (f ∷ []) ≡ cond c [] (g ∷ []) → f ≡ g
+trace_head_flags_same f g true true p q e = eqb-true f 0 p ∙ sym (eqb-true g 0 q)
+trace_head_flags_same f g true false p q e = absurd cc
+trace_head_flags_same f g false true p q e = absurd cc
+trace_head_flags_same f g false false p q e = cc
+
+abbrev trace_head_sizes : (processors pages words locks flags : ℕ) → Sizes
+trace_head_sizes processors pages words locks flags = record {
+  processors = processors;
+  pages = pages;
+  words = words;
+  locks = locks;
+  flags = flags;
+}
+
+-- no two sizes have the same numbers
+pub trace_head_numbers_same : (s t : Sizes) → head_numbers_of s ≡ head_numbers_of t → s ≡ t
+trace_head_numbers_same s t e =
+    let processors : s.processors ≡ t.processors = cc in
+    let pages : s.pages ≡ t.pages = cc in
+    let words : s.words ≡ t.words = cc in
+    let locks : s.locks ≡ t.locks = cc in
+    let rest : cond (eqb s.flags 0) [] (s.flags ∷ []) ≡ cond (eqb t.flags 0) [] (t.flags ∷ []) = cc in
+    let flags = trace_head_flags_same s.flags t.flags (eqb s.flags 0) (eqb t.flags 0) refl refl rest in
+    ap (λ x. trace_head_sizes x s.pages s.words s.locks s.flags) processors
+    ∙ ap (λ x. trace_head_sizes t.processors x s.words s.locks s.flags) pages
+    ∙ ap (λ x. trace_head_sizes t.processors t.pages x s.locks s.flags) words
+    ∙ ap (λ x. trace_head_sizes t.processors t.pages t.words x s.flags) locks
+    ∙ ap (λ x. trace_head_sizes t.processors t.pages t.words t.locks x) flags
+
+trace_text_heads_differ : (s t : Sizes) → AreTraceSizes s → AreTraceSizes t → trace_head_bytes s ≡ trace_head_bytes t → s ≡ t
 trace_text_heads_differ s t h k e =
-    let first = (trace_text_head_read s h).after_is in let second = (trace_text_head_read t k).after_is in
-    let both : Headed (trace_sizes_head s) ≡ Headed (trace_sizes_head t) =
-    let reads : Ok (Headed (trace_sizes_head s)) ≡ Ok (Headed (trace_sizes_head t)) = sym first ∙ ap (read_after Nothing) e ∙ second in cc in
-    let plans : trace_sizes_head s ≡ trace_sizes_head t = cc in
-    ap (λ p. record {
-      processors = p.processors;
-      pages = p.pages;
-      words = p.words;
-      locks = p.locks;
-      flags = p.flags;
-    }) plans
+    let words = trace_line_splits_agree (trace_head_bytes s) _ _ _ _ (trace_head_split s h)
+    (subst (λ (x : List ℕ). IsLineSplit x (codes "cluster") (map decimal (head_numbers_of t))) (sym e) (trace_head_split t k)) in
+    trace_head_numbers_same s t
+    (trace_line_decimals_same (head_numbers_of s) (head_numbers_of t) (trace_head_small s h) (trace_head_small t k) words.1)
 
 -- ---- the numbers of events within the sizes
 
-trace_text_kind_small : (s : Sizes) (k : Kind) → AreLawfulSizes (trace_sizes_head s) → KindInRange s k → HasTraceWords k → AreWordNumbers (trace_name_numbers k)
+trace_text_kind_small : (s : Sizes) (k : Kind) → AreTraceSizes s → KindInRange s k → HasTraceWords k → AreWordNumbers (trace_name_numbers k)
 trace_text_kind_small s (kind.Load a v) h range words =
-    (omega (arith, (sizes_small (trace_sizes_head s) h).addresses_fit, range), (words, tt))
+    (omega (arith, h.judged.addresses, range), (words, tt))
 trace_text_kind_small s (kind.Store a v) h range words =
-    (omega (arith, (sizes_small (trace_sizes_head s) h).addresses_fit, range), (words, tt))
+    (omega (arith, h.judged.addresses, range), (words, tt))
 trace_text_kind_small s (kind.Fetch w n r d) h range words =
-    (omega (arith, h.most_pages, range), (words.0, (words.1, (words.2, tt))))
-trace_text_kind_small s (kind.Ask l) h range words = (omega (arith, h.locks, range), tt)
-trace_text_kind_small s (kind.Acquire l) h range words = (omega (arith, h.locks, range), tt)
-trace_text_kind_small s (kind.Release l) h range words = (omega (arith, h.locks, range), tt)
+    (omega (arith, h.judged.pages, range), (words.0, (words.1, (words.2, tt))))
+trace_text_kind_small s (kind.Ask l) h range words = (omega (arith, h.judged.locks, range), tt)
+trace_text_kind_small s (kind.Acquire l) h range words = (omega (arith, h.judged.locks, range), tt)
+trace_text_kind_small s (kind.Release l) h range words = (omega (arith, h.judged.locks, range), tt)
 trace_text_kind_small s kind.Arrive h range words = tt
 trace_text_kind_small s kind.Depart h range words = tt
-trace_text_kind_small s (kind.Set f) h range words = (omega (arith, h.flags, range), tt)
-trace_text_kind_small s (kind.Watch f) h range words = (omega (arith, h.flags, range), tt)
-trace_text_kind_small s (kind.Await f) h range words = (omega (arith, h.flags, range), tt)
+trace_text_kind_small s (kind.Set f) h range words = (omega (arith, h.judged.flags, range), tt)
+trace_text_kind_small s (kind.Watch f) h range words = (omega (arith, h.judged.flags, range), tt)
+trace_text_kind_small s (kind.Await f) h range words = (omega (arith, h.judged.flags, range), tt)
 
-pub trace_text_event_small : (s : Sizes) (i : ℕ) (e : Event) → AreLawfulSizes (trace_sizes_head s) → i ≤ most_held → IsWithinTrace s e → AreTraceLineNumbers i e
+pub trace_text_event_small : (s : Sizes) (i : ℕ) (e : Event) → AreTraceSizes s → i ≤ most_held → IsWithinTrace s e → AreTraceLineNumbers i e
 trace_text_event_small s i e h le within = (
   omega (arith, le),
-  (omega (arith, within.processor, h.most_processors), trace_text_kind_small s e.kind h within.kind within.words),
+  (omega (arith, within.processor, h.judged.processors), trace_text_kind_small s e.kind h within.kind within.words),
 )
 
 -- events at their places, from i on
@@ -79,7 +127,7 @@ abbrev pub AreSmallInTraceText : ℕ → List Event → Type 0
 AreSmallInTraceText i [] = Unit {0}
 AreSmallInTraceText i (e ∷ es) = AreTraceLineNumbers i e × AreSmallInTraceText (i + 1) es
 
-trace_text_events_small : (s : Sizes) (i : ℕ) (es : List Event) → AreLawfulSizes (trace_sizes_head s) → i + length es ≤ most_held
+trace_text_events_small : (s : Sizes) (i : ℕ) (es : List Event) → AreTraceSizes s → i + length es ≤ most_held
     → AllByRecursion (IsWithinTrace s) es → AreSmallInTraceText i es
 trace_text_events_small s i [] h le within = tt
 trace_text_events_small s i (e ∷ es) h le within =
@@ -115,7 +163,7 @@ trace_parts s es more h =
     let events = event_lines 0 es in
     let bytes : (trace_text_head_line s ++ events) ++ more ≡ trace_head_bytes s ++ 10 ∷ (events ++ more) =
     append_assoc (trace_text_head_line s) events more ∙ append_assoc (trace_head_bytes s) (10 ∷ []) (events ++ more) in
-    ap (parts_of_line 10) bytes ∙ parts_first_word 10 (trace_head_bytes s) (events ++ more) (trace_text_head_read s h.sizes).one_line
+    ap (parts_of_line 10) bytes ∙ parts_first_word 10 (trace_head_bytes s) (events ++ more) (trace_head_clean s h.sizes)
     ∙ ap (λ (t : List (List ℕ)). trace_head_bytes s ∷ t) (trace_text_events_parts 0 es more (trace_small s es h))
 
 text_parts : (s : Sizes) (es : List Event) → IsTrace s es
@@ -257,7 +305,7 @@ trace_text_next_due s es line h clean b =
 
 -- a trace's text begins with its sizes
 pub trace_text_first_due : (line : List ℕ) → HasNo 10 line → BeginsTraceText (line ++ 10 ∷ [])
-    → (s : Sizes) × AreLawfulSizes (trace_sizes_head s) × (line ≡ trace_head_bytes s)
+    → (s : Sizes) × AreTraceSizes s × (line ≡ trace_head_bytes s)
 trace_text_first_due line clean b =
     let t = b.0 in let fs = b.1 in let k = b.2 in let more = b.3 in
     let lines : (trace_head_bytes t ∷ (trace_text_event_list 0 fs ++ [] ∷ [])) ≡ (line ∷ parts_of_line 10 more) =

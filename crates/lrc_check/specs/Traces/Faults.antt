@@ -7,13 +7,13 @@ use Rattle.journal.specs.declared.event.Kind.TheVariants as kind
 use Rattle.journal.specs.Sizes.{Sizes, addresses}
 use Rattle.lrc_script.specs.declared.fault.ScriptFault.{ScriptFault}
 use Rattle.lrc_script.specs.declared.fault.ScriptFault.TheVariants as script
-use Rattle.lrc_script.specs.Lawful.{AreLawfulSizes}
 use Rattle.lrc_script.specs.Front.{Nothing}
 use Rattle.lrc_script.specs.LineFaults.{HasLine, HasNoLineFeed, SaysOfLine}
 use Rattle.lrc_script.specs.LineReading.{IsLineCut}
 use Rattle.lrc_check.specs.declared.traces.fault.TraceFault.{TraceFault}
 use Rattle.lrc_check.specs.declared.traces.fault.TraceFault.TheVariants.{Truncated, Cut, BadLine, BadNumber, BadSize, BadPlace, BadProcessor, OutOfRange, BadLock, BadFlag, TooLong, NoMemory}
-use Rattle.lrc_check.specs.Traces.Sizes.{trace_sizes_head}
+use Rattle.lrc_check.specs.Traces.Sizes.{AreTraceSizes}
+use Rattle.lrc_check.specs.Traces.Heads.{AreNoTraceSizes, IsHeadOfNumbers}
 use Rattle.lrc_check.specs.Traces.Text.{trace_text_head_line, trace_text}
 use Rattle.lrc_check.specs.Traces.Lawful.{IsTrace}
 use Rattle.lrc_check.specs.Traces.Lines.{HasBadTraceLineNumber, HasNoTraceLineShape, IsCutLine, IsEventLine}
@@ -25,11 +25,11 @@ fault_from script.BadSize = BadSize
 fault_from script.NoMemory = NoMemory
 fault_from _ = BadLine
 
--- what a fault says of the line of the sizes: the same as of a script's first line
+-- what a fault says of the line of the sizes: the same as of a script's first line, but for the sizes themselves
 abbrev pub TraceHeadSays : TraceFault → List ℕ → Type 0
 TraceHeadSays BadLine line = SaysOfLine script.BadLine Nothing line
 TraceHeadSays BadNumber line = SaysOfLine script.BadNumber Nothing line
-TraceHeadSays BadSize line = SaysOfLine script.BadSize Nothing line
+TraceHeadSays BadSize line = (ns : List ℕ) × IsHeadOfNumbers line ns × AreNoTraceSizes ns
 TraceHeadSays _ line = ⊥
 
 -- the kind names an address, a page, a lock or a flag past the sizes, and this is its fault
@@ -72,9 +72,9 @@ abbrev pub TraceRefuses : TraceFault → Sizes → List Event → List ℕ → T
 TraceRefuses NoMemory s es line = Unit {0}
 TraceRefuses fault s es line = TraceLineSays fault s es line
 
--- the line has sizes that a script may have
+-- the line has sizes that a trace may have
 pub record TraceLineHasSizes (line : List ℕ) (s : Sizes) : Type 0 where
-  pub sizes : AreLawfulSizes (trace_sizes_head s)
+  pub sizes : AreTraceSizes s
   pub line_is : line ++ 10 ∷ [] ≡ trace_text_head_line s
 
 -- why a line has no such sizes, unless memory ran out

@@ -6,8 +6,7 @@ use Rattle.journal.specs.declared.event.Kind.{Kind}
 use Rattle.journal.specs.declared.event.Kind.TheVariants.{Load, Store, Fetch}
 use Rattle.journal.specs.Sizes.{Sizes}
 use Rattle.journal.specs.WellFormed.{KindInRange}
-use Rattle.lrc_script.specs.Lawful.{AreLawfulSizes}
-use Rattle.lrc_check.specs.Traces.Sizes.{trace_sizes_head}
+use Rattle.lrc_check.specs.Traces.Sizes.{AreTraceSizes}
 use Rattle.lrc_check.specs.Traces.Text.{trace_text}
 
 -- what is read, written or counted is a word
@@ -23,9 +22,9 @@ pub record IsWithinTrace (s : Sizes) (e : Event) : Type 0 where
   pub kind : KindInRange s e.kind
   pub words : HasTraceWords e.kind
 
--- these are sizes that a script may have, and events within them, no more than a journal can hold
+-- these are sizes that a trace may have, and events within them, no more than a journal can hold
 pub record IsTrace (s : Sizes) (es : List Event) : Type 0 where
-  pub sizes : AreLawfulSizes (trace_sizes_head s)
+  pub sizes : AreTraceSizes s
   pub few : length es ≤ most_held
   pub events : All (IsWithinTrace s) es
 

@@ -5,11 +5,10 @@ use Rattle.journal.specs.declared.event.Event.{Event}
 use Rattle.journal.specs.Sizes.{Sizes}
 use Rattle.journal.specs.Log.{Log}
 use Rattle.journal.specs.WellFormed.{WellFormed}
-use Rattle.lrc_script.specs.Lawful.{AreLawfulSizes}
 use Rattle.lrc_report.specs.ReportText.{left_text}
 use Rattle.lrc_check.specs.declared.traces.fault.TraceFault.{TraceFault}
 use Rattle.lrc_check.specs.declared.traces.fault.TraceFault.TheVariants.{Cut, NoMemory}
-use Rattle.lrc_check.specs.Traces.Sizes.{trace_sizes_head}
+use Rattle.lrc_check.specs.Traces.Sizes.{AreTraceSizes}
 use Rattle.lrc_check.specs.Traces.Text.{trace_text_head_line, trace_text}
 use Rattle.lrc_check.specs.Traces.Labels.{bare}
 use Rattle.lrc_check.specs.Traces.Lawful.{HasTraceWords, IsNoOtherTrace, IsTrace}
@@ -25,7 +24,7 @@ OneTraceLaw = (s : Sizes) (es : List Event) → IsTrace s es → IsNoOtherTrace 
 
 -- a well formed journal of words, no longer than a journal can be, is a trace
 abbrev pub WellFormedTraceLaw : Type 0
-WellFormedTraceLaw = (s : Sizes) (es : List Event) → AreLawfulSizes (trace_sizes_head s) → length es ≤ most_held → WellFormed s es
+WellFormedTraceLaw = (s : Sizes) (es : List Event) → AreTraceSizes s → length es ≤ most_held → WellFormed s es
     → All (λ e. HasTraceWords e.kind) es → IsTrace s es
 
 -- what is printed of a journal of which nothing was cut off is, behind the line of its sizes, the text of a trace of
@@ -38,6 +37,6 @@ PrintedLaw = (s : Sizes) (j : Log) → IsTrace s j.events → j.base.cut ≡ 0
 -- what is left of a journal of which something was cut off is refused at its second line as that, unless memory ran
 -- out
 abbrev pub CutRefusedLaw : Type 0
-CutRefusedLaw = (s : Sizes) (j : Log) (n : ℕ) (fault : TraceFault) → AreLawfulSizes (trace_sizes_head s) → 0 < j.base.cut
+CutRefusedLaw = (s : Sizes) (j : Log) (n : ℕ) (fault : TraceFault) → AreTraceSizes s → 0 < j.base.cut
     → j.base.cut ≤ most_cut → fault ≢ NoMemory → IsTraceFault (trace_text_head_line s ++ left_text j) n fault
     → (n ≡ 2) × (fault ≡ Cut)

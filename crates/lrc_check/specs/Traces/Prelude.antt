@@ -1,5 +1,6 @@
 -- The words that contracts name, passed on from one place. Declares nothing.
-pub use Rattle.lrc_check.specs.Traces.Sizes.{trace_sizes_head, trace_sizes_of}
+pub use Rattle.lrc_check.specs.Traces.Sizes.{AreTraceSizes, trace_sizes_head, trace_sizes_of}
+pub use Rattle.lrc_check.specs.Traces.Heads.{AreNoTraceSizes, head_numbers_of, head_numbers_read}
 pub use Rattle.lrc_check.specs.Traces.Text.{trace_text_head_line, trace_text}
 pub use Rattle.lrc_check.specs.Traces.Lawful.{HasTraceWords, IsNoOtherTrace, IsNoTrace, IsTrace, IsWithinTrace}
 pub use Rattle.lrc_check.specs.Traces.Begun.{IsTraceBegun, begun_text, trace_line_number_after}

@@ -1,5 +1,7 @@
 -- The sizes of a trace.
+use Rattle.std.specs.Prelude.{◌≤◌}
 use Rattle.journal.specs.Sizes.{Sizes}
+use Rattle.judge.specs.Sizes.{AreSizesJudged}
 use Rattle.lrc_script.specs.Plan.{Plan, head_plan}
 use Rattle.lrc_check.specs.declared.traces.trace.TraceSizes.{TraceSizes}
 
@@ -12,6 +14,13 @@ trace_sizes_of s = record {
   locks = s.locks;
   flags = s.flags;
 }
+
+-- the sizes that a trace may have: those of a history that is judged, with a processor, a page and a word at least
+pub record AreTraceSizes (s : Sizes) : Type 0 where
+  pub judged : AreSizesJudged s
+  pub some_processors : 1 ≤ s.processors
+  pub some_pages : 1 ≤ s.pages
+  pub some_words : 1 ≤ s.words
 
 -- the sizes, as a script that has no section says them
 abbrev pub trace_sizes_head : Sizes → Plan

@@ -6,11 +6,11 @@ ghost use Rattle.lrc_check.specs.Traces.Prelude.{TraceHasNoSizes, TraceLineHasSi
 ghost use Rattle.lrc_check.specs.Traces.Prelude.{IsNoTrace, IsTrace, bare, begun_text, labels_of, trace_line_number_after, trace_sizes_of, trace_text};
 
 use crate::traces::fault::TraceFault;
+use crate::traces::head::read_head;
 use crate::traces::labels::{Labels, split_label};
 use crate::traces::line::add;
-use crate::traces::trace::{Trace, TraceSizes};
+use crate::traces::trace::Trace;
 use lrc_script::line::split_line;
-use lrc_script::script::read_sizes;
 use std::alloc::Global;
 
 /// The trace without an event that begins with this line.
@@ -19,19 +19,10 @@ fn begin(alloc: Global, line: &[u8]) -> Result<Trace, TraceFault>
     ensures empty { IfOk result (λ t. t.events.items ≡ []) }
     ensures fault { IfErr result (λ e. TraceHasNoSizes e line.now) }
 {
-    match read_sizes(alloc, line) {
-        Ok(script) => Ok(Trace {
-            sizes: TraceSizes {
-                processors: script.processors,
-                pages: script.pages,
-                words: script.words,
-                locks: script.locks,
-                flags: script.flags,
-            },
-            events: Vec::new(alloc),
-        }),
-        Err(fault) => Err(TraceFault::from(fault)),
-    }
+    Ok(Trace {
+        sizes: read_head(alloc, line)?,
+        events: Vec::new(alloc),
+    })
 }
 
 /// The number of the line that comes next, counted from 1.

@@ -1,8 +1,8 @@
 //! One line of a trace.
 ghost use Rattle.std.specs.Prelude.{◌≡◌, IsTrue, ◌↔◌, [], ◌∷◌, IfOk, IfErr, IfSome, OnOk, MatchOption};
-ghost use Rattle.lrc_script.specs.Prelude.{AreLawfulSizes, parts_left_of_line, space};
+ghost use Rattle.lrc_script.specs.Prelude.{parts_left_of_line, space};
 ghost use Rattle.lrc_check.specs.Traces.Prelude.{TraceLineGivesKind, HasNoTraceLineShape, TraceLineRead, IsCutLine, IsEventLine, IsNoTraceEvent, IsTraceLineShaped};
-ghost use Rattle.lrc_check.specs.Traces.Prelude.{TraceRefuses, trace_sizes_head, trace_sizes_of};
+ghost use Rattle.lrc_check.specs.Traces.Prelude.{AreTraceSizes, TraceRefuses, trace_sizes_of};
 
 use crate::traces::fault::TraceFault;
 use crate::traces::names::EventName;
@@ -157,7 +157,7 @@ pub fn add(
     events: &mut Vec<Event>,
     line: &[u8],
 ) -> Result<(), TraceFault>
-    requires { AreLawfulSizes (trace_sizes_head (trace_sizes_of sizes.now)) }
+    requires { AreTraceSizes (trace_sizes_of sizes.now) }
     ensures found { OnOk result (TraceLineRead (trace_sizes_of sizes.now) events.old.items line.now events.new.items) }
     ensures fault { IfErr result (λ e. TraceRefuses e (trace_sizes_of sizes.now) events.old.items line.now) }
 {

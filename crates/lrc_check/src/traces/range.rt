@@ -1,8 +1,7 @@
 //! Whether an event is within a cluster's sizes, and stands where its number says.
 ghost use Rattle.std.specs.Prelude.{IfSome, IfNone};
-ghost use Rattle.lrc_check.specs.Traces.Prelude.{TraceEventSays, IsDueOnTraceLine, IsTraceFaultPast, trace_sizes_head, trace_sizes_of};
+ghost use Rattle.lrc_check.specs.Traces.Prelude.{TraceEventSays, AreTraceSizes, IsDueOnTraceLine, IsTraceFaultPast, trace_sizes_of};
 ghost use Rattle.journal.specs.WellFormed.{KindInRange};
-ghost use Rattle.lrc_script.specs.Prelude.{AreLawfulSizes};
 
 use crate::traces::fault::TraceFault;
 use crate::traces::trace::TraceSizes;
@@ -10,7 +9,7 @@ use journal::{Event, Kind, MOST_HELD};
 
 /// The fault of a kind that names an address, a page, a lock or a flag past the sizes.
 fn kind_fault(sizes: &TraceSizes, kind: Kind) -> Option<TraceFault>
-    requires { AreLawfulSizes (trace_sizes_head (trace_sizes_of sizes.now)) }
+    requires { AreTraceSizes (trace_sizes_of sizes.now) }
     ensures none { IfNone result (KindInRange (trace_sizes_of sizes.now) kind) }
     ensures some { IfSome result (λ f. IsTraceFaultPast f (trace_sizes_of sizes.now) kind) }
 {
@@ -36,7 +35,7 @@ pub fn event_fault(
     place: usize,
     event: &Event,
 ) -> Option<TraceFault>
-    requires { AreLawfulSizes (trace_sizes_head (trace_sizes_of sizes.now)) }
+    requires { AreTraceSizes (trace_sizes_of sizes.now) }
     ensures none { IfNone result (IsDueOnTraceLine (trace_sizes_of sizes.now) count place event.now) }
     ensures some { IfSome result (λ f. TraceEventSays f (trace_sizes_of sizes.now) count place event.now) }
 {

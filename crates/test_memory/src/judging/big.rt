@@ -1,7 +1,7 @@
 //! Histories of 2^20 events, which are judged in a test's time: whether each event may follow, whether each load and each
 //! fetch is right, and the first race.
 ghost use Rattle.std.specs.Prelude.{◌≡◌};
-ghost use Rattle.judge.specs.Prelude.{AreSizesSmall, sizes_of};
+ghost use Rattle.judge.specs.Prelude.{AreSizesJudged, sizes_of};
 
 use journal::{Event, Kind, MOST_HELD};
 use judge::{MemoryModel, Sizes};
@@ -17,7 +17,7 @@ fn by(processor: usize, kind: Kind) -> Event {
 
 /// As many of everything as there can be.
 fn most() -> Sizes
-    ensures { AreSizesSmall (sizes_of result) }
+    ensures { AreSizesJudged (sizes_of result) }
 {
     Sizes {
         processors: 16,
@@ -28,20 +28,35 @@ fn most() -> Sizes
     }
 }
 
+/// The same with as many addresses as there can be.
+fn widest() -> Sizes
+    ensures { AreSizesJudged (sizes_of result) }
+{
+    Sizes {
+        processors: 16,
+        pages: 1 << 10,
+        words: 1 << 10,
+        locks: 32,
+        flags: 32,
+    }
+}
+
 /// The history has 2^20 events and is faithful, and the nearest of its first races is this.
 fn is_faithful<R: Abort + AllocGlobal>(
     rt: &R,
+    sizes: Sizes,
     events: &[Event],
     want: Option<(usize, usize)>,
 ) -> Result<(), Fail> {
     assert!(rt; events.len() == 1 << 20);
+    assert!(rt; sizes.are_judged());
     assert!(rt; events.len() <= MOST_HELD);
     let rules = Rules {
         model: MemoryModel::LazyRelease,
         lax: false,
         ends_at_race: false,
     };
-    let found = judge_history(rt.alloc(), most(), events, rules)?;
+    let found = judge_history(rt.alloc(), sizes, events, rules)?;
     match found.verdict {
         TraceVerdict::Faithful { .. } => assert!(rt; found.race == want),
         _ => assert!(rt; false),
@@ -91,7 +106,7 @@ fn guarded(rt: HostRuntime) -> Result<(), Fail> {
             events.push(by((round % 8) as usize, kind))?;
         }
     }
-    is_faithful(&rt, &events, None)
+    is_faithful(&rt, most(), &events, None)
 }
 
 /// Sixteen processors in turns store to an address and load it, without any synchronisation: sixteen pairs at one address,
@@ -110,11 +125,21 @@ fn pairs(alloc: Global, addresses: usize) -> Result<Vec<Event>, AllocError> {
 /// All race at all addresses.
 #[test]
 fn racy(rt: HostRuntime) -> Result<(), Fail> {
-    is_faithful(&rt, &pairs(rt.alloc(), 4096)?, Some((1, 2)))
+    is_faithful(&rt, most(), &pairs(rt.alloc(), 4096)?, Some((1, 2)))
 }
 
 /// All race at one address.
 #[test]
 fn one_address(rt: HostRuntime) -> Result<(), Fail> {
-    is_faithful(&rt, &pairs(rt.alloc(), 1)?, Some((1, 2)))
+    is_faithful(&rt, most(), &pairs(rt.alloc(), 1)?, Some((1, 2)))
+}
+
+/// Sixteen processors in turns store to 2^20 addresses, each to its own ones.
+#[test]
+fn wide(rt: HostRuntime) -> Result<(), Fail> {
+    let mut events = Vec::new(rt.alloc());
+    for address in 0..1 << 20 {
+        events.push(by(address % 16, Kind::Store(address, 1)))?;
+    }
+    is_faithful(&rt, widest(), &events, None)
 }

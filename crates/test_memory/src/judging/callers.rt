@@ -5,7 +5,7 @@ ghost use Rattle.journal.specs.Counted.{AreCounted};
 ghost use Rattle.journal.specs.Sizes.{addresses};
 ghost use Rattle.journal.specs.WellFormed.{WellFormed};
 ghost use Rattle.journal.specs.Prelude.{AddressesInRange, ProcessorsInRange};
-ghost use Rattle.judge.specs.Prelude.{AreSizesSmall, WellFormedOrLax, sizes_of};
+ghost use Rattle.judge.specs.Prelude.{AreSizesJudged, WellFormedOrLax, sizes_of};
 
 use journal::Event;
 use judge::{Sizes, first_ill_formed, first_miscounted, range_law};
@@ -13,7 +13,7 @@ use std::alloc::{AllocError, Global};
 
 /// Whether the history is well formed. Then its numbers are those of the cluster.
 pub fn is_well_formed(sizes: Sizes, events: &[Event]) -> bool
-    requires sizes { AreSizesSmall (sizes_of sizes) }
+    requires sizes { AreSizesJudged (sizes_of sizes) }
     requires few { length events.now ≤ most_held }
     ensures well { IsTrue result ↔ WellFormed (sizes_of sizes) events.now }
     ensures processors { IsTrue result → ProcessorsInRange sizes.processors events.now }
@@ -29,7 +29,7 @@ pub fn is_well_formed(sizes: Sizes, events: &[Event]) -> bool
 /// Whether the history is well formed but for the order in which a lock's asks are granted, and each of its fetches
 /// counts its gap. The only error is running out of memory.
 pub fn is_counted(alloc: Global, sizes: Sizes, events: &[Event]) -> Result<bool, AllocError>
-    requires sizes { AreSizesSmall (sizes_of sizes) }
+    requires sizes { AreSizesJudged (sizes_of sizes) }
     requires few { length events.now ≤ most_held }
     ensures { IfOk result (λ b. IsTrue b
         ↔ (WellFormedOrLax true (sizes_of sizes) events.now × AreCounted (sizes_of sizes) events.now)) }

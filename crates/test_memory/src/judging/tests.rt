@@ -1,6 +1,6 @@
 //! Histories worked by hand: the first event that may not stand where it does, and why.
 ghost use Rattle.std.specs.Prelude.{◌≡◌};
-ghost use Rattle.judge.specs.Prelude.{AreSizesSmall, sizes_of};
+ghost use Rattle.judge.specs.Prelude.{AreSizesJudged, sizes_of};
 
 use crate::judging::callers::is_well_formed;
 use journal::{Event, Kind, MOST_HELD};
@@ -17,7 +17,7 @@ fn by(processor: usize, kind: Kind) -> Event
 
 /// Three processors, two pages of four words, two locks and two flags.
 fn three() -> Sizes
-    ensures { AreSizesSmall (sizes_of result) }
+    ensures { AreSizesJudged (sizes_of result) }
 {
     Sizes {
         processors: 3,
@@ -30,7 +30,7 @@ fn three() -> Sizes
 
 /// As many of everything as there can be.
 fn most() -> Sizes
-    ensures { AreSizesSmall (sizes_of result) }
+    ensures { AreSizesJudged (sizes_of result) }
 {
     Sizes {
         processors: 16,
@@ -240,7 +240,7 @@ fn long(rt: HostRuntime) -> Result<(), Fail> {
     Ok(())
 }
 
-/// Which sizes are small enough.
+/// Which sizes are small, and which are judged.
 #[test]
 fn limits(rt: HostRuntime) -> Result<(), Fail> {
     let most = most();
@@ -257,6 +257,48 @@ fn limits(rt: HostRuntime) -> Result<(), Fail> {
         Sizes { flags: 33, ..most },
     ] {
         assert!(rt; !more.are_small());
+    }
+    let many = Sizes {
+        pages: 1 << 10,
+        words: 1 << 10,
+        ..most
+    };
+    assert!(rt; many.are_judged());
+    assert!(rt;
+        Sizes {
+            pages: 1 << 20,
+            words: 1,
+            ..most
+        }
+        .are_judged()
+    );
+    for more in [
+        Sizes {
+            pages: (1 << 10) + 1,
+            ..many
+        },
+        Sizes {
+            words: (1 << 10) + 1,
+            ..many
+        },
+        Sizes {
+            pages: (1 << 20) + 1,
+            words: 0,
+            ..most
+        },
+        Sizes {
+            pages: 0,
+            words: (1 << 20) + 1,
+            ..most
+        },
+        Sizes {
+            processors: 17,
+            ..many
+        },
+        Sizes { locks: 33, ..many },
+        Sizes { flags: 33, ..many },
+    ] {
+        assert!(rt; !more.are_judged());
     }
     Ok(())
 }

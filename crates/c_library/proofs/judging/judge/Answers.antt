@@ -1,7 +1,7 @@
 use Rattle.std.proofs.Common.{◌≡◌, List, map, subst, ◌∙◌}
 use Rattle.journal.specs.declared.event.Event.{Event}
 use Rattle.journal.specs.Sizes.{Sizes}
-use Rattle.judge.specs.Sizes.{AreSizesSmall, sizes_of}
+use Rattle.judge.specs.Sizes.{AreSizesJudged, sizes_of}
 use Rattle.lrc_check.specs.declared.checked.Rules.{Rules}
 use Rattle.lrc_check.specs.Checked.{IsChecked}
 use Rattle.c_library.specs.Given.{event_of, given_sizes, rules_of}
@@ -16,7 +16,7 @@ returns-clause-told c =
     let is : c.deref.result.now ≡ map event_of es = c.deref.ensures.value ∙ c.in_ok-history.ensures in
     record {
       judged = record {
-        small = subst AreSizesSmall same (c.are_small.ensures.0 c.if-not-are_small.false);
+        small = subst AreSizesJudged same (c.are_judged.ensures.0 c.if-not-are_judged.false);
         rules = c.are_known.ensures.0 c.if-not-are_known.false;
         few = c.are_few.ensures.0 c.if-not-are_few.false;
         known = c.have_kinds.ensures.0 c.if-not-have_kinds.false;

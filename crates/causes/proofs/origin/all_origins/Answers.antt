@@ -1,6 +1,9 @@
 use Rattle.std.proofs.Common.{◌≡◌, ℕ, ◌+◌, Option, length, subst, sym, ◌∙◌, arith}
+use Rattle.journal.specs.declared.event.Event.{Event}
+use Rattle.journal.specs.Events.{At}
 use Rattle.judge.specs.declared.sizes.Sizes.{Sizes as Given}
-use Rattle.judge.specs.Sizes.{AreSizesSmall, sizes_of}
+use Rattle.judge.specs.Miscounted.{IsEventInSizes}
+use Rattle.judge.specs.Sizes.{AreSizesJudged, sizes_of}
 use Rattle.causes.specs.declared.origin.WordOrigin.{WordOrigin}
 use Rattle.causes.specs.Origins.{AreOrigins, IsOriginAt}
 use Rattle.causes.specs.OriginSteps.{AreOriginsBefore}
@@ -15,7 +18,7 @@ loop-place-preserved c =
     let old = c.loop-place.invariant in
     let rows = c.loop-place.rows in
     let long : length rows.items ≡ place = omega (arith, rows.ok.0, old.long) in
-    let small : AreSizesSmall s = subst (λ (x : Given). AreSizesSmall (sizes_of x)) old.sizes old.tells.long.sizes in
+    let small : AreSizesJudged s = subst (λ (x : Given). AreSizesJudged (sizes_of x)) old.sizes old.tells.long.sizes in
     record {
       tells = c.in_ok-note.ensures.tells;
       sizes = c.note.ensures.sizes ∙ old.sizes;
@@ -27,3 +30,8 @@ loop-place-preserved c =
           (rows_next (λ (k : ℕ) (o : Option WordOrigin). IsOriginAt s events k o) rows.items place c.origin_at.result long old.rows
           (c.origin_at.ensures s old.words c.requires.within small.processors));
     }
+
+pub note-requires-clause-within : goal.note-requires-clause-within
+note-requires-clause-within c =
+    subst (λ (x : Given). (k : ℕ) (e : Event) → At c.args.events.now k e → IsEventInSizes (sizes_of x) e)
+    (sym c.loop-place.invariant.sizes) c.requires.within

@@ -1,7 +1,10 @@
 use Rattle.std.proofs.Common.{◌≡◌, ℕ, ◌+◌, length, subst, sym, ◌∙◌, arith}
 use Rattle.std.specs.Global.{Vec}
+use Rattle.journal.specs.declared.event.Event.{Event}
+use Rattle.journal.specs.Events.{At}
 use Rattle.judge.specs.declared.sizes.Sizes.{Sizes as Given}
-use Rattle.judge.specs.Sizes.{AreSizesSmall, sizes_of}
+use Rattle.judge.specs.Miscounted.{IsEventInSizes}
+use Rattle.judge.specs.Sizes.{AreSizesJudged, sizes_of}
 use Rattle.causes.specs.declared.written.WrittenWord.{WrittenWord}
 use Rattle.causes.specs.OriginSteps.{AreOriginsBefore}
 use Rattle.causes.specs.Writing.{AreAllWritten, AreWritten}
@@ -11,7 +14,7 @@ use Rattle.causes.proofs.written.all_written.Goals as goal
 pub written_at-requires-clause-sizes : goal.written_at-requires-clause-sizes
 written_at-requires-clause-sizes c =
     let old = c.loop-place.invariant in
-    subst (λ (x : Given). AreSizesSmall (sizes_of x)) old.sizes old.tells.long.sizes
+    subst (λ (x : Given). AreSizesJudged (sizes_of x)) old.sizes old.tells.long.sizes
 
 pub written_at-requires-clause-words : goal.written_at-requires-clause-words
 written_at-requires-clause-words c =
@@ -37,3 +40,8 @@ loop-place-preserved c =
           (rows_next (λ (k : ℕ) (row : Vec WrittenWord). AreWritten s events k row.items) rows.items place
           c.in_ok-written_at.field-0 long old.rows c.in_ok-written_at.ensures);
     }
+
+pub note-requires-clause-within : goal.note-requires-clause-within
+note-requires-clause-within c =
+    subst (λ (x : Given). (k : ℕ) (e : Event) → At c.args.events.now k e → IsEventInSizes (sizes_of x) e)
+    (sym c.loop-place.invariant.sizes) c.requires.within

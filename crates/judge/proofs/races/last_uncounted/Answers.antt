@@ -1,5 +1,6 @@
 use Rattle.std.proofs.Common.{◌≡◌, ◌+◌, slice_index, subst, sym, ◌∙◌, arith}
 use Rattle.std.proofs.lemmas.Option.{none-some}
+use Rattle.judge.specs.SparseTables.{sparse_at}
 use Rattle.judge.specs.NearestRaces.{IsLastUncountedByRaces}
 use Rattle.judge.proofs.NearestRaces.{nearest_race_uncounted_none, nearest_race_uncounted_some}
 use Rattle.judge.proofs.races.last_uncounted.Goals as goal
@@ -10,7 +11,7 @@ loop-by-init c = λ i x. (let lt = x.below in absurd (omega arith))
 
 pub loop-by-preserved : goal.loop-by-preserved
 loop-by-preserved c =
-    let rows = c.args.rows.now in
+    let rows = sparse_at c.args.rows.now in
     let row = c.args.row in
     let t = slice_index c.args.time.now in
     let p = c.args.processor in
@@ -32,5 +33,5 @@ returns c =
     let over = c.loop-by-test.false in
     let end = c.loop-by.auto.by-end in
     let is : c.loop-by.by ≡ c.args.count = omega arith in
-    subst (λ n. IsLastUncountedByRaces c.args.rows.now c.args.row (slice_index c.args.time.now) c.args.processor n c.loop-by.nearest)
+    subst (λ n. IsLastUncountedByRaces (sparse_at c.args.rows.now) c.args.row (slice_index c.args.time.now) c.args.processor n c.loop-by.nearest)
     is c.loop-by.invariant

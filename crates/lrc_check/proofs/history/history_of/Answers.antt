@@ -3,6 +3,7 @@ use Rattle.std.proofs.lemmas.Option.{get_or_from_slice_get, slice_get_within}
 use Rattle.journal.specs.declared.event.Event.{Event}
 use Rattle.journal.specs.Sizes.{Sizes}
 use Rattle.judge.specs.History.{IsHistoryInSizes}
+use Rattle.judge.specs.Sizes.{AreSizesSmall}
 use Rattle.lrc_check.specs.Traces.Lawful.{IsTrace, IsWithinTrace}
 use Rattle.lrc_check.specs.Traces.Sizes.{trace_sizes_of}
 use Rattle.lrc_check.proofs.history.history_of.Goals as goal
@@ -18,10 +19,10 @@ unwrap-requires c =
     let s = trace_sizes_of c.args.sizes in
     let es = c.args.events.now in
     c.new.ensures.fits.1 (record {
-      small = c.sizes_for.ensures.small;
+      small = subst AreSizesSmall (sym c.sizes_for.ensures) c.requires.small;
       opening = omega arith;
       few_opening = omega arith;
-      few = (let few = c.requires.few in omega arith);
-      within = subst (λ (t : Sizes). IsHistoryInSizes t es) (sym c.sizes_for.ensures.same)
-          (trace_in_sizes s es c.requires);
+      few = (let few = c.requires.trace.few in omega arith);
+      within = subst (λ (t : Sizes). IsHistoryInSizes t es) (sym c.sizes_for.ensures)
+          (trace_in_sizes s es c.requires.trace);
     })

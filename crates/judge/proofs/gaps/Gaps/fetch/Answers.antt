@@ -1,6 +1,6 @@
-use Rattle.std.proofs.Common.{◌≡◌, ℕ, ◌<◌, inl, inr, List, [], length, slice_index, slice_set, subst, sym, ap, arith}
+use Rattle.std.proofs.Common.{◌≡◌, ℕ, ◌<◌, inl, inr, Option, List, slice_index, subst, sym, ap, arith}
 use Rattle.std.proofs.lemmas.Bool.{cases_eq}
-use Rattle.std.proofs.lemmas.List.{get_or-set_same, get_or-set_other}
+use Rattle.std.specs.Prelude.{Result, Ok, Err, OnOk}
 use Rattle.journal.specs.declared.event.Event.{Event}
 use Rattle.journal.specs.declared.event.Kind.TheVariants.{Store, Fetch}
 use Rattle.journal.specs.DidEvent.{did, event}
@@ -10,7 +10,9 @@ use Rattle.journal.specs.Times.{IsTimeOf}
 use Rattle.journal.specs.ClockEntry.{entry}
 use Rattle.journal.proofs.Times.Times.{time_equal}
 use Rattle.judge.specs.Sizes.{sizes_of}
-use Rattle.judge.specs.Gaps.{GapFetchedUpTo}
+use Rattle.judge.specs.declared.sparse_table.SparseTable.{SparseTable}
+use Rattle.judge.specs.Gaps.{GapFetchedUpTo, gap_fetch_clock, gap_fetch_time}
+use Rattle.judge.specs.SparseTables.{IsSparseWith}
 use Rattle.judge.specs.GapTally.{gap_tally_row_index}
 use Rattle.judge.proofs.InGaps.{fetched_now_in_gap, fetched_others_in_gap}
 use Rattle.judge.proofs.Keeping.{keeping_gaps}
@@ -27,28 +29,43 @@ same_fetch p w n r d q w' m r' d' is =
     (sym (ap (λ (e : Event). e.processor) is), cc)
 
 -- the fetches that were, with the one that is
-fetched : (s : Sizes) (j : List Event) (p n w r d : ℕ) (times : List (List ℕ)) (time : List ℕ) → p < 16
-    → gap_tally_row_index n p < length times → IsTimeOf j p (slice_index time)
-    → ((m q : ℕ) → q < 16 → GapFetchedUpTo s j q m (entry times (gap_tally_row_index m q)))
-    → (m q : ℕ) → q < 16 → GapFetchedUpTo s (did j p (Fetch w n r d)) q m (entry (slice_set times (gap_tally_row_index n p) time) (gap_tally_row_index m q))
-fetched s j p n w r d times time lt within own old m q less = elim (cases_eq (gap_tally_row_index m q) (gap_tally_row_index n p)) [
+fetched : (s : Sizes) (j : List Event) (p n w r d : ℕ) (old new : SparseTable (List ℕ)) (time : List ℕ) → p < 16
+    → IsSparseWith old new (gap_tally_row_index n p) time → IsTimeOf j p (slice_index time)
+    → ((m q : ℕ) → q < 16 → GapFetchedUpTo s j q m (gap_fetch_time old (gap_tally_row_index m q)))
+    → (m q : ℕ) → q < 16 → GapFetchedUpTo s (did j p (Fetch w n r d)) q m (gap_fetch_time new (gap_tally_row_index m q))
+fetched s j p n w r d old new time lt written own were m q less = elim (cases_eq (gap_tally_row_index m q) (gap_tally_row_index n p)) [
   | inl is ↦
       (let first : n ≡ m = omega arith in
       let second : p ≡ q = omega arith in
-      subst (λ x. GapFetchedUpTo s (did j p (Fetch w n r d)) q x (entry (slice_set times (gap_tally_row_index n p) time) (gap_tally_row_index x q))) first
-      (subst (λ x. GapFetchedUpTo s (did j p (Fetch w n r d)) x n (entry (slice_set times (gap_tally_row_index n p) time) (gap_tally_row_index n x))) second
-      (subst (λ (x : List ℕ). GapFetchedUpTo s (did j p (Fetch w n r d)) p n (slice_index x))
-      (sym (get_or-set_same times (gap_tally_row_index n p) time [] within)) (fetched_now_in_gap s j p n w r d (slice_index time) own))))
+      subst (λ x. GapFetchedUpTo s (did j p (Fetch w n r d)) q x (gap_fetch_time new (gap_tally_row_index x q))) first
+      (subst (λ x. GapFetchedUpTo s (did j p (Fetch w n r d)) x n (gap_fetch_time new (gap_tally_row_index n x))) second
+      (subst (λ (x : Option (List ℕ)). GapFetchedUpTo s (did j p (Fetch w n r d)) p n (slice_index (gap_fetch_clock x)))
+      (sym written.now) (fetched_now_in_gap s j p n w r d (slice_index time) own))))
   | inr isnt ↦
-      subst (λ (x : List ℕ). GapFetchedUpTo s (did j p (Fetch w n r d)) q m (slice_index x))
-      (sym (get_or-set_other times (gap_tally_row_index n p) (gap_tally_row_index m q) time [] isnt))
-      (fetched_others_in_gap s j (event p (Fetch w n r d)) q m (entry times (gap_tally_row_index m q))
+      subst (λ (x : Option (List ℕ)). GapFetchedUpTo s (did j p (Fetch w n r d)) q m (slice_index (gap_fetch_clock x)))
+      (sym (written.others (gap_tally_row_index m q) isnt))
+      (fetched_others_in_gap s j (event p (Fetch w n r d)) q m (gap_fetch_time old (gap_tally_row_index m q))
       (λ w' r' d' is. isnt (let same = same_fetch p w n r d q w' m r' d' is in
-      let first = same.0 in let second = same.1 in omega arith)) (old m q less))
+      let first = same.0 in let second = same.1 in omega arith)) (were m q less))
 ]
 
+-- what success gives, success gives
+then : {E P Q : Type 0} (r : Result (Unit {0}) E) → OnOk r P → (P → Q) → OnOk r Q
+then (Ok x) p f = f p
+then (Err e) p f = tt
+
+pub returns-clause-long : goal.returns-clause-long
+returns-clause-long c = then c.set.result c.set.ensures.set
+    (λ written. let long = c.requires.tells.1.long in record {
+      sizes = long.sizes;
+      fetched = written.sparse;
+      fetched_room = (let room = long.fetched_room in let same = c.set.ensures.room in omega arith);
+      intervals = long.intervals;
+      words = long.words;
+    })
+
 pub returns-clause-kept : goal.returns-clause-kept
-returns-clause-kept c = λ j tells w r d.
+returns-clause-kept c = then c.set.result c.set.ensures.set (λ written j tells w r d.
     let g = c.args.self.now in
     let s = sizes_of g.sizes in
     let p = c.args.processor in
@@ -57,14 +74,12 @@ returns-clause-kept c = λ j tells w r d.
     let lt = c.requires.processor in
     let sixteen : p < 16 = omega arith in
     let row = c.row_at.ensures in
-    let page = c.requires.page in
-    let long = tells.long.fetched in
-    let within : gap_tally_row_index n p < length g.fetched.items = omega (arith, g.fetched.ok.0) in
-    let time : IsTimeOf j p (slice_index c.of.result.now) =
-    time_equal j (InPast j p) (entry g.clocks.processors.items p) (slice_index c.of.result.now)
-    (λ q. sym (c.of.ensures q)) (tells.clocks.times p sixteen) in
+    let t = c.of-time.result.now in
+    let time : IsTimeOf j p (slice_index t) =
+    time_equal j (InPast j p) (entry g.clocks.processors.items p) (slice_index t)
+    (λ q. sym (c.of-time.ensures q)) (tells.clocks.times p sixteen) in
     let fetches =
-    fetched s j p n w r d g.fetched.items c.of.result.now sixteen within time tells.are.fetched in
-    keeping_gaps j (event p (Fetch w n r d)) g _ (not_store p w n r d)
-    (λ m q less. subst (λ x. GapFetchedUpTo s (did j p (Fetch w n r d)) q m
-    (entry (slice_set g.fetched.items x c.of.result.now) (gap_tally_row_index m q))) (sym row) (fetches m q less)) tells.are
+    fetched s j p n w r d g.fetched c.set.new.self t sixteen
+    (subst (λ x. IsSparseWith g.fetched c.set.new.self x t) row written) time tells.are.fetched in
+    keeping_gaps j (event p (Fetch w n r d)) g c.set.new.self (not_store p w n r d) fetches
+    (let more = c.set.ensures.few in let few = tells.are.few in omega arith) tells.are)

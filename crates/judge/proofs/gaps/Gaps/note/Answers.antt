@@ -29,12 +29,11 @@ told j g clocks range long kept are present = record {
   long = record {
     sizes = long.sizes;
     fetched = long.fetched;
+    fetched_room = long.fetched_room;
     intervals = long.intervals;
-    marks = long.marks;
     words = long.words;
-    words_marks = long.words_marks;
   };
-  are = record { fetched = kept.fetched; intervals = kept.intervals; words = kept.words };
+  are = record { fetched = kept.fetched; intervals = kept.intervals; words = kept.words; few = kept.few };
 }
 
 pub returns-clause-tells : goal.returns-clause-tells
@@ -53,6 +52,6 @@ returns-clause-tells c =
     let was = ap (λ (x : Clocks). x.present) c.keep.ensures.clocks ∙ c.requires.so_far.present
     ∙ sym (ap (λ s. s.processors) same) in
     both c.note.result
-    (λ clocks present. told (take (place + 1) events) g c.note.new.self range c.keep.ensures.long kept clocks
+    (λ clocks present. told (take (place + 1) events) g c.note.new.self range c.in_ok-keep.ensures.long kept clocks
     (present ∙ was))
     c.note.ensures.clocks c.note.ensures.present

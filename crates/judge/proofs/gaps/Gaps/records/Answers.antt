@@ -15,7 +15,7 @@ returns c = λ j tells.
     let In : ℕ → Type 0 = λ k. GapStoresInPage s j n q k × (c.args.from ≤ k) × (k < c.args.to) in
     let count =
     c.count.ensures
-    ∙ ap (λ r. count_by (is_gap_tally_between c.args.from c.args.to) (gap_tally_numbers g.intervals.rows.items r)) c.row_at.ensures in
+    ∙ ap (λ r. count_by (is_gap_tally_between c.args.from c.args.to) (gap_tally_numbers g.intervals r)) c.row_at.ensures in
     subst (HasImageCount In) (sym count)
-    (row_counts (GapStoresInPage s j n q) (λ k. k) (gap_tally_numbers g.intervals.rows.items (gap_tally_row_index n q)) c.args.from c.args.to
+    (row_counts (GapStoresInPage s j n q) (λ k. k) (gap_tally_numbers g.intervals (gap_tally_row_index n q)) c.args.from c.args.to
     (tells.are.intervals.rows n q c.requires.by))

@@ -11,7 +11,7 @@ use Rattle.journal.proofs.Times.PushesCovered.{own_time_entry}
 use Rattle.judge.specs.declared.gaps.Gaps.{Gaps}
 use Rattle.judge.specs.declared.tally.Tally.{Tally}
 use Rattle.judge.specs.Sizes.{sizes_of}
-use Rattle.judge.specs.Gaps.{AreGapsOf, TellsGaps, GapStoresAt, GapStoresInPage, GapStoresWord}
+use Rattle.judge.specs.Gaps.{AreGapsOf, TellsGaps, GapStoresAt, GapStoresInPage, GapStoresWord, gap_fetch_time}
 use Rattle.judge.specs.GapTally.{AddsToGapTally, IsGapTallyOfValues, gap_tally_row_index}
 use Rattle.judge.proofs.GapTallyRows.{tally_next}
 use Rattle.judge.proofs.InGaps.{fetched_others_in_gap, pages_next_in_gap, stores_bound_in_gap, stores_next_in_gap, words_next_in_gap}
@@ -30,7 +30,7 @@ stored : (g : Gaps) (j : List Event) (q a v k n : ℕ) (intervals words : Tally)
     → AddsToGapTally g.intervals intervals (gap_tally_row_index n q) (gap_tally_row_index n q) k → AddsToGapTally g.words words (gap_tally_row_index n q) (gap_tally_row_index a q) k
     → AreGapsOf (did j q (Store a v)) (record g { intervals = intervals; words = words })
 stored g j q a v k n intervals words tells lt is page first second = record {
-  fetched = λ m p within. fetched_others_in_gap s j (event q (Store a v)) p m (entry g.fetched.items (gap_tally_row_index m p))
+  fetched = λ m p within. fetched_others_in_gap s j (event q (Store a v)) p m (gap_fetch_time g.fetched (gap_tally_row_index m p))
       (λ w r d. not_fetch q a v p m w r d) (tells.are.fetched m p within);
   intervals =
       subst (λ x. IsGapTallyOfValues (GapStoresInPage s after) (λ z. z) (GapStoresInPage s after) x intervals) (sym long)
@@ -46,6 +46,7 @@ stored g j q a v k n intervals words tells lt is page first second = record {
       (λ z h. stores_bound_in_gap j a q z h)
       (subst (λ x. AddsToGapTally g.words words (gap_tally_row_index x q) (gap_tally_row_index a q) (count_of is_closing j q)) page
       (subst (AddsToGapTally g.words words (gap_tally_row_index n q) (gap_tally_row_index a q)) is second)) tells.are.words);
+  few = (let few = tells.are.few in omega (arith, long, few));
 }
   where
     s : Sizes
@@ -82,9 +83,9 @@ add-requires-2-clause-room c =
     c.requires.processor c.of.ensures
 
 -- what success gives, success gives
-then : {E P Q : Type 0} (r : Result (Unit {0}) E) → (P → Q) → OnOk r P → OnOk r Q
-then (Ok x) f p = f p
-then (Err e) f p = tt
+then : {E P Q : Type 0} (r : Result (Unit {0}) E) → OnOk r P → (P → Q) → OnOk r Q
+then (Ok x) p f = f p
+then (Err e) p f = tt
 
 pub returns-clause-kept : goal.returns-clause-kept
 returns-clause-kept c =
@@ -93,7 +94,7 @@ returns-clause-kept c =
     let a = c.args.address in
     let interval = slice_index c.of.result.now q in
     let n = a / g.sizes.words in
-    then c.add-2.result
+    then c.add-2.result c.add-2.ensures.adds
     (λ second j tells v.
     let lt = sixteen j g q tells c.requires.processor in
     let first = subst (λ r. AddsToGapTally g.intervals c.add.new.self r r interval) c.row_at-row.ensures c.in_ok-add.ensures.adds in
@@ -101,4 +102,15 @@ returns-clause-kept c =
     (subst (λ r. AddsToGapTally g.words c.add-2.new.self c.row_at-row.result r interval) c.row_at.ensures second) in
     stored g j q a v interval n c.add.new.self c.add-2.new.self tells lt (own j g q c.of.result.now tells lt c.of.ensures)
     refl first both)
-    c.add-2.ensures.adds
+
+pub returns-clause-long : goal.returns-clause-long
+returns-clause-long c =
+    let long = c.requires.tells.1.long in
+    then c.add-2.result c.add-2.ensures.tally
+    (λ second. record {
+      sizes = long.sizes;
+      fetched = long.fetched;
+      fetched_room = long.fetched_room;
+      intervals = c.in_ok-add.ensures.tally _ _ long.intervals;
+      words = second _ _ long.words;
+    })

@@ -1,10 +1,10 @@
-use Rattle.std.proofs.Common.{◌≡◌, ◌<◌, ℕ, [], ◌∷◌, ◌++◌, List, Some, slice_index, true, subst, sym, refl, arith}
-use Rattle.std.specs.Vec.{with_item}
+use Rattle.std.proofs.Common.{◌≡◌, ◌+◌, ◌*◌, ◌<◌, ◌≤◌, ℕ, [], ◌∷◌, ◌++◌, List, length, slice_index, true, vec_len, subst, sym, refl, arith}
+use Rattle.std.specs.Prelude.{Result, Ok, Err, OnOk}
 use Rattle.std.proofs.lemmas.Bool.{eq-eqb}
 use Rattle.journal.specs.declared.event.Event.{Event}
 use Rattle.journal.specs.declared.event.Kind.{Kind}
 use Rattle.journal.specs.declared.event.Kind.TheVariants.{Load, Store}
-use Rattle.journal.specs.DidEvent.{event}
+use Rattle.journal.specs.DidEvent.{did, event}
 use Rattle.journal.specs.Events.{count_of, is_closing}
 use Rattle.journal.specs.Pasts.{InPast}
 use Rattle.journal.specs.ClockEntry.{entry}
@@ -14,7 +14,10 @@ use Rattle.judge.specs.declared.races.Access.{Access}
 use Rattle.judge.specs.declared.races.Races.{Races}
 use Rattle.judge.specs.NearestRaces.{RaceAccessesAreKept, AreRacesOf, races_with_access_to, races_with_store_to}
 use Rattle.judge.specs.Sources.Tells.{source_row_of}
-use Rattle.judge.proofs.NearestRaces.{race_accesses_to_one, nearest_race_rows_kept, nearest_race_rows_left, race_stores_to_one}
+use Rattle.judge.specs.declared.sparse_table.SparseTable.{SparseTable}
+use Rattle.judge.specs.SparseTables.{IsSparseFor, IsSparseWith, sparse_at, sparse_room}
+use Rattle.judge.proofs.NearestRaces.{race_accesses_to_one, race_last_access_next, nearest_race_rows_kept, nearest_race_rows_left, race_stores_to_one}
+use Rattle.judge.proofs.SparseTables.{sparse_later, sparse_next}
 use Rattle.judge.proofs.races.Races.keep.Goals as goal
 
 -- the entry that was read is how many intervals the processor has closed
@@ -30,43 +33,81 @@ closed j x p t tells lt is =
 sixteen_of : (j : List Event) (x : Races) (p : ℕ) → AreRacesOf j x → p < x.processors → p < 16
 sixteen_of j x p tells lt = let few = tells.clocks.few in let present = tells.present in omega arith
 
+-- what success gives, success gives
+then : {E P Q : Type 0} (r : Result (Unit {0}) E) → OnOk r P → (P → Q) → OnOk r Q
+then (Ok x) p f = f p
+then (Err e) p f = tt
+
+-- the row of a table was written
+record IsWritten (old new : SparseTable Access) (row : ℕ) (access : Access) : Type 0 where
+  is : IsSparseWith old new row access
+  room : sparse_room new ≡ sparse_room old
+  more : vec_len new.kept ≤ vec_len old.kept + 1
+
+-- what is kept after a load
+loaded : (j : List Event) (x : Races) (p a v : ℕ) (access : Access) (after : SparseTable Access) → AreRacesOf j x → p < x.processors
+    → access.place ≡ length j → access.interval ≡ count_of is_closing j p → IsSparseWith x.accesses after (source_row_of a p) access
+    → sparse_room after ≡ sparse_room x.accesses → vec_len after.kept ≤ vec_len x.accesses.kept + 1
+    → RaceAccessesAreKept (did j p (Load a v)) (record x { accesses = after })
+loaded j x p a v access after tells lt place interval written room more =
+    let k : Kind = Load a v in
+    let few = sixteen_of j x p tells lt in
+    record {
+      stores = nearest_race_rows_left j (event p k) races_with_store_to (sparse_at x.stores) (λ b yes_is. absurd cc) tells.kept.stores;
+      accesses = nearest_race_rows_kept j p a k races_with_access_to (λ b yes_is. race_accesses_to_one k a b refl yes_is)
+          (race_last_access_next j p k (races_with_access_to a) access (eq-eqb a a refl) place interval) written few
+          tells.kept.accesses;
+      stores_sparse = sparse_later j (event p k) x.stores tells.kept.stores_sparse;
+      accesses_sparse = sparse_next j (event p k) x.accesses after written.sparse room more tells.kept.accesses_sparse;
+    }
+
+-- and after a store
+stored : (j : List Event) (x y : Races) (p a v : ℕ) (access : Access) → AreRacesOf j x → p < x.processors
+    → access.place ≡ length j → access.interval ≡ count_of is_closing j p
+    → IsWritten x.accesses y.accesses (source_row_of a p) access → IsWritten x.stores y.stores (source_row_of a p) access
+    → y.addresses ≡ x.addresses → RaceAccessesAreKept (did j p (Store a v)) y
+stored j x y p a v access tells lt place interval first second same =
+    let k : Kind = Store a v in
+    let few = sixteen_of j x p tells lt in
+    record {
+      stores = nearest_race_rows_kept j p a k races_with_store_to (λ b yes_is. race_stores_to_one a v b yes_is)
+          (race_last_access_next j p k (races_with_store_to a) access (eq-eqb a a refl) place interval) second.is few
+          tells.kept.stores;
+      accesses = nearest_race_rows_kept j p a k races_with_access_to (λ b yes_is. race_accesses_to_one k a b refl yes_is)
+          (race_last_access_next j p k (races_with_access_to a) access (eq-eqb a a refl) place interval) first.is few
+          tells.kept.accesses;
+      stores_sparse = subst (λ n. IsSparseFor (n * 16) (length (did j p k)) y.stores) (sym same)
+          (sparse_next j (event p k) x.stores y.stores second.is.sparse second.room second.more tells.kept.stores_sparse);
+      accesses_sparse = subst (λ n. IsSparseFor (n * 16) (length (did j p k)) y.accesses) (sym same)
+          (sparse_next j (event p k) x.accesses y.accesses first.is.sparse first.room first.more tells.kept.accesses_sparse);
+    }
+
 pub returns-in-Load-clause-kept : goal.returns-in-Load-clause-kept
-returns-in-Load-clause-kept c = λ j tells long.
+returns-in-Load-clause-kept c = then c.set.result c.set.ensures.set
+    (λ written j tells long.
     let s = c.args.self.now in
     let p = c.args.event.processor in
     let a = c.in-Load.address in
-    let k : Kind = Load a c.in-Load.field-1 in
     let access : Access = record { place = c.args.place; interval = slice_index c.of.result.now p } in
     let interval = closed j s p c.of.result.now tells c.requires.processor c.of.ensures in
-    let few = sixteen_of j s p tells c.requires.processor in
-    subst (λ x. RaceAccessesAreKept (j ++ event p x ∷ []) (record s { accesses = with_item s.accesses (source_row_of a p) (Some access) })) (sym c.in-Load.is) (record {
-      stores = nearest_race_rows_left j (event p k) races_with_store_to s.stores.items (λ b yes_is. absurd cc) tells.kept.stores;
-      accesses = nearest_race_rows_kept p k s.accesses.items access few (eq-eqb a a refl)
-          (λ b yes_is. race_accesses_to_one k a b refl yes_is) (sym long) interval tells.kept.accesses;
-      stores_long = tells.kept.stores_long;
-      accesses_long = tells.kept.accesses_long;
-    })
+    subst (λ x. RaceAccessesAreKept (j ++ event p x ∷ []) (record s { accesses = c.set.new.self })) (sym c.in-Load.is)
+    (loaded j s p a c.in-Load.field-1 access c.set.new.self tells c.requires.processor (sym long) interval written
+    c.set.ensures.room c.set.ensures.few))
 
-pub returns-in-Store-clause-kept : goal.returns-in-Store-clause-kept
-returns-in-Store-clause-kept c = λ j tells long.
+pub returns-in_ok-set-in-Store-clause-kept : goal.returns-in_ok-set-in-Store-clause-kept
+returns-in_ok-set-in-Store-clause-kept c = then c.set-in-Store-2.result c.set-in-Store-2.ensures.set
+    (λ written j tells long.
     let s = c.args.self.now in
     let p = c.args.event.processor in
     let a = c.in-Store.address in
-    let k : Kind = Store a c.in-Store.field-1 in
     let access : Access = record { place = c.args.place; interval = slice_index c.of.result.now p } in
     let interval = closed j s p c.of.result.now tells c.requires.processor c.of.ensures in
-    let few = sixteen_of j s p tells c.requires.processor in
-    subst (λ x. RaceAccessesAreKept (j ++ event p x ∷ []) (record s {
-      stores = with_item s.stores (source_row_of a p) (Some access);
-      accesses = with_item s.accesses (source_row_of a p) (Some access);
-    })) (sym c.in-Store.is) (record {
-      stores = nearest_race_rows_kept p k s.stores.items access few (eq-eqb a a refl)
-          (λ b yes_is. race_stores_to_one a c.in-Store.field-1 b yes_is) (sym long) interval tells.kept.stores;
-      accesses = nearest_race_rows_kept p k s.accesses.items access few (eq-eqb a a refl)
-          (λ b yes_is. race_accesses_to_one k a b refl yes_is) (sym long) interval tells.kept.accesses;
-      stores_long = tells.kept.stores_long;
-      accesses_long = tells.kept.accesses_long;
-    })
+    let after : Races = record s { stores = c.set-in-Store-2.new.self; accesses = c.set-in-Store.new.self } in
+    subst (λ x. RaceAccessesAreKept (j ++ event p x ∷ []) after) (sym c.in-Store.is)
+    (stored j s after p a c.in-Store.field-1 access tells c.requires.processor (sym long) interval
+    (record { is = c.in_ok-set-in-Store.ensures.set; room = c.set-in-Store.ensures.room; more = c.set-in-Store.ensures.few })
+    (record { is = written; room = c.set-in-Store-2.ensures.room; more = c.set-in-Store-2.ensures.few })
+    refl))
 
 not_stores : (k : Kind) (a : ℕ) → ((b v : ℕ) → k ≡ Store b v → ⊥) → races_with_store_to a k ≡ true → ⊥
 not_stores (Store b v) a none yes_is = none b v refl
@@ -86,10 +127,10 @@ returns-in_default c = record {
   kept = λ j tells long.
       (let s = c.args.self.now in
       let e = c.args.event in record {
-        stores = nearest_race_rows_left j e races_with_store_to s.stores.items (λ a yes_is. not_stores e.kind a c.in_default.not-Store yes_is) tells.kept.stores;
-        accesses = nearest_race_rows_left j e races_with_access_to s.accesses.items
+        stores = nearest_race_rows_left j e races_with_store_to (sparse_at s.stores) (λ a yes_is. not_stores e.kind a c.in_default.not-Store yes_is) tells.kept.stores;
+        accesses = nearest_race_rows_left j e races_with_access_to (sparse_at s.accesses)
             (λ a yes_is. not_accesses e.kind a c.in_default.not-Load c.in_default.not-Store yes_is) tells.kept.accesses;
-        stores_long = tells.kept.stores_long;
-        accesses_long = tells.kept.accesses_long;
+        stores_sparse = sparse_later j e s.stores tells.kept.stores_sparse;
+        accesses_sparse = sparse_later j e s.accesses tells.kept.accesses_sparse;
       });
 }

@@ -14,6 +14,7 @@ use Rattle.journal.proofs.Order.CountedAndNumbered.{numbered_at_last}
 use Rattle.journal.proofs.Times.Times.{time_equal}
 use Rattle.journal.proofs.Passes.ReachedNextRaces.{no_race_other}
 use Rattle.judge.specs.declared.races.Races.{Races}
+use Rattle.judge.specs.SparseTables.{sparse_at}
 use Rattle.judge.specs.NearestRaces.{AreRacesOf, races_with_access_to, races_with_store_to}
 use Rattle.judge.proofs.NearestRaces.{IsRaceRowFor, nearest_race_load_conflicts, nearest_race_is, race_store_conflicts_all}
 use Rattle.judge.proofs.races.Races.nearest.Goals as goal
@@ -31,34 +32,30 @@ time_of j x p t tells lt is =
 -- the rows of a load and of a store
 load_row : (j : List Event) (x : Races) (e : Event) (a v : ℕ) (t : List ℕ) → AreRacesOf j x → e.kind ≡ Load a v
     → a < x.addresses → IsTimeOf j e.processor (slice_index t)
-    → IsRaceRowFor j e (races_with_store_to a) (slice_index t) x.stores.items (a * 16) x.processors
+    → IsRaceRowFor j e (races_with_store_to a) (slice_index t) (sparse_at x.stores) (a * 16) x.processors
 load_row j x e a v t tells is lt time =
     let few = tells.clocks.few in
     let present = tells.present in
-    let long = tells.kept.stores_long in
     record {
       conflicts = λ f. subst (λ k. Conflict f (event e.processor k) ↔ IsTrue (races_with_store_to a f.kind)) (sym is)
           (nearest_race_load_conflicts f e.processor a v);
       range = tells.processors;
       time = time;
-      last = λ q o within at. tells.kept.stores a q o (omega arith) at;
-      within = omega (arith, x.stores.ok.0);
+      last = λ q within. tells.kept.stores a q (omega arith);
     }
 
 store_row : (j : List Event) (x : Races) (e : Event) (a v : ℕ) (t : List ℕ) → AreRacesOf j x → e.kind ≡ Store a v
     → a < x.addresses → IsTimeOf j e.processor (slice_index t)
-    → IsRaceRowFor j e (races_with_access_to a) (slice_index t) x.accesses.items (a * 16) x.processors
+    → IsRaceRowFor j e (races_with_access_to a) (slice_index t) (sparse_at x.accesses) (a * 16) x.processors
 store_row j x e a v t tells is lt time =
     let few = tells.clocks.few in
     let present = tells.present in
-    let long = tells.kept.accesses_long in
     record {
       conflicts = λ f. subst (λ k. Conflict f (event e.processor k) ↔ IsTrue (races_with_access_to a f.kind)) (sym is)
           (race_store_conflicts_all f e.processor a v);
       range = tells.processors;
       time = time;
-      last = λ q o within at. tells.kept.accesses a q o (omega arith) at;
-      within = omega (arith, x.accesses.ok.0);
+      last = λ q within. tells.kept.accesses a q (omega arith);
     }
 
 no_address : (k : Kind) → ((a v : ℕ) → k ≡ Load a v → ⊥) → ((a v : ℕ) → k ≡ Store a v → ⊥)
@@ -74,10 +71,9 @@ returns-in-Load c = λ j tells.
     let a = c.in-Load.address in
     let t = c.of-time.result.now in
     let lt = subst (AddressInRange x.addresses) c.in-Load.is c.requires.address in
-    let last = rw c.deref.ensures.value at c.last_uncounted.ensures in
     nearest_race_is c.last_uncounted.result
     (load_row j x e a c.in-Load.field-1 t tells c.in-Load.is lt (time_of j x e.processor t tells c.requires.processor c.of-time.ensures))
-    last
+    c.last_uncounted.ensures
 
 pub returns-in-Store : goal.returns-in-Store
 returns-in-Store c = λ j tells.
@@ -86,10 +82,9 @@ returns-in-Store c = λ j tells.
     let a = c.in-Store.address in
     let t = c.of-time.result.now in
     let lt = subst (AddressInRange x.addresses) c.in-Store.is c.requires.address in
-    let last = rw c.deref-in-Store.ensures.value at c.last_uncounted-in-Store.ensures in
     nearest_race_is c.last_uncounted-in-Store.result
     (store_row j x e a c.in-Store.field-1 t tells c.in-Store.is lt (time_of j x e.processor t tells c.requires.processor c.of-time.ensures))
-    last
+    c.last_uncounted-in-Store.ensures
 
 pub returns-in_default : goal.returns-in_default
 returns-in_default c = λ j tells i r.

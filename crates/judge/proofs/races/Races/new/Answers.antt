@@ -1,8 +1,9 @@
-use Rattle.std.proofs.Common.{◌≡◌, ℕ, ◌*◌, Option, Some, sym, ap, ◌∙◌}
+use Rattle.std.proofs.Common.{◌≡◌, ℕ, ◌*◌, Option, Some, subst, sym, ap, ◌∙◌}
 use Rattle.std.specs.Prelude.{None, SomeIff}
 use Rattle.std.specs.Result.{result_ok}
 use Rattle.std.proofs.lemmas.Option.{none-some, same_Some}
 use Rattle.judge.specs.NearestRaces.{races_with_access_to, races_with_store_to}
+use Rattle.judge.specs.SparseTables.{IsSparseFor, sparse_at}
 use Rattle.judge.proofs.NearestRaces.{nearest_race_rows_start}
 use Rattle.judge.proofs.races.Races.new.Goals as goal
 
@@ -20,9 +21,9 @@ returns-clause-tells c =
       present = c.in_ok-new.ensures.present;
       processors = λ i e at. absurd (none-some e at);
       kept = record {
-        stores = nearest_race_rows_start races_with_store_to c.in_ok-no_accesses.field-0.items c.in_ok-no_accesses.ensures.none;
-        accesses = nearest_race_rows_start races_with_access_to c.in_ok-no_accesses-2.field-0.items c.in_ok-no_accesses-2.ensures.none;
-        stores_long = c.in_ok-no_accesses.ensures.long ∙ rows;
-        accesses_long = c.in_ok-no_accesses-2.ensures.long ∙ rows;
+        stores = nearest_race_rows_start races_with_store_to (sparse_at c.in_ok-new-2.field-0) c.in_ok-new-2.ensures.none;
+        accesses = nearest_race_rows_start races_with_access_to (sparse_at c.in_ok-new-3.field-0) c.in_ok-new-3.ensures.none;
+        stores_sparse = subst (λ n. IsSparseFor n 0 c.in_ok-new-2.field-0) rows c.in_ok-new-2.ensures.sparse;
+        accesses_sparse = subst (λ n. IsSparseFor n 0 c.in_ok-new-3.field-0) rows c.in_ok-new-3.ensures.sparse;
       };
     }

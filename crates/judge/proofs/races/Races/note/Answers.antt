@@ -29,8 +29,8 @@ told j x clocks range kept are present = record {
   kept = record {
     stores = kept.stores;
     accesses = kept.accesses;
-    stores_long = kept.stores_long;
-    accesses_long = kept.accesses_long;
+    stores_sparse = kept.stores_sparse;
+    accesses_sparse = kept.accesses_sparse;
   };
 }
 
@@ -43,7 +43,7 @@ returns-clause-tells c =
     let next = front_next events place e (slice_get-get_or events place (event 0 (Load 0 0)) c.requires.place) in
     let long = length-take-le place events (omega arith) in
     let kept : RaceAccessesAreKept (take (place + 1) events) x =
-    subst (λ xs. RaceAccessesAreKept xs x) (sym next) (c.keep.ensures.kept (take place events) c.requires.so_far long) in
+    subst (λ xs. RaceAccessesAreKept xs x) (sym next) (c.in_ok-keep.ensures.kept (take place events) c.requires.so_far long) in
     let same = c.keep.ensures.processors in
     let range : ProcessorsInRange x.processors (take (place + 1) events) =
     λ i f at. subst (λ n. f.processor < n) (sym same)

@@ -12,7 +12,7 @@ use Rattle.journal.proofs.Times.Times.{time_equal}
 use Rattle.judge.specs.declared.locksets.finding.Locksets.{Locksets}
 use Rattle.judge.specs.declared.locksets.word.LockedAccess.{LockedAccess}
 use Rattle.judge.specs.declared.locksets.word.WatchedWord.{WatchedWord}
-use Rattle.judge.specs.Sizes.{AreSizesSmall, sizes_of}
+use Rattle.judge.specs.Sizes.{AreSizesJudged, sizes_of}
 use Rattle.judge.specs.Locksets.Unlocked.{without_locks}
 use Rattle.judge.specs.Locksets.Watched.{AreEventsInSizes, ComesNextToWord, IsLockedAccess, TellsWord}
 use Rattle.judge.specs.Locksets.Tells.{TellsLocksets}
@@ -21,7 +21,7 @@ use Rattle.judge.proofs.locksets.finding.Locksets.watch.Goals as goal
 
 -- what is known of the history, of which e comes next
 record Known (x : Locksets) (j : List Event) (n : ℕ) (e : Event) : Type 0 where
-  small : AreSizesSmall (sizes_of x.sizes)
+  small : AreSizesJudged (sizes_of x.sizes)
   range : AreEventsInSizes (sizes_of x.sizes) j
   at : At j n e
   tells : TellsLocksets j n x

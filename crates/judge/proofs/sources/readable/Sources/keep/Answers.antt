@@ -6,6 +6,7 @@ use Rattle.journal.specs.Events.{is_closing, is_taking}
 use Rattle.judge.specs.declared.sources.readable.Sources.{Sources}
 use Rattle.judge.specs.Sources.Tells.{SourceStoresAreKept}
 use Rattle.judge.proofs.sources.Keeping.{AreRowsForKeeping, keeping_stored_rows_others, keeping_stored_known_forgot, keeping_stored_known_quiet}
+use Rattle.judge.proofs.SparseTables.{sparse_later}
 use Rattle.judge.proofs.sources.readable.Sources.keep.Goals as goal
 
 -- an event that is no store, and neither takes nor closes, changes nothing
@@ -14,9 +15,9 @@ still : (j : List Event) (e : Event) (s : Sources) (k : Kind) → e.kind ≡ k �
 still j e s k is quiet inner away kept = record {
   known = keeping_stored_known_quiet j e s.known (ap is_taking is ∙ quiet) (ap is_closing is ∙ inner) kept.known;
   few = (let one = length-append j (e ∷ []) in let few = kept.few in omega arith);
-  long = kept.long;
+  sparse = sparse_later j e s.stores kept.sparse;
   stores =
-      keeping_stored_rows_others j e s.known.times.items s.stores.items (λ a v same. away a v (sym is ∙ same)) kept.stores;
+      keeping_stored_rows_others j e s.known.times.items s.stores (λ a v same. away a v (sym is ∙ same)) kept.stores;
 }
 
 load_apart : (a v b w : ℕ) → Load a v ≡ Store b w → ⊥
@@ -50,9 +51,9 @@ returns-in_default c = record {
         known = keeping_stored_known_forgot j e s.known c.forget.new.self times c.forget.ensures.changed c.forget.ensures.same
             tells.kept.known;
         few = omega arith;
-        long = tells.kept.long;
+        sparse = sparse_later j e s.stores tells.kept.sparse;
         stores =
-            subst (λ v. AreRowsForKeeping (j ++ e ∷ []) v.items s.stores.items) (sym times)
-            (keeping_stored_rows_others j e s.known.times.items s.stores.items c.in_default.not-Store tells.kept.stores);
+            subst (λ v. AreRowsForKeeping (j ++ e ∷ []) v.items s.stores) (sym times)
+            (keeping_stored_rows_others j e s.known.times.items s.stores c.in_default.not-Store tells.kept.stores);
       });
 }

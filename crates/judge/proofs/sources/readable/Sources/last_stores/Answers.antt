@@ -1,31 +1,18 @@
-use Rattle.std.proofs.Common.{◌≡◌, ℕ, ◌+◌, ◌*◌, ◌<◌, ◌≤◌, ◌∙◌, inl, inr, List, length, slice_index_or, subst, sym, refl, arith, length-set}
+use Rattle.std.proofs.Common.{ℕ, ◌<◌, ◌≤◌, ◌∙◌, inl, inr, List, subst, sym, refl, arith, length-set}
 use Rattle.std.specs.Prelude.{None}
 use Rattle.std.proofs.lemmas.Bool.{cases_lt}
-use Rattle.std.specs.Global.{Vec}
-use Rattle.std.proofs.lemmas.Option.{slice_get_read, slice_get_within}
+use Rattle.std.proofs.lemmas.Option.{slice_get_within}
 use Rattle.base.proofs.SliceSets.{slice_get-replicate_found, slice_get-set_other}
 use Rattle.journal.specs.declared.event.Event.{Event}
 use Rattle.journal.specs.declared.event.Kind.TheVariants.{Store}
 use Rattle.journal.specs.DidEvent.{event}
 use Rattle.journal.specs.ClockEntry.{entry}
-use Rattle.judge.specs.declared.sources.stored.Stored.{Stored}
 use Rattle.judge.specs.declared.sources.readable.Sources.{Sources}
 use Rattle.judge.specs.Sources.Last.{HasNoLastStore, IsLastOf}
 use Rattle.judge.specs.Sources.Stored.{AreStored}
 use Rattle.judge.specs.Sources.Tells.{AreSourceStoresOf}
 use Rattle.judge.proofs.sources.Lasts.{last_intervals_rise, last_of, last_next}
 use Rattle.judge.proofs.sources.readable.Sources.last_stores.Goals as goal
-
--- the row that is read has the stores of a processor to the address
-row_stored : (j : List Event) (s : Sources) (a q : ℕ) (row : Vec Stored) (xs : List Stored) → AreSourceStoresOf j s
-    → a < s.addresses → q < 16 → row ≡ slice_index_or s.stores.items (a * 16 + q) row → xs ≡ row.items
-    → AreStored j s.known.times.items a q xs
-row_stored j s a q row xs tells lt few is same =
-    let long = tells.kept.long in
-    let within : a * 16 + q < length s.stores.items = omega (arith, s.stores.ok.0) in
-    subst (AreStored j s.known.times.items a q) (sym same)
-    (tells.kept.stores a q row few
-    (slice_get_read s.stores.items (length s.stores.items) (a * 16 + q) row refl within is))
 
 -- a processor that is none of the history's has no store
 none_of : (j : List Event) (s : Sources) (p a q : ℕ) → AreSourceStoresOf j s → s.processors ≤ q → HasNoLastStore j p a q
@@ -51,10 +38,9 @@ last_below-requires c =
     let j = c.requires.tells.0 in
     let few = c.loop-by.invariant.few in
     let within : c.loop-by.by < 16 = omega arith in
-    let are =
-    row_stored j s c.args.address c.loop-by.by c.index-stores.result.now c.deref.result.now c.requires.tells.1
-    c.requires.address within c.index-stores.ensures c.deref.ensures.value in
-    last_intervals_rise j s.known.times.items c.args.address c.loop-by.by c.deref.result.now are
+    let are = subst (AreStored j s.known.times.items c.args.address c.loop-by.by) (sym c.stores_of-stores.ensures)
+    (c.requires.tells.1.kept.stores c.args.address c.loop-by.by within) in
+    last_intervals_rise j s.known.times.items c.args.address c.loop-by.by c.stores_of-stores.result.now are
 
 pub loop-by-preserved : goal.loop-by-preserved
 loop-by-preserved c = record {
@@ -66,13 +52,12 @@ loop-by-preserved c = record {
       let present = tells.present in
       let sixteen : c.args.processor < 16 = omega arith in
       let within : c.loop-by.by < 16 = omega arith in
-      let are =
-      row_stored j s c.args.address c.loop-by.by c.index-stores.result.now c.deref.result.now tells
-      c.requires.address within c.index-stores.ensures c.deref.ensures.value in
+      let are = subst (AreStored j s.known.times.items c.args.address c.loop-by.by) (sym c.stores_of-stores.ensures)
+      (tells.kept.stores c.args.address c.loop-by.by within) in
       let here = c.of-time.ensures c.loop-by.by in
       let given = c.intervals.ensures in
       let now =
-      last_of j s.known.times.items c.args.processor c.args.address c.loop-by.by c.deref.result.now
+      last_of j s.known.times.items c.args.processor c.args.address c.loop-by.by c.stores_of-stores.result.now
       (entry s.clocks.processors.items c.args.processor)
       c.intervals.result c.last_below.result
       (tells.clocks.times c.args.processor sixteen) (omega arith) are c.last_below.ensures in

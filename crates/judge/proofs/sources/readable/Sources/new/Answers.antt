@@ -1,7 +1,8 @@
-use Rattle.std.proofs.Common.{◌≡◌, ℕ, ◌*◌, Option, Some, sym, ap, ◌∙◌, arith}
+use Rattle.std.proofs.Common.{◌≡◌, ℕ, ◌*◌, Option, Some, subst, sym, ap, ◌∙◌, arith}
 use Rattle.std.specs.Prelude.{None, SomeIff}
 use Rattle.std.specs.Result.{result_ok}
 use Rattle.std.proofs.lemmas.Option.{none-some, same_Some}
+use Rattle.judge.specs.SparseTables.{IsSparseFor}
 use Rattle.judge.proofs.sources.Keeping.{keeping_stored_rows_first}
 use Rattle.judge.proofs.sources.readable.Sources.new.Goals as goal
 
@@ -21,7 +22,7 @@ returns-clause-tells c =
       kept = record {
         known = c.new-2.ensures.known;
         few = (let none = c.new-2.ensures.none in omega arith);
-        long = c.in_ok-no_stores.ensures.long ∙ rows;
-        stores = keeping_stored_rows_first c.new-2.result.times.items c.in_ok-no_stores.field-0.items c.in_ok-no_stores.ensures.empty;
+        sparse = subst (λ n. IsSparseFor n 0 c.in_ok-new-2.field-0) rows c.in_ok-new-2.ensures.sparse;
+        stores = keeping_stored_rows_first c.new-2.result.times.items c.in_ok-new-2.field-0 c.in_ok-new-2.ensures.none;
       };
     }

@@ -26,7 +26,7 @@ told j s clocks range kept are present = record {
   clocks = are;
   present = present;
   processors = range;
-  kept = record { known = kept.known; few = kept.few; long = kept.long; stores = kept.stores };
+  kept = record { known = kept.known; few = kept.few; sparse = kept.sparse; stores = kept.stores };
 }
 
 pub returns-clause-tells : goal.returns-clause-tells

@@ -1,5 +1,5 @@
-use Rattle.std.proofs.Common.{◌<◌, [], ◌∷◌, length, slice_index, sym, refl, arith, length-append}
-use Rattle.std.proofs.lemmas.Option.{slice_get_read}
+use Rattle.std.proofs.Common.{◌<◌, [], ◌∷◌, slice_index, sym, refl, arith, length-append}
+use Rattle.std.specs.Prelude.{Result, Ok, Err, OnOk}
 use Rattle.journal.specs.declared.event.Kind.TheVariants.{Store}
 use Rattle.journal.specs.DidEvent.{event}
 use Rattle.journal.specs.Pasts.{InPast}
@@ -7,13 +7,17 @@ use Rattle.journal.specs.Times.{IsTimeOf}
 use Rattle.journal.specs.ClockEntry.{entry}
 use Rattle.journal.proofs.Times.Times.{time_equal}
 use Rattle.journal.proofs.Times.PushesCovered.{own_time_entry}
-use Rattle.judge.specs.declared.sources.stored.Stored.{Stored}
-use Rattle.judge.specs.Sources.Tells.{source_row_of}
 use Rattle.judge.proofs.sources.Keeping.{AreMoreTimesForKeeping, keeping_stored_rows_next, keeping_stored_known_quiet}
+use Rattle.judge.proofs.SparseTables.{sparse_next}
 use Rattle.judge.proofs.sources.readable.Sources.note_store.Goals as goal
 
+-- what success gives, success gives
+then : {E P Q : Type 0} (r : Result (Unit {0}) E) → OnOk r P → (P → Q) → OnOk r Q
+then (Ok x) p f = f p
+then (Err e) p f = tt
+
 pub returns-clause-kept : goal.returns-clause-kept
-returns-clause-kept c = λ j tells long v.
+returns-clause-kept c = then c.push_in_row.result c.push_in_row.ensures.pushed (λ pushed j tells long v.
     let s = c.args.self.now in
     let p = c.args.processor in
     let few = tells.clocks.few in
@@ -29,23 +33,14 @@ returns-clause-kept c = λ j tells long v.
       more = omega (arith, c.place_of.ensures.more, old.ok.0, new.ok.0);
       same = λ n q lt. c.place_of.ensures.same n q (omega (arith, old.ok.0));
     } in
-    let wide = tells.kept.long in
-    let inside : source_row_of c.args.address p < length s.stores.items = omega (arith, s.stores.ok.0) in
-    let there = slice_get_read s.stores.items (length s.stores.items) (source_row_of c.args.address p)
-    c.index_mut.result.now refl inside c.index_mut.ensures.value in
-    let store : Stored = record {
-      place = c.args.place;
-      interval = slice_index c.of-time.result.now p;
-      time = c.in_ok-time.time;
-    } in
     let one = length-append j (event p (Store c.args.address v) ∷ []) in
     record {
       known = keeping_stored_known_quiet j (event p (Store c.args.address v)) c.place_of.new.self refl refl placed.0;
       few = (let a = c.place_of.ensures.few in let b = tells.kept.few in omega arith);
-      long = tells.kept.long;
+      sparse = sparse_next j (event p (Store c.args.address v)) s.stores c.push_in_row.new.table pushed.sparse c.push_in_row.ensures.room
+          c.push_in_row.ensures.few tells.kept.sparse;
       stores =
-          keeping_stored_rows_next j old.items new.items s.stores.items c.args.address p v c.index_mut.result.now c.push.new.self
-          store more sixteen there c.in_ok-push.ensures.items (sym long) (own_time_entry j p
+          keeping_stored_rows_next old.items new.items c.args.address p v more sixteen pushed (sym long) (own_time_entry j p
           (slice_index c.of-time.result.now) time) (omega (arith, placed.1, new.ok.0)) placed.2
           tells.kept.stores;
-    }
+    })

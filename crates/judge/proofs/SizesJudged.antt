@@ -1,0 +1,15 @@
+-- Sizes that are small are sizes that are judged.
+use Rattle.std.proofs.Common.{arith}
+use Rattle.std.proofs.lemmas.Nat.{mul-le}
+use Rattle.journal.specs.Sizes.{Sizes}
+use Rattle.judge.specs.Sizes.{AreSizesJudged, AreSizesSmall}
+
+pub sizes_judged_small : (s : Sizes) → AreSizesSmall s → AreSizesJudged s
+sizes_judged_small s small = record {
+  processors = small.processors;
+  pages = (let le = small.pages in omega arith);
+  words = (let le = small.words in omega arith);
+  addresses = (let le = mul-le s.pages s.words 64 64 small.pages small.words in omega (arith, le));
+  locks = small.locks;
+  flags = small.flags;
+}
