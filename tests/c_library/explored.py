@@ -57,7 +57,7 @@ def wanted_of(case):
     case is another one."""
     words = [run[1:] for run in case.runs if run[:1] == [b"explore"]]
     refused = re.match(r"lrc: (line [0-9]+: .*)\n", case.text("stderr").decode())
-    if len(words) != 1 or words[0][:1] not in ([], [b"--most"]) or case.kinds or case.progress:
+    if len(words) != 1 or words[0][:1] not in ([], [b"--most"]) or words[0][2:] or case.kinds or case.progress:
         return None
     if refused:
         return words[0][1:], [refused[1]]
