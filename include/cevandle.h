@@ -106,12 +106,14 @@ typedef struct cevandle_lie {
     uint64_t other, earlier;
     uint64_t writers, records, words;
     uint64_t stores[16]; /* the load may answer what these stored, by processor; 0 alone if none did. Under
-                            CEVANDLE_HAPPENS_BEFORE, also what was stored before it and doesn't happen before it */
-    uint64_t last;       /* under CEVANDLE_SEQUENTIAL, it has to answer what this one stored; 0 without one */
+                            CEVANDLE_HAPPENS_BEFORE, also what was stored before it and doesn't happen before it. Under
+                            CEVANDLE_SEQUENTIAL each is CEVANDLE_NONE */
+    uint64_t last;       /* under CEVANDLE_SEQUENTIAL alone: the load has to answer what this one stored, or 0 if it is
+                            CEVANDLE_NONE */
 } cevandle_lie;
 
 enum cevandle_judgement {
-    CEVANDLE_FAITHFUL = 0,
+    CEVANDLE_FAITHFUL = 0, /* the loads answer right; whether two accesses race, race.second says */
     CEVANDLE_UNFAITHFUL = 1,
     CEVANDLE_ENDED_AT_RACE = 2 /* with ends_at_race alone; what stands before race.second is faithful */
 };
@@ -154,7 +156,8 @@ typedef struct cevandle_script_fault {
 
 /* Whether a script races. */
 enum cevandle_racing {
-    CEVANDLE_NEVER_RACES = 0,   /* no two accesses race, whatever the order */
+    CEVANDLE_NEVER_RACES = 0,   /* no two accesses race, whatever the order; if the script's text shows that, so it is told
+                                   also of a search that was given up */
     CEVANDLE_RACES = 1,         /* some order races */
     CEVANDLE_RACES_UNKNOWN = 2  /* no race was met, and the search was given up */
 };

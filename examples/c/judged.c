@@ -27,6 +27,10 @@ int main(void)
         fprintf(stderr, "refused: %" PRIu32 "\n", code);
         return 1;
     }
+    /* That a history is faithful doesn't say that nothing races in it. */
+    if (found.race.second != CEVANDLE_NONE) {
+        printf("events %" PRIu64 " and %" PRIu64 " race\n", found.race.first, found.race.second);
+    }
     if (found.verdict == CEVANDLE_FAITHFUL) {
         puts("faithful");
         return 0;
