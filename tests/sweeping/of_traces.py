@@ -17,6 +17,8 @@ from of_schedules import by_turns, note, on_threads, seeds_of
 
 # How many schedules a script has whose journals are falsified.
 SCHEDULES = 3
+# Pages, and words of a page: as many addresses as a trace has at most.
+WIDE = 1 << 10
 # What a journal is called that isn't falsified, and one with other replies all along.
 AS_IT_IS, FLAT = "journals", "all replies of one flat memory"
 
@@ -59,6 +61,21 @@ def falsified_ways(draws, script, events):
         yield FLAT, flat
 
 
+def widened(script, events):
+    """The script with as many pages and words as a trace has at most, and its trace with these moved apart."""
+    of_page, of_word = WIDE // script.pages, WIDE // script.words
+
+    def moved(event):
+        first, *rest = event.numbers or (None,)
+        if event.kind in ("load", "store"):
+            first = first // script.words * of_page * WIDE + first % script.words * of_word
+        elif event.kind == "fetch":
+            first *= of_page
+        return event if first is None else replace(event, numbers=(first, *rest))
+
+    return replace(script, pages=WIDE, words=WIDE), tuple(map(moved, events))
+
+
 class Case:
     """A script whose journals are judged."""
 
@@ -80,6 +97,14 @@ class Case:
             self.found.seen["traces", way, "at the change"] += verdict.place == change
         if self.is_turning:
             self.found.turn("traces", turns.TRACES, answer, check)
+
+    def try_wide(self, events, rules):
+        """Compares what the program says of the trace with its pages and words moved apart."""
+        script, moved = widened(self.script, events)
+        verdict = verdicts.find(script, moved, rules)
+        answer = self.program.call(verdicts.text_of(script, moved), "check", *rules.words())
+        check_verdict(verdicts.answer_to(verdict, rules), answer)
+        self.found.seen["wide", verdict.kind] += 1
 
     def try_told(self, events, rules):
         """Compares what `explain --trace` says of a trace with what `check` does."""
@@ -128,6 +153,7 @@ class Case:
             self.found.trial(f"{name}, {way}", shown, self.try_trace, way, events, rules, change)
         if not rules.ends_at_race:
             self.found.trial(f"{name}, {way}, told", shown, self.try_told, events, rules)
+        self.found.trial(f"{name}, {way}, wide", shown, self.try_wide, events, rules)
 
     def faithful(self, call, *arguments):
         """The report of a run, whose journal is faithful, and has the report's verdict and traffic."""

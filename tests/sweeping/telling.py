@@ -33,6 +33,8 @@ STATES = ("runs", "events", "in parts", "records", "notices", "stale", "dirty")
 JSON = (("result", ("race-free", "racy")), ("search", ("race-free", "racy", "undecided")),
         ("trace", ("race", "form", "answer", "count")))
 TOLD = ("faithful", "no trace", "a lie")
+# Of traces with as many addresses as there may be.
+WIDE = ("faithful", "ill formed", "unexplained", "miscounted", "racy")
 # Of --locksets, of a journal and of one of which a section forgets its lock.
 LOCKSETS = [("journals", "nothing told"), ("journals", "no race-free trace"), *(
     (sort, what) for sort in ("a lock forgotten", "and ordered by accident")
@@ -77,6 +79,7 @@ def lines(seen):
     for model in verdicts.MODELS:
         yield f"traces under {model}: {counts(seen, 'model', model, of=OF_MODELS)}"
     yield f"traces told: {counts(seen, 'told', of=TOLD)}"
+    yield f"traces of 2^20 addresses: {counts(seen, 'wide', of=WIDE)}"
     yield "locksets: " + "; ".join(f"{sort}: {seen['locksets', sort, what]} {what}" for sort, what in LOCKSETS)
     yield f"JSON: {seen['json', 'scripts']} scripts; " + "; ".join(
         f"{what}: {counts(seen, 'json', what, of=kinds)}" for what, kinds in JSON)
@@ -101,6 +104,7 @@ def wanted():
     yield from (("model", model, kind) for model in verdicts.MODELS for kind in OF_MODELS
                 if model != verdicts.LAZY_RELEASE or kind == "racy")
     yield from (("told", what) for what in TOLD)
+    yield from (("wide", what) for what in WIDE)
     yield from (("locksets", *it) for it in LOCKSETS)
     yield from (("json", what, kind) for what, kinds in JSON for kind in kinds)
     for kind, all_turns in TURNS.items():
